@@ -1,0 +1,96 @@
+//! Why a run of the program ends early, and with which exit status.
+ghost use Rattle.std.specs.Prelude.{◌≡◌};
+ghost use Rattle.cardswitch.specs.Faults.{IsFaultOfRead, IsFaultOfWrite, fault_status};
+
+use flow_model::FlowError;
+use std::alloc::{AllocError, AllocFailed};
+use std::io::{self, ErrorKind};
+use thiserror::Error;
+use tx_machine::MachineError;
+
+/// Why a run of the program ends early. Its text goes to standard error.
+#[derive(Debug, Drop, Error)]
+pub enum Fault {
+    /// A read of the input failed.
+    #[error("reading the input: {0}")]
+    Read(io::Error),
+    /// The input did not end within the reads that a run gives it.
+    #[error("reading the input: it did not end within 1048576 reads")]
+    TooManyReads,
+    /// A write of the output failed.
+    #[error("writing the output: {0}")]
+    Write(io::Error),
+    /// A line of a script, the first being 1, is not of its form. The lines before it have run.
+    #[error("line {line}: {wrong}; expected {expected}")]
+    Malformed {
+        line: usize,
+        wrong: &'static str,
+        expected: &'static str,
+    },
+    /// The flow of a script is refused, at the first line that is no setting.
+    #[error("line {line}: the flow is refused: {cause}")]
+    Flow {
+        line: usize,
+        cause: FlowError,
+    },
+    /// A transaction was given a reply to a call that was not due.
+    #[error("the transaction was given a reply to a call that was not due")]
+    NotDue,
+    /// No memory was left.
+    #[error("out of memory")]
+    OutOfMemory,
+}
+
+impl Fault {
+    /// The exit status of a run that ends with this fault: 1 for a refused input and for faults of
+    /// reading and writing, 4 for want of memory.
+    pub fn status(&self) -> u8
+        ensures { result ≡ fault_status self.now }
+    {
+        match self {
+            Fault::OutOfMemory => 4,
+            _ => 1,
+        }
+    }
+
+    /// The fault of a failed read.
+    pub fn of_read(error: io::Error) -> Fault
+        ensures { IsFaultOfRead error result }
+    {
+        match error.kind() {
+            ErrorKind::OutOfMemory => Fault::OutOfMemory,
+            _ => Fault::Read(error),
+        }
+    }
+
+    /// The fault of a failed write.
+    pub fn of_write(error: io::Error) -> Fault
+        ensures { IsFaultOfWrite error result }
+    {
+        match error.kind() {
+            ErrorKind::OutOfMemory => Fault::OutOfMemory,
+            _ => Fault::Write(error),
+        }
+    }
+}
+
+impl From<AllocError> for Fault {
+    fn from(_error: AllocError) -> Fault {
+        Fault::OutOfMemory
+    }
+}
+
+impl<T: Drop> From<AllocFailed<T>> for Fault {
+    fn from(_error: AllocFailed<T>) -> Fault {
+        Fault::OutOfMemory
+    }
+}
+
+impl From<MachineError> for Fault {
+    fn from(error: MachineError) -> Fault {
+        match error {
+            MachineError::NotDue => Fault::NotDue,
+            MachineError::OutOfMemory => Fault::OutOfMemory,
+        }
+    }
+}

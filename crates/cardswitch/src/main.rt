@@ -1,0 +1,38 @@
+//! The card switch's program.
+//!
+//! The edge of the program: it reads its words and its input, runs the subcommand, and tells a fault
+//! by a text on standard error and by the exit status: 0 done, 1 refused input or a fault of reading
+//! or writing, 2 a bad command line, 4 want of memory.
+#![tactic(auto)]
+
+mod command;
+mod drive;
+mod fault;
+mod input;
+mod program;
+mod script;
+mod settings;
+
+use std::alloc::Global;
+use std::io;
+use std::process::ExitCode;
+use switch_options::command_line::options;
+
+/// The words of the command line, the program's name first.
+fn arguments(rt: &HostRuntime, alloc: Global) -> io::Result<Vec<String>> {
+    Ok(std::env::args(rt)?.collect(alloc)?)
+}
+
+fn main(rt: HostRuntime) -> ExitCode {
+    let alloc = rt.alloc();
+    let mut out = rt.stdout();
+    let mut err = rt.stderr();
+    let words = match arguments(&rt, alloc) {
+        Ok(words) => words,
+        Err(error) => return ExitCode::from(program::refuse_words(error, &mut err)),
+    };
+    ExitCode::from(match options(alloc, words.as_slice()) {
+        Ok(options) => program::run(alloc, &options, rt.stdin(), &mut out, &mut err),
+        Err(error) => program::refuse(&error, &mut out, &mut err),
+    })
+}

@@ -1,0 +1,243 @@
+//! What a checked flow is: the tests, each of which answers the first fault of its kind.
+
+ghost use Rattle.std.specs.Prelude.{◌≡◌, ◌≤◌, length, sum_by, Some, None, false};
+ghost use Rattle.std.specs.List.{list_all};
+ghost use Rattle.flow_model.specs.Check as spec;
+ghost use Rattle.flow_model.specs.Names as names;
+ghost use Rattle.flow_model.specs.declared.flow.Group.{Group as Shown};
+
+use crate::error::FlowError;
+use crate::flow::{Entry, Flow, Group};
+use sw_participant::Kind;
+
+const MAX_GROUPS: usize = 256;
+
+const MAX_ENTRIES: usize = 256;
+
+const MAX_ENTRIES_IN_ALL: usize = 16_384;
+
+const MAX_RETRIES: u8 = 100;
+
+fn is_name_byte(byte: u8) -> bool
+    ensures { result ≡ names.is_name_byte byte }
+{
+    matches!(byte, b'a'..=b'z' | b'A'..=b'Z' | b'0'..=b'9' | b'_' | b'-' | b'.')
+}
+
+fn are_name_bytes(bytes: &[u8]) -> bool
+    ensures { result ≡ list_all names.is_name_byte bytes.now }
+{
+    bytes.iter().all(|byte| is_name_byte(*byte))
+}
+
+/// Whether a text is a name: 1 to 32 bytes of `a-z A-Z 0-9 _ - .`.
+pub fn is_name(text: &str) -> bool
+    ensures { result ≡ names.is_name text.now }
+{
+    let bytes = text.as_bytes();
+    if bytes.len() < 1 || bytes.len() > 32 {
+        return false;
+    }
+    are_name_bytes(bytes)
+}
+
+fn has_large_group(groups: &[Group]) -> bool
+    ensures { result ≡ spec.has_large_group groups.now }
+{
+    'groups: for group in groups {
+        if group.entries.as_slice().len() > MAX_ENTRIES {
+            return true;
+        }
+    }
+    false
+}
+
+// Over at most 256 groups of at most 256 entries, so the sum is small.
+fn count_entries(groups: &[Group]) -> usize
+    requires no_large_group { spec.has_large_group groups.now ≡ false }
+    requires few { length groups.now ≤ 256 }
+    ensures { result ≡ sum_by (λ (g : Shown). length g.entries) groups.now }
+{
+    let mut total = 0;
+    'groups: for group in groups {
+        total += group.entries.as_slice().len();
+    }
+    total
+}
+
+fn is_large(groups: &[Group], flow: &Flow) -> bool
+    requires { groups.now ≡ flow.now.groups }
+    ensures { result ≡ spec.is_large flow.now }
+{
+    if groups.len() > MAX_GROUPS || has_large_group(groups) {
+        return true;
+    }
+    count_entries(groups) > MAX_ENTRIES_IN_ALL
+}
+
+fn test_sizes(flow: &Flow) -> Result<(), FlowError>
+    ensures { result ≡ spec.refused (spec.or_else (spec.large flow.now) (spec.bad_retries flow.now)) }
+{
+    if is_large(flow.groups.as_slice(), flow) {
+        return Err(FlowError::TooLarge);
+    }
+    if flow.retries > MAX_RETRIES {
+        return Err(FlowError::BadRetries);
+    }
+    Ok(())
+}
+
+fn test_name(name: &str, group: usize, index: Option<usize>) -> Result<(), FlowError>
+    ensures { result ≡ spec.refused (spec.bad_name group index name.now) }
+{
+    if is_name(name) {
+        Ok(())
+    } else {
+        Err(FlowError::BadName(group, index))
+    }
+}
+
+fn test_participants(group: usize, entries: &[Entry]) -> Result<(), FlowError>
+    ensures { result ≡ spec.refused (spec.first_at (spec.bad_entry group) 0 entries.now) }
+{
+    'entries: for (index, entry) in entries.iter().enumerate() {
+        test_name(entry.participant.as_str(), group, Some(index))?;
+    }
+    Ok(())
+}
+
+fn test_names_of(number: usize, group: &Group) -> Result<(), FlowError>
+    ensures { result ≡ spec.refused (spec.bad_group number group.now) }
+{
+    test_name(group.name.as_str(), number, None)?;
+    test_participants(number, group.entries.as_slice())
+}
+
+fn test_names(groups: &[Group]) -> Result<(), FlowError>
+    ensures { result ≡ spec.refused (spec.first_at spec.bad_group 0 groups.now) }
+{
+    'groups: for (number, group) in groups.iter().enumerate() {
+        test_names_of(number, group)?;
+    }
+    Ok(())
+}
+
+fn is_named(name: &str, groups: &[Group]) -> bool
+    ensures { result ≡ spec.is_named name.now groups.now }
+{
+    'groups: for group in groups {
+        if group.name.as_str() == name {
+            return true;
+        }
+    }
+    false
+}
+
+fn test_doubles(groups: &[Group]) -> Result<(), FlowError>
+    ensures { result ≡ spec.refused (spec.first_at (spec.double_group groups.now) 0 groups.now) }
+{
+    'groups: for (number, group) in groups.iter().enumerate() {
+        if is_named(group.name.as_str(), &groups[..number]) {
+            return Err(FlowError::DoubleGroup(number));
+        }
+    }
+    Ok(())
+}
+
+fn test_main(groups: &[Group]) -> Result<(), FlowError>
+    ensures { result ≡ spec.refused (spec.no_main groups.now) }
+{
+    if is_named("main", groups) {
+        Ok(())
+    } else {
+        Err(FlowError::NoMain)
+    }
+}
+
+fn kind_in(name: &str, entries: &[Entry]) -> Option<Kind>
+    ensures { result ≡ spec.kind_in name.now entries.now }
+{
+    'entries: for entry in entries {
+        if entry.participant.as_str() == name {
+            return Some(entry.kind);
+        }
+    }
+    None
+}
+
+fn first_kind(name: &str, groups: &[Group]) -> Option<Kind>
+    ensures { result ≡ spec.first_kind name.now groups.now }
+{
+    'groups: for group in groups {
+        if let Some(kind) = kind_in(name, group.entries.as_slice()) {
+            return Some(kind);
+        }
+    }
+    None
+}
+
+fn is_kind(kind: Kind, first: Option<Kind>) -> bool
+    ensures { result ≡ spec.is_kind kind first }
+{
+    match first {
+        Some(first) => kind == first,
+        None => false,
+    }
+}
+
+fn test_kind(groups: &[Group], group: usize, index: usize, entry: &Entry) -> Result<(), FlowError>
+    ensures { result ≡ spec.refused (spec.clash groups.now group index entry.now) }
+{
+    if is_kind(entry.kind, first_kind(entry.participant.as_str(), groups)) {
+        Ok(())
+    } else {
+        Err(FlowError::KindClash(group, index))
+    }
+}
+
+fn test_kinds_in(groups: &[Group], group: usize, entries: &[Entry]) -> Result<(), FlowError>
+    ensures { result ≡ spec.refused (spec.first_at (spec.clash groups.now group) 0 entries.now) }
+{
+    'entries: for (index, entry) in entries.iter().enumerate() {
+        test_kind(groups, group, index, entry)?;
+    }
+    Ok(())
+}
+
+fn test_kinds_of(groups: &[Group], number: usize, group: &Group) -> Result<(), FlowError>
+    ensures { result ≡ spec.refused (spec.clash_in groups.now number group.now) }
+{
+    test_kinds_in(groups, number, group.entries.as_slice())
+}
+
+fn test_kinds(groups: &[Group]) -> Result<(), FlowError>
+    ensures { result ≡ spec.refused (spec.first_at (spec.clash_in groups.now) 0 groups.now) }
+{
+    'groups: for (number, group) in groups.iter().enumerate() {
+        test_kinds_of(groups, number, group)?;
+    }
+    Ok(())
+}
+
+impl Flow {
+    ghost use Rattle.std.specs.Prelude.{◌≡◌};
+    ghost use Rattle.flow_model.specs.Check.{first_fault, refused};
+
+    /// Accepts exactly a flow without a fault, and else answers its first one, tested in the order
+    /// size, retries, names (a group's, then its entries', group by group), doubled groups, the
+    /// group `main`, kinds. Takes no memory, so comparing the kinds of n entries takes n × n steps.
+    #[tactic(auto, unfolding(crate::specs::Check::first_fault))]
+    pub fn check(&self) -> Result<(), FlowError>
+        ensures { result ≡ refused (first_fault self.now) }
+    {
+        test_sizes(self)?;
+        let groups = self.groups.as_slice();
+        test_names(groups)?;
+        test_doubles(groups)?;
+        test_main(groups)?;
+        test_kinds(groups)
+    }
+}
+
+#[cfg(test)]
+mod tests;

@@ -1,0 +1,40 @@
+//! What a flow is made of (jPOS: the groups of a transaction manager's configuration).
+
+use sw_participant::{Kind, Sequence, Text};
+
+/// One entry of a group: a participant that is prepared there.
+#[derive(Debug, Drop)]
+pub struct Entry {
+    /// The participant's name; a checked flow has names of 1 to 32 of `a-z A-Z 0-9 _ - .`.
+    pub participant: Text,
+    /// The participant's marks, the same at each of its places in a checked flow.
+    pub kind: Kind,
+}
+
+/// A named list of entries. It may be empty.
+#[derive(Debug, Drop)]
+pub struct Group {
+    pub name: Text,
+    pub entries: Sequence<Entry>,
+}
+
+/// A flow. A transaction starts with the entries of the group `main`; a selector names further
+/// groups.
+#[derive(Debug, Drop)]
+pub struct Flow {
+    /// How often a transaction that aborts with RETRY is tried again; at most 100 in a checked flow.
+    pub retries: u8,
+    /// The groups, numbered from 0; a checked flow has at most 256, of at most 256 entries each and
+    /// at most 16,384 in all.
+    pub groups: Sequence<Group>,
+}
+
+/// An entry at its place: the entry `index` of the group `group`, both from 0.
+#[derive(Clone, Copy, PartialEq, Eq, Debug)]
+pub struct Slot {
+    pub group: usize,
+    pub index: usize,
+    /// The participant's number, by first appearance in the flow.
+    pub participant: usize,
+    pub kind: Kind,
+}

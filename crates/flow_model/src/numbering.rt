@@ -1,0 +1,70 @@
+//! The participants of a flow, numbered from 0 in the order of first appearance.
+
+ghost use Rattle.std.specs.Prelude.{◌≡◌, [], IfOk, OnOk};
+ghost use Rattle.std.specs.List.{flat_map};
+ghost use Rattle.flow_model.specs.Places.{number_in, add_new, parts_from, parts_of};
+ghost use Rattle.flow_model.specs.declared.flow.Group.{Group as Shown};
+
+use crate::flow::{Entry, Flow, Group};
+use std::alloc::{AllocError, Global};
+use sw_participant::{Kind, Sequence, Text};
+
+/// A participant of a flow, with its marks.
+#[derive(Debug, Drop)]
+pub struct Part {
+    pub name: Text,
+    pub kind: Kind,
+}
+
+/// The number of the participant of this name, or how many participants there are.
+pub fn number_of(parts: &[Part], name: &str) -> usize
+    ensures { result ≡ number_in parts.now name.now }
+{
+    'parts: for (number, part) in parts.iter().enumerate() {
+        if part.name.as_str() == name {
+            return number;
+        }
+    }
+    parts.len()
+}
+
+fn add_part(parts: &mut Vec<Part>, entry: &Entry) -> Result<(), AllocError>
+    ensures { OnOk result (parts.new.items ≡ add_new parts.old.items entry.now) }
+{
+    if number_of(parts, entry.participant.as_str()) < parts.len() {
+        return Ok(());
+    }
+    let name = entry.participant.copy()?;
+    parts.push(Part {
+        name,
+        kind: entry.kind,
+    })?;
+    Ok(())
+}
+
+fn add_parts(parts: &mut Vec<Part>, entries: &[Entry]) -> Result<(), AllocError>
+    ensures { OnOk result (parts.new.items ≡ parts_from parts.old.items entries.now) }
+{
+    'entries: for entry in entries {
+        add_part(parts, entry)?;
+    }
+    Ok(())
+}
+
+fn collect_parts(alloc: Global, groups: &[Group]) -> Result<Vec<Part>, AllocError>
+    ensures { IfOk result (λ parts. parts.items ≡ parts_from [] (flat_map (λ (g : Shown). g.entries) groups.now)) }
+{
+    let mut parts = Vec::new(alloc);
+    'groups: for group in groups {
+        add_parts(&mut parts, group.entries.as_slice())?;
+    }
+    Ok(parts)
+}
+
+/// The participants of a flow, each at its number, with the kind of its first place. The only
+/// refusal is want of memory.
+pub fn participants(alloc: Global, flow: &Flow) -> Result<Sequence<Part>, AllocError>
+    ensures { IfOk result (λ parts. parts ≡ parts_of flow.now) }
+{
+    Ok(Sequence::new(collect_parts(alloc, flow.groups.as_slice())?))
+}

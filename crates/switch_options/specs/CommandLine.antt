@@ -1,0 +1,36 @@
+-- The command line of `cardswitch`: its subcommands as a table, and what words mean by it. clap's
+-- contracts say what a parse by such a table gives.
+use Rattle.std.specs.Prelude.{◌≡◌, true, List, Option, Some, None, codes}
+use Rattle.clap.specs.Words.{App, Row, Text, new_app, subcommand_of, with_subcommand}
+use Rattle.switch_options.specs.declared.choice.Options.{Options}
+use Rattle.switch_options.specs.declared.choice.Options.TheVariants.{Step}
+
+-- `step`, without options
+abbrev pub step_app : App
+step_app = new_app (codes "step")
+
+-- the program itself: it has a version, and wants a subcommand
+abbrev pub program_app : App
+program_app = record (new_app (codes "cardswitch")) {
+  top = record (new_app (codes "cardswitch")).top { has_version = true; subcommand_required = true };
+}
+
+-- the program with its subcommands
+abbrev pub switch_app : App
+switch_app = with_subcommand program_app step_app.top
+
+-- the options are those of the subcommand `name`, whose own options are in the rows
+abbrev pub AreOptionsAt : Text → List Row → Options → Type 0
+AreOptionsAt name rows Step = name ≡ codes "step"
+
+-- no options are those of the subcommand `name`
+abbrev pub IsNoSubcommand : Text → List Row → Type 0
+IsNoSubcommand name rows = (o : Options) → AreOptionsAt name rows o → ⊥
+
+abbrev pub AreOptionsFound : Option (Text × List Row) → Options → Type 0
+AreOptionsFound None o = ⊥
+AreOptionsFound (Some found) o = AreOptionsAt found.0 found.1 o
+
+-- the options are those of the words, the program's name first, by the table
+abbrev pub AreOptionsOf : List Text → Options → Type 0
+AreOptionsOf words o = AreOptionsFound (subcommand_of switch_app words) o

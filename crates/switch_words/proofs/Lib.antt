@@ -1,0 +1,2 @@
+mod LineEnds
+mod Spelling

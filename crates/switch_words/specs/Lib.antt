@@ -1,0 +1,3 @@
+pub mod LineErrors
+pub mod Lines
+pub mod Words

@@ -1,0 +1,5 @@
+pub mod NameRuns
+pub mod Choosing
+pub mod Marks
+pub mod ListLaws
+pub mod Dues

@@ -1,0 +1,6 @@
+use Rattle.std.proofs.Common.{◌≡◌, drop}
+use Rattle.tx_machine.specs.Names.{names_of}
+use Rattle.tx_machine.proofs.names.skip_gaps.Given as goal
+
+abbrev pub invariant-bytes : goal.invariant-bytes
+invariant-bytes l = names_of (drop l.number l.text) ≡ names_of l.text

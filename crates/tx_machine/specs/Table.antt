@@ -1,0 +1,164 @@
+-- The written table: what one transaction's own items lead to (jPOS: `TransactionManager`, its
+-- prepare, prepareForAbort, commit and abort). It knows no steps, addresses or stacks.
+use Rattle.std.specs.Prelude.{ℕ, ◌+◌, ◌==◌, Bool, true, false, not, ◌&&◌, List, [], ◌∷◌, ◌++◌, length, map, take, nat_lt, if◌then◌else◌, codes}
+use Rattle.std.specs.List.{flat_map}
+use Rattle.sw_participant.specs.Answers.{is_prepared, asks_retry, stays_out, is_readonly}
+use Rattle.flow_model.specs.declared.flow.Flow.{Flow}
+use Rattle.flow_model.specs.declared.flow.Slot.{Slot}
+use Rattle.flow_model.specs.Places.{slots_named}
+use Rattle.tx_machine.specs.declared.values.Phase.{Phase}
+use Rattle.tx_machine.specs.declared.values.Phase.TheVariants.{Preparing, Aborting, Committing, Undoing}
+use Rattle.tx_machine.specs.declared.values.Item.{Item}
+use Rattle.tx_machine.specs.declared.values.Item.TheVariants.{Answer, Choice, Told}
+use Rattle.tx_machine.specs.Names.{names_of}
+
+-- what is still to come: an entry to be prepared, or a selector to be asked
+pub data Mark : Type 0 where
+  Enter : (s : Slot) → Mark
+  Ask : (s : Slot) → Mark
+
+-- the entries that a selection puts before the rest: those of the groups that the first 16 names
+-- name, in the order of the names; an unknown name counts and gives none
+abbrev pub chosen : Flow → List ℕ → List Slot
+chosen f text = flat_map (slots_named f) (take 16 (names_of text))
+
+-- where a transaction stands
+pub record Standing : Type 0 where
+  pub phase : Phase
+  pub rest : List Mark
+  -- RETRY of the answer that began the abort
+  pub retry : Bool
+  -- the bound has dropped the rest
+  pub bound : Bool
+  -- answers and choices so far
+  pub calls : ℕ
+  -- the members: participants that joined, in the order of joining, once per joining
+  pub joined : List ℕ
+  -- how many members were told the outcome
+  pub told : ℕ
+  pub saved : List ℕ
+  pub tries : ℕ
+
+-- Once aborting, entries that are not abort-aware are passed over; of a selector among them the
+-- question stays. While a question stands first, nothing behind it is passed over.
+abbrev pub passed : List Mark → List Mark
+passed [] = []
+passed (Ask s ∷ tail) = Ask s ∷ tail
+passed (Enter s ∷ tail) = if s.kind.abort_aware then Enter s ∷ tail else if s.kind.selector then Ask s ∷ tail else passed tail
+
+abbrev pub is_aborting : Phase → Bool
+is_aborting Preparing = false
+is_aborting Aborting = true
+is_aborting Committing = false
+is_aborting Undoing = false
+
+abbrev pub settled : Bool → List Mark → List Mark
+settled aborting rest = if aborting then passed rest else rest
+
+-- After 1,000 answers and choices what is left is dropped: the transaction aborts, without retry.
+abbrev pub cut_at : Standing → List Mark → Bool → Standing
+cut_at s [] full = s
+cut_at s (m ∷ ms) false = s
+cut_at s (m ∷ ms) true = record s { phase = Aborting; rest = []; retry = false; bound = true }
+
+abbrev pub limited : Standing → Standing
+limited s = cut_at s s.rest (s.calls == 1000)
+
+-- With nothing to come and members, the members are told: commit after preparing, abort after
+-- aborting. Without members the transaction is over.
+abbrev pub outcome : Phase → Phase
+outcome Preparing = Committing
+outcome Aborting = Undoing
+outcome Committing = Committing
+outcome Undoing = Undoing
+
+abbrev pub decide_at : Standing → List Mark → List ℕ → Standing
+decide_at s (m ∷ ms) ps = s
+decide_at s [] [] = s
+decide_at s [] (p ∷ ps) = record s { phase = outcome s.phase }
+
+abbrev pub decided : Standing → Standing
+decided s = decide_at s s.rest s.joined
+
+-- passing over, then the bound, then the outcome, before anything is due
+abbrev pub advanced : Standing → Standing
+advanced s = decided (limited (record s { rest = settled (is_aborting s.phase) s.rest }))
+
+-- a prepared selector is asked before anything else comes
+abbrev pub entered : Slot → List Mark → List Mark
+entered s tail = if s.kind.selector then Ask s ∷ tail else tail
+
+-- an answer without PREPARED turns preparing into aborting, and its RETRY is kept; while aborting,
+-- PREPARED and RETRY are ignored
+abbrev pub after_byte : Phase → ℕ → Phase
+after_byte Preparing b = if is_prepared b then Preparing else Aborting
+after_byte Aborting b = Aborting
+after_byte Committing b = Committing
+after_byte Undoing b = Undoing
+
+abbrev pub retry_after : Phase → ℕ → Bool → Bool
+retry_after Preparing b r = if is_prepared b then r else asks_retry b
+retry_after Aborting b r = r
+retry_after Committing b r = r
+retry_after Undoing b r = r
+
+abbrev pub joined_after : ℕ → ℕ → List ℕ → List ℕ
+joined_after b p joined = if stays_out b then joined else joined ++ p ∷ []
+
+abbrev pub saved_after : ℕ → List ℕ → List ℕ → List ℕ
+saved_after b context saved = if is_readonly b then saved else context
+
+abbrev pub answered_at : Standing → ℕ → List ℕ → List Mark → Standing
+answered_at s b c [] = s
+answered_at s b c (Ask e ∷ tail) = s
+answered_at s b c (Enter e ∷ tail) = advanced (record s {
+  phase = after_byte s.phase b;
+  rest = entered e tail;
+  retry = retry_after s.phase b s.retry;
+  calls = s.calls + 1;
+  joined = joined_after b e.participant s.joined;
+  saved = saved_after b c s.saved;
+})
+
+abbrev pub chosen_at : Flow → Standing → List ℕ → List Mark → Standing
+chosen_at f s text [] = s
+chosen_at f s text (Enter e ∷ tail) = s
+chosen_at f s text (Ask e ∷ tail) = advanced (record s { rest = map Enter (chosen f text) ++ tail; calls = s.calls + 1 })
+
+-- one item that was due
+abbrev pub next : Flow → Standing → Item → Standing
+next f s (Answer b c) = answered_at s b c s.rest
+next f s (Choice text) = chosen_at f s text s.rest
+next f s (Told advice) = record s { told = s.told + 1 }
+
+-- whether preparations and selections may be due
+abbrev pub is_open : Phase → Bool
+is_open Preparing = true
+is_open Aborting = true
+is_open Committing = false
+is_open Undoing = false
+
+abbrev pub enters : List Mark → Bool
+enters [] = false
+enters (Enter e ∷ tail) = true
+enters (Ask e ∷ tail) = false
+
+abbrev pub asks : List Mark → Bool
+asks [] = false
+asks (Enter e ∷ tail) = false
+asks (Ask e ∷ tail) = true
+
+-- whether a call is due to which an item of this kind is the reply
+abbrev pub is_due : Standing → Item → Bool
+is_due s (Answer b c) = is_open s.phase && enters s.rest
+is_due s (Choice text) = is_open s.phase && asks s.rest
+is_due s (Told advice) = not (is_open s.phase) && nat_lt s.told (length s.joined)
+
+-- before the first item: the entries of the group `main`
+abbrev pub opening : Flow → ℕ → List ℕ → Standing
+opening f tries saved = advanced (record { phase = Preparing; rest = map Enter (slots_named f (codes "main")); retry = false; bound = false; calls = 0; joined = []; told = 0; saved = saved; tries = tries })
+
+-- after a list of items, the latest one last
+abbrev pub after : Flow → Standing → List Item → Standing
+after f s [] = s
+after f s (x ∷ xs) = after f (next f s x) xs

@@ -1,0 +1,58 @@
+//! The names in a selector's text, one after the other.
+
+ghost use Rattle.std.specs.Prelude.{◌≡◌, ◌⊎◌, ◌≤◌, ◌∷◌, [], true, length, take, drop, IfSome, IfNone};
+ghost use Rattle.tx_machine.specs.Names.{begins_with_name, is_gap as is_gap_of, names_of};
+ghost use Rattle.tx_machine.specs.Runs.{run_of};
+
+fn is_gap(byte: u8) -> bool
+    ensures { result ≡ is_gap_of byte }
+{
+    byte == b' ' || byte == b','
+}
+
+// The text from its first name on; empty where it has none.
+fn skip_gaps(text: &[u8]) -> &[u8]
+    ensures names { names_of result.now ≡ names_of text.now }
+    ensures begins { (result.now ≡ []) ⊎ (begins_with_name result.now ≡ true) }
+{
+    'bytes: for (number, byte) in text.iter().enumerate() {
+        if !is_gap(*byte) {
+            return &text[number..];
+        }
+    }
+    &[]
+}
+
+// How many bytes stand before the first gap.
+fn run_len(text: &[u8]) -> usize
+    ensures value { result ≡ run_of text.now }
+    ensures within { result ≤ length text.now }
+{
+    'bytes: for (number, byte) in text.iter().enumerate() {
+        if is_gap(*byte) {
+            return number;
+        }
+    }
+    text.len()
+}
+
+/// A name, and the text behind it.
+#[derive(Clone, Copy)]
+pub struct FirstName<'a> {
+    pub name: &'a [u8],
+    pub rest: &'a [u8],
+}
+
+/// The first name of a text; `None` where it has none.
+#[tactic(auto, using(crate::proofs::NameRuns::names_of_run))]
+pub fn first_name(text: &[u8]) -> Option<FirstName<'_>>
+    ensures found { IfSome result (λ first. names_of text.now ≡ first.name.now ∷ names_of first.rest.now) }
+    ensures none { IfNone result (names_of text.now ≡ []) }
+{
+    let text = skip_gaps(text);
+    if text.is_empty() {
+        return None;
+    }
+    let (name, rest) = text.split_at(run_len(text));
+    Some(FirstName { name, rest })
+}

@@ -1,0 +1,86 @@
+//! What a machine answers and is told.
+
+ghost use Rattle.tx_machine.specs.declared.values.MachineError.TheVariants.{OutOfMemory};
+ghost use Rattle.std.specs.Prelude.{◌≡◌};
+
+use std::alloc::{AllocError, AllocFailed};
+use sw_participant::{Bytes, Text};
+use thiserror::Error;
+
+/// Where a transaction is on its way.
+#[derive(Clone, Copy, PartialEq, Eq, Debug)]
+pub enum Phase {
+    /// Participants are prepared.
+    Preparing,
+    /// A participant was not prepared: only abort-aware participants are called.
+    Aborting,
+    /// The members are told to commit.
+    Committing,
+    /// The members are told to abort.
+    Undoing,
+}
+
+/// The entry whose call is due.
+#[derive(Clone, Copy, PartialEq, Eq, Debug)]
+pub struct Spot {
+    /// The group's number in the flow, from 0.
+    pub group: usize,
+    /// The entry's number in its group, from 0.
+    pub index: usize,
+    /// The participant's number, by first appearance in the flow.
+    pub participant: usize,
+}
+
+/// The call that is due, or how the transaction ends.
+#[derive(Clone, Copy, PartialEq, Eq, Debug)]
+pub enum Due {
+    Prepare(Spot),
+    PrepareForAbort(Spot),
+    /// A selector is asked for groups (jPOS: `GroupSelector.select`).
+    Select(Spot),
+    /// The participant of this number, a member, is told to commit.
+    Commit(usize),
+    /// The participant of this number, a member, is told to abort.
+    Abort(usize),
+    /// The transaction is aborted and goes on the shelf, to be tried again.
+    Shelve,
+    /// The transaction is over.
+    Done,
+}
+
+/// The reply to a due call.
+#[derive(Debug, Drop)]
+pub enum Item {
+    /// The answer byte of a preparation, and the context as the participant left it.
+    Answer(u8, Bytes),
+    /// The text of a selection: names of groups, parted by spaces and commas.
+    Choice(Text),
+    /// A member was told; it may have given an advice to be forwarded.
+    Told(Option<Bytes>),
+}
+
+/// Why a machine refuses an item. It is then as it was.
+#[derive(Clone, Copy, PartialEq, Eq, Debug, Error)]
+pub enum MachineError {
+    /// Another kind of call is due, or none.
+    #[error("no call of this kind is due")]
+    NotDue,
+    #[error("out of memory")]
+    OutOfMemory,
+}
+
+impl From<AllocError> for MachineError {
+    ghost from_gives = { λ _ e. e ≡ OutOfMemory };
+
+    fn from(_error: AllocError) -> MachineError {
+        MachineError::OutOfMemory
+    }
+}
+
+impl<T: Drop> From<AllocFailed<T>> for MachineError {
+    ghost from_gives = { λ _ e. e ≡ OutOfMemory };
+
+    fn from(_error: AllocFailed<T>) -> MachineError {
+        MachineError::OutOfMemory
+    }
+}

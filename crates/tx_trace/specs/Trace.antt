@@ -1,0 +1,112 @@
+-- The text of the trace.
+use Rattle.std.specs.Prelude.{ℕ, Bool, true, false, List, [], ◌∷◌, ◌++◌, Option, Some, None, codes, if◌then◌else◌, ◌/◌, ◌%◌, ◌+◌, nat_lt, slice_get, take, map, filter, is_some}
+use Rattle.std.specs.Borrow.{Bor}
+use Rattle.std.specs.List.{flat_map}
+use Rattle.std.specs.Option.{option_map_or}
+use Rattle.std.specs.Fmt.{decimal}
+use Rattle.sw_participant.specs.Answers.{is_bad, stays_out, is_readonly}
+use Rattle.flow_model.specs.declared.flow.Flow.{Flow}
+use Rattle.flow_model.specs.declared.flow.Group.{Group}
+use Rattle.flow_model.specs.declared.numbering.Part.{Part}
+use Rattle.flow_model.specs.Check.{is_named}
+use Rattle.flow_model.specs.Places.{parts_of}
+use Rattle.tx_machine.specs.declared.values.Phase.{Phase}
+use Rattle.tx_machine.specs.declared.values.Phase.TheVariants.{Aborting, Committing, Preparing, Undoing}
+use Rattle.tx_machine.specs.declared.values.Spot.{Spot}
+use Rattle.tx_machine.specs.declared.values.Due.{Due}
+use Rattle.tx_machine.specs.declared.values.Due.TheVariants as due
+use Rattle.tx_machine.specs.Names.{names_of}
+use Rattle.tx_machine.specs.Table.{Standing}
+use Rattle.tx_machine.specs.Due.{due_of}
+use Rattle.tx_engine.specs.declared.event.Event.{Event}
+use Rattle.tx_engine.specs.declared.event.Event.TheVariants.{Answered, Chose, Told}
+
+abbrev pub Text : Type 0
+Text = List ℕ
+
+-- what texts say
+abbrev pub texts_of : List (Bor Text) → List Text
+texts_of = map (λ t. t.now)
+
+abbrev pub group_name : Flow → ℕ → Text
+group_name f g = option_map_or (λ (x : Group). x.name) (slice_get f.groups g) []
+
+-- the name of the participant of this number
+abbrev pub part_name : Flow → ℕ → Text
+part_name f p = option_map_or (λ (x : Part). x.name) (slice_get (parts_of f) p) []
+
+-- `NAME GROUP/INDEX`
+abbrev pub spot_text : Flow → Spot → Text
+spot_text f s = part_name f s.participant ++ codes " " ++ group_name f s.group ++ codes "/" ++ decimal s.index
+
+-- the call that is due, or the end, as in `prepare NAME GROUP/INDEX`, `commit NAME` and `done`
+abbrev pub due_text : Flow → Due → Text
+due_text f (due.Prepare s) = codes "prepare " ++ spot_text f s
+due_text f (due.PrepareForAbort s) = codes "prepare_for_abort " ++ spot_text f s
+due_text f (due.Select s) = codes "select " ++ spot_text f s
+due_text f (due.Commit p) = codes "commit " ++ part_name f p
+due_text f (due.Abort p) = codes "abort " ++ part_name f p
+due_text f due.Shelve = codes "shelve"
+due_text f due.Done = codes "done"
+
+abbrev pub phase_text : Phase → Text
+phase_text Preparing = codes "P"
+phase_text Aborting = codes "A"
+phase_text Committing = codes "C"
+phase_text Undoing = codes "U"
+
+abbrev pub hex_digit : ℕ → ℕ
+hex_digit d = if nat_lt d 10 then 48 + d else 87 + d
+
+-- two lower case hexadecimal digits
+abbrev pub hex_text : ℕ → Text
+hex_text b = hex_digit (b / 16) ∷ hex_digit (b % 16) ∷ []
+
+abbrev pub word_if : Bool → Text → Text
+word_if b word = if b then word else []
+
+-- an answer: `HH [bad ]JOIN CTX `
+abbrev pub answer_text : ℕ → Text
+answer_text b = hex_text b ++ codes " " ++ word_if (is_bad b) (codes "bad ")
+    ++ (if stays_out b then codes "nojoin " else codes "join ")
+    ++ (if is_readonly b then codes "noctx " else codes "ctx ")
+
+-- the names of groups of the flow among the first 16 names of a selection
+abbrev pub known : List Group → Text → List Text
+known groups text = filter (λ n. is_named n groups) (take 16 (names_of text))
+
+abbrev pub with_comma : Text → Text
+with_comma name = codes "," ++ name
+
+abbrev pub comma_list : List Text → Text
+comma_list [] = []
+comma_list (n ∷ ns) = n ++ flat_map with_comma ns
+
+-- `[NAMES] `
+abbrev pub list_text : List Text → Text
+list_text names = codes "[" ++ comma_list names ++ codes "] "
+
+-- a choice
+abbrev pub choice_text : Flow → Text → Text
+choice_text f text = list_text (known f.groups text)
+
+-- a told: `[advice PLACE ]`, PLACE being the member's number from 0
+abbrev pub told_text : Bool → ℕ → Text
+told_text advised place = word_if advised (codes "advice " ++ decimal place ++ codes " ")
+
+abbrev pub bound_text : Bool → Text
+bound_text bound = word_if bound (codes "bound ")
+
+-- what an event adds behind its call
+abbrev pub event_text : Flow → Event → ℕ → Bool → Text
+event_text f (Answered s b c) place bound = answer_text b ++ bound_text bound
+event_text f (Chose s text) place bound = choice_text f text ++ bound_text bound
+event_text f (Told s advice) place bound = told_text (is_some advice) place
+
+-- `ID PHASE CALL `
+abbrev pub head_text : ℕ → Flow → Phase → Due → Text
+head_text id f phase call = decimal id ++ codes " " ++ phase_text phase ++ codes " " ++ due_text f call ++ codes " "
+
+-- `ID PHASE CALL .. -> NEXT`: an event that leads from one standing to the next
+abbrev pub step_text : ℕ → Flow → Standing → Event → Standing → Text
+step_text id f before event after = head_text id f before.phase (due_of before) ++ (event_text f event before.told after.bound ++ codes "-> " ++ due_text f (due_of after))
