@@ -1,22 +1,21 @@
 //! Why a run of the program ends early, and with which exit status.
 ghost use Rattle.std.specs.Prelude.{◌≡◌};
-ghost use Rattle.cardswitch.specs.Faults.{IsFaultOfRead, IsFaultOfWrite, fault_status};
+ghost use Rattle.cardswitch.specs.Faults.{IsFaultOfWrite, fault_status};
 
 use flow_model::FlowError;
 use std::alloc::{AllocError, AllocFailed};
 use std::io::{self, ErrorKind};
+use switch_decode::StreamFault;
+use switch_io::ReadFault;
 use thiserror::Error;
 use tx_machine::MachineError;
 
 /// Why a run of the program ends early. Its text goes to standard error.
 #[derive(Debug, Drop, Error)]
 pub enum Fault {
-    /// A read of the input failed.
+    /// The input could not be read to its end.
     #[error("reading the input: {0}")]
-    Read(io::Error),
-    /// The input did not end within the reads that a run gives it.
-    #[error("reading the input: it did not end within 1048576 reads")]
-    TooManyReads,
+    Read(ReadFault),
     /// A write of the output failed.
     #[error("writing the output: {0}")]
     Write(io::Error),
@@ -36,6 +35,9 @@ pub enum Fault {
     /// A transaction was given a reply to a call that was not due.
     #[error("the transaction was given a reply to a call that was not due")]
     NotDue,
+    /// A message or a frame of a stream is refused; what it prints says which.
+    #[error("a message or a frame of the input is refused; expected frames of ISO 8583:1987 messages")]
+    Refused,
     /// No memory was left.
     #[error("out of memory")]
     OutOfMemory,
@@ -50,16 +52,6 @@ impl Fault {
         match self {
             Fault::OutOfMemory => 4,
             _ => 1,
-        }
-    }
-
-    /// The fault of a failed read.
-    pub fn of_read(error: io::Error) -> Fault
-        ensures { IsFaultOfRead error result }
-    {
-        match error.kind() {
-            ErrorKind::OutOfMemory => Fault::OutOfMemory,
-            _ => Fault::Read(error),
         }
     }
 
@@ -91,6 +83,25 @@ impl From<MachineError> for Fault {
         match error {
             MachineError::NotDue => Fault::NotDue,
             MachineError::OutOfMemory => Fault::OutOfMemory,
+        }
+    }
+}
+
+impl From<ReadFault> for Fault {
+    fn from(error: ReadFault) -> Fault {
+        match error {
+            ReadFault::OutOfMemory => Fault::OutOfMemory,
+            other => Fault::Read(other),
+        }
+    }
+}
+
+impl From<StreamFault> for Fault {
+    fn from(error: StreamFault) -> Fault {
+        match error {
+            StreamFault::Read(error) => Fault::Read(error),
+            StreamFault::Write(error) => Fault::Write(error),
+            StreamFault::OutOfMemory => Fault::OutOfMemory,
         }
     }
 }

@@ -8,7 +8,6 @@
 mod command;
 mod drive;
 mod fault;
-mod input;
 mod program;
 mod script;
 mod settings;

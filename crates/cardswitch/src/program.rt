@@ -6,10 +6,11 @@ ghost use Rattle.cardswitch.specs.Faults.{fault_status};
 ghost use Rattle.switch_options.specs.Refusal.{status_of};
 
 use crate::fault::Fault;
-use crate::input::read_input;
 use crate::script::run_script;
 use std::alloc::Global;
 use std::io::{self, ErrorKind, Read, Write};
+use switch_decode::decode_stream;
+use switch_io::read_input;
 use switch_options::choice::{Options, OptionsError};
 
 /// Runs a subcommand, and gives the exit status. What it prints goes to `out`, and a fault that ends
@@ -48,6 +49,11 @@ fn run_subcommand<R: Read + Drop, O: Write>(
         Options::Step => {
             let script = read_input(alloc, input)?;
             run_script(alloc, script.as_slice(), out)
+        }
+        Options::Decode => {
+            let refused = decode_stream(alloc, input, out)?;
+            out.flush().map_err(Fault::of_write)?;
+            if refused { Err(Fault::Refused) } else { Ok(()) }
         }
     }
 }

@@ -3,11 +3,15 @@
 use Rattle.std.specs.Prelude.{◌≡◌, true, List, Option, Some, None, codes}
 use Rattle.clap.specs.Words.{App, Row, Text, new_app, subcommand_of, with_subcommand}
 use Rattle.switch_options.specs.declared.choice.Options.{Options}
-use Rattle.switch_options.specs.declared.choice.Options.TheVariants.{Step}
+use Rattle.switch_options.specs.declared.choice.Options.TheVariants.{Decode, Step}
 
 -- `step`, without options
 abbrev pub step_app : App
 step_app = new_app (codes "step")
+
+-- `decode`, without options
+abbrev pub decode_app : App
+decode_app = new_app (codes "decode")
 
 -- the program itself: it has a version, and wants a subcommand
 abbrev pub program_app : App
@@ -17,11 +21,12 @@ program_app = record (new_app (codes "cardswitch")) {
 
 -- the program with its subcommands
 abbrev pub switch_app : App
-switch_app = with_subcommand program_app step_app.top
+switch_app = with_subcommand (with_subcommand program_app step_app.top) decode_app.top
 
 -- the options are those of the subcommand `name`, whose own options are in the rows
 abbrev pub AreOptionsAt : Text → List Row → Options → Type 0
 AreOptionsAt name rows Step = name ≡ codes "step"
+AreOptionsAt name rows Decode = name ≡ codes "decode"
 
 -- no options are those of the subcommand `name`
 abbrev pub IsNoSubcommand : Text → List Row → Type 0

@@ -13,6 +13,8 @@ use thiserror::Error;
 pub enum Options {
     /// `step`: the script of a transaction engine comes from standard input.
     Step,
+    /// `decode`: prints the fields of the messages in frames from standard input.
+    Decode,
 }
 
 /// Why a command line gives no options. Each text ends in a line feed.

@@ -37,6 +37,7 @@ fn options_at(name: &str, _found: &ArgMatches<'_>) -> Option<Options>
 {
     match name {
         "step" => Some(Options::Step),
+        "decode" => Some(Options::Decode),
         _ => None,
     }
 }
@@ -47,9 +48,11 @@ mod tests {
     use std::test::Fail;
 
     #[test]
-    fn reads_step(rt: HostRuntime) -> Result<(), Fail> {
+    fn reads_subcommands(rt: HostRuntime) -> Result<(), Fail> {
         let words = ["cardswitch", "step"];
         assert_eq!(rt; options(rt.alloc(), words.as_slice())?, Options::Step);
+        let words = ["cardswitch", "decode"];
+        assert_eq!(rt; options(rt.alloc(), words.as_slice())?, Options::Decode);
         Ok(())
     }
 

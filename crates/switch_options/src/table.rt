@@ -2,7 +2,7 @@
 ghost use Rattle.std.specs.Prelude.{◌≡◌, IfOk, false};
 ghost use Rattle.clap.specs.Words.{app_of, new_app};
 ghost use Rattle.clap.specs.declared.builder.Command.TheViews.{out-Command};
-ghost use Rattle.switch_options.specs.CommandLine.{program_app, step_app, switch_app};
+ghost use Rattle.switch_options.specs.CommandLine.{decode_app, program_app, step_app, switch_app};
 
 use clap::Command;
 use std::alloc::{AllocError, Global};
@@ -26,6 +26,14 @@ fn step_command<'a>(alloc: Global) -> Command<'a>
     )
 }
 
+fn decode_command<'a>(alloc: Global) -> Command<'a>
+    ensures shape { app_of result ≡ decode_app }
+    ensures local { (out-Command result).has_globals ≡ false }
+{
+    let about = "Prints the fields of each ISO 8583 message in frames from standard input";
+    subcommand(alloc, "decode", about)
+}
+
 /// The program without its subcommands.
 fn program_command<'a>(alloc: Global) -> Command<'a>
     ensures { app_of result ≡ program_app }
@@ -40,5 +48,6 @@ fn program_command<'a>(alloc: Global) -> Command<'a>
 pub fn switch_command<'a>(alloc: Global) -> Result<Command<'a>, AllocError>
     ensures { IfOk result (λ r. app_of r ≡ switch_app) }
 {
-    program_command(alloc).subcommand(step_command(alloc))
+    let command = program_command(alloc).subcommand(step_command(alloc))?;
+    command.subcommand(decode_command(alloc))
 }

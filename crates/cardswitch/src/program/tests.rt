@@ -1,5 +1,4 @@
 use super::*;
-use crate::input::Input;
 use std::test::Fail;
 use switch_options::command_line::options;
 
@@ -31,16 +30,6 @@ impl Read for Endless {
         };
         *first = b'a';
         Ok(1)
-    }
-}
-
-/// A reader whose every read is interrupted.
-#[derive(Drop)]
-struct Interrupted;
-
-impl Read for Interrupted {
-    fn read(&mut self, _buf: &mut [u8]) -> io::Result<usize> {
-        Err(io::Error::from(ErrorKind::Interrupted))
     }
 }
 
@@ -112,24 +101,9 @@ fn a_failed_read_ends_the_run(rt: HostRuntime) -> Result<(), Fail> {
 }
 
 #[test]
-fn a_piece_before_a_failed_read_stands(rt: HostRuntime) -> Result<(), Fail> {
-    let mut input = Input::new(Broken { given: false });
-    let mut buf = [0u8; 16];
-    let count = input.read_piece(&mut buf).map_err(|_| "the first read")?;
-    assert_eq!(rt; buf.get(..count), Some(b"flow main p\n".as_slice()));
-    let fault = input.read_piece(&mut buf).err().ok_or("the second read")?;
-    assert_eq!(rt; fault.status(), 1);
-    assert_eq!(rt; buf.get(..count), Some(b"flow main p\n".as_slice()));
-    Ok(())
-}
-
-#[test]
 fn reads_are_bounded(rt: HostRuntime) -> Result<(), Fail> {
     let expected = "cardswitch: reading the input: it did not end within 1048576 reads\n";
     let (status, _, err) = step(rt.alloc(), Endless)?;
-    assert_eq!(rt; status, 1);
-    assert_eq!(rt; err.as_str(), expected);
-    let (status, _, err) = step(rt.alloc(), Interrupted)?;
     assert_eq!(rt; status, 1);
     assert_eq!(rt; err.as_str(), expected);
     Ok(())
@@ -176,5 +150,69 @@ fn command_lines_are_refused(rt: HostRuntime) -> Result<(), Fail> {
     assert_eq!(rt; refuse(&bad, &mut out, &mut err), 2);
     assert_eq!(rt; String::from_utf8(out)?.as_str(), "cardswitch 0.1.0\n");
     assert!(rt; String::from_utf8(err)?.starts_with("error: unrecognized subcommand 'jump'"));
+    Ok(())
+}
+
+/// The status of `decode` on a stream, and what it wrote.
+fn decoded(alloc: Global, stream: &[u8]) -> Result<(u8, String, String), Fail> {
+    let mut out = Vec::new(alloc);
+    let mut err = Vec::new(alloc);
+    let status = run(alloc, &Options::Decode, stream, &mut out, &mut err);
+    Ok((status, String::from_utf8(out)?, String::from_utf8(err)?))
+}
+
+const NETWORK_REQUEST: &[u8] = b"0045080080200000000000000400000000000000000001301";
+
+#[test]
+fn a_message_is_decoded(rt: HostRuntime) -> Result<(), Fail> {
+    let (status, out, err) = decoded(rt.alloc(), NETWORK_REQUEST)?;
+    assert_eq!(rt; out.as_str(), "message 1\nmti 0800\n11 000001\n70 301\n");
+    assert_eq!(rt; err.as_str(), "");
+    assert_eq!(rt; status, 0);
+    Ok(())
+}
+
+#[test]
+fn an_unfinished_frame_is_refused(rt: HostRuntime) -> Result<(), Fail> {
+    let alloc = rt.alloc();
+    let mut stream = Vec::from_slice(alloc, NETWORK_REQUEST)?;
+    stream.extend_from_slice(b"00")?;
+    let (status, out, err) = decoded(alloc, stream.as_slice())?;
+    assert_eq!(rt;
+        out.as_str(),
+        "message 1\nmti 0800\n11 000001\n70 301\nframe refused Truncated 2\n"
+    );
+    assert!(rt; err.starts_with("cardswitch: a message or a frame of the input is refused"));
+    assert_eq!(rt; status, 1);
+    Ok(())
+}
+
+#[test]
+fn refused_messages_are_numbered(rt: HostRuntime) -> Result<(), Fail> {
+    let alloc = rt.alloc();
+    let (status, out, _) = decoded(alloc, b"0001x".as_slice())?;
+    assert_eq!(rt; out.as_str(), "message 1 refused Short\n");
+    assert_eq!(rt; status, 1);
+    // A refused message counts, and a bad length ends the reading.
+    let mut stream = Vec::from_slice(alloc, b"0001x")?;
+    stream.extend_from_slice(NETWORK_REQUEST)?;
+    stream.extend_from_slice(b"00x100")?;
+    let (status, out, _) = decoded(alloc, stream.as_slice())?;
+    assert_eq!(rt;
+        out.as_str(),
+        "message 1 refused Short\nmessage 2\nmti 0800\n11 000001\n70 301\nframe refused BadLength\n"
+    );
+    assert_eq!(rt; status, 1);
+    Ok(())
+}
+
+#[test]
+fn binary_fields_are_shown_as_hexadecimal(rt: HostRuntime) -> Result<(), Fail> {
+    let (status, out, _) = decoded(
+        rt.alloc(),
+        b"003601000000000000001000c0ffee0012345678".as_slice(),
+    )?;
+    assert_eq!(rt; out.as_str(), "message 1\nmti 0100\n52 C0FFEE0012345678\n");
+    assert_eq!(rt; status, 0);
     Ok(())
 }

@@ -101,7 +101,7 @@ fn each_fault_is_found_in_its_order(rt: HostRuntime) -> Result<(), Fail> {
 /// 256 groups of 64 entries, and so many more in a group of its own.
 fn large(alloc: Global, groups: usize, more: usize) -> Result<Flow, AllocError> {
     let mut made = Vec::new(alloc);
-    made.push(group(alloc, "main", "p", Kind::PLAIN, 64 + more)?)?;
+    made.push(group(alloc, "main", "p", Kind::PLAIN, more.saturating_add(64))?)?;
     for number in 1..groups {
         let name = format!(in alloc; "g{number}")?;
         made.push(group(alloc, name.as_str(), "p", Kind::PLAIN, 64)?)?;

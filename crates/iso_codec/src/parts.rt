@@ -1,0 +1,120 @@
+//! The parts of a message from the left, read without memory.
+
+ghost use Rattle.std.specs.Prelude.{◌≡◌, ◌<◌, ◌≤◌, ◌+◌, ◌*◌, length, IfOk, IfSome};
+ghost use Rattle.iso_codec.specs.Digits.{both, hex_value, octets, number_of};
+ghost use Rattle.iso_codec.specs.Reading.{Exactly, part, mti_is, behind_length, octets_at};
+
+use crate::error::DecodeError;
+use iso_msg::Mti;
+
+/// So many bytes, and those after them.
+pub fn split(bytes: &[u8], count: usize) -> Result<(&[u8], &[u8]), DecodeError>
+    ensures parts { Exactly (λ x. (x.0.now, x.1.now)) result (part count bytes.now) }
+    ensures len { IfOk result (λ x. length x.0.now ≡ count) }
+{
+    if bytes.len() < count {
+        return Err(DecodeError::Short);
+    }
+    Ok(bytes.split_at(count))
+}
+
+pub fn mti_of(digits: &[u8]) -> Result<Mti, DecodeError>
+    requires { length digits.now ≡ 4 }
+    ensures { Exactly (λ m. m) result (mti_is digits.now) }
+{
+    match Mti::new(digits) {
+        Ok(mti) => Ok(mti),
+        Err(_) => Err(DecodeError::BadMti),
+    }
+}
+
+/// The value of a hexadecimal digit, in either case.
+pub fn hex_digit(c: u8) -> Option<u8>
+    ensures value { result ≡ hex_value c }
+    ensures small { IfSome result (λ d. d < 16) }
+{
+    if b'0' <= c && c <= b'9' {
+        return Some(c - b'0');
+    }
+    if b'A' <= c && c <= b'F' {
+        return Some(c - b'A' + 10);
+    }
+    if b'a' <= c && c <= b'f' {
+        return Some(c - b'a' + 10);
+    }
+    None
+}
+
+/// The length that two or three digits tell.
+fn length_of(digits: &[u8]) -> Option<u16>
+    requires { length digits.now ≤ 3 }
+    ensures { result ≡ number_of digits.now }
+{
+    let mut n = 0;
+    for c in digits {
+        if *c < b'0' || b'9' < *c {
+            return None;
+        }
+        n = 10 * n + (*c - b'0') as u16;
+    }
+    Some(n)
+}
+
+/// The text of a field of variable length, and the bytes after it.
+#[tactic(auto, unfolding(crate::specs::Reading::behind_length))]
+pub fn read_variable(
+    places: u16,
+    most: u16,
+    number: u8,
+    bytes: &[u8],
+) -> Result<(&[u8], &[u8]), DecodeError>
+    requires { places ≤ 3 }
+    ensures text { Exactly (λ x. (x.0.now, x.1.now)) result
+        (behind_length places most number bytes.now) }
+    ensures len { IfOk result (λ x. length x.0.now ≤ most) }
+{
+    let (digits, after) = split(bytes, places as usize)?;
+    let Some(len) = length_of(digits) else {
+        return Err(DecodeError::BadLength(number));
+    };
+    if most < len {
+        return Err(DecodeError::BadLength(number));
+    }
+    let (text, rest) = split(after, len as usize)?;
+    Ok((text, rest))
+}
+
+fn octet(high: u8, low: u8) -> Option<u8>
+    ensures { result ≡ both (λ h l. 16 * h + l) (hex_value high) (hex_value low) }
+{
+    match (hex_digit(high), hex_digit(low)) {
+        (Some(h), Some(l)) => Some(16 * h + l),
+        _ => None,
+    }
+}
+
+fn read_octets(text: &[u8]) -> Option<[u8; 8]>
+    requires { length text.now ≡ 16 }
+    ensures { result ≡ octets text.now }
+{
+    let mut bytes = [0; 8];
+    for i in 0..8usize {
+        let Some(byte) = octet(text[2 * i], text[2 * i + 1]) else {
+            return None;
+        };
+        bytes[i] = byte;
+    }
+    Some(bytes)
+}
+
+/// The bytes of a binary field, and the bytes after its digits.
+#[tactic(auto, unfolding(crate::specs::Reading::octets_at))]
+pub fn read_binary(number: u8, bytes: &[u8]) -> Result<([u8; 8], &[u8]), DecodeError>
+    ensures { Exactly (λ x. (x.0, x.1.now)) result (octets_at number bytes.now) }
+{
+    let (text, rest) = split(bytes, 16)?;
+    match read_octets(text) {
+        Some(value) => Ok((value, rest)),
+        None => Err(DecodeError::BadContent(number)),
+    }
+}

@@ -1,0 +1,4 @@
+pub mod Bools
+pub mod Tables
+pub mod Maps
+pub mod Walks

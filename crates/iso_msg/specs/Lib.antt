@@ -1,0 +1,4 @@
+pub mod Table
+pub mod Values
+pub mod Messages
+pub mod Storage

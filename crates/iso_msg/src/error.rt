@@ -1,0 +1,76 @@
+//! Why a message type was not made or a field was not set.
+
+ghost use Rattle.std.specs.Prelude.{◌≡◌};
+ghost use Rattle.iso_msg.specs.declared.error.MessageError.TheVariants.{OutOfMemory};
+
+use crate::table::{definition_at, form_at};
+use std::alloc::{AllocError, AllocFailed};
+use std::fmt;
+use thiserror::Error;
+
+/// A refusal. One that a field gets has the field's number; its text tells the name and what was
+/// expected too. The refusals of `Message::set` are tested in this order.
+#[derive(Clone, Copy, Debug, PartialEq, Eq, Drop, Error)]
+pub enum MessageError {
+    /// The number is no field of the profile.
+    #[error("field {0}: the profile has no field of this number")]
+    FieldNotInProfile(u8),
+    /// The value is shorter or longer than the field takes.
+    #[error("{}: wrong length, expected {}", FieldLabel(*.0), ExpectedValue(*.0))]
+    BadLength(u8),
+    /// The value has a byte that the field does not take.
+    #[error("{}: a byte that the field does not take, expected {}", FieldLabel(*.0), ExpectedValue(*.0))]
+    BadContent(u8),
+    /// A message type is four digits.
+    #[error("message type: expected 4 digits")]
+    BadMti,
+    /// The allocator has refused memory.
+    #[error("out of memory")]
+    OutOfMemory,
+}
+
+impl From<AllocError> for MessageError {
+    ghost from_gives = { λ _ e. e ≡ OutOfMemory };
+
+    fn from(_e: AllocError) -> MessageError {
+        MessageError::OutOfMemory
+    }
+}
+
+impl<T: Drop> From<AllocFailed<T>> for MessageError {
+    ghost from_gives = { λ _ e. e ≡ OutOfMemory };
+
+    fn from(_e: AllocFailed<T>) -> MessageError {
+        MessageError::OutOfMemory
+    }
+}
+
+/// A field's number, shown with its name, as in "field 39 (response code)".
+#[derive(Clone, Copy, Debug, PartialEq, Eq)]
+pub struct FieldLabel(pub u8);
+
+impl fmt::Display for FieldLabel {
+    fn fmt<W: fmt::Write>(&self, f: &mut fmt::Formatter<W>) -> fmt::Result {
+        let number = self.0;
+        match definition_at(number) {
+            Some(definition) => {
+                let name = definition.name;
+                write!(f, "field {number} ({name})")
+            }
+            None => write!(f, "field {number}"),
+        }
+    }
+}
+
+/// A field's number, shown as what its values are, as in "at most 19 digits".
+#[derive(Clone, Copy, Debug, PartialEq, Eq)]
+pub struct ExpectedValue(pub u8);
+
+impl fmt::Display for ExpectedValue {
+    fn fmt<W: fmt::Write>(&self, f: &mut fmt::Formatter<W>) -> fmt::Result {
+        match form_at(self.0) {
+            Some(form) => write!(f, "{form}"),
+            None => f.write_str("no value"),
+        }
+    }
+}

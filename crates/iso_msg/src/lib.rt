@@ -1,0 +1,36 @@
+//! Messages of ISO 8583:1987 in the ASCII profile.
+//!
+//! A `Message` is a message type of four digits (`Mti`) and a finite map from field numbers to
+//! values. Contracts see it as that: the digits, and the list of the numbers with their values, in
+//! which the numbers rise. Every value in it fits its field, whatever calls were made:
+//!
+//! - `Mti::new` accepts exactly four digits, and `Message::set` exactly the values of the table of
+//!   fields (`definition_at`). Each refusal names the field and what was expected, and leaves the
+//!   message as it was.
+//! - `set`, `get`, `remove`, `fields` and `copy` are those of a map (`fields_are_a_map` says which
+//!   laws make the list a map).
+//!
+//! How a message is spelled on the wire is the business of `iso_codec`.
+#![tactic(auto)]
+
+mod error;
+mod field;
+mod laws;
+mod message;
+mod mti;
+mod name;
+mod storage;
+mod table;
+mod value;
+
+pub use error::{ExpectedValue, FieldLabel, MessageError};
+pub use field::FieldNumbers;
+pub use laws::fields_are_a_map;
+pub use message::Message;
+pub use mti::Mti;
+pub use name::FieldName;
+pub use table::{Content, Definition, Form, definition_at, form_at};
+pub use value::fits_content;
+
+#[cfg(test)]
+mod tests;

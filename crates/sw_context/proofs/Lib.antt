@@ -1,0 +1,4 @@
+pub mod Entries
+pub mod NameLaws
+pub mod PairLaws
+pub mod SpellingLaws

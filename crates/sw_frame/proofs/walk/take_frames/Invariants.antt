@@ -1,0 +1,15 @@
+use Rattle.std.proofs.Common.{◌≡◌, ◌≤◌, ◌++◌, List, ℕ, false, take, drop, length}
+use Rattle.sw_frame.specs.Stream.{AreFramed}
+use Rattle.sw_frame.specs.Feeds.{messages}
+use Rattle.sw_frame.proofs.walk.take_frames.Given as goal
+
+abbrev pub invariant-loop-rest : goal.invariant-loop-rest
+invariant-loop-rest l = record {
+  within : l.walk.taken ≤ length l.bytes;
+  rest : l.rest ≡ drop l.walk.taken l.bytes;
+  good : l.walk.bad ≡ false;
+  framed : (text : List ℕ) → AreFramed text (messages l.fn.earlier.items) → AreFramed (text ++ take l.walk.taken l.bytes) (messages l.walk.messages.items);
+}
+
+abbrev pub decreases-loop-rest : goal.decreases-loop-rest
+decreases-loop-rest l = length l.rest

@@ -1,0 +1,22 @@
+//! Frames of a stream of bytes: four ASCII digits of length, and that many bytes, which are a message.
+//!
+//! - `frame` gives the one frame of a message of at most 9,999 bytes.
+//! - A `Framer` is fed a stream in pieces, and answers the messages of the frames that are whole. However the stream
+//!   is cut: up to what is pending it is the frames answered so far, and no others (`feed`'s clause `so_far`, and
+//!   `read_pieces` for a whole list of pieces). A length that isn't four digits fails the framer for good.
+#![tactic(auto)]
+
+mod digits;
+mod error;
+mod framer;
+mod pieces;
+mod walk;
+mod writing;
+
+pub use error::FrameError;
+pub use framer::Framer;
+pub use pieces::{Reading, no_stream, one_stream, read_pieces};
+pub use writing::frame;
+
+#[cfg(test)]
+mod tests;

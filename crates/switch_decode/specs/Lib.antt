@@ -1,0 +1,4 @@
+pub mod Decoded
+pub mod Progress
+pub mod Steps
+pub mod Turns

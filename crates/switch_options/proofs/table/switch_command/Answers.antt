@@ -1,0 +1,12 @@
+use Rattle.std.proofs.Common.{◌∙◌, ap, ap₂}
+use Rattle.std.proofs.lemmas.Result.{IfOk-weaker}
+use Rattle.clap.specs.Words.{App, Shape, with_subcommand}
+use Rattle.switch_options.proofs.table.switch_command.Goals as goal
+
+pub returns : goal.returns
+returns c =
+    let top : App → Shape = λ a. a.top in
+    let one = c.in_ok-command.ensures.shape c.step_command.ensures.local
+    ∙ ap₂ with_subcommand c.program_command.ensures (ap top c.step_command.ensures.shape) in
+    IfOk-weaker c.subcommand-2.result _ _ (λ r adds. adds.shape c.decode_command.ensures.local
+    ∙ ap₂ with_subcommand one (ap top c.decode_command.ensures.shape)) c.subcommand-2.ensures
