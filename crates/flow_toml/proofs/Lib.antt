@@ -1,0 +1,4 @@
+pub mod Loop
+pub mod Checked
+pub mod Put
+pub mod Round

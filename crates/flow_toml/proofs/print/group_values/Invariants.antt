@@ -1,0 +1,7 @@
+use Rattle.std.proofs.Common.{◌≡◌, map, take}
+use Rattle.toml.specs.View.{view}
+use Rattle.flow_toml.specs.Document.{group_data}
+use Rattle.flow_toml.proofs.print.group_values.Given as goal
+
+abbrev pub invariant-groups : goal.invariant-groups
+invariant-groups l = map view l.values.items ≡ map group_data (take l.group-index l.groups)

@@ -1,0 +1,5 @@
+pub mod Reading
+pub mod Keys
+pub mod Faults
+pub mod FlowFile
+pub mod Document

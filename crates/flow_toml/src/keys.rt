@@ -1,0 +1,120 @@
+//! The tables of a flow file and the keys that stand in them.
+
+ghost use Rattle.std.specs.Prelude.{◌≡◌};
+ghost use Rattle.flow_toml.specs.Keys as spec;
+
+use std::fmt;
+
+/// A table of a flow file. Groups, and the entries of a group, are numbered from 0.
+#[derive(Clone, Copy, PartialEq, Eq, Debug)]
+pub enum Place {
+    /// The table that the whole file is.
+    Top,
+    /// The group of this number.
+    Group(usize),
+    /// In the group of the first number the entry of the second.
+    Entry(usize, usize),
+}
+
+/// A key of a flow file.
+#[derive(Clone, Copy, PartialEq, Eq, Debug)]
+pub enum Key {
+    Group,
+    Retries,
+    Entry,
+    Name,
+    AbortAware,
+    Participant,
+    Recovers,
+    Selector,
+}
+
+/// What stands at a key.
+#[derive(Clone, Copy, PartialEq, Eq, Debug)]
+pub(crate) enum Want {
+    /// An array whose members are all tables, written inline or by headers; it may be empty.
+    Tables,
+    Text,
+    Integer,
+    Flag,
+}
+
+/// The keys of a table, ascending by their spelling.
+pub(crate) fn keys_of(place: Place) -> &'static [Key]
+    ensures { result.now ≡ spec.keys_of place }
+{
+    match place {
+        Place::Top => &[Key::Group, Key::Retries],
+        Place::Group(_) => &[Key::Entry, Key::Name],
+        Place::Entry(_, _) => &[
+            Key::AbortAware,
+            Key::Participant,
+            Key::Recovers,
+            Key::Selector,
+        ],
+    }
+}
+
+impl Key {
+    /// The key as a file spells it.
+    pub fn as_str(self) -> &'static str
+        ensures { result.now ≡ spec.spelling self }
+    {
+        match self {
+            Key::Group => "group",
+            Key::Retries => "retries",
+            Key::Entry => "entry",
+            Key::Name => "name",
+            Key::AbortAware => "abort_aware",
+            Key::Participant => "participant",
+            Key::Recovers => "recovers",
+            Key::Selector => "selector",
+        }
+    }
+
+    /// Whether its table must have it.
+    pub(crate) fn is_required(self) -> bool
+        ensures { result ≡ spec.is_required self }
+    {
+        matches!(self, Key::Group | Key::Name | Key::Participant)
+    }
+
+    /// What stands at it.
+    pub(crate) fn wants(self) -> Want
+        ensures { result ≡ spec.wants self }
+    {
+        match self {
+            Key::Group | Key::Entry => Want::Tables,
+            Key::Name | Key::Participant => Want::Text,
+            Key::Retries => Want::Integer,
+            Key::AbortAware | Key::Recovers | Key::Selector => Want::Flag,
+        }
+    }
+}
+
+impl fmt::Display for Key {
+    fn fmt<W: fmt::Write>(&self, f: &mut fmt::Formatter<W>) -> fmt::Result {
+        f.write_str(self.as_str())
+    }
+}
+
+impl fmt::Display for Want {
+    fn fmt<W: fmt::Write>(&self, f: &mut fmt::Formatter<W>) -> fmt::Result {
+        f.write_str(match self {
+            Want::Tables => "an array of tables",
+            Want::Text => "a string",
+            Want::Integer => "an integer",
+            Want::Flag => "true or false",
+        })
+    }
+}
+
+impl fmt::Display for Place {
+    fn fmt<W: fmt::Write>(&self, f: &mut fmt::Formatter<W>) -> fmt::Result {
+        match *self {
+            Place::Top => f.write_str("top table"),
+            Place::Group(group) => write!(f, "group {group}"),
+            Place::Entry(group, index) => write!(f, "group {group}, entry {index}"),
+        }
+    }
+}

@@ -1,0 +1,36 @@
+//! Flow files: a flow written as TOML.
+//!
+//! ```toml
+//! retries = 1
+//!
+//! [[group]]
+//! name = "main"
+//!
+//! [[group.entry]]
+//! participant = "check"
+//! selector = true
+//! ```
+//!
+//! The top table has `group` (an array of tables, required) and `retries` (an integer, 0 where it is
+//! absent). A group has `name` (a string, required) and `entry` (an array of tables, empty where it
+//! is absent). An entry has `participant` (a string, required) and the marks `abort_aware`,
+//! `recovers` and `selector` (false where they are absent).
+//!
+//! Promised here:
+//! - [`read_flow`] answers exactly the checked flow of a text, or its first fault in one written
+//!   order, with the key and the table that it stands in.
+//! - [`print_flow`] writes a text that reads back as the same flow.
+#![tactic(auto)]
+
+pub mod error;
+pub mod keys;
+pub mod print;
+pub mod read;
+
+pub use error::FlowTomlError;
+pub use keys::{Key, Place};
+pub use print::print_flow;
+pub use read::read_flow;
+
+#[cfg(test)]
+mod tests;

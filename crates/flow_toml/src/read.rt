@@ -1,0 +1,296 @@
+//! From a text to the flow that it states.
+
+ghost use Rattle.std.specs.Prelude.{◌≡◌, Some, find, option_map, string_bytes, IfOk, IfErr};
+ghost use Rattle.toml.specs.Data.{get_member};
+ghost use Rattle.toml.specs.Text.{are_tables};
+ghost use Rattle.toml.specs.View.{view, table_view, array_view};
+ghost use Rattle.flow_toml.specs.Reading.{Gives, refused, each};
+ghost use Rattle.flow_toml.specs.Keys as keys;
+ghost use Rattle.flow_toml.specs.Faults as faults;
+ghost use Rattle.flow_toml.specs.FlowFile as spec;
+ghost use Rattle.flow_toml.specs.declared.keys.Key.TheVariants as key;
+
+use crate::error::FlowTomlError;
+use crate::keys::{Key, Place, Want, keys_of};
+use flow_model::{Entry, Flow, Group};
+use std::alloc::{AllocError, Global};
+use sw_participant::{Kind, Sequence, Text};
+use toml::value::Array;
+use toml::{Table, Value};
+
+fn member(table: &Table, key: Key) -> Option<&Value>
+    ensures { option_map (λ v. view v.now) result ≡ get_member (keys.spelling key) (table_view table.now) }
+{
+    table.get(key.as_str())
+}
+
+fn are_tables(array: &Array) -> bool
+    ensures { result ≡ are_tables (array_view array.now) }
+{
+    'items: for item in array {
+        if !item.is_table() {
+            return false;
+        }
+    }
+    true
+}
+
+fn fits(want: Want, value: &Value) -> bool
+    ensures { result ≡ faults.fits want (view value.now) }
+{
+    match want {
+        Want::Tables => match value {
+            Value::Array(array) => are_tables(array),
+            _ => false,
+        },
+        Want::Text => value.is_str(),
+        Want::Integer => value.is_integer(),
+        Want::Flag => value.is_bool(),
+    }
+}
+
+fn is_known(place: Place, name: &str) -> bool
+    ensures { result ≡ faults.is_known place name.now }
+{
+    let keys = keys_of(place);
+    'keys: for key in keys {
+        if name == key.as_str() {
+            return true;
+        }
+    }
+    false
+}
+
+fn is_missing(table: &Table, key: Key) -> bool
+    ensures { result ≡ faults.is_missing (table_view table.now) key }
+{
+    key.is_required() && member(table, key).is_none()
+}
+
+fn is_wrong(table: &Table, key: Key) -> bool
+    ensures { result ≡ faults.is_wrong (table_view table.now) key }
+{
+    match member(table, key) {
+        Some(value) => !fits(key.wants(), value),
+        None => false,
+    }
+}
+
+// A table's keys ascend, so the first is the least.
+fn unknown_key(place: Place, table: &Table) -> Option<&String>
+    ensures { option_map (λ k. string_bytes k.now) result ≡ faults.unknown_key place (table_view table.now) }
+{
+    'members: for (name, _value) in table.iter() {
+        if !is_known(place, name.as_str()) {
+            return Some(name);
+        }
+    }
+    None
+}
+
+fn missing_key(place: Place, table: &Table) -> Option<Key>
+    ensures { result ≡ find (faults.is_missing (table_view table.now)) (keys.keys_of place) }
+{
+    let keys = keys_of(place);
+    'keys: for key in keys {
+        if is_missing(table, *key) {
+            return Some(*key);
+        }
+    }
+    None
+}
+
+fn wrong_key(place: Place, table: &Table) -> Option<Key>
+    ensures { result ≡ find (faults.is_wrong (table_view table.now)) (keys.keys_of place) }
+{
+    let keys = keys_of(place);
+    'keys: for key in keys {
+        if is_wrong(table, *key) {
+            return Some(*key);
+        }
+    }
+    None
+}
+
+// A table by itself, without the tables in it.
+fn test_table(alloc: Global, place: Place, table: &Table) -> Result<(), FlowTomlError>
+    ensures { Gives (λ u. u) result (refused (faults.table_fault place (table_view table.now))) }
+{
+    if let Some(name) = unknown_key(place, table) {
+        let name = Text::from_str(alloc, name.as_str())?;
+        return Err(FlowTomlError::Unknown(name, place));
+    }
+    if let Some(key) = missing_key(place, table) {
+        return Err(FlowTomlError::Missing(key, place));
+    }
+    match wrong_key(place, table) {
+        Some(key) => Err(FlowTomlError::WrongKind(key, place)),
+        None => Ok(()),
+    }
+}
+
+fn text_at(alloc: Global, table: &Table, key: Key) -> Result<Text, AllocError>
+    ensures { IfOk result (λ t. t ≡ spec.text_at key (table_view table.now)) }
+{
+    match member(table, key) {
+        Some(value) => match value.as_str() {
+            Some(text) => Text::from_str(alloc, text),
+            None => Text::from_str(alloc, ""),
+        },
+        None => Text::from_str(alloc, ""),
+    }
+}
+
+fn flag_at(table: &Table, key: Key) -> bool
+    ensures { result ≡ spec.flag_at key (table_view table.now) }
+{
+    match member(table, key) {
+        Some(value) => match value.as_bool() {
+            Some(flag) => flag,
+            None => false,
+        },
+        None => false,
+    }
+}
+
+// 101, which no checked flow has, stands for each integer out of range.
+fn in_range(retries: i64) -> u8
+    ensures { result ≡ spec.retries_of (Some retries) }
+{
+    if 0 <= retries && retries <= 100 {
+        retries as u8
+    } else {
+        101
+    }
+}
+
+fn retries_at(table: &Table) -> u8
+    ensures { result ≡ spec.retries_at (table_view table.now) }
+{
+    match member(table, Key::Retries) {
+        Some(value) => match value.as_integer() {
+            Some(retries) => in_range(retries),
+            None => 0,
+        },
+        None => 0,
+    }
+}
+
+fn read_entry(alloc: Global, place: Place, table: &Table) -> Result<Entry, FlowTomlError>
+    ensures { Gives (λ e. e) result (spec.entry_at place (table_view table.now)) }
+{
+    test_table(alloc, place, table)?;
+    let participant = text_at(alloc, table, Key::Participant)?;
+    let kind = Kind {
+        selector: flag_at(table, Key::Selector),
+        abort_aware: flag_at(table, Key::AbortAware),
+        recovers: flag_at(table, Key::Recovers),
+    };
+    Ok(Entry { participant, kind })
+}
+
+fn read_entries(alloc: Global, group: usize, array: &Array) -> Result<Vec<Entry>, FlowTomlError>
+    ensures { Gives (λ es. es.items) result (each (spec.entry_of group) 0 (spec.tables_in (array_view array.now))) }
+{
+    let mut entries = Vec::new(alloc);
+    'items: for value in array {
+        if let Some(table) = value.as_table() {
+            let place = Place::Entry(group, entries.len());
+            entries.push(read_entry(alloc, place, table)?)?;
+        }
+    }
+    Ok(entries)
+}
+
+fn entries_at(alloc: Global, group: usize, table: &Table) -> Result<Vec<Entry>, FlowTomlError>
+    ensures { Gives (λ es. es.items) result (each (spec.entry_of group) 0 (spec.tables_at key.Entry (table_view table.now))) }
+{
+    match member(table, Key::Entry) {
+        Some(value) => match value.as_array() {
+            Some(array) => read_entries(alloc, group, array),
+            None => Ok(Vec::new(alloc)),
+        },
+        None => Ok(Vec::new(alloc)),
+    }
+}
+
+fn read_group(alloc: Global, number: usize, table: &Table) -> Result<Group, FlowTomlError>
+    ensures { Gives (λ g. g) result (spec.group_of number (table_view table.now)) }
+{
+    test_table(alloc, Place::Group(number), table)?;
+    let entries = entries_at(alloc, number, table)?;
+    let name = text_at(alloc, table, Key::Name)?;
+    Ok(Group {
+        name,
+        entries: Sequence::new(entries),
+    })
+}
+
+fn read_groups(alloc: Global, array: &Array) -> Result<Vec<Group>, FlowTomlError>
+    ensures { Gives (λ gs. gs.items) result (each spec.group_of 0 (spec.tables_in (array_view array.now))) }
+{
+    let mut groups = Vec::new(alloc);
+    'items: for value in array {
+        if let Some(table) = value.as_table() {
+            groups.push(read_group(alloc, groups.len(), table)?)?;
+        }
+    }
+    Ok(groups)
+}
+
+fn groups_at(alloc: Global, table: &Table) -> Result<Vec<Group>, FlowTomlError>
+    ensures { Gives (λ gs. gs.items) result (each spec.group_of 0 (spec.tables_at key.Group (table_view table.now))) }
+{
+    match member(table, Key::Group) {
+        Some(value) => match value.as_array() {
+            Some(array) => read_groups(alloc, array),
+            None => Ok(Vec::new(alloc)),
+        },
+        None => Ok(Vec::new(alloc)),
+    }
+}
+
+fn read_tables(alloc: Global, table: &Table) -> Result<Flow, FlowTomlError>
+    ensures { Gives (λ f. f) result (spec.flow_of (table_view table.now)) }
+{
+    test_table(alloc, Place::Top, table)?;
+    let groups = groups_at(alloc, table)?;
+    Ok(Flow {
+        retries: retries_at(table),
+        groups: Sequence::new(groups),
+    })
+}
+
+fn read_document(alloc: Global, table: &Table) -> Result<Flow, FlowTomlError>
+    ensures { Gives (λ f. f) result (spec.checked_flow_of (table_view table.now)) }
+{
+    let flow = read_tables(alloc, table)?;
+    match flow.check() {
+        Ok(()) => Ok(flow),
+        Err(fault) => Err(FlowTomlError::Flow(fault)),
+    }
+}
+
+/// The flow that a flow file states.
+///
+/// The refusals are tested in this order: a text that is no TOML; the top table, then each group,
+/// each followed by its entries in order; then the flow's own check. In each table the least unknown
+/// key comes first, then the least missing one, then the least whose value is of the wrong kind. An
+/// integer outside 0 to 100 for `retries` is the check's `BadRetries`; one of more than 64 bits is
+/// no TOML. `OutOfMemory` comes only where an allocation failed before a fault was found.
+#[tactic(auto, unfolding(crate::specs::FlowFile::reading))]
+pub fn read_flow(alloc: Global, text: &str) -> Result<Flow, FlowTomlError>
+    ensures flow { IfOk result (λ f. spec.IsFlowFile f text.now) }
+    ensures refused { IfErr result (spec.Refuses text.now) }
+{
+    match toml::table_from_str(alloc, text) {
+        Ok(table) => read_document(alloc, &table),
+        Err(e) => {
+            if e.is_memory() {
+                Err(FlowTomlError::OutOfMemory)
+            } else {
+                Err(FlowTomlError::Toml(e))
+            }
+        }
+    }
+}
