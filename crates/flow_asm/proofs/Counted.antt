@@ -1,0 +1,157 @@
+-- Places and numbers of the steps, counted from the front.
+use Rattle.std.proofs.Common.{◌≡◌, ℕ, zero, suc, ◌+◌, ◌-◌, ◌<◌, Bool, true, false, ◌≤◌, ⊎_elim, inl, inr, List, [], ◌∷◌, ◌++◌, length, map, take, drop, get_or, Some, None, refl, sym, ap, ◌∙◌, subst, arith, append_assoc, length-append, if◌then◌else◌}
+use Rattle.std.specs.Prelude.{slice_get, nat_lt}
+use Rattle.std.specs.List.{flat_map}
+use Rattle.std.proofs.lemmas.Bool.{cases_lt}
+use Rattle.std.proofs.lemmas.Bool.Decides.{Decides-ltb}
+use Rattle.std.proofs.lemmas.List.{append-nil, length_push, take_at}
+use Rattle.std.proofs.lemmas.List.Concat.{flat_map-append}
+use Rattle.flow_model.specs.declared.flow.Flow.{Flow}
+use Rattle.flow_model.specs.declared.flow.Group.{Group}
+use Rattle.flow_model.specs.declared.flow.Entry.{Entry}
+use Rattle.flow_model.specs.declared.flow.Slot.{Slot}
+use Rattle.flow_model.specs.declared.numbering.Part.{Part}
+use Rattle.flow_model.specs.Places.{parts_of, slot_of, slots_from}
+use Rattle.flow_asm.specs.declared.code.Step.{Step}
+use Rattle.flow_asm.specs.declared.code.Step.TheVariants.{Call, Pick, Return}
+use Rattle.flow_asm.specs.Steps.{Stage, AtCall, AtPick, AtReturn, first_step, groups_from, layout, stages, stages_of_entry, stages_of_group, step_of, steps_of}
+use Rattle.flow_asm.specs.Places.{IsStepOf, call_of, call_step, group_at, is_pick, place_at, place_of}
+use Rattle.flow_asm.proofs.Stages.{call_shown, front, pick_shown, read_step, return_shown}
+
+-- the step of an entry's call, and that the flow has the entry
+pub record IsCalled (f : Flow) (g i n : ℕ) : Type 0 where
+  pub step : call_step f g i ≡ n
+  pub within : nat_lt i (length (group_at (layout f) g)) ≡ true
+
+-- from this step, group and index on, each step has the place that counting gives
+abbrev pub Counted : Flow → ℕ → ℕ → ℕ → List Stage → Type 0
+Counted f n g i [] = Unit {0}
+Counted f n g i (AtCall s ∷ xs) = ((s.group ≡ g) × (s.index ≡ i)) × IsCalled f g i n × Counted f (n + 1) g (i + 1) xs
+Counted f n g i (AtPick s ∷ xs) = ((s.group ≡ g) × (s.index + 1 ≡ i)) × IsCalled f g s.index (n - 1) × (0 < n) × Counted f (n + 1) g i xs
+Counted f n g i (AtReturn ∷ xs) = Counted f (n + 1) (g + 1) 0 xs
+
+called : (f : Flow) (g i : ℕ) (before ss : List Slot) (s : Slot) → group_at (layout f) g ≡ before ++ s ∷ ss → length before ≡ i → IsCalled f g i (first_step f g + length (flat_map stages_of_entry before))
+called f g i before ss s is l =
+    record {
+      step = ap (λ xs. first_step f g + length (flat_map stages_of_entry (take i xs))) is ∙ ap (λ xs. first_step f g + length (flat_map stages_of_entry xs)) (take_at before (s ∷ ss) i l);
+      within = (Decides-ltb i (length (group_at (layout f) g))).1 (subst (λ (xs : List Slot). i < length xs) (sym is) (omega (arith, length-append before (s ∷ ss), l)));
+    }
+
+counted_group : (f : Flow) (parts : List Part) (g i n : ℕ) (before : List Slot) (es : List Entry) (more : List Stage) → group_at (layout f) g ≡ before ++ slots_from parts g i es → length before ≡ i → first_step f g + length (flat_map stages_of_entry before) ≡ n → Counted f (n + length (stages_of_group (slots_from parts g i es))) (g + 1) 0 more → Counted f n g i (stages_of_group (slots_from parts g i es) ++ more)
+counted_group f parts g i n before [] more is l e h = h
+counted_group f parts g i n before (x ∷ es) more is l e h = by x.kind.selector refl (λ m w r. counted_group f parts g (i + 1) m (before ++ slot_of parts g i x ∷ []) es more (is ∙ sym (append_assoc before (slot_of parts g i x ∷ []) (slots_from parts g (i + 1) es))) (length_push before (slot_of parts g i x) ∙ ap (λ k. k + 1) l) w r)
+  where
+    s : Slot
+    s = slot_of parts g i x
+
+    ss : List Slot
+    ss = slots_from parts g (i + 1) es
+
+    here : IsCalled f g i n
+    here = subst (IsCalled f g i) e (called f g i before ss s is l)
+
+    wider : flat_map stages_of_entry (before ++ s ∷ []) ≡ flat_map stages_of_entry before ++ stages_of_entry s
+    wider = flat_map-append stages_of_entry before (s ∷ []) ∙ ap (λ xs. flat_map stages_of_entry before ++ xs) (append-nil (stages_of_entry s))
+
+    Goes : Type 0
+    Goes = (m : ℕ) → first_step f g + length (flat_map stages_of_entry (before ++ s ∷ [])) ≡ m → Counted f (m + length (stages_of_group ss)) (g + 1) 0 more → Counted f m g (i + 1) (stages_of_group ss ++ more)
+
+    by : (b : Bool) → x.kind.selector ≡ b → Goes → Counted f n g i (((if b then AtCall s ∷ AtPick s ∷ [] else AtCall s ∷ []) ++ stages_of_group ss) ++ more)
+    by true k go =
+        let two : stages_of_entry s ≡ AtCall s ∷ AtPick s ∷ [] = ap (λ b. if b then AtCall s ∷ AtPick s ∷ [] else AtCall s ∷ []) k in
+        let wide : length (flat_map stages_of_entry (before ++ s ∷ [])) ≡ length (flat_map stages_of_entry before) + 2 = ap length wider ∙ length-append (flat_map stages_of_entry before) (stages_of_entry s) ∙ ap (λ xs. length (flat_map stages_of_entry before) + length xs) two in
+        let long : length (stages_of_group (s ∷ ss)) ≡ 2 + length (stages_of_group ss) = length-append (stages_of_entry s) (stages_of_group ss) ∙ ap (λ xs. length xs + length (stages_of_group ss)) two in
+        let rest = go (n + 1 + 1) (omega (arith, wide, e)) (subst (λ m. Counted f m (g + 1) 0 more) (omega (arith, long)) h) in
+        ((refl, refl), here, ((refl, refl), subst (IsCalled f g i) (omega arith) here, omega arith, rest))
+    by false k go =
+        let one : stages_of_entry s ≡ AtCall s ∷ [] = ap (λ b. if b then AtCall s ∷ AtPick s ∷ [] else AtCall s ∷ []) k in
+        let wide : length (flat_map stages_of_entry (before ++ s ∷ [])) ≡ length (flat_map stages_of_entry before) + 1 = ap length wider ∙ length-append (flat_map stages_of_entry before) (stages_of_entry s) ∙ ap (λ xs. length (flat_map stages_of_entry before) + length xs) one in
+        let long : length (stages_of_group (s ∷ ss)) ≡ 1 + length (stages_of_group ss) = length-append (stages_of_entry s) (stages_of_group ss) ∙ ap (λ xs. length xs + length (stages_of_group ss)) one in
+        let rest = go (n + 1) (omega (arith, wide, e)) (subst (λ m. Counted f m (g + 1) 0 more) (omega (arith, long)) h) in
+        ((refl, refl), here, rest)
+
+pub group_at_at : (before : List (List Slot)) (ss : List Slot) (more : List (List Slot)) (g : ℕ) → length before ≡ g → group_at (before ++ ss ∷ more) g ≡ ss
+group_at_at [] ss more zero h = refl
+group_at_at [] ss more (suc g) h = absurd (omega (arith, h))
+group_at_at (x ∷ xs) ss more zero h = absurd (omega (arith, h))
+group_at_at (x ∷ xs) ss more (suc g) h = group_at_at xs ss more g (omega (arith, h))
+
+counted_groups : (f : Flow) (before : List (List Slot)) (g n : ℕ) (gs : List Group) → layout f ≡ before ++ groups_from (parts_of f) g gs → length before ≡ g → length (flat_map stages_of_group before) ≡ n → Counted f n g 0 (flat_map stages_of_group (groups_from (parts_of f) g gs))
+counted_groups f before g n [] is l e = tt
+counted_groups f before g n (x ∷ gs) is l e =
+    let ss : List Slot = slots_from (parts_of f) g 0 x.entries in
+    let later : List (List Slot) = groups_from (parts_of f) (g + 1) gs in
+    let group : group_at (layout f) g ≡ ss = ap (λ xs. group_at xs g) is ∙ group_at_at before ss later g l in
+    let first : first_step f g ≡ n = ap (λ xs. length (flat_map stages_of_group (take g xs))) is ∙ ap (λ xs. length (flat_map stages_of_group xs)) (take_at before (ss ∷ later) g l) ∙ e in
+    let wide : length (flat_map stages_of_group (before ++ ss ∷ [])) ≡ n + length (stages_of_group ss) = ap length (flat_map-append stages_of_group before (ss ∷ []) ∙ ap (λ xs. flat_map stages_of_group before ++ xs) (append-nil (stages_of_group ss))) ∙ length-append (flat_map stages_of_group before) (stages_of_group ss) ∙ ap (λ m. m + length (stages_of_group ss)) e in
+    let rest = counted_groups f (before ++ ss ∷ []) (g + 1) (n + length (stages_of_group ss)) gs (is ∙ sym (append_assoc before (ss ∷ []) later)) (length_push before ss ∙ ap (λ m. m + 1) l) wide in
+    counted_group f (parts_of f) g 0 n [] x.entries (flat_map stages_of_group later) group refl (omega (arith, first)) rest
+
+pub counted : (f : Flow) → Counted f 0 0 0 (stages f)
+counted f = counted_groups f [] 0 0 f.groups refl refl refl
+
+call_is : (f : Flow) (g i n : ℕ) → IsCalled f g i n → call_of f g i ≡ Some n
+call_is f g i n c = ap (λ b. if b then Some (call_step f g i) else None) c.within ∙ ap Some c.step
+
+-- a call, as it was counted
+pub record IsCall (f : Flow) (k g i : ℕ) : Type 0 where
+  pub place : place_of f k ≡ Some (g, i)
+  pub entry : IsStepOf f g i k
+  pub next : Counted f (k + 1) g (i + 1) (drop (k + 1) (stages f))
+
+pub counted_call : (f : Flow) (k g i p : ℕ) → Counted f k g i (drop k (stages f)) → slice_get (map step_of (stages f)) k ≡ Some (Call p) → IsCall f k g i
+counted_call f k g i p c h =
+    let shown = call_shown (stages f) k p h in
+    let w = subst (Counted f k g i) (front (stages f) k (AtCall shown.0) shown.1) c in
+    record {
+      place = ap place_at shown.1 ∙ ap (λ n. Some (n, shown.0.index)) w.0.0 ∙ ap (λ n. Some (g, n)) w.0.1;
+      entry = inl (call_is f g i k w.1);
+      next = w.2;
+    }
+
+-- a pick, as it was counted
+pub record IsPick (f : Flow) (k g i : ℕ) : Type 0 where
+  pub place : place_of f k ≡ Some (g, i - 1)
+  pub entry : IsStepOf f g (i - 1) k
+  pub some : 0 < i
+  pub next : Counted f (k + 1) g i (drop (k + 1) (stages f))
+
+pub counted_pick : (f : Flow) (k g i p : ℕ) → Counted f k g i (drop k (stages f)) → slice_get (map step_of (stages f)) k ≡ Some (Pick p) → IsPick f k g i
+counted_pick f k g i p c h =
+    let shown = pick_shown (stages f) k p h in
+    let w = subst (Counted f k g i) (front (stages f) k (AtPick shown.0) shown.1) c in
+    let e : shown.0.index ≡ i - 1 = omega (arith, w.0.1) in
+    record {
+      place = ap place_at shown.1 ∙ ap (λ n. Some (n, shown.0.index)) w.0.0 ∙ ap (λ n. Some (g, n)) e;
+      entry = inr (ap is_pick h, ap (call_of f g) (sym e) ∙ call_is f g shown.0.index (k - 1) w.1);
+      some = omega (arith, w.0.1);
+      next = w.3;
+    }
+
+-- behind a return counting begins anew
+pub record IsReturn (f : Flow) (k g : ℕ) : Type 0 where
+  pub place : place_of f k ≡ None
+  pub next : Counted f (k + 1) (g + 1) 0 (drop (k + 1) (stages f))
+
+pub counted_return : (f : Flow) (k g i : ℕ) → Counted f k g i (drop k (stages f)) → slice_get (map step_of (stages f)) k ≡ Some Return → IsReturn f k g
+counted_return f k g i c h =
+    let shown = return_shown (stages f) k h in
+    record {
+      place = ap place_at shown;
+      next = subst (Counted f k g i) (front (stages f) k AtReturn shown) c;
+    }
+
+pub call_read : (f : Flow) (steps : List Step) (k g i p : ℕ) (d : Step) → steps ≡ steps_of f → k < length steps → Counted f k g i (drop k (stages f)) → get_or steps k d ≡ Call p → IsCall f k g i
+call_read f steps k g i p d e h c is = counted_call f k g i p c (read_step f steps k d (Call p) e h is)
+
+pub pick_read : (f : Flow) (steps : List Step) (k g i p : ℕ) (d : Step) → steps ≡ steps_of f → k < length steps → Counted f k g i (drop k (stages f)) → get_or steps k d ≡ Pick p → IsPick f k g i
+pick_read f steps k g i p d e h c is = counted_pick f k g i p c (read_step f steps k d (Pick p) e h is)
+
+pub return_read : (f : Flow) (steps : List Step) (k g i : ℕ) (d : Step) → steps ≡ steps_of f → k < length steps → Counted f k g i (drop k (stages f)) → get_or steps k d ≡ Return → IsReturn f k g
+return_read f steps k g i d e h c is = counted_return f k g i c (read_step f steps k d (Return) e h is)
+
+pub moved : (f : Flow) (n g i h j : ℕ) (xs : List Stage) → h ≡ g → j ≡ i → Counted f n g i xs → Counted f n h j xs
+moved f n g i h j xs a b c = subst (λ (m : ℕ). Counted f n m j xs) (sym a) (subst (λ (m : ℕ). Counted f n g m xs) (sym b) c)
+
+pub goes_on : (n m : ℕ) → n ≤ m → (n ≡ m → ⊥) → n + 1 ≤ m
+goes_on n m h d = ⊎_elim (λ (l : n < m). (let w : n + 1 ≤ m = omega (arith, l) in w)) (λ (l : m ≤ n). absurd (d (let w : n ≡ m = omega (arith, h, l) in w))) (cases_lt n m)

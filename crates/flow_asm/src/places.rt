@@ -1,0 +1,77 @@
+//! Which entry a step belongs to, and which step calls an entry.
+
+ghost use Rattle.std.specs.Prelude.{◌≡◌, ◌<◌, length, Some, IfSome};
+ghost use Rattle.flow_asm.specs.Places.{IsStepOf, call_of, place_of};
+ghost use Rattle.flow_asm.specs.Walks.{call_from};
+
+use crate::code::{Code, Step};
+use crate::listing::steps_from;
+
+/// The place (group, index) of the entry that a step calls or, for a selector, asks; `None` for the
+/// end of a group and for a number that no step has. Looks at the steps up to this one.
+pub fn place(code: &Code, step: usize) -> Option<(usize, usize)>
+    ensures value { result ≡ place_of code.now step }
+    ensures entry { IfSome result (λ at. IsStepOf code.now at.0 at.1 step) }
+{
+    let mut group = 0;
+    // The next entry of the group.
+    let mut next = 0;
+    'steps: for (number, found) in code.steps().iter().enumerate() {
+        match found {
+            Step::Call(_) => {
+                if number == step {
+                    return Some((group, next));
+                }
+                next += 1;
+            }
+            Step::Pick(_) => {
+                if number == step {
+                    return Some((group, next - 1));
+                }
+            }
+            Step::Return => {
+                if number == step {
+                    return None;
+                }
+                group += 1;
+                next = 0;
+            }
+        }
+    }
+    None
+}
+
+// How many steps before the end of the group stand before its call of this index.
+fn nth_call(steps: &[Step], index: usize) -> Option<usize>
+    ensures value { result ≡ call_from 0 index steps.now }
+    ensures within { IfSome result (λ number. number < length steps.now) }
+{
+    let mut left = index;
+    'steps: for (number, step) in steps.iter().enumerate() {
+        match step {
+            Step::Call(_) => {
+                if left == 0 {
+                    return Some(number);
+                }
+                left -= 1;
+            }
+            Step::Pick(_) => {}
+            Step::Return => return None,
+        }
+    }
+    None
+}
+
+/// The step that calls the entry at this place; `None` where the flow has no such entry.
+pub fn step_at(code: &Code, group: usize, index: usize) -> Option<usize>
+    ensures value { result ≡ call_of code.now group index }
+    ensures place { IfSome result (λ step. place_of code.now step ≡ Some (group, index)) }
+{
+    let Some(start) = code.groups().get(group) else {
+        return None;
+    };
+    let Some(before) = nth_call(steps_from(code.steps(), start.first), index) else {
+        return None;
+    };
+    Some(start.first + before)
+}
