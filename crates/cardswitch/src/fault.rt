@@ -1,11 +1,14 @@
 //! Why a run of the program ends early, and with which exit status.
 ghost use Rattle.std.specs.Prelude.{◌≡◌};
-ghost use Rattle.cardswitch.specs.Faults.{IsFaultOfWrite, fault_status};
+ghost use Rattle.cardswitch.specs.Faults.{IsFaultOfWrite, fault_of_flows, fault_of_machine, fault_of_read, fault_of_stream, fault_status};
+ghost use Rattle.cardswitch.specs.declared.fault.Fault.TheVariants.{OutOfMemory};
 
 use flow_model::FlowError;
 use std::alloc::{AllocError, AllocFailed};
 use std::io::{self, ErrorKind};
+use sw_participant::Text;
 use switch_decode::StreamFault;
+use switch_flows::FlowFault;
 use switch_io::ReadFault;
 use thiserror::Error;
 use tx_machine::MachineError;
@@ -32,6 +35,15 @@ pub enum Fault {
         line: usize,
         cause: FlowError,
     },
+    /// The flow file at the path is not taken.
+    #[error("{}: {cause}", .path.as_str())]
+    FlowFile {
+        path: Text,
+        cause: FlowFault,
+    },
+    /// The standard input is no flow file or no image.
+    #[error("standard input: {0}")]
+    Input(FlowFault),
     /// A transaction was given a reply to a call that was not due.
     #[error("the transaction was given a reply to a call that was not due")]
     NotDue,
@@ -67,18 +79,24 @@ impl Fault {
 }
 
 impl From<AllocError> for Fault {
+    ghost from_gives = { λ _ f. f ≡ OutOfMemory };
+
     fn from(_error: AllocError) -> Fault {
         Fault::OutOfMemory
     }
 }
 
 impl<T: Drop> From<AllocFailed<T>> for Fault {
+    ghost from_gives = { λ _ f. f ≡ OutOfMemory };
+
     fn from(_error: AllocFailed<T>) -> Fault {
         Fault::OutOfMemory
     }
 }
 
 impl From<MachineError> for Fault {
+    ghost from_gives = { λ e f. f ≡ fault_of_machine e };
+
     fn from(error: MachineError) -> Fault {
         match error {
             MachineError::NotDue => Fault::NotDue,
@@ -88,6 +106,8 @@ impl From<MachineError> for Fault {
 }
 
 impl From<ReadFault> for Fault {
+    ghost from_gives = { λ e f. f ≡ fault_of_read e };
+
     fn from(error: ReadFault) -> Fault {
         match error {
             ReadFault::OutOfMemory => Fault::OutOfMemory,
@@ -97,11 +117,26 @@ impl From<ReadFault> for Fault {
 }
 
 impl From<StreamFault> for Fault {
+    ghost from_gives = { λ e f. f ≡ fault_of_stream e };
+
     fn from(error: StreamFault) -> Fault {
         match error {
             StreamFault::Read(error) => Fault::Read(error),
             StreamFault::Write(error) => Fault::Write(error),
             StreamFault::OutOfMemory => Fault::OutOfMemory,
+        }
+    }
+}
+
+impl From<FlowFault> for Fault {
+    ghost from_gives = { λ e f. f ≡ fault_of_flows e };
+
+    fn from(error: FlowFault) -> Fault {
+        match error {
+            FlowFault::Read(error) => Fault::Read(error),
+            FlowFault::Write(error) => Fault::Write(error),
+            FlowFault::OutOfMemory => Fault::OutOfMemory,
+            other => Fault::Input(other),
         }
     }
 }

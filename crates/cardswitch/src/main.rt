@@ -8,6 +8,7 @@
 mod command;
 mod drive;
 mod fault;
+mod flow_file;
 mod program;
 mod script;
 mod settings;
@@ -31,7 +32,7 @@ fn main(rt: HostRuntime) -> ExitCode {
         Err(error) => return ExitCode::from(program::refuse_words(error, &mut err)),
     };
     ExitCode::from(match options(alloc, words.as_slice()) {
-        Ok(options) => program::run(alloc, &options, rt.stdin(), &mut out, &mut err),
+        Ok(options) => program::run(alloc, &rt, &options, rt.stdin(), &mut out, &mut err),
         Err(error) => program::refuse(&error, &mut out, &mut err),
     })
 }

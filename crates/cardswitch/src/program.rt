@@ -1,30 +1,36 @@
 //! The subcommands, over a reader and two writers.
-ghost use Rattle.std.specs.Prelude.{◌≡◌, ◌≢◌};
+ghost use Rattle.std.specs.Prelude.{◌≡◌, ◌≢◌, OnOk};
 ghost use Rattle.std.specs.Io.KnownBytes.{Keeps};
 ghost use Rattle.std.specs.IoError.{error_kind};
+ghost use Rattle.cardswitch.specs.Done.{IsDecoded, IsDone};
 ghost use Rattle.cardswitch.specs.Faults.{fault_status};
 ghost use Rattle.switch_options.specs.Refusal.{status_of};
 
 use crate::fault::Fault;
+use crate::flow_file::flow_at;
 use crate::script::run_script;
 use std::alloc::Global;
+use std::fs::Files;
 use std::io::{self, ErrorKind, Read, Write};
 use switch_decode::decode_stream;
+use switch_flows::{asm, list};
 use switch_io::read_input;
 use switch_options::choice::{Options, OptionsError};
 
 /// Runs a subcommand, and gives the exit status. What it prints goes to `out`, and a fault that ends
-/// it to `err`.
-pub fn run<R: Read + Drop, O: Write, E: Write>(
+/// it to `err`. Files that the options name are opened through `files`.
+pub fn run<F: Files, R: Read + Drop, O: Write, E: Write>(
     alloc: Global,
-    options: &Options,
+    files: &F,
+    options: &Options<'_>,
     input: R,
     out: &mut O,
     err: &mut E,
 ) -> u8
     ensures quiet { result ≡ 0 → Keeps (E.contents err.old) (E.contents err.new) }
+    ensures done { result ≡ 0 → IsDone options.now (R.remaining input) (O.contents out.old) (O.contents out.new) }
 {
-    match run_subcommand(alloc, options, input, out) {
+    match run_subcommand(alloc, files, options, input, out) {
         Ok(()) => 0,
         Err(fault) => tell(&fault, err),
     }
@@ -39,22 +45,44 @@ pub fn tell<E: Write>(fault: &Fault, err: &mut E) -> u8
     fault.status()
 }
 
-fn run_subcommand<R: Read + Drop, O: Write>(
+// Runs a script over the flow of its own lines, or over that of a flow file.
+fn step<F: Files, R: Read + Drop, O: Write>(
     alloc: Global,
-    options: &Options,
+    files: &F,
+    path: Option<&str>,
     input: R,
     out: &mut O,
 ) -> Result<(), Fault> {
+    let flow = match path {
+        Some(path) => Some(flow_at(alloc, files, path)?),
+        None => None,
+    };
+    let script = read_input(alloc, input)?;
+    run_script(alloc, flow, script.as_slice(), out)
+}
+
+fn decode<R: Read + Drop, O: Write>(alloc: Global, input: R, out: &mut O) -> Result<(), Fault>
+    ensures { OnOk result (IsDecoded (R.remaining input) (O.contents out.old) (O.contents out.new)) }
+{
+    let refused = decode_stream(alloc, input, out)?;
+    out.flush().map_err(Fault::of_write)?;
+    if refused { Err(Fault::Refused) } else { Ok(()) }
+}
+
+fn run_subcommand<F: Files, R: Read + Drop, O: Write>(
+    alloc: Global,
+    files: &F,
+    options: &Options<'_>,
+    input: R,
+    out: &mut O,
+) -> Result<(), Fault>
+    ensures { OnOk result (IsDone options.now (R.remaining input) (O.contents out.old) (O.contents out.new)) }
+{
     match options {
-        Options::Step => {
-            let script = read_input(alloc, input)?;
-            run_script(alloc, script.as_slice(), out)
-        }
-        Options::Decode => {
-            let refused = decode_stream(alloc, input, out)?;
-            out.flush().map_err(Fault::of_write)?;
-            if refused { Err(Fault::Refused) } else { Ok(()) }
-        }
+        Options::Step { flow } => step(alloc, files, *flow, input, out),
+        Options::Asm => Ok(asm(alloc, input, out)?),
+        Options::List => Ok(list(alloc, input, out)?),
+        Options::Decode => decode(alloc, input, out),
     }
 }
 

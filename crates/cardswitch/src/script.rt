@@ -33,6 +33,11 @@ impl<'a> Run<'a> {
                 self.settings.set_retries(retries);
                 Ok(())
             }
+            Command::Flow(_) if self.settings.has_file() => Err(Fault::Malformed {
+                line,
+                wrong: "a group stands beside a flow file",
+                expected: "no flow lines with --flow",
+            }),
             Command::Flow(group) => self.settings.add_group(group),
             Command::Answer(name, byte) => self.settings.queue_answer(alloc, name, byte),
             Command::Choose(name, text) => self.settings.queue_choice(alloc, name, text),
@@ -68,14 +73,20 @@ impl<'a> Run<'a> {
     }
 }
 
-/// Runs the lines of a script in their order, and writes what they print. A line ends in a line
+/// Runs the lines of a script in their order, and writes what they print. The flow is that of a flow
+/// file, or that of the script's own lines. A line ends in a line
 /// feed, which the last may lack. Settings stand before all other lines; a flow that is refused ends
 /// the run at the first other line.
 ///
 /// A malformed line ends the run: what the lines before it printed stands.
-pub fn run_script<W: Write>(alloc: Global, script: &[u8], out: &mut W) -> Result<(), Fault> {
+pub fn run_script<W: Write>(
+    alloc: Global,
+    file: Option<Flow>,
+    script: &[u8],
+    out: &mut W,
+) -> Result<(), Fault> {
     let mut run = Run {
-        settings: Settings::new(alloc),
+        settings: Settings::new(alloc, file),
         flow: None,
         last_id: 0,
     };

@@ -25,7 +25,9 @@ impl<'a> Replies<'a> {
 /// The settings of a script, which is text of the lifetime `'a`.
 #[derive(Drop)]
 pub struct Settings<'a> {
-    retries: u8,
+    /// The flow of a flow file.
+    file: Option<Flow>,
+    retries: Option<u8>,
     groups: Vec<Group>,
     replies: BTreeMap<&'a str, Replies<'a>>,
 }
@@ -34,10 +36,11 @@ pub struct Settings<'a> {
 const PREPARED: u8 = 0x01;
 
 impl<'a> Settings<'a> {
-    /// No groups, no retries, nothing queued.
-    pub fn new(alloc: Global) -> Settings<'a> {
+    /// The flow of a flow file, if there is one; no groups, no retries, nothing queued.
+    pub fn new(alloc: Global, file: Option<Flow>) -> Settings<'a> {
         Settings {
-            retries: 0,
+            file,
+            retries: None,
             groups: Vec::new(alloc),
             replies: BTreeMap::new(alloc),
         }
@@ -45,7 +48,12 @@ impl<'a> Settings<'a> {
 
     /// A number over 255 is kept as 255: both are more than a flow may have.
     pub fn set_retries(&mut self, retries: u64) {
-        self.retries = u8::try_from(retries).unwrap_or(u8::MAX);
+        self.retries = Some(u8::try_from(retries).unwrap_or(u8::MAX));
+    }
+
+    /// Whether the flow is that of a flow file.
+    pub fn has_file(&self) -> bool {
+        self.file.is_some()
     }
 
     pub fn add_group(&mut self, group: Group) -> Result<(), Fault> {
@@ -86,12 +94,18 @@ impl<'a> Settings<'a> {
         }
     }
 
-    /// The flow of the groups so far, which are taken out.
+    /// The flow of the flow file, else that of the groups so far, with the retries that were set. It is
+    /// taken out.
     pub fn take_flow(&mut self, alloc: Global) -> Result<Flow, FlowError> {
-        let groups = std::mem::replace(&mut self.groups, Vec::new(alloc));
-        let flow = Flow {
-            retries: self.retries,
-            groups: Sequence::new(groups),
+        let flow = match self.file.take() {
+            Some(flow) => Flow {
+                retries: self.retries.unwrap_or(flow.retries),
+                groups: flow.groups,
+            },
+            None => Flow {
+                retries: self.retries.unwrap_or(0),
+                groups: Sequence::new(std::mem::replace(&mut self.groups, Vec::new(alloc))),
+            },
         };
         flow.check()?;
         Ok(flow)

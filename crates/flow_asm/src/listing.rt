@@ -1,6 +1,7 @@
 //! From the steps back to the flow.
 
 ghost use Rattle.std.specs.Prelude.{◌≡◌, ◌++◌, map, drop, slice_get, IfOk, OnOk};
+ghost use Rattle.flow_model.specs.Check.{IsChecked};
 ghost use Rattle.flow_asm.specs.Listing.{entry_of, entries_from, group_of};
 
 use crate::code::{Code, GroupStart, Step};
@@ -79,7 +80,8 @@ fn list_groups(
 
 /// The flow that the steps were assembled from. The only refusal is want of memory.
 pub fn list(alloc: Global, code: &Code) -> Result<Flow, AllocError>
-    ensures { IfOk result (λ flow. flow ≡ code.now) }
+    ensures flow { IfOk result (λ flow. flow ≡ code.now) }
+    ensures checked { IfOk result (λ flow. IsChecked flow) }
 {
     let groups = list_groups(
         alloc,

@@ -1,6 +1,6 @@
 -- The first fault of a flow, in the order in which a flow is checked: its size, the retries, the
 -- names, doubled groups, the group `main`, clashing kinds.
-use Rattle.std.specs.Prelude.{◌≡◌, ℕ, ◌+◌, Bool, true, false, not, ◌&&◌, ◌||◌, List, [], ◌∷◌, length, take, nat_lt, sum_by, Option, Some, None, Result, Ok, Err, codes, if◌then◌else◌}
+use Rattle.std.specs.Prelude.{◌≡◌, ℕ, ◌+◌, Bool, false, not, ◌&&◌, ◌||◌, List, [], ◌∷◌, length, take, nat_lt, sum_by, Option, Some, None, Result, Ok, Err, codes, if◌then◌else◌}
 use Rattle.std.specs.Str.{bytes_eq}
 use Rattle.sw_participant.specs.declared.kind.Kind.{Kind}
 use Rattle.flow_model.specs.declared.flow.Flow.{Flow}

@@ -1,3 +1,4 @@
 pub mod Names
 pub mod Check
+pub mod Kinds
 pub mod Places

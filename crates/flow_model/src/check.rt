@@ -75,7 +75,7 @@ fn is_large(groups: &[Group], flow: &Flow) -> bool
     count_entries(groups) > MAX_ENTRIES_IN_ALL
 }
 
-fn test_sizes(flow: &Flow) -> Result<(), FlowError>
+pub(crate) fn test_sizes(flow: &Flow) -> Result<(), FlowError>
     ensures { result ≡ spec.refused (spec.or_else (spec.large flow.now) (spec.bad_retries flow.now)) }
 {
     if is_large(flow.groups.as_slice(), flow) {
@@ -113,7 +113,7 @@ fn test_names_of(number: usize, group: &Group) -> Result<(), FlowError>
     test_participants(number, group.entries.as_slice())
 }
 
-fn test_names(groups: &[Group]) -> Result<(), FlowError>
+pub(crate) fn test_names(groups: &[Group]) -> Result<(), FlowError>
     ensures { result ≡ spec.refused (spec.first_at spec.bad_group 0 groups.now) }
 {
     'groups: for (number, group) in groups.iter().enumerate() {
@@ -133,7 +133,7 @@ fn is_named(name: &str, groups: &[Group]) -> bool
     false
 }
 
-fn test_doubles(groups: &[Group]) -> Result<(), FlowError>
+pub(crate) fn test_doubles(groups: &[Group]) -> Result<(), FlowError>
     ensures { result ≡ spec.refused (spec.first_at (spec.double_group groups.now) 0 groups.now) }
 {
     'groups: for (number, group) in groups.iter().enumerate() {
@@ -144,7 +144,7 @@ fn test_doubles(groups: &[Group]) -> Result<(), FlowError>
     Ok(())
 }
 
-fn test_main(groups: &[Group]) -> Result<(), FlowError>
+pub(crate) fn test_main(groups: &[Group]) -> Result<(), FlowError>
     ensures { result ≡ spec.refused (spec.no_main groups.now) }
 {
     if is_named("main", groups) {
@@ -176,7 +176,7 @@ fn first_kind(name: &str, groups: &[Group]) -> Option<Kind>
     None
 }
 
-fn is_kind(kind: Kind, first: Option<Kind>) -> bool
+pub(crate) fn is_kind(kind: Kind, first: Option<Kind>) -> bool
     ensures { result ≡ spec.is_kind kind first }
 {
     match first {

@@ -10,6 +10,7 @@
 pub mod check;
 pub mod error;
 pub mod flow;
+pub mod kinds;
 pub mod numbering;
 
 pub use error::FlowError;

@@ -1,6 +1,7 @@
 //! From a text to the flow that it states.
 
 ghost use Rattle.std.specs.Prelude.{◌≡◌, Some, find, option_map, string_bytes, IfOk, IfErr};
+ghost use Rattle.flow_model.specs.Check.{IsChecked};
 ghost use Rattle.toml.specs.Data.{get_member};
 ghost use Rattle.toml.specs.Text.{are_tables};
 ghost use Rattle.toml.specs.View.{view, table_view, array_view};
@@ -262,10 +263,11 @@ fn read_tables(alloc: Global, table: &Table) -> Result<Flow, FlowTomlError>
 }
 
 fn read_document(alloc: Global, table: &Table) -> Result<Flow, FlowTomlError>
-    ensures { Gives (λ f. f) result (spec.checked_flow_of (table_view table.now)) }
+    ensures flow { Gives (λ f. f) result (spec.checked_flow_of (table_view table.now)) }
+    ensures checked { IfOk result (λ f. IsChecked f) }
 {
     let flow = read_tables(alloc, table)?;
-    match flow.check() {
+    match flow.check_by_map(alloc)? {
         Ok(()) => Ok(flow),
         Err(fault) => Err(FlowTomlError::Flow(fault)),
     }
@@ -281,6 +283,7 @@ fn read_document(alloc: Global, table: &Table) -> Result<Flow, FlowTomlError>
 #[tactic(auto, unfolding(crate::specs::FlowFile::reading))]
 pub fn read_flow(alloc: Global, text: &str) -> Result<Flow, FlowTomlError>
     ensures flow { IfOk result (λ f. spec.IsFlowFile f text.now) }
+    ensures checked { IfOk result (λ f. IsChecked f) }
     ensures refused { IfErr result (spec.Refuses text.now) }
 {
     match toml::table_from_str(alloc, text) {

@@ -1,6 +1,8 @@
 //! Why a stream is not decoded to its end.
 
 ghost use Rattle.std.specs.Prelude.{◌≡◌};
+ghost use Rattle.switch_decode.specs.Faults.{IsFaultOfWrite, fault_of_read};
+ghost use Rattle.switch_decode.specs.declared.error.StreamFault.TheVariants.{OutOfMemory};
 
 use std::alloc::{AllocError, AllocFailed};
 use std::io::{self, ErrorKind};
@@ -23,7 +25,9 @@ pub enum StreamFault {
 
 impl StreamFault {
     /// The fault of a failed write.
-    pub fn of_write(error: io::Error) -> StreamFault {
+    pub fn of_write(error: io::Error) -> StreamFault
+        ensures { IsFaultOfWrite error result }
+    {
         match error.kind() {
             ErrorKind::OutOfMemory => StreamFault::OutOfMemory,
             _ => StreamFault::Write(error),
@@ -32,6 +36,8 @@ impl StreamFault {
 }
 
 impl From<ReadFault> for StreamFault {
+    ghost from_gives = { λ e f. f ≡ fault_of_read e };
+
     fn from(error: ReadFault) -> StreamFault {
         match error {
             ReadFault::OutOfMemory => StreamFault::OutOfMemory,
@@ -41,12 +47,16 @@ impl From<ReadFault> for StreamFault {
 }
 
 impl From<AllocError> for StreamFault {
+    ghost from_gives = { λ _ f. f ≡ OutOfMemory };
+
     fn from(_error: AllocError) -> StreamFault {
         StreamFault::OutOfMemory
     }
 }
 
 impl<T: Drop> From<AllocFailed<T>> for StreamFault {
+    ghost from_gives = { λ _ f. f ≡ OutOfMemory };
+
     fn from(_error: AllocFailed<T>) -> StreamFault {
         StreamFault::OutOfMemory
     }

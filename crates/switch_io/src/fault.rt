@@ -1,5 +1,7 @@
 //! Why a reading ends before its input does.
+ghost use Rattle.std.specs.Prelude.{◌≡◌};
 ghost use Rattle.switch_io.specs.Reading.{IsFaultOf};
+ghost use Rattle.switch_io.specs.declared.fault.ReadFault.TheVariants.{OutOfMemory};
 
 use std::alloc::AllocError;
 use std::io::{self, ErrorKind};
@@ -32,6 +34,8 @@ impl ReadFault {
 }
 
 impl From<AllocError> for ReadFault {
+    ghost from_gives = { λ _ e. e ≡ OutOfMemory };
+
     fn from(_error: AllocError) -> ReadFault {
         ReadFault::OutOfMemory
     }

@@ -1,13 +1,26 @@
 -- The command line of `cardswitch`: its subcommands as a table, and what words mean by it. clap's
 -- contracts say what a parse by such a table gives.
-use Rattle.std.specs.Prelude.{◌≡◌, true, List, Option, Some, None, codes}
-use Rattle.clap.specs.Words.{App, Row, Text, new_app, subcommand_of, with_subcommand}
+use Rattle.std.specs.Prelude.{◌≡◌, true, List, Option, Some, None, codes, option_map}
+use Rattle.std.specs.Borrow.{Bor}
+use Rattle.clap.specs.Words.{App, Row, Rule, Text, first_of, new_app, new_rule, subcommand_of, with_rule, with_subcommand}
 use Rattle.switch_options.specs.declared.choice.Options.{Options}
-use Rattle.switch_options.specs.declared.choice.Options.TheVariants.{Decode, Step}
+use Rattle.switch_options.specs.declared.choice.Options.TheVariants.{Asm, Decode, List as ListImage, Step}
 
--- `step`, without options
+-- `--NAME VALUE`, which may be left out
+abbrev pub option_rule : Text → Rule
+option_rule name = record (new_rule name) { long = Some name; value_names = 1 }
+
+-- `step [--flow PATH]`
 abbrev pub step_app : App
-step_app = new_app (codes "step")
+step_app = with_rule (new_app (codes "step")) (option_rule (codes "flow"))
+
+-- `asm`, without options
+abbrev pub asm_app : App
+asm_app = new_app (codes "asm")
+
+-- `list`, without options
+abbrev pub list_app : App
+list_app = new_app (codes "list")
 
 -- `decode`, without options
 abbrev pub decode_app : App
@@ -21,11 +34,17 @@ program_app = record (new_app (codes "cardswitch")) {
 
 -- the program with its subcommands
 abbrev pub switch_app : App
-switch_app = with_subcommand (with_subcommand program_app step_app.top) decode_app.top
+switch_app = with_subcommand (with_subcommand (with_subcommand (with_subcommand program_app step_app.top) asm_app.top) list_app.top) decode_app.top
+
+-- the text that a borrow shows
+abbrev pub text_of : Option (Bor Text) → Option Text
+text_of = option_map (λ s. s.now)
 
 -- the options are those of the subcommand `name`, whose own options are in the rows
 abbrev pub AreOptionsAt : Text → List Row → Options → Type 0
-AreOptionsAt name rows Step = name ≡ codes "step"
+AreOptionsAt name rows (Step flow) = (name ≡ codes "step") × (text_of flow ≡ first_of (codes "flow") rows)
+AreOptionsAt name rows Asm = name ≡ codes "asm"
+AreOptionsAt name rows ListImage = name ≡ codes "list"
 AreOptionsAt name rows Decode = name ≡ codes "decode"
 
 -- no options are those of the subcommand `name`

@@ -1,7 +1,8 @@
 //! Reads the words of a command line.
 ghost use Rattle.std.specs.Prelude.{◌≡◌, IfErr, IfOk, IfSome, IsNone, OnOk, map};
-ghost use Rattle.clap.specs.Words.{found_of, rows_of};
-ghost use Rattle.switch_options.specs.CommandLine.{AreOptionsAt, AreOptionsOf, IsNoSubcommand};
+ghost use Rattle.std.specs.Prelude.{codes};
+ghost use Rattle.clap.specs.Words.{first_of, found_of, rows_of};
+ghost use Rattle.switch_options.specs.CommandLine.{AreOptionsAt, AreOptionsOf, IsNoSubcommand, text_of};
 ghost use Rattle.switch_options.specs.Refusal.{IsAccepted, IsRefusalOf};
 
 use crate::choice::{Options, OptionsError};
@@ -14,10 +15,10 @@ use std::convert::AsStr;
 ///
 /// Refused are words that the table of subcommands does not have, too many or too few of them, and
 /// a wish for help or the version, whose text the error then carries.
-pub fn options<S: AsStr>(alloc: Global, words: &[S]) -> Result<Options, OptionsError>
-    ensures answers { IfOk result (AreOptionsOf (map S.text words.now)) }
-    ensures accepts { OnOk result (IsAccepted (map S.text words.now)) }
-    ensures refuses { IfErr result (IsRefusalOf (map S.text words.now)) }
+pub fn options<'a, S: AsStr>(alloc: Global, words: &'a [S]) -> Result<Options<'a>, OptionsError>
+    ensures answers { IfOk result (AreOptionsOf (map S.text words.entry.now)) }
+    ensures accepts { OnOk result (IsAccepted (map S.text words.entry.now)) }
+    ensures refuses { IfErr result (IsRefusalOf (map S.text words.entry.now)) }
 {
     let command = switch_command(alloc)?;
     let matches = command.try_get_matches_from(words)?;
@@ -30,13 +31,24 @@ pub fn options<S: AsStr>(alloc: Global, words: &[S]) -> Result<Options, OptionsE
     }
 }
 
+/// The text after `--name`; `None` where the option was not given.
+fn text_at<'a>(matches: &ArgMatches<'a>, name: &str) -> Option<&'a str>
+    ensures { text_of result ≡ first_of name.now (rows_of (found_of matches.now)) }
+{
+    matches.get_str(name)
+}
+
 /// The options of the subcommand `name`, by what clap found for it; `None` for a foreign name.
-fn options_at(name: &str, _found: &ArgMatches<'_>) -> Option<Options>
-    ensures some { IfSome result (AreOptionsAt name.now (rows_of (found_of _found.now))) }
-    ensures none { IsNone result → IsNoSubcommand name.now (rows_of (found_of _found.now)) }
+fn options_at<'a>(name: &str, found: &ArgMatches<'a>) -> Option<Options<'a>>
+    ensures some { IfSome result (AreOptionsAt name.now (rows_of (found_of found.now))) }
+    ensures none { IsNone result → IsNoSubcommand name.now (rows_of (found_of found.now)) }
 {
     match name {
-        "step" => Some(Options::Step),
+        "step" => Some(Options::Step {
+            flow: text_at(found, "flow"),
+        }),
+        "asm" => Some(Options::Asm),
+        "list" => Some(Options::List),
         "decode" => Some(Options::Decode),
         _ => None,
     }
@@ -49,18 +61,37 @@ mod tests {
 
     #[test]
     fn reads_subcommands(rt: HostRuntime) -> Result<(), Fail> {
-        let words = ["cardswitch", "step"];
-        assert_eq!(rt; options(rt.alloc(), words.as_slice())?, Options::Step);
-        let words = ["cardswitch", "decode"];
-        assert_eq!(rt; options(rt.alloc(), words.as_slice())?, Options::Decode);
+        let lines: [(&[&str], Options); 6] = [
+            (&["cardswitch", "step"], Options::Step { flow: None }),
+            (
+                &["cardswitch", "step", "--flow", "a b.toml"],
+                Options::Step {
+                    flow: Some("a b.toml"),
+                },
+            ),
+            (
+                &["cardswitch", "step", "--flow=f"],
+                Options::Step { flow: Some("f") },
+            ),
+            (&["cardswitch", "asm"], Options::Asm),
+            (&["cardswitch", "list"], Options::List),
+            (&["cardswitch", "decode"], Options::Decode),
+        ];
+        for (words, wanted) in lines {
+            assert_eq!(rt; options(rt.alloc(), words)?, wanted, "{words:?}");
+        }
         Ok(())
     }
 
     #[test]
     fn refuses_other_words(rt: HostRuntime) -> Result<(), Fail> {
-        let lines: [&[&str]; 4] = [
+        let lines: [&[&str]; 8] = [
             &["cardswitch"],
             &["cardswitch", "jump"],
+            &["cardswitch", "asm", "--flow", "f"],
+            &["cardswitch", "list", "f"],
+            &["cardswitch", "step", "--flow"],
+            &["cardswitch", "step", "--flow", "f", "--flow", "g"],
             &["cardswitch", "step", "more"],
             &["cardswitch", "step", "--fast"],
         ];

@@ -1,10 +1,10 @@
 //! The table of subcommands, as a command of clap's.
 ghost use Rattle.std.specs.Prelude.{◌≡◌, IfOk, false};
-ghost use Rattle.clap.specs.Words.{app_of, new_app};
+ghost use Rattle.clap.specs.Words.{app_of, new_app, with_rule};
 ghost use Rattle.clap.specs.declared.builder.Command.TheViews.{out-Command};
-ghost use Rattle.switch_options.specs.CommandLine.{decode_app, program_app, step_app, switch_app};
+ghost use Rattle.switch_options.specs.CommandLine.{asm_app, decode_app, list_app, option_rule, program_app, step_app, switch_app};
 
-use clap::Command;
+use clap::{Arg, Command};
 use std::alloc::{AllocError, Global};
 
 /// A subcommand with no options so far.
@@ -15,15 +15,49 @@ fn subcommand<'a>(alloc: Global, name: &'a str, about: &'a str) -> Command<'a>
     Command::new(alloc, name).about(about)
 }
 
-fn step_command<'a>(alloc: Global) -> Command<'a>
-    ensures shape { app_of result ≡ step_app }
+/// The command with the option `--NAME VALUE` beside those that it has.
+fn with_option<'a>(
+    alloc: Global,
+    command: Command<'a>,
+    name: &'a str,
+    value: &'a str,
+    help: &'a str,
+) -> Result<Command<'a>, AllocError>
+    ensures shape { IfOk result (λ r. app_of r ≡ with_rule (app_of command.entry) (option_rule name.entry.now)) }
+    ensures local { (out-Command command.entry).has_globals ≡ false → IfOk result (λ r. (out-Command r).has_globals ≡ false) }
+{
+    let arg = Arg::new(alloc, name)
+        .long(name)
+        .value_name(value)
+        .help(help);
+    command.arg(arg)
+}
+
+fn step_command<'a>(alloc: Global) -> Result<Command<'a>, AllocError>
+    ensures shape { IfOk result (λ r. app_of r ≡ step_app) }
+    ensures local { IfOk result (λ r. (out-Command r).has_globals ≡ false) }
+{
+    let about =
+        "Runs a script of transactions from standard input and prints one line for each step";
+    let command = subcommand(alloc, "step", about);
+    let help = "The flow file of the script, which then has no flow and retries lines";
+    with_option(alloc, command, "flow", "PATH", help)
+}
+
+fn asm_command<'a>(alloc: Global) -> Command<'a>
+    ensures shape { app_of result ≡ asm_app }
     ensures local { (out-Command result).has_globals ≡ false }
 {
-    subcommand(
-        alloc,
-        "step",
-        "Runs a script of transactions from standard input and prints one line for each step",
-    )
+    let about = "Prints the image of numbered steps of a flow file from standard input";
+    subcommand(alloc, "asm", about)
+}
+
+fn list_command<'a>(alloc: Global) -> Command<'a>
+    ensures shape { app_of result ≡ list_app }
+    ensures local { (out-Command result).has_globals ≡ false }
+{
+    let about = "Prints the flow file of an image from standard input";
+    subcommand(alloc, "list", about)
 }
 
 fn decode_command<'a>(alloc: Global) -> Command<'a>
@@ -48,6 +82,8 @@ fn program_command<'a>(alloc: Global) -> Command<'a>
 pub fn switch_command<'a>(alloc: Global) -> Result<Command<'a>, AllocError>
     ensures { IfOk result (λ r. app_of r ≡ switch_app) }
 {
-    let command = program_command(alloc).subcommand(step_command(alloc))?;
+    let command = program_command(alloc).subcommand(step_command(alloc)?)?;
+    let command = command.subcommand(asm_command(alloc))?;
+    let command = command.subcommand(list_command(alloc))?;
     command.subcommand(decode_command(alloc))
 }

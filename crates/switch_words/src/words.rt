@@ -3,7 +3,7 @@
 //! `split_line` takes the lines off a script one by one. A line is words of text with single spaces
 //! between them, and `words_of` gives them. What a word spells is read by `read_byte`, `read_bytes`
 //! and `read_number`.
-ghost use Rattle.std.specs.Prelude.{◌≡◌, ◌<◌, ◌≤◌, [], ◌∷◌, IfErr, IfOk, MatchOption, length, map, option_map};
+ghost use Rattle.std.specs.Prelude.{IsNone, ◌≡◌, ◌<◌, ◌≤◌, [], ◌∷◌, IfErr, IfOk, MatchOption, length, map, option_map};
 ghost use Rattle.std.specs.Char.{is_ascii_digit};
 ghost use Rattle.std.specs.List.{list_all, position_or_len};
 ghost use Rattle.std.specs.Option.{SomeIff};
@@ -56,7 +56,8 @@ fn line_end(script: &[u8]) -> usize
 /// The first line of a script and what follows it, `None` where the script is empty. A line ends in
 /// a line feed, which is part of neither and which the last line may lack.
 pub fn split_line(script: &[u8]) -> Option<(&[u8], &[u8])>
-    ensures { MatchOption result (script.entry.now ≡ []) (IsFirstLine script.entry.now) }
+    ensures line { MatchOption result (script.entry.now ≡ []) (IsFirstLine script.entry.now) }
+    ensures none { script.entry.now ≡ [] → IsNone result }
 {
     if script.is_empty() {
         return None;

@@ -47,17 +47,23 @@ impl Write for Full {
     }
 }
 
-/// The status of `step` on an input, and what it wrote.
-fn step<R: Read + Drop>(alloc: Global, input: R) -> Result<(u8, String, String), Fail> {
-    let mut out = Vec::new(alloc);
-    let mut err = Vec::new(alloc);
-    let status = run(alloc, &Options::Step, input, &mut out, &mut err);
+const STEP: Options = Options::Step { flow: None };
+
+/// The status of a subcommand on an input, and what it wrote.
+fn ran<F: Files + AllocGlobal, R: Read + Drop>(
+    rt: &F,
+    options: &Options<'_>,
+    input: R,
+) -> Result<(u8, String, String), Fail> {
+    let mut out = Vec::new(rt.alloc());
+    let mut err = Vec::new(rt.alloc());
+    let status = run(rt.alloc(), rt, options, input, &mut out, &mut err);
     Ok((status, String::from_utf8(out)?, String::from_utf8(err)?))
 }
 
 #[test]
 fn an_empty_script_prints_nothing(rt: HostRuntime) -> Result<(), Fail> {
-    let (status, out, err) = step(rt.alloc(), b"".as_slice())?;
+    let (status, out, err) = ran(&rt, &STEP, b"".as_slice())?;
     assert_eq!(rt; status, 0);
     assert_eq!(rt; out.as_str(), "");
     assert_eq!(rt; err.as_str(), "");
@@ -78,7 +84,7 @@ fn malformed_lines_are_named(rt: HostRuntime) -> Result<(), Fail> {
         (b"auto\xFF", "it is not UTF-8"),
     ];
     for (script, wrong) in scripts {
-        let (status, out, err) = step(rt.alloc(), script)?;
+        let (status, out, err) = ran(&rt, &STEP, script)?;
         assert_eq!(rt; status, 1, "{wrong}");
         assert_eq!(rt; out.as_str(), "", "{wrong}");
         let start = format!(in rt.alloc(); "cardswitch: line 1: {wrong}; expected ")?;
@@ -90,7 +96,7 @@ fn malformed_lines_are_named(rt: HostRuntime) -> Result<(), Fail> {
 
 #[test]
 fn a_failed_read_ends_the_run(rt: HostRuntime) -> Result<(), Fail> {
-    let (status, out, err) = step(rt.alloc(), Broken { given: false })?;
+    let (status, out, err) = ran(&rt, &STEP, Broken { given: false })?;
     assert_eq!(rt; status, 1);
     assert_eq!(rt; out.as_str(), "");
     assert_eq!(rt;
@@ -103,7 +109,7 @@ fn a_failed_read_ends_the_run(rt: HostRuntime) -> Result<(), Fail> {
 #[test]
 fn reads_are_bounded(rt: HostRuntime) -> Result<(), Fail> {
     let expected = "cardswitch: reading the input: it did not end within 1048576 reads\n";
-    let (status, _, err) = step(rt.alloc(), Endless)?;
+    let (status, _, err) = ran(&rt, &STEP, Endless)?;
     assert_eq!(rt; status, 1);
     assert_eq!(rt; err.as_str(), expected);
     Ok(())
@@ -113,20 +119,14 @@ fn reads_are_bounded(rt: HostRuntime) -> Result<(), Fail> {
 fn a_failed_write_ends_the_run(rt: HostRuntime) -> Result<(), Fail> {
     let alloc = rt.alloc();
     let mut err = Vec::new(alloc);
-    let status = run(alloc, &Options::Step, b"".as_slice(), &mut Full, &mut err);
+    let status = run(alloc, &rt, &STEP, b"".as_slice(), &mut Full, &mut err);
     assert_eq!(rt; status, 1);
     assert_eq!(rt;
         String::from_utf8(err)?.as_str(),
         "cardswitch: writing the output: no storage space\n"
     );
     assert_eq!(rt;
-        run(
-            alloc,
-            &Options::Step,
-            b"jump".as_slice(),
-            &mut Full,
-            &mut Full
-        ),
+        run(alloc, &rt, &STEP, b"jump".as_slice(), &mut Full, &mut Full),
         1
     );
     Ok(())
@@ -153,19 +153,11 @@ fn command_lines_are_refused(rt: HostRuntime) -> Result<(), Fail> {
     Ok(())
 }
 
-/// The status of `decode` on a stream, and what it wrote.
-fn decoded(alloc: Global, stream: &[u8]) -> Result<(u8, String, String), Fail> {
-    let mut out = Vec::new(alloc);
-    let mut err = Vec::new(alloc);
-    let status = run(alloc, &Options::Decode, stream, &mut out, &mut err);
-    Ok((status, String::from_utf8(out)?, String::from_utf8(err)?))
-}
-
 const NETWORK_REQUEST: &[u8] = b"0045080080200000000000000400000000000000000001301";
 
 #[test]
 fn a_message_is_decoded(rt: HostRuntime) -> Result<(), Fail> {
-    let (status, out, err) = decoded(rt.alloc(), NETWORK_REQUEST)?;
+    let (status, out, err) = ran(&rt, &Options::Decode, NETWORK_REQUEST)?;
     assert_eq!(rt; out.as_str(), "message 1\nmti 0800\n11 000001\n70 301\n");
     assert_eq!(rt; err.as_str(), "");
     assert_eq!(rt; status, 0);
@@ -177,7 +169,7 @@ fn an_unfinished_frame_is_refused(rt: HostRuntime) -> Result<(), Fail> {
     let alloc = rt.alloc();
     let mut stream = Vec::from_slice(alloc, NETWORK_REQUEST)?;
     stream.extend_from_slice(b"00")?;
-    let (status, out, err) = decoded(alloc, stream.as_slice())?;
+    let (status, out, err) = ran(&rt, &Options::Decode, stream.as_slice())?;
     assert_eq!(rt;
         out.as_str(),
         "message 1\nmti 0800\n11 000001\n70 301\nframe refused Truncated 2\n"
@@ -190,14 +182,14 @@ fn an_unfinished_frame_is_refused(rt: HostRuntime) -> Result<(), Fail> {
 #[test]
 fn refused_messages_are_numbered(rt: HostRuntime) -> Result<(), Fail> {
     let alloc = rt.alloc();
-    let (status, out, _) = decoded(alloc, b"0001x".as_slice())?;
+    let (status, out, _) = ran(&rt, &Options::Decode, b"0001x".as_slice())?;
     assert_eq!(rt; out.as_str(), "message 1 refused Short\n");
     assert_eq!(rt; status, 1);
     // A refused message counts, and a bad length ends the reading.
     let mut stream = Vec::from_slice(alloc, b"0001x")?;
     stream.extend_from_slice(NETWORK_REQUEST)?;
     stream.extend_from_slice(b"00x100")?;
-    let (status, out, _) = decoded(alloc, stream.as_slice())?;
+    let (status, out, _) = ran(&rt, &Options::Decode, stream.as_slice())?;
     assert_eq!(rt;
         out.as_str(),
         "message 1 refused Short\nmessage 2\nmti 0800\n11 000001\n70 301\nframe refused BadLength\n"
@@ -208,11 +200,91 @@ fn refused_messages_are_numbered(rt: HostRuntime) -> Result<(), Fail> {
 
 #[test]
 fn binary_fields_are_shown_as_hexadecimal(rt: HostRuntime) -> Result<(), Fail> {
-    let (status, out, _) = decoded(
-        rt.alloc(),
+    let (status, out, _) = ran(
+        &rt,
+        &Options::Decode,
         b"003601000000000000001000c0ffee0012345678".as_slice(),
     )?;
     assert_eq!(rt; out.as_str(), "message 1\nmti 0100\n52 C0FFEE0012345678\n");
     assert_eq!(rt; status, 0);
+    Ok(())
+}
+
+const FLOW: &str = "retries = 1\n[[group]]\nname = \"main\"\n\
+    [[group.entry]]\nparticipant = \"p\"\n";
+
+const IMAGE: &str = "image 1 1 1 1 2\npart 0 p plain\ngroup 0 main 0\n0 call 0\n1 return\n";
+
+#[test]
+fn a_flow_file_becomes_an_image_and_comes_back(rt: HostRuntime) -> Result<(), Fail> {
+    let (status, out, err) = ran(&rt, &Options::Asm, FLOW.as_bytes())?;
+    assert_eq!(rt; out.as_str(), IMAGE);
+    assert_eq!(rt; err.as_str(), "");
+    assert_eq!(rt; status, 0);
+    let (status, listed, _) = ran(&rt, &Options::List, IMAGE.as_bytes())?;
+    assert_eq!(rt; status, 0);
+    let (_, again, _) = ran(&rt, &Options::Asm, listed.as_bytes())?;
+    assert_eq!(rt; again.as_str(), IMAGE);
+    Ok(())
+}
+
+#[test]
+fn a_refused_input_is_named(rt: HostRuntime) -> Result<(), Fail> {
+    let (status, out, err) = ran(&rt, &Options::Asm, b"color = 1\n".as_slice())?;
+    assert_eq!(rt; status, 1);
+    assert_eq!(rt; out.as_str(), "");
+    assert!(rt; err.starts_with("cardswitch: standard input: "), "{err}");
+    assert!(rt; err.contains("unknown key \"color\""), "{err}");
+    let (status, _, err) = ran(&rt, &Options::List, b"image 1\n".as_slice())?;
+    assert_eq!(rt; status, 1);
+    assert!(rt;
+        err.starts_with("cardswitch: standard input: line 1: bad header"),
+        "{err}"
+    );
+    Ok(())
+}
+
+#[test]
+fn a_script_runs_over_a_flow_file(rt: HostRuntime) -> Result<(), Fail> {
+    std::fs::write(&rt, "flow.toml", FLOW)?;
+    let file = Options::Step {
+        flow: Some("flow.toml"),
+    };
+    let shelved = "1 P prepare p main/0 02 join ctx -> abort p\n1 U abort p -> shelve\n";
+    let (status, out, _) = ran(&rt, &file, b"answer p 02\nauto\n".as_slice())?;
+    assert_eq!(rt; out.as_str(), shelved);
+    assert_eq!(rt; status, 0);
+    // The script's retries stand in the place of the file's.
+    let done = "1 P prepare p main/0 02 join ctx -> abort p\n1 U abort p -> done\n";
+    let (_, out, _) = ran(&rt, &file, b"retries 0\nanswer p 02\nauto\n".as_slice())?;
+    assert_eq!(rt; out.as_str(), done);
+    let (status, _, err) = ran(&rt, &file, b"flow g q\n".as_slice())?;
+    assert_eq!(rt; status, 1);
+    assert!(rt;
+        err.starts_with("cardswitch: line 1: a group stands beside a flow file"),
+        "{err}"
+    );
+    Ok(())
+}
+
+#[test]
+fn a_flow_file_that_is_not_taken_is_named(rt: HostRuntime) -> Result<(), Fail> {
+    let none = Options::Step {
+        flow: Some("none.toml"),
+    };
+    let (status, out, err) = ran(&rt, &none, Endless)?;
+    assert_eq!(rt; status, 1);
+    assert_eq!(rt; out.as_str(), "");
+    assert!(rt;
+        err.starts_with("cardswitch: none.toml: it cannot be opened: "),
+        "{err}"
+    );
+    std::fs::write(&rt, "bad.toml", "group = []")?;
+    let bad = Options::Step {
+        flow: Some("bad.toml"),
+    };
+    let (status, _, err) = ran(&rt, &bad, b"auto\n".as_slice())?;
+    assert_eq!(rt; status, 1);
+    assert!(rt; err.starts_with("cardswitch: bad.toml: "), "{err}");
     Ok(())
 }

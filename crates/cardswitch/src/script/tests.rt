@@ -7,7 +7,7 @@ use std::test::Fail;
 /// What a script prints, and why it ended.
 fn printed(alloc: Global, script: &str) -> Result<(String, Option<Fault>), Fail> {
     let mut out = Vec::new(alloc);
-    let fault = run_script(alloc, script.as_bytes(), &mut out).err();
+    let fault = run_script(alloc, None, script.as_bytes(), &mut out).err();
     Ok((String::from_utf8(out)?, fault))
 }
 

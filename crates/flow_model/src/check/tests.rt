@@ -1,6 +1,7 @@
 use super::*;
 use crate::numbering::participants;
 use std::alloc::{AllocError, Global};
+use std::process::Abort;
 use std::test::Fail;
 use sw_participant::{Sequence, Text};
 
@@ -56,45 +57,58 @@ fn with_group(alloc: Global, retries: u8, more: Group) -> Result<Flow, AllocErro
     Ok(flow(retries, groups))
 }
 
+/// What a flow is checked with; both ways of checking agree.
+fn checked(rt: &impl Abort, alloc: Global, flow: &Flow) -> Result<Result<(), FlowError>, Fail> {
+    let by_scan = flow.check();
+    assert_eq!(rt; flow.check_by_map(alloc)?, by_scan);
+    Ok(by_scan)
+}
+
 #[test]
 fn each_fault_is_found_in_its_order(rt: HostRuntime) -> Result<(), Fail> {
     let alloc = rt.alloc();
     let more = group(alloc, "g", "q", AWARE, 2)?;
-    assert_eq!(rt; with_group(alloc, 100, more)?.check(), Ok(()));
+    assert_eq!(rt;
+        checked(&rt, alloc, &with_group(alloc, 100, more)?)?,
+        Ok(())
+    );
     // Too many retries come before all but the size.
     let more = group(alloc, "main", "p!", AWARE, 1)?;
     assert_eq!(rt;
-        with_group(alloc, 101, more)?.check(),
+        checked(&rt, alloc, &with_group(alloc, 101, more)?)?,
         Err(FlowError::BadRetries)
     );
     let more = group(alloc, "main", "p!", AWARE, 257)?;
     assert_eq!(rt;
-        with_group(alloc, 101, more)?.check(),
+        checked(&rt, alloc, &with_group(alloc, 101, more)?)?,
         Err(FlowError::TooLarge)
     );
     // A bad name comes before a doubled group.
     let more = group(alloc, "main", "p!", AWARE, 1)?;
     assert_eq!(rt;
-        with_group(alloc, 0, more)?.check(),
+        checked(&rt, alloc, &with_group(alloc, 0, more)?)?,
         Err(FlowError::BadName(1, Some(0)))
     );
     let more = group(alloc, "", "p!", AWARE, 1)?;
     assert_eq!(rt;
-        with_group(alloc, 0, more)?.check(),
+        checked(&rt, alloc, &with_group(alloc, 0, more)?)?,
         Err(FlowError::BadName(1, None))
     );
     // A doubled group comes before clashing kinds.
     let more = group(alloc, "main", "p", AWARE, 1)?;
     assert_eq!(rt;
-        with_group(alloc, 0, more)?.check(),
+        checked(&rt, alloc, &with_group(alloc, 0, more)?)?,
         Err(FlowError::DoubleGroup(1))
     );
     let more = group(alloc, "g", "p", RECOVERING, 1)?;
     assert_eq!(rt;
-        with_group(alloc, 0, more)?.check(),
+        checked(&rt, alloc, &with_group(alloc, 0, more)?)?,
         Err(FlowError::KindClash(1, 0))
     );
-    assert_eq!(rt; flow(0, Vec::new(alloc)).check(), Err(FlowError::NoMain));
+    assert_eq!(rt;
+        checked(&rt, alloc, &flow(0, Vec::new(alloc)))?,
+        Err(FlowError::NoMain)
+    );
     Ok(())
 }
 
@@ -112,9 +126,15 @@ fn large(alloc: Global, groups: usize, more: usize) -> Result<Flow, AllocError> 
 #[test]
 fn the_largest_flow_is_accepted(rt: HostRuntime) -> Result<(), Fail> {
     let alloc = rt.alloc();
-    assert_eq!(rt; large(alloc, 256, 0)?.check(), Ok(()));
-    assert_eq!(rt; large(alloc, 256, 1)?.check(), Err(FlowError::TooLarge));
-    assert_eq!(rt; large(alloc, 257, 0)?.check(), Err(FlowError::TooLarge));
+    assert_eq!(rt; checked(&rt, alloc, &large(alloc, 256, 0)?)?, Ok(()));
+    assert_eq!(rt;
+        checked(&rt, alloc, &large(alloc, 256, 1)?)?,
+        Err(FlowError::TooLarge)
+    );
+    assert_eq!(rt;
+        checked(&rt, alloc, &large(alloc, 257, 0)?)?,
+        Err(FlowError::TooLarge)
+    );
     Ok(())
 }
 

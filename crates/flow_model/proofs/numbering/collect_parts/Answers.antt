@@ -1,4 +1,4 @@
-use Rattle.std.proofs.Common.{◌≡◌, ◌∙◌, sym, ap, drop, get_or, ◌++◌, ◌+◌}
+use Rattle.std.proofs.Common.{◌∙◌, sym, ap, drop, get_or, ◌+◌}
 use Rattle.std.specs.List.{flat_map}
 use Rattle.std.proofs.lemmas.List.{drop_more}
 use Rattle.flow_model.specs.declared.flow.Group.{Group}

@@ -6,7 +6,9 @@ use Rattle.switch_options.proofs.table.switch_command.Goals as goal
 pub returns : goal.returns
 returns c =
     let top : App → Shape = λ a. a.top in
-    let one = c.in_ok-command.ensures.shape c.step_command.ensures.local
-    ∙ ap₂ with_subcommand c.program_command.ensures (ap top c.step_command.ensures.shape) in
-    IfOk-weaker c.subcommand-2.result _ _ (λ r adds. adds.shape c.decode_command.ensures.local
-    ∙ ap₂ with_subcommand one (ap top c.decode_command.ensures.shape)) c.subcommand-2.ensures
+    let one = c.in_ok-command.ensures.shape c.in_ok-step_command.ensures.local
+    ∙ ap₂ with_subcommand c.program_command.ensures (ap top c.in_ok-step_command.ensures.shape) in
+    let two = c.in_ok-command-2.ensures.shape c.asm_command.ensures.local ∙ ap₂ with_subcommand one (ap top c.asm_command.ensures.shape) in
+    let three = c.in_ok-command-3.ensures.shape c.list_command.ensures.local ∙ ap₂ with_subcommand two (ap top c.list_command.ensures.shape) in
+    IfOk-weaker c.subcommand-4.result _ _ (λ r adds. adds.shape c.decode_command.ensures.local
+    ∙ ap₂ with_subcommand three (ap top c.decode_command.ensures.shape)) c.subcommand-4.ensures

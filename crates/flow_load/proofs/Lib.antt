@@ -1,0 +1,4 @@
+pub mod Printed
+pub mod NameBytes
+pub mod Loop
+pub mod Doubles

@@ -1,0 +1,7 @@
+use Rattle.std.proofs.Common.{take}
+use Rattle.std.specs.Fmt.{IsPlainFormatter, HasWritten}
+use Rattle.flow_load.specs.Image.{lines_text, step_text}
+use Rattle.flow_load.proofs.print.StepLinesDisplay.fmt.Given as goal
+
+abbrev pub invariant-steps : goal.invariant-steps
+invariant-steps g l = IsPlainFormatter l.initial.f → HasWritten g.W.Write.write_str_gives l.initial.f (lines_text step_text 0 (take l.number l.step-items)) l.f

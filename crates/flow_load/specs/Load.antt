@@ -1,0 +1,40 @@
+-- The flow whose image some bytes are, or their first fault.
+use Rattle.std.specs.Prelude.{ℕ, ◌+◌, ◌==◌, List, [], ◌∷◌, Option, Some, None, Result, Ok, Err, if◌then◌else◌}
+use Rattle.flow_model.specs.declared.flow.Flow as flow
+use Rattle.flow_model.specs.declared.numbering.Part.{Part}
+use Rattle.flow_model.specs.declared.error.FlowError.{FlowError}
+use Rattle.flow_model.specs.Check.{first_fault}
+use Rattle.flow_load.specs.declared.error.LoadError.{LoadError}
+use Rattle.flow_load.specs.declared.error.LoadError.TheVariants.{BadHeader, BadLine, Flow}
+use Rattle.flow_load.specs.declared.lines.Lines.{Lines}
+use Rattle.flow_load.specs.Image.{Text}
+use Rattle.flow_load.specs.Reading.{◌>>=◌, refused}
+use Rattle.flow_load.specs.Forms.{lines_in}
+use Rattle.flow_load.specs.Groups.{flow_in}
+
+-- the line of the first participant that recovers, from that line on
+abbrev pub first_recovering : ℕ → List Part → Option ℕ
+first_recovering at [] = None
+first_recovering at (p ∷ ps) = if p.kind.recovers then Some at else first_recovering (at + 1) ps
+
+-- version 1 has no participant that recovers, and version 2 has one
+abbrev pub misversioned : ℕ → Option ℕ → Option LoadError
+misversioned version None = if version == 1 then None else Some BadHeader
+misversioned version (Some at) = if version == 1 then Some (BadLine at) else None
+
+abbrev pub version_fault : Lines → Option LoadError
+version_fault l = misversioned l.version (first_recovering 2 l.parts)
+
+-- a flow, unless its check refuses it
+abbrev pub sound : flow.Flow → Option FlowError → Result flow.Flow LoadError
+sound f None = Ok f
+sound f (Some e) = Err (Flow e)
+
+-- Each line by itself, then the version, then the lines together, then the flow: the first fault is
+-- the answer.
+unfoldable pub load_of : Text → Result flow.Flow LoadError
+load_of bytes = do
+  l ← lines_in bytes
+  versioned ← refused (version_fault l)
+  f ← flow_in l
+  sound f (first_fault f)

@@ -1,0 +1,244 @@
+//! The lines of an image, one after the other.
+
+ghost use Rattle.std.specs.Prelude.{◌≡◌, ◌+◌, ◌<◌, ◌^◌, length, IfOk, true};
+ghost use Rattle.flow_load.specs.Reading.{Gives};
+ghost use Rattle.flow_load.specs.Forms as spec;
+ghost use Rattle.flow_load.specs.Bounds.{IsSmall};
+
+use crate::error::LoadError;
+use crate::lines::{Header, Lines};
+use crate::words::{kind_at, line_at, name_at, number_at, number_of, word_at, word_is};
+use flow_asm::{GroupStart, Step};
+use flow_model::Part;
+use std::alloc::Global;
+use sw_participant::Sequence;
+
+#[tactic(auto, unfolding(crate::specs::Forms::part_form))]
+fn part_form(alloc: Global, error: LoadError, line: &[u8]) -> Result<(usize, Part), LoadError>
+    ensures { Gives (λ p. p) result (spec.part_form error line.now) }
+{
+    let rest = word_is(error, b"part", line)?;
+    let (number, rest) = number_at(error, rest)?;
+    let (name, rest) = name_at(alloc, error, rest)?;
+    let kind = kind_at(error, rest)?;
+    Ok((number, Part { name, kind }))
+}
+
+#[tactic(auto, unfolding(crate::specs::Forms::group_form))]
+fn group_form(
+    alloc: Global,
+    error: LoadError,
+    line: &[u8],
+) -> Result<(usize, GroupStart), LoadError>
+    ensures { Gives (λ p. p) result (spec.group_form error line.now) }
+{
+    let rest = word_is(error, b"group", line)?;
+    let (number, rest) = number_at(error, rest)?;
+    let (name, rest) = name_at(alloc, error, rest)?;
+    let first = number_of(error, rest)?;
+    Ok((number, GroupStart { name, first }))
+}
+
+fn step_named(error: LoadError, word: &[u8], participant: usize) -> Result<Step, LoadError>
+    ensures { Gives (λ s. s) result (spec.step_named error word.now participant) }
+{
+    if word == "call".as_bytes() {
+        Ok(Step::Call(participant))
+    } else if word == "pick".as_bytes() {
+        Ok(Step::Pick(participant))
+    } else {
+        Err(error)
+    }
+}
+
+#[tactic(auto, unfolding(crate::specs::Forms::step_of))]
+fn step_of(error: LoadError, text: &[u8]) -> Result<Step, LoadError>
+    ensures { Gives (λ s. s) result (spec.step_of error text.now) }
+{
+    if text == "return".as_bytes() {
+        return Ok(Step::Return);
+    }
+    let (word, rest) = word_at(error, text)?;
+    let participant = number_of(error, rest)?;
+    step_named(error, word, participant)
+}
+
+#[tactic(auto, unfolding(crate::specs::Forms::step_form))]
+fn step_form(error: LoadError, line: &[u8]) -> Result<(usize, Step), LoadError>
+    ensures { Gives (λ p. p) result (spec.step_form error line.now) }
+{
+    let (number, rest) = number_at(error, line)?;
+    let step = step_of(error, rest)?;
+    Ok((number, step))
+}
+
+#[tactic(auto, unfolding(crate::specs::Forms::header_form))]
+fn header_form(line: &[u8]) -> Result<Header, LoadError>
+    ensures { Gives (λ h. h) result (spec.header_form line.now) }
+{
+    let rest = word_is(LoadError::BadHeader, b"image", line)?;
+    let (version, rest) = number_at(LoadError::BadHeader, rest)?;
+    let (retries, rest) = number_at(LoadError::BadHeader, rest)?;
+    let (parts, rest) = number_at(LoadError::BadHeader, rest)?;
+    let (groups, rest) = number_at(LoadError::BadHeader, rest)?;
+    let steps = number_of(LoadError::BadHeader, rest)?;
+    Ok(Header {
+        version,
+        retries,
+        parts,
+        groups,
+        steps,
+    })
+}
+
+fn is_header(h: Header) -> bool
+    ensures { result ≡ spec.is_header h }
+{
+    (1 <= h.version && h.version <= 2)
+        && ((h.retries <= 100 && h.parts <= 16_384) && (h.groups <= 256 && h.steps <= 33_024))
+}
+
+#[tactic(auto, unfolding(crate::specs::Forms::header_at))]
+fn header_at(bytes: &[u8]) -> Result<(Header, &[u8]), LoadError>
+    ensures read { Gives (λ p. (p.0, p.1.now)) result (spec.header_at bytes.now) }
+    ensures limits { IfOk result (λ p. spec.is_header p.0 ≡ true) }
+{
+    let (line, rest) = line_at(LoadError::BadHeader, bytes)?;
+    let header = header_form(line)?;
+    if is_header(header) {
+        Ok((header, rest))
+    } else {
+        Err(LoadError::BadHeader)
+    }
+}
+
+// The participant of this number, on the line of the number `at`, and the text behind it; likewise a
+// group and a step.
+fn part_at(
+    alloc: Global,
+    number: usize,
+    at: usize,
+    bytes: &[u8],
+) -> Result<(Part, &[u8]), LoadError>
+    ensures { Gives (λ p. (p.0, p.1.now)) result (spec.line_at spec.part_form number at bytes.now) }
+{
+    let (line, rest) = line_at(LoadError::BadLine(at), bytes)?;
+    let (own, part) = part_form(alloc, LoadError::BadLine(at), line)?;
+    if own == number {
+        Ok((part, rest))
+    } else {
+        Err(LoadError::BadNumber(at))
+    }
+}
+
+fn group_at(
+    alloc: Global,
+    number: usize,
+    at: usize,
+    bytes: &[u8],
+) -> Result<(GroupStart, &[u8]), LoadError>
+    ensures { Gives (λ p. (p.0, p.1.now)) result (spec.line_at spec.group_form number at bytes.now) }
+{
+    let (line, rest) = line_at(LoadError::BadLine(at), bytes)?;
+    let (own, start) = group_form(alloc, LoadError::BadLine(at), line)?;
+    if own == number {
+        Ok((start, rest))
+    } else {
+        Err(LoadError::BadNumber(at))
+    }
+}
+
+fn step_at(number: usize, at: usize, bytes: &[u8]) -> Result<(Step, &[u8]), LoadError>
+    ensures { Gives (λ p. (p.0, p.1.now)) result (spec.line_at spec.step_form number at bytes.now) }
+{
+    let (line, rest) = line_at(LoadError::BadLine(at), bytes)?;
+    let (own, step) = step_form(LoadError::BadLine(at), line)?;
+    if own == number {
+        Ok((step, rest))
+    } else {
+        Err(LoadError::BadNumber(at))
+    }
+}
+
+// So many participants, from the line of the number `at` on; likewise groups and steps.
+fn read_parts(
+    alloc: Global,
+    count: usize,
+    at: usize,
+    bytes: &[u8],
+) -> Result<(Vec<Part>, &[u8]), LoadError>
+    requires { at + count < 2 ^ 32 }
+    ensures read { Gives (λ p. (p.0.items, p.1.now)) result (spec.items_at spec.part_form count 0 at bytes.now) }
+    ensures count { IfOk result (λ p. length p.0.items ≡ count) }
+{
+    let mut items = Vec::new(alloc);
+    let mut rest = bytes;
+    'lines: for k in 0..count {
+        let (item, after) = part_at(alloc, k, at + k, rest)?;
+        items.push(item)?;
+        rest = after;
+    }
+    Ok((items, rest))
+}
+
+fn read_groups(
+    alloc: Global,
+    count: usize,
+    at: usize,
+    bytes: &[u8],
+) -> Result<(Vec<GroupStart>, &[u8]), LoadError>
+    requires { at + count < 2 ^ 32 }
+    ensures read { Gives (λ p. (p.0.items, p.1.now)) result (spec.items_at spec.group_form count 0 at bytes.now) }
+    ensures count { IfOk result (λ p. length p.0.items ≡ count) }
+{
+    let mut items = Vec::new(alloc);
+    let mut rest = bytes;
+    'lines: for k in 0..count {
+        let (item, after) = group_at(alloc, k, at + k, rest)?;
+        items.push(item)?;
+        rest = after;
+    }
+    Ok((items, rest))
+}
+
+fn read_steps(
+    alloc: Global,
+    count: usize,
+    at: usize,
+    bytes: &[u8],
+) -> Result<(Vec<Step>, &[u8]), LoadError>
+    requires { at + count < 2 ^ 32 }
+    ensures read { Gives (λ p. (p.0.items, p.1.now)) result (spec.items_at spec.step_form count 0 at bytes.now) }
+    ensures count { IfOk result (λ p. length p.0.items ≡ count) }
+{
+    let mut items = Vec::new(alloc);
+    let mut rest = bytes;
+    'lines: for k in 0..count {
+        let (item, after) = step_at(k, at + k, rest)?;
+        items.push(item)?;
+        rest = after;
+    }
+    Ok((items, rest))
+}
+
+/// What the lines of an image say, or the first line that is not of its form.
+#[tactic(auto, unfolding(crate::specs::Forms::lines_in))]
+pub fn read_lines(alloc: Global, bytes: &[u8]) -> Result<Lines, LoadError>
+    ensures read { Gives (λ l. l) result (spec.lines_in bytes.now) }
+    ensures small { IfOk result IsSmall }
+{
+    let (header, rest) = header_at(bytes)?;
+    let (parts, rest) = read_parts(alloc, header.parts, 2, rest)?;
+    let (starts, rest) = read_groups(alloc, header.groups, 2 + header.parts, rest)?;
+    let (steps, rest) = read_steps(alloc, header.steps, 2 + header.parts + header.groups, rest)?;
+    if !rest.is_empty() {
+        return Err(LoadError::BadLine(2 + header.parts + header.groups + header.steps));
+    }
+    Ok(Lines {
+        version: header.version,
+        retries: header.retries as u8,
+        parts: Sequence::new(parts),
+        starts: Sequence::new(starts),
+        steps: Sequence::new(steps),
+    })
+}

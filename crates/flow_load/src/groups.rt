@@ -1,0 +1,258 @@
+//! From the lines of an image to the flow that they lay out.
+
+ghost use Rattle.std.specs.Prelude.{◌≡◌, ◌≤◌, ◌<◌, ◌+◌, ◌^◌, ◌++◌, length, slice_get, IfOk, IfSome, OnOk, None};
+ghost use Rattle.flow_asm.specs.Listing.{entry_of};
+ghost use Rattle.flow_load.specs.Reading.{Gives, refused};
+ghost use Rattle.flow_load.specs.Groups as spec;
+ghost use Rattle.flow_load.specs.Bounds.{IsCallBelow, IsSmall};
+
+use crate::error::LoadError;
+use crate::lines::Lines;
+use flow_asm::{GroupStart, Step};
+use flow_model::{Entry, Flow, Group, Part};
+use std::alloc::{AllocError, Global};
+use std::collections::BTreeMap;
+use sw_participant::Sequence;
+
+/// What a step is in its place.
+#[derive(Clone, Copy)]
+pub(crate) enum Turn {
+    /// The next entry: a call of the participant of this number.
+    Calls(usize),
+    /// The pick behind a selector's call.
+    Picks,
+    /// The end of the group.
+    Returns,
+}
+
+// The number of the first participant whose name an earlier one has.
+fn first_double(alloc: Global, parts: &[Part]) -> Result<Option<usize>, AllocError>
+    ensures read { IfOk result (λ number. number ≡ spec.double_from parts.now 0 parts.now) }
+    ensures within { IfOk result (λ number. IfSome number (λ n. n < length parts.now)) }
+{
+    let mut seen = BTreeMap::new(alloc);
+    'parts: for (number, part) in parts.iter().enumerate() {
+        let name = part.name.as_str();
+        if seen.contains_key(name) {
+            return Ok(Some(number));
+        }
+        seen.insert(name, number)?;
+    }
+    Ok(None)
+}
+
+fn test_distinct(alloc: Global, parts: &[Part]) -> Result<(), LoadError>
+    requires { length parts.now < 2 ^ 32 }
+    ensures { Gives (λ u. u) result (refused (spec.double_fault parts.now)) }
+{
+    match first_double(alloc, parts)? {
+        Some(number) => Err(LoadError::BadTarget(2 + number)),
+        None => Ok(()),
+    }
+}
+
+// What the step on the line `here` is.
+fn turn_of(
+    parts: &[Part],
+    here: usize,
+    owed: Option<usize>,
+    met: usize,
+    step: Step,
+) -> Result<Turn, LoadError>
+    requires { 1 ≤ here }
+    ensures read { Gives (λ t. t) result (spec.turn_of parts.now here owed met step) }
+    ensures known { IfOk result (IsCallBelow (length parts.now)) }
+{
+    match owed {
+        None => match step {
+            Step::Call(number) => {
+                if number < parts.len() && number <= met {
+                    Ok(Turn::Calls(number))
+                } else {
+                    Err(LoadError::BadTarget(here))
+                }
+            }
+            Step::Pick(_) => Err(LoadError::BadTarget(here)),
+            Step::Return => Ok(Turn::Returns),
+        },
+        Some(called) => match step {
+            Step::Call(_) => Err(LoadError::BadTarget(here - 1)),
+            Step::Pick(number) => {
+                if number == called {
+                    Ok(Turn::Picks)
+                } else {
+                    Err(LoadError::BadTarget(here - 1))
+                }
+            }
+            Step::Return => Err(LoadError::BadTarget(here - 1)),
+        },
+    }
+}
+
+fn add_entry(entries: &mut Vec<Entry>, parts: &[Part], number: usize) -> Result<(), AllocError>
+    ensures { OnOk result (entries.new.items ≡ entries.old.items ++ entry_of (slice_get parts.now number)) }
+{
+    if let Some(part) = parts.get(number) {
+        let participant = part.name.copy()?;
+        entries.push(Entry {
+            participant,
+            kind: part.kind,
+        })?;
+    }
+    Ok(())
+}
+
+// The pick that a call wants behind it.
+fn wanted(parts: &[Part], number: usize) -> Option<usize>
+    ensures { result ≡ spec.wanted number (slice_get parts.now number) }
+{
+    match parts.get(number) {
+        Some(part) => {
+            if part.kind.selector {
+                Some(number)
+            } else {
+                None
+            }
+        }
+        None => None,
+    }
+}
+
+fn cut_off(group: usize, here: usize, owed: Option<usize>) -> LoadError
+    requires { 1 ≤ here }
+    ensures { result ≡ spec.cut_off group here owed }
+{
+    match owed {
+        None => LoadError::NoReturn(group),
+        Some(_) => LoadError::BadTarget(here - 1),
+    }
+}
+
+// A group, the number of the step behind its return, how many participants were met so far, and the
+// steps that are left.
+#[derive(Drop)]
+struct Walked<'a> {
+    entries: Vec<Entry>,
+    at: usize,
+    met: usize,
+    rest: &'a [Step],
+}
+
+// The group of this number, from step `at` on, which is the first of `steps`; `line` is that of step 0.
+fn read_group<'a>(
+    alloc: Global,
+    parts: &[Part],
+    line: usize,
+    group: usize,
+    at: usize,
+    met: usize,
+    steps: &'a [Step],
+) -> Result<Walked<'a>, LoadError>
+    requires line { 2 ≤ line }
+    requires few { line + at + length steps.now < 2 ^ 32 }
+    ensures read { Gives spec.walk_of result (spec.walk parts.now line group None at met steps.now) }
+    ensures within { IfOk result (λ w. w.at + length w.rest.now ≤ at + length steps.now) }
+{
+    let mut entries = Vec::new(alloc);
+    let mut owed = None;
+    let mut met = met;
+    'steps: for (k, step) in steps.iter().enumerate() {
+        match turn_of(parts, line + at + k, owed, met, *step)? {
+            Turn::Calls(number) => {
+                add_entry(&mut entries, parts, number)?;
+                owed = wanted(parts, number);
+                met = met.max(number + 1);
+            }
+            Turn::Picks => owed = None,
+            Turn::Returns => {
+                return Ok(Walked {
+                    entries,
+                    at: at + k + 1,
+                    met,
+                    rest: &steps[k + 1..],
+                });
+            }
+        }
+    }
+    Err(cut_off(group, line + at + steps.len(), owed))
+}
+
+// The groups in their order, the number of the first step behind them, how many participants were
+// met, and the steps that are left.
+#[derive(Drop)]
+struct WalkedAll<'a> {
+    groups: Vec<Group>,
+    at: usize,
+    met: usize,
+    rest: &'a [Step],
+}
+
+fn read_groups<'a>(
+    alloc: Global,
+    parts: &[Part],
+    line: usize,
+    starts: &[GroupStart],
+    steps: &'a [Step],
+) -> Result<WalkedAll<'a>, LoadError>
+    requires line { 2 ≤ line }
+    requires few { line + length parts.now + length starts.now + length steps.now < 2 ^ 32 }
+    ensures read { Gives spec.walks_of result (spec.walks parts.now line 0 0 0 steps.now starts.now) }
+    ensures within { IfOk result (λ w. w.at ≤ length steps.now) }
+{
+    let mut groups = Vec::new(alloc);
+    let mut at = 0;
+    let mut met = 0;
+    let mut rest = steps;
+    'groups: for (number, start) in starts.iter().enumerate() {
+        if start.first != at {
+            return Err(LoadError::BadTarget(2 + parts.len() + number));
+        }
+        let walked = read_group(alloc, parts, line, number, at, met, rest)?;
+        let name = start.name.copy()?;
+        groups.push(Group {
+            name,
+            entries: Sequence::new(walked.entries),
+        })?;
+        at = walked.at;
+        met = walked.met;
+        rest = walked.rest;
+    }
+    Ok(WalkedAll {
+        groups,
+        at,
+        met,
+        rest,
+    })
+}
+
+// All steps are a group's, and each participant is called.
+fn test_end(parts: &[Part], line: usize, walked: &WalkedAll<'_>) -> Result<(), LoadError>
+    requires { line + walked.now.at < 2 ^ 32 }
+    ensures { Gives (λ u. u) result (refused (spec.end_fault parts.now line (spec.walks_of walked.now))) }
+{
+    if !walked.rest.is_empty() {
+        return Err(LoadError::BadTarget(line + walked.at));
+    }
+    if walked.met < parts.len() {
+        return Err(LoadError::BadTarget(2 + walked.met));
+    }
+    Ok(())
+}
+
+/// The flow that the lines lay out, or the first line that does not fit those before it.
+#[tactic(auto, unfolding(crate::specs::Groups::flow_in))]
+pub fn read_flow(alloc: Global, lines: &Lines) -> Result<Flow, LoadError>
+    requires { IsSmall lines.now }
+    ensures { Gives (λ f. f) result (spec.flow_in lines.now) }
+{
+    let parts = lines.parts.as_slice();
+    let starts = lines.starts.as_slice();
+    test_distinct(alloc, parts)?;
+    let line = 2 + parts.len() + starts.len();
+    let walked = read_groups(alloc, parts, line, starts, lines.steps.as_slice())?;
+    test_end(parts, line, &walked)?;
+    Ok(Flow {
+        retries: lines.retries,
+        groups: Sequence::new(walked.groups),
+    })
+}

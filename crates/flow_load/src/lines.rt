@@ -1,0 +1,27 @@
+//! What the lines of an image say.
+
+use flow_asm::{GroupStart, Step};
+use flow_model::Part;
+use sw_participant::Sequence;
+
+/// The first line.
+#[derive(Clone, Copy)]
+pub(crate) struct Header {
+    /// 1, or 2 where a participant recovers.
+    pub version: usize,
+    pub retries: usize,
+    /// How many participants there are; likewise groups and steps.
+    pub parts: usize,
+    pub groups: usize,
+    pub steps: usize,
+}
+
+/// The lines of an image, before they are known to be a flow's.
+#[derive(Drop)]
+pub(crate) struct Lines {
+    pub version: usize,
+    pub retries: u8,
+    pub parts: Sequence<Part>,
+    pub starts: Sequence<GroupStart>,
+    pub steps: Sequence<Step>,
+}

@@ -1,0 +1,136 @@
+//! The check of a flow by a map from participants to their kinds, for whoever has memory.
+
+ghost use Rattle.std.specs.Prelude.{◌≡◌, ◌∷◌, [], ℕ, List, IfOk, OnOk};
+ghost use Rattle.flow_model.specs.Check as spec;
+ghost use Rattle.flow_model.specs.Kinds.{clash_by, clash_in_by, kind_at};
+
+use crate::check::{is_kind, test_doubles, test_main, test_names, test_sizes};
+use crate::error::FlowError;
+use crate::flow::{Entry, Flow, Group};
+use std::alloc::{AllocError, Global};
+use std::collections::BTreeMap;
+use sw_participant::Kind;
+
+fn add_first<'a>(kinds: &mut BTreeMap<&'a str, Kind>, entry: &'a Entry) -> Result<(), AllocError>
+    ensures { OnOk result ((name : List ℕ) → kind_at kinds.new name ≡ spec.or_else (kind_at kinds.old name) (spec.kind_in name (entry.now ∷ []))) }
+{
+    let name = entry.participant.as_str();
+    if kinds.contains_key(name) {
+        return Ok(());
+    }
+    kinds.insert(name, entry.kind)?;
+    Ok(())
+}
+
+fn add_entries<'a>(
+    kinds: &mut BTreeMap<&'a str, Kind>,
+    entries: &'a [Entry],
+) -> Result<(), AllocError>
+    ensures { OnOk result ((name : List ℕ) → kind_at kinds.new name ≡ spec.or_else (kind_at kinds.old name) (spec.kind_in name entries.now)) }
+{
+    'entries: for entry in entries {
+        add_first(kinds, entry)?;
+    }
+    Ok(())
+}
+
+fn add_groups<'a>(
+    kinds: &mut BTreeMap<&'a str, Kind>,
+    groups: &'a [Group],
+) -> Result<(), AllocError>
+    ensures { OnOk result ((name : List ℕ) → kind_at kinds.new name ≡ spec.or_else (kind_at kinds.old name) (spec.first_kind name groups.now)) }
+{
+    'groups: for group in groups {
+        add_entries(kinds, group.entries.as_slice())?;
+    }
+    Ok(())
+}
+
+// Each participant's kind at its first place.
+fn first_kinds(alloc: Global, groups: &[Group]) -> Result<BTreeMap<&str, Kind>, AllocError>
+    ensures { IfOk result (λ m. (name : List ℕ) → kind_at m name ≡ spec.first_kind name groups.now) }
+{
+    let mut kinds = BTreeMap::new(alloc);
+    add_groups(&mut kinds, groups)?;
+    Ok(kinds)
+}
+
+fn test_kind(
+    kinds: &BTreeMap<&str, Kind>,
+    group: usize,
+    index: usize,
+    entry: &Entry,
+) -> Result<(), FlowError>
+    ensures { result ≡ spec.refused (clash_by (kind_at kinds.now) group index entry.now) }
+{
+    if is_kind(entry.kind, kinds.get(entry.participant.as_str()).copied()) {
+        Ok(())
+    } else {
+        Err(FlowError::KindClash(group, index))
+    }
+}
+
+fn test_kinds_of(
+    kinds: &BTreeMap<&str, Kind>,
+    group: usize,
+    entries: &[Entry],
+) -> Result<(), FlowError>
+    ensures { result ≡ spec.refused (spec.first_at (clash_by (kind_at kinds.now) group) 0 entries.now) }
+{
+    'entries: for (index, entry) in entries.iter().enumerate() {
+        test_kind(kinds, group, index, entry)?;
+    }
+    Ok(())
+}
+
+fn test_kinds_by(kinds: &BTreeMap<&str, Kind>, groups: &[Group]) -> Result<(), FlowError>
+    ensures { result ≡ spec.refused (spec.first_at (clash_in_by (kind_at kinds.now)) 0 groups.now) }
+{
+    'groups: for (number, group) in groups.iter().enumerate() {
+        test_kinds_of(kinds, number, group.entries.as_slice())?;
+    }
+    Ok(())
+}
+
+// As the comparison of kinds without a map, which has each participant's kind at its first place.
+fn test_kinds(kinds: &BTreeMap<&str, Kind>, groups: &[Group]) -> Result<(), FlowError>
+    requires { (name : List ℕ) → kind_at kinds.now name ≡ spec.first_kind name groups.now }
+    ensures { result ≡ spec.refused (spec.first_at (spec.clash_in groups.now) 0 groups.now) }
+{
+    test_kinds_by(kinds, groups)
+}
+
+// As the check without a map, with the same kinds.
+#[tactic(auto, unfolding(crate::specs::Check::first_fault))]
+fn check_with(flow: &Flow, kinds: &BTreeMap<&str, Kind>) -> Result<(), FlowError>
+    requires { (name : List ℕ) → kind_at kinds.now name ≡ spec.first_kind name flow.now.groups }
+    ensures { result ≡ spec.refused (spec.first_fault flow.now) }
+{
+    test_sizes(flow)?;
+    let groups = flow.groups.as_slice();
+    test_names(groups)?;
+    test_doubles(groups)?;
+    test_main(groups)?;
+    test_kinds(kinds, groups)
+}
+
+impl Flow {
+    ghost use Rattle.std.specs.Prelude.{◌≡◌, None, IfOk, OnErr};
+    ghost use Rattle.flow_model.specs.Check.{first_fault, refused};
+
+    /// As [`Flow::check`], but through a map from participants to kinds, so that n entries take
+    /// n × log n steps. The outer error is want of memory, which is told of a flow without a fault
+    /// alone.
+    pub fn check_by_map(&self, alloc: Global) -> Result<Result<(), FlowError>, AllocError>
+        ensures checked { IfOk result (λ checked. checked ≡ refused (first_fault self.now)) }
+        ensures memory { OnErr result (first_fault self.now ≡ None) }
+    {
+        match first_kinds(alloc, self.groups.as_slice()) {
+            Ok(kinds) => Ok(check_with(self, &kinds)),
+            Err(error) => match self.check() {
+                Ok(()) => Err(error),
+                fault => Ok(fault),
+            },
+        }
+    }
+}
