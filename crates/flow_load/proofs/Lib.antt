@@ -1,4 +1,11 @@
 pub mod Printed
-pub mod NameBytes
+pub mod Conjunctions
 pub mod Loop
 pub mod Doubles
+pub mod Spelled
+pub mod Laid
+pub mod Found
+pub mod Reread
+pub mod Relisted
+pub mod Fine
+pub mod Only

@@ -74,5 +74,5 @@ version_of parts = if has_recovering parts then 2 else 1
 abbrev pub lines_of : Flow → Lines
 lines_of f = record { version = version_of (parts_of f); retries = f.retries; parts = parts_of f; starts = starts_of f; steps = steps_of f }
 
-abbrev pub image_of : Flow → Text
+unfoldable pub image_of : Flow → Text
 image_of f = spelled (lines_of f)

@@ -17,10 +17,10 @@ abbrev pub first_recovering : ℕ → List Part → Option ℕ
 first_recovering at [] = None
 first_recovering at (p ∷ ps) = if p.kind.recovers then Some at else first_recovering (at + 1) ps
 
--- version 1 has no participant that recovers, and version 2 has one
+-- where no participant recovers the version is 1, and else 2
 abbrev pub misversioned : ℕ → Option ℕ → Option LoadError
 misversioned version None = if version == 1 then None else Some BadHeader
-misversioned version (Some at) = if version == 1 then Some (BadLine at) else None
+misversioned version (Some at) = if version == 2 then None else Some (BadLine at)
 
 abbrev pub version_fault : Lines → Option LoadError
 version_fault l = misversioned l.version (first_recovering 2 l.parts)

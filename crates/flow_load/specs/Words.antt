@@ -2,7 +2,7 @@
 use Rattle.std.specs.Prelude.{ℕ, ◌+◌, ◌*◌, ◌-◌, Bool, true, false, not, ◌&&◌, ◌||◌, ◌==◌, nat_le, List, [], ◌∷◌, length, slice_index, find, Option, Some, None, option_map, Result, Ok, Err, if◌then◌else◌}
 use Rattle.std.specs.Str.{bytes_eq}
 use Rattle.sw_participant.specs.declared.kind.Kind.{Kind}
-use Rattle.flow_model.specs.Names.{is_name, is_within}
+use Rattle.sw_context.specs.Names.{is_name}
 use Rattle.flow_load.specs.declared.error.LoadError.{LoadError}
 use Rattle.flow_load.specs.Image.{Text, kind_text}
 use Rattle.flow_load.specs.Reading.{◌>>=◌, found}
@@ -11,6 +11,9 @@ use Rattle.flow_load.specs.Reading.{◌>>=◌, found}
 abbrev pub cut : ℕ → Text → Option (Text × Text)
 cut byte [] = None
 cut byte (x ∷ xs) = if x == byte then Some ([], xs) else option_map (λ p. (x ∷ p.0, p.1)) (cut byte xs)
+
+abbrev pub is_within : ℕ → ℕ → ℕ → Bool
+is_within low high b = nat_le low b && nat_le b high
 
 -- the number that n and further digits make, at most 100,000
 abbrev pub value_on : ℕ → Text → Option ℕ

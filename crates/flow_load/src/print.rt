@@ -168,6 +168,7 @@ struct ImageText<'a>(&'a Code);
 impl fmt::Display for ImageText<'_> {
     ghost output = { λ i. Some (spec.image_of i.0.now) };
 
+    #[tactic(auto, unfolding(crate::specs::Image::image_of))]
     fn fmt<W: fmt::Write>(&self, f: &mut fmt::Formatter<W>) -> fmt::Result {
         let code = self.0;
         let header = HeaderLine {

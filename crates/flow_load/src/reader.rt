@@ -2,6 +2,7 @@
 
 ghost use Rattle.std.specs.Prelude.{◌≡◌, Ok, IfOk};
 ghost use Rattle.flow_model.specs.Check.{IsChecked, first_fault};
+ghost use Rattle.flow_model.specs.declared.flow.Flow.{Flow as Shown};
 ghost use Rattle.flow_load.specs.Image.{image_of};
 ghost use Rattle.flow_load.specs.Reading.{Gives, refused};
 ghost use Rattle.flow_load.specs.Load as spec;
@@ -38,20 +39,20 @@ fn test_version(lines: &Lines) -> Result<(), LoadError>
             }
         }
         Some(line) => {
-            if lines.version == 1 {
-                Err(LoadError::BadLine(line))
-            } else {
+            if lines.version == 2 {
                 Ok(())
+            } else {
+                Err(LoadError::BadLine(line))
             }
         }
     }
 }
 
-fn check(flow: &Flow) -> Result<(), LoadError>
+fn check(alloc: Global, flow: &Flow) -> Result<(), LoadError>
     ensures checked { IfOk result (λ u. IsChecked flow.now) }
     ensures read { Gives (λ u. flow.now) result (spec.sound flow.now (first_fault flow.now)) }
 {
-    match flow.check() {
+    match flow.check_by_map(alloc)? {
         Ok(()) => Ok(()),
         Err(fault) => Err(LoadError::Flow(fault)),
     }
@@ -66,13 +67,15 @@ fn read_image(alloc: Global, bytes: &[u8]) -> Result<Flow, LoadError>
     let lines = read_lines(alloc, bytes)?;
     test_version(&lines)?;
     let flow = read_flow(alloc, &lines)?;
-    check(&flow)?;
+    check(alloc, &flow)?;
     Ok(flow)
 }
 
 /// The steps whose image the bytes are.
 pub fn load(alloc: Global, bytes: &[u8]) -> Result<Code, LoadError>
     ensures exact { Gives (λ code. code) result (spec.load_of bytes.now) }
+    ensures found { IfOk result (λ code. bytes.now ≡ image_of code) }
+    ensures only { (f : Shown) → IsChecked f → bytes.now ≡ image_of f → Gives (λ code. code) result (Ok f) }
 {
     let flow = read_image(alloc, bytes)?;
     Ok(assemble(alloc, &flow)?)

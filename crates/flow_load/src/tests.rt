@@ -1,3 +1,7 @@
+//! Worked images, each change of a byte of them against a plain reader, and the largest flow.
+
+mod plain;
+
 use crate::{LoadError, image, load};
 use flow_asm::{Code, assemble};
 use flow_model::{Entry, Flow, FlowError, Group};
@@ -66,6 +70,10 @@ const RECOVERING_SENDING: &'static str =
 
 const PICKING: &'static str =
     "image 1 0 4 3 8\npart 0 pick select\npart 1 last plain\npart 2 pa plain\npart 3 pb plain\ngroup 0 main 0\ngroup 1 a 4\ngroup 2 b 6\n0 call 0\n1 pick 0\n2 call 1\n3 return\n4 call 2\n5 return\n6 call 3\n7 return\n";
+
+/// A selector that recovers, and a participant of two groups.
+const TWO_GROUPS: &'static str =
+    "image 2 7 2 2 6\npart 0 pick select+recover\npart 1 b plain\ngroup 0 main 0\ngroup 1 b 4\n0 call 0\n1 pick 0\n2 call 1\n3 return\n4 call 1\n5 return\n";
 
 #[test]
 fn images_of_flows(rt: HostRuntime) -> Result<(), Fail> {
@@ -341,5 +349,73 @@ fn faults_say_where_and_what_was_expected(rt: HostRuntime) -> Result<(), Fail> {
         let text = format!(in alloc; "{error}")?;
         assert!(rt; text.as_str().starts_with(start), "{text}");
     }
+    Ok(())
+}
+
+/// Whether loading answers what the plain reader does.
+fn is_read_alike(alloc: Global, bytes: &[u8]) -> Result<bool, Fail> {
+    match load(alloc, bytes) {
+        Ok(code) => {
+            let again = image(alloc, &code)?;
+            Ok(plain::test(alloc, bytes).is_ok() && again.as_slice() == bytes)
+        }
+        Err(error) => Ok(plain::test(alloc, bytes).err() == Some(error)),
+    }
+}
+
+#[test]
+fn each_change_of_a_byte_has_its_answer(rt: HostRuntime) -> Result<(), Fail> {
+    let alloc = rt.alloc();
+    for text in [SENDING, TWO_GROUPS] {
+        let mut bytes = Vec::from_slice(alloc, text.as_bytes())?;
+        assert!(rt; is_read_alike(alloc, &bytes)?);
+        for (place, byte) in text.as_bytes().iter().enumerate() {
+            for other in 0..=255u8 {
+                if let Some(changed) = bytes.get_mut(place) {
+                    *changed = other;
+                }
+                assert!(rt; is_read_alike(alloc, &bytes)?, "{place} {other}");
+            }
+            if let Some(changed) = bytes.get_mut(place) {
+                *changed = *byte;
+            }
+        }
+    }
+    Ok(())
+}
+
+/// 256 groups of the same 64 selectors: as many groups, entries and steps as an image may have.
+fn largest(alloc: Global) -> Result<Code, Fail> {
+    let mut groups = Vec::new(alloc);
+    for number in 0..256u32 {
+        let mut entries = Vec::new(alloc);
+        for index in 0..64u32 {
+            let participant = format!(in alloc; "selector_of_the_switch_{index}")?;
+            entries.push(Entry {
+                participant: Text::new(participant),
+                kind: SELECTOR,
+            })?;
+        }
+        let name = if number == 0 {
+            format!(in alloc; "main")?
+        } else {
+            format!(in alloc; "group_{number}")?
+        };
+        groups.push(Group {
+            name: Text::new(name),
+            entries: Sequence::new(entries),
+        })?;
+    }
+    code(alloc, 100, groups)
+}
+
+#[test]
+fn the_largest_flow_is_loaded(rt: HostRuntime) -> Result<(), Fail> {
+    let alloc = rt.alloc();
+    let code = largest(alloc)?;
+    assert_eq!(rt; code.steps().len(), 33_024);
+    let bytes = image(alloc, &code)?;
+    let again = load(alloc, bytes.as_slice())?;
+    assert!(rt; image(alloc, &again)?.as_slice() == bytes.as_slice());
     Ok(())
 }

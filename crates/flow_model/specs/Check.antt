@@ -8,7 +8,7 @@ use Rattle.flow_model.specs.declared.flow.Group.{Group}
 use Rattle.flow_model.specs.declared.flow.Entry.{Entry}
 use Rattle.flow_model.specs.declared.error.FlowError.{FlowError}
 use Rattle.flow_model.specs.declared.error.FlowError.TheVariants.{TooLarge, BadRetries, BadName, DoubleGroup, NoMain, KindClash}
-use Rattle.flow_model.specs.Names.{is_name}
+use Rattle.sw_context.specs.Names.{is_name}
 
 -- the first of two faults
 abbrev pub or_else : {A : Type 0} → Option A → Option A → Option A

@@ -1,4 +1,3 @@
-pub mod Names
 pub mod Check
 pub mod Kinds
 pub mod Places

@@ -1,14 +1,14 @@
 //! What a checked flow is: the tests, each of which answers the first fault of its kind.
 
 ghost use Rattle.std.specs.Prelude.{◌≡◌, ◌≤◌, length, sum_by, Some, None, false};
-ghost use Rattle.std.specs.List.{list_all};
 ghost use Rattle.flow_model.specs.Check as spec;
-ghost use Rattle.flow_model.specs.Names as names;
 ghost use Rattle.flow_model.specs.declared.flow.Group.{Group as Shown};
 
 use crate::error::FlowError;
 use crate::flow::{Entry, Flow, Group};
 use sw_participant::Kind;
+
+pub use sw_context::is_name;
 
 const MAX_GROUPS: usize = 256;
 
@@ -17,29 +17,6 @@ const MAX_ENTRIES: usize = 256;
 const MAX_ENTRIES_IN_ALL: usize = 16_384;
 
 const MAX_RETRIES: u8 = 100;
-
-fn is_name_byte(byte: u8) -> bool
-    ensures { result ≡ names.is_name_byte byte }
-{
-    matches!(byte, b'a'..=b'z' | b'A'..=b'Z' | b'0'..=b'9' | b'_' | b'-' | b'.')
-}
-
-fn are_name_bytes(bytes: &[u8]) -> bool
-    ensures { result ≡ list_all names.is_name_byte bytes.now }
-{
-    bytes.iter().all(|byte| is_name_byte(*byte))
-}
-
-/// Whether a text is a name: 1 to 32 bytes of `a-z A-Z 0-9 _ - .`.
-pub fn is_name(text: &str) -> bool
-    ensures { result ≡ names.is_name text.now }
-{
-    let bytes = text.as_bytes();
-    if bytes.len() < 1 || bytes.len() > 32 {
-        return false;
-    }
-    are_name_bytes(bytes)
-}
 
 fn has_large_group(groups: &[Group]) -> bool
     ensures { result ≡ spec.has_large_group groups.now }

@@ -1,7 +1,9 @@
-//! Participants of a transaction: what a participant is and what it answers, and the small types
-//! in which names, bytes and lists travel through the switch.
+//! Participants of a transaction: what a participant is, what it is handed, what it answers, and the
+//! stations that call it.
 //!
 //! Promised here:
+//! - [`Station::call`] makes the one call that a [`Call`] names, by the relation that the participant
+//!   states for it, and counts it; a call that is refused memory changes nothing and is not counted.
 //! - [`read_answer`] reads an answer byte by one written rule: a byte with an unknown bit is bad and
 //!   says nothing, and PREPARED silences RETRY.
 //! - [`Text`], [`Bytes`] and [`Sequence`] are seen by contracts as plain lists, so a clause never
@@ -9,9 +11,20 @@
 #![tactic(auto)]
 
 pub mod answer;
+pub mod call;
 pub mod kind;
+pub mod laws;
+pub mod participant;
+pub mod station;
 pub mod values;
 
 pub use answer::{Answer, Reading, read_answer};
+pub use call::{Act, Call, Reply};
 pub use kind::Kind;
+pub use laws::{Rules, calls_are_counted, chains_append, kinds_decide, others_stay, rules_widen};
+pub use participant::{NoMemory, Participant};
+pub use station::{Station, StationError, call_station};
 pub use values::{Bytes, Sequence, Text};
+
+#[cfg(test)]
+mod tests;

@@ -1,10 +1,9 @@
 -- What the subcommands over flow files and images read and write.
-use Rattle.std.specs.Prelude.{◌≡◌, ℕ, List, Option, Ok, IfSome}
+use Rattle.std.specs.Prelude.{◌≡◌, ℕ, List, Option, IfSome}
 use Rattle.std.specs.Io.KnownBytes.{Appends}
 use Rattle.flow_model.specs.declared.flow.Flow.{Flow}
 use Rattle.flow_toml.specs.FlowFile.{IsFlowFile}
 use Rattle.flow_load.specs.Image.{image_of}
-use Rattle.flow_load.specs.Load.{load_of}
 
 -- the bytes to be read, where they are known, are a flow file of the flow
 abbrev pub Reads : Option (List ℕ) → Flow → Type 0
@@ -16,7 +15,7 @@ IsAssembled unread written written_now = (f : Flow) × Reads unread f × Appends
 
 -- the bytes are the image of a flow, and a flow file of it is written
 abbrev pub IsListedOf : List ℕ → Option (List ℕ) → Option (List ℕ) → Type 0
-IsListedOf bytes written written_now = (f : Flow) × (load_of bytes ≡ Ok f) × (text : List ℕ) × IsFlowFile f text × Appends written written_now text
+IsListedOf bytes written written_now = (f : Flow) × (bytes ≡ image_of f) × (text : List ℕ) × IsFlowFile f text × Appends written written_now text
 
 abbrev pub IsListed : Option (List ℕ) → Option (List ℕ) → Option (List ℕ) → Type 0
 IsListed unread written written_now = IfSome unread (λ bytes. IsListedOf bytes written written_now)

@@ -1,0 +1,10 @@
+-- The parts of a conjunction that holds.
+use Rattle.std.proofs.Common.{◌≡◌, Bool, true, false, ◌&&◌, refl}
+
+pub first_part : (a b : Bool) → (a && b) ≡ true → a ≡ true
+first_part true b h = refl
+first_part false b h = absurd (cc)
+
+pub second_part : (a b : Bool) → (a && b) ≡ true → b ≡ true
+second_part true b h = h
+second_part false b h = absurd (cc)
