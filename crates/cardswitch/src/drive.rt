@@ -7,7 +7,7 @@ ghost use Rattle.tx_trace.specs.Trace.{step_text};
 
 use crate::fault::Fault;
 use crate::settings::Settings;
-use flow_model::Flow;
+use flow_asm::Code;
 use std::alloc::Global;
 use std::io::Write;
 use sw_participant::{Bytes, Text};
@@ -26,27 +26,24 @@ fn write_step<W: Write>(
     alloc: Global,
     out: &mut W,
     id: u64,
-    flow: &Flow,
+    code: &Code,
     before: &Machine,
     event: &Event,
     after: &Machine,
 ) -> Result<(), Fault>
-    requires before { IsSound flow.now before.now }
-    requires after { IsSound flow.now after.now }
-    ensures { OnOk result (Appends (W.contents out.old) (W.contents out.new) (step_text id flow.now (standing flow.now before.now) event.now (standing flow.now after.now) ++ 10 ∷ [])) }
+    requires before { IsSound code.now before.now }
+    requires after { IsSound code.now after.now }
+    ensures { OnOk result (Appends (W.contents out.old) (W.contents out.new) (step_text id code.now (standing code.now before.now) event.now (standing code.now after.now) ++ 10 ∷ [])) }
 {
-    let mut line = step_line(alloc, id, flow, before, event, after)?;
+    let mut line = step_line(alloc, id, code, before, event, after)?;
     line.push('\n')?;
     out.write_all(line.as_bytes()).map_err(Fault::of_write)
 }
 
 /// The name of the participant at a place.
-fn name_at(flow: &Flow, spot: Spot) -> &str {
-    let Some(group) = flow.groups.as_slice().get(spot.group) else {
-        return "";
-    };
-    match group.entries.as_slice().get(spot.index) {
-        Some(entry) => entry.participant.as_str(),
+fn name_at(code: &Code, spot: Spot) -> &str {
+    match code.participants().get(spot.participant) {
+        Some(part) => part.name.as_str(),
         None => "",
     }
 }
@@ -54,19 +51,19 @@ fn name_at(flow: &Flow, spot: Spot) -> &str {
 /// What the script's participants reply to the call that is due; `None` at the end.
 fn reply(
     alloc: Global,
-    flow: &Flow,
+    code: &Code,
     settings: &mut Settings<'_>,
     due: Due,
 ) -> Result<Option<Event>, Fault> {
     let event = match due {
         Due::Prepare(spot) | Due::PrepareForAbort(spot) => Event::Answered {
             session: 0,
-            byte: settings.next_answer(name_at(flow, spot)),
+            byte: settings.next_answer(name_at(code, spot)),
             context: Bytes::new(Vec::from_slice(alloc, &EMPTY_CONTEXT)?),
         },
         Due::Select(spot) => Event::Chose {
             session: 0,
-            text: Text::from_str(alloc, settings.next_choice(name_at(flow, spot)))?,
+            text: Text::from_str(alloc, settings.next_choice(name_at(code, spot)))?,
         },
         Due::Commit(_) | Due::Abort(_) => Event::Told {
             session: 0,
@@ -81,19 +78,19 @@ fn reply(
 fn apply(
     alloc: Global,
     machine: &mut Machine,
-    flow: &Flow,
+    code: &Code,
     event: &Event,
 ) -> Result<(), MachineError>
-    requires { IsSound flow.now machine.old }
-    ensures { IsSound flow.now machine.new }
+    requires { IsSound code.now machine.old }
+    ensures { IsSound code.now machine.new }
 {
     match event {
         Event::Answered { byte, context, .. } => {
             let context = Vec::from_slice(alloc, context.as_slice())?;
-            machine.answered(flow, *byte, context)
+            machine.answered(code, *byte, context)
         }
-        Event::Chose { text, .. } => machine.chose(alloc, flow, text.as_str()),
-        Event::Told { .. } => machine.told(flow),
+        Event::Chose { text, .. } => machine.chose(alloc, code, text.as_str()),
+        Event::Told { .. } => machine.told(code),
     }
 }
 
@@ -102,19 +99,19 @@ pub fn run_transaction<W: Write>(
     alloc: Global,
     out: &mut W,
     id: u64,
-    flow: &Flow,
+    code: &Code,
     settings: &mut Settings<'_>,
 ) -> Result<(), Fault> {
     let context = Vec::from_slice(alloc, &EMPTY_CONTEXT)?;
-    let mut machine = Machine::start(alloc, flow, flow.retries, context)?;
+    let mut machine = Machine::start(alloc, code, code.retries(), context)?;
     'steps: for _ in 0..MAX_STEPS {
-        let due = machine.due(flow);
-        let Some(event) = reply(alloc, flow, settings, due)? else {
+        let due = machine.due(code);
+        let Some(event) = reply(alloc, code, settings, due)? else {
             return Ok(());
         };
         let before = machine.copy()?;
-        apply(alloc, &mut machine, flow, &event)?;
-        write_step(alloc, out, id, flow, &before, &event, &machine)?;
+        apply(alloc, &mut machine, code, &event)?;
+        write_step(alloc, out, id, code, &before, &event, &machine)?;
     }
     Ok(())
 }

@@ -4,6 +4,7 @@ use crate::command::{Command, read_command};
 use crate::drive::run_transaction;
 use crate::fault::Fault;
 use crate::settings::Settings;
+use flow_asm::{Code, assemble};
 use flow_model::Flow;
 use std::alloc::Global;
 use std::io::Write;
@@ -13,15 +14,15 @@ use switch_words::words::split_line;
 #[derive(Drop)]
 struct Run<'a> {
     settings: Settings<'a>,
-    /// The flow of the settings, once a line that is no setting came.
-    flow: Option<Flow>,
+    /// The steps of the settings' flow, once a line that is no setting came.
+    code: Option<Code>,
     /// The id of the transaction that ran last; the first is 1.
     last_id: u64,
 }
 
 impl<'a> Run<'a> {
     fn setting(&mut self, alloc: Global, line: usize, command: Command<'a>) -> Result<(), Fault> {
-        if self.flow.is_some() {
+        if self.code.is_some() {
             return Err(Fault::Malformed {
                 line,
                 wrong: "a setting stands after other lines",
@@ -46,16 +47,16 @@ impl<'a> Run<'a> {
     }
 
     fn auto<W: Write>(&mut self, alloc: Global, line: usize, out: &mut W) -> Result<(), Fault> {
-        let flow = match self.flow.take() {
-            Some(flow) => flow,
+        let code = match self.code.take() {
+            Some(code) => code,
             None => match self.settings.take_flow(alloc) {
-                Ok(flow) => flow,
+                Ok(flow) => assemble(alloc, &flow)?,
                 Err(cause) => return Err(Fault::Flow { line, cause }),
             },
         };
         self.last_id = self.last_id.saturating_add(1);
-        let ran = run_transaction(alloc, out, self.last_id, &flow, &mut self.settings);
-        self.flow = Some(flow);
+        let ran = run_transaction(alloc, out, self.last_id, &code, &mut self.settings);
+        self.code = Some(code);
         ran
     }
 
@@ -74,9 +75,8 @@ impl<'a> Run<'a> {
 }
 
 /// Runs the lines of a script in their order, and writes what they print. The flow is that of a flow
-/// file, or that of the script's own lines. A line ends in a line
-/// feed, which the last may lack. Settings stand before all other lines; a flow that is refused ends
-/// the run at the first other line.
+/// file, or that of the script's own lines. A line ends in a line feed, which the last may lack.
+/// Settings stand before all other lines; a flow that is refused ends the run at the first other line.
 ///
 /// A malformed line ends the run: what the lines before it printed stands.
 pub fn run_script<W: Write>(
@@ -87,7 +87,7 @@ pub fn run_script<W: Write>(
 ) -> Result<(), Fault> {
     let mut run = Run {
         settings: Settings::new(alloc, file),
-        flow: None,
+        code: None,
         last_id: 0,
     };
     let mut rest = script;

@@ -1,5 +1,8 @@
 //! What the settings of a script say: the flow, and the replies that its participants will give.
 
+ghost use Rattle.std.specs.Prelude.{IfOk};
+ghost use Rattle.flow_model.specs.Check.{IsChecked};
+
 use crate::fault::Fault;
 use flow_model::{Flow, FlowError, Group};
 use std::alloc::Global;
@@ -96,7 +99,9 @@ impl<'a> Settings<'a> {
 
     /// The flow of the flow file, else that of the groups so far, with the retries that were set. It is
     /// taken out.
-    pub fn take_flow(&mut self, alloc: Global) -> Result<Flow, FlowError> {
+    pub fn take_flow(&mut self, alloc: Global) -> Result<Flow, FlowError>
+        ensures { IfOk result IsChecked }
+    {
         let flow = match self.file.take() {
             Some(flow) => Flow {
                 retries: self.retries.unwrap_or(flow.retries),

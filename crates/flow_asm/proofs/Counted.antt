@@ -6,6 +6,7 @@ use Rattle.std.proofs.lemmas.Bool.{cases_lt}
 use Rattle.std.proofs.lemmas.Bool.Decides.{Decides-ltb}
 use Rattle.std.proofs.lemmas.List.{append-nil, length_push, take_at}
 use Rattle.std.proofs.lemmas.List.Concat.{flat_map-append}
+use Rattle.std.proofs.lemmas.Option.{none-some}
 use Rattle.flow_model.specs.declared.flow.Flow.{Flow}
 use Rattle.flow_model.specs.declared.flow.Group.{Group}
 use Rattle.flow_model.specs.declared.flow.Entry.{Entry}
@@ -155,3 +156,35 @@ moved f n g i h j xs a b c = subst (λ (m : ℕ). Counted f n m j xs) (sym a) (s
 
 pub goes_on : (n m : ℕ) → n ≤ m → (n ≡ m → ⊥) → n + 1 ≤ m
 goes_on n m h d = ⊎_elim (λ (l : n < m). (let w : n + 1 ≤ m = omega (arith, l) in w)) (λ (l : m ≤ n). absurd (d (let w : n ≡ m = omega (arith, h, l) in w))) (cases_lt n m)
+
+-- the step of a call is its entry's call step
+pub call_counted : (f : Flow) (n g i k : ℕ) (xs : List Stage) (s : Slot) → Counted f n g i xs → slice_get xs k ≡ Some (AtCall s) → call_step f s.group s.index ≡ n + k
+call_counted f n g i k [] s c h = absurd (none-some (AtCall s) h)
+call_counted f n g i zero (AtCall t ∷ xs) s c h =
+    let same : t ≡ s = cc in
+    ap (λ (u : Slot). call_step f u.group u.index) (sym same) ∙ ap (λ m. call_step f m t.index) c.0.0 ∙ ap (call_step f g) c.0.1 ∙ c.1.step ∙ (let e : n ≡ n + 0 = omega arith in e)
+call_counted f n g i (suc k) (AtCall t ∷ xs) s c h = call_counted f (n + 1) g (i + 1) k xs s c.2 h ∙ (let e : n + 1 + k ≡ n + suc k = omega arith in e)
+call_counted f n g i zero (AtPick t ∷ xs) s c h = absurd cc
+call_counted f n g i (suc k) (AtPick t ∷ xs) s c h = call_counted f (n + 1) g i k xs s c.3 h ∙ (let e : n + 1 + k ≡ n + suc k = omega arith in e)
+call_counted f n g i zero (AtReturn ∷ xs) s c h = absurd cc
+call_counted f n g i (suc k) (AtReturn ∷ xs) s c h = call_counted f (n + 1) (g + 1) 0 k xs s c h ∙ (let e : n + 1 + k ≡ n + suc k = omega arith in e)
+
+-- a pick stands behind it
+pub pick_counted : (f : Flow) (n g i k : ℕ) (xs : List Stage) (s : Slot) → Counted f n g i xs → slice_get xs k ≡ Some (AtPick s) → call_step f s.group s.index + 1 ≡ n + k
+pick_counted f n g i k [] s c h = absurd (none-some (AtPick s) h)
+pick_counted f n g i zero (AtCall t ∷ xs) s c h = absurd cc
+pick_counted f n g i (suc k) (AtCall t ∷ xs) s c h = pick_counted f (n + 1) g (i + 1) k xs s c.2 h ∙ (let e : n + 1 + k ≡ n + suc k = omega arith in e)
+pick_counted f n g i zero (AtPick t ∷ xs) s c h =
+    let same : t ≡ s = cc in
+    let step : call_step f s.group s.index ≡ n - 1 = ap (λ (u : Slot). call_step f u.group u.index) (sym same) ∙ ap (λ m. call_step f m t.index) c.0.0 ∙ c.1.step in
+    let some : 0 < n = c.2 in
+    omega (arith, step, some)
+pick_counted f n g i (suc k) (AtPick t ∷ xs) s c h = pick_counted f (n + 1) g i k xs s c.3 h ∙ (let e : n + 1 + k ≡ n + suc k = omega arith in e)
+pick_counted f n g i zero (AtReturn ∷ xs) s c h = absurd cc
+pick_counted f n g i (suc k) (AtReturn ∷ xs) s c h = pick_counted f (n + 1) (g + 1) 0 k xs s c h ∙ (let e : n + 1 + k ≡ n + suc k = omega arith in e)
+
+pub call_step_is : (f : Flow) (k : ℕ) (s : Slot) → slice_get (stages f) k ≡ Some (AtCall s) → call_step f s.group s.index ≡ k
+call_step_is f k s h = call_counted f 0 0 0 k (stages f) s (counted f) h ∙ (let e : 0 + k ≡ k = omega arith in e)
+
+pub pick_step_is : (f : Flow) (k : ℕ) (s : Slot) → slice_get (stages f) k ≡ Some (AtPick s) → call_step f s.group s.index + 1 ≡ k
+pick_step_is f k s h = pick_counted f 0 0 0 k (stages f) s (counted f) h ∙ (let e : 0 + k ≡ k = omega arith in e)

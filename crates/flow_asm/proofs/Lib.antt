@@ -5,3 +5,5 @@ pub mod Stages
 pub mod Counted
 pub mod Walking
 pub mod Named
+pub mod Following
+pub mod SlotKinds

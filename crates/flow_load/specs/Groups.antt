@@ -32,10 +32,10 @@ abbrev pub wanted : ℕ → Option Part → Option ℕ
 wanted p None = None
 wanted p (Some x) = if x.kind.selector then Some p else None
 
--- the steps run out: in a group, or behind a selector's call, on that line
+-- No step stands on that line: the group has no return, or the call on the line before has no pick.
 abbrev pub cut_off : ℕ → ℕ → Option ℕ → LoadError
-cut_off g line None = NoReturn g
-cut_off g line (Some p) = BadTarget (line - 1)
+cut_off g here None = NoReturn g
+cut_off g here (Some p) = BadTarget (here - 1)
 
 -- What is read of a group: its entries, the number of the next step, how many participants were met
 -- so far, and the steps that are left.

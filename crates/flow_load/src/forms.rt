@@ -1,6 +1,7 @@
 //! The lines of an image, one after the other.
 
-ghost use Rattle.std.specs.Prelude.{◌≡◌, ◌+◌, ◌<◌, ◌^◌, length, IfOk, true};
+ghost use Rattle.std.specs.Prelude.{ℕ, List, Result, ◌≡◌, ◌+◌, ◌<◌, ◌^◌, length, IfOk, true};
+ghost use Rattle.flow_load.specs.declared.error.LoadError.{LoadError};
 ghost use Rattle.flow_load.specs.Reading.{Gives};
 ghost use Rattle.flow_load.specs.Forms as spec;
 ghost use Rattle.flow_load.specs.Bounds.{IsSmall};
@@ -13,30 +14,47 @@ use flow_model::Part;
 use std::alloc::Global;
 use sw_participant::Sequence;
 
-#[tactic(auto, unfolding(crate::specs::Forms::part_form))]
-fn part_form(alloc: Global, error: LoadError, line: &[u8]) -> Result<(usize, Part), LoadError>
-    ensures { Gives (λ p. p) result (spec.part_form error line.now) }
-{
-    let rest = word_is(error, b"part", line)?;
-    let (number, rest) = number_at(error, rest)?;
-    let (name, rest) = name_at(alloc, error, rest)?;
-    let kind = kind_at(error, rest)?;
-    Ok((number, Part { name, kind }))
+/// A kind of lines behind the first one.
+trait Line: Drop {
+    ghost form: { LoadError → List ℕ → Result (ℕ × Self) LoadError };
+
+    /// What a line says, with its own number in front.
+    fn read(alloc: Global, error: LoadError, line: &[u8]) -> Result<(usize, Self), LoadError>
+        ensures { Gives (λ p. p) result (form error line.now) };
 }
 
-#[tactic(auto, unfolding(crate::specs::Forms::group_form))]
-fn group_form(
-    alloc: Global,
-    error: LoadError,
-    line: &[u8],
-) -> Result<(usize, GroupStart), LoadError>
-    ensures { Gives (λ p. p) result (spec.group_form error line.now) }
-{
-    let rest = word_is(error, b"group", line)?;
-    let (number, rest) = number_at(error, rest)?;
-    let (name, rest) = name_at(alloc, error, rest)?;
-    let first = number_of(error, rest)?;
-    Ok((number, GroupStart { name, first }))
+impl Line for Part {
+    ghost use Rattle.flow_load.specs.Forms.{part_form};
+
+    ghost form = { part_form };
+
+    #[tactic(auto, unfolding(crate::specs::Forms::part_form))]
+    fn read(alloc: Global, error: LoadError, line: &[u8]) -> Result<(usize, Part), LoadError> {
+        let rest = word_is(error, b"part", line)?;
+        let (number, rest) = number_at(error, rest)?;
+        let (name, rest) = name_at(alloc, error, rest)?;
+        let kind = kind_at(error, rest)?;
+        Ok((number, Part { name, kind }))
+    }
+}
+
+impl Line for GroupStart {
+    ghost use Rattle.flow_load.specs.Forms.{group_form};
+
+    ghost form = { group_form };
+
+    #[tactic(auto, unfolding(crate::specs::Forms::group_form))]
+    fn read(
+        alloc: Global,
+        error: LoadError,
+        line: &[u8],
+    ) -> Result<(usize, GroupStart), LoadError> {
+        let rest = word_is(error, b"group", line)?;
+        let (number, rest) = number_at(error, rest)?;
+        let (name, rest) = name_at(alloc, error, rest)?;
+        let first = number_of(error, rest)?;
+        Ok((number, GroupStart { name, first }))
+    }
 }
 
 fn step_named(error: LoadError, word: &[u8], participant: usize) -> Result<Step, LoadError>
@@ -63,13 +81,17 @@ fn step_of(error: LoadError, text: &[u8]) -> Result<Step, LoadError>
     step_named(error, word, participant)
 }
 
-#[tactic(auto, unfolding(crate::specs::Forms::step_form))]
-fn step_form(error: LoadError, line: &[u8]) -> Result<(usize, Step), LoadError>
-    ensures { Gives (λ p. p) result (spec.step_form error line.now) }
-{
-    let (number, rest) = number_at(error, line)?;
-    let step = step_of(error, rest)?;
-    Ok((number, step))
+impl Line for Step {
+    ghost use Rattle.flow_load.specs.Forms.{step_form};
+
+    ghost form = { step_form };
+
+    #[tactic(auto, unfolding(crate::specs::Forms::step_form))]
+    fn read(_alloc: Global, error: LoadError, line: &[u8]) -> Result<(usize, Step), LoadError> {
+        let (number, rest) = number_at(error, line)?;
+        let step = step_of(error, rest)?;
+        Ok((number, step))
+    }
 }
 
 #[tactic(auto, unfolding(crate::specs::Forms::header_form))]
@@ -112,109 +134,39 @@ fn header_at(bytes: &[u8]) -> Result<(Header, &[u8]), LoadError>
     }
 }
 
-// The participant of this number, on the line of the number `at`, and the text behind it; likewise a
-// group and a step.
-fn part_at(
+// The item of this number, on the line of the number `at`, and the text behind it.
+fn item_at<T: Line>(
     alloc: Global,
     number: usize,
     at: usize,
     bytes: &[u8],
-) -> Result<(Part, &[u8]), LoadError>
-    ensures { Gives (λ p. (p.0, p.1.now)) result (spec.line_at spec.part_form number at bytes.now) }
+) -> Result<(T, &[u8]), LoadError>
+    ensures { Gives (λ p. (p.0, p.1.now)) result (spec.line_at T.form number at bytes.now) }
 {
     let (line, rest) = line_at(LoadError::BadLine(at), bytes)?;
-    let (own, part) = part_form(alloc, LoadError::BadLine(at), line)?;
+    let (own, item) = T::read(alloc, LoadError::BadLine(at), line)?;
     if own == number {
-        Ok((part, rest))
+        Ok((item, rest))
     } else {
         Err(LoadError::BadNumber(at))
     }
 }
 
-fn group_at(
-    alloc: Global,
-    number: usize,
-    at: usize,
-    bytes: &[u8],
-) -> Result<(GroupStart, &[u8]), LoadError>
-    ensures { Gives (λ p. (p.0, p.1.now)) result (spec.line_at spec.group_form number at bytes.now) }
-{
-    let (line, rest) = line_at(LoadError::BadLine(at), bytes)?;
-    let (own, start) = group_form(alloc, LoadError::BadLine(at), line)?;
-    if own == number {
-        Ok((start, rest))
-    } else {
-        Err(LoadError::BadNumber(at))
-    }
-}
-
-fn step_at(number: usize, at: usize, bytes: &[u8]) -> Result<(Step, &[u8]), LoadError>
-    ensures { Gives (λ p. (p.0, p.1.now)) result (spec.line_at spec.step_form number at bytes.now) }
-{
-    let (line, rest) = line_at(LoadError::BadLine(at), bytes)?;
-    let (own, step) = step_form(LoadError::BadLine(at), line)?;
-    if own == number {
-        Ok((step, rest))
-    } else {
-        Err(LoadError::BadNumber(at))
-    }
-}
-
-// So many participants, from the line of the number `at` on; likewise groups and steps.
-fn read_parts(
+// So many items, from the line of the number `at` on.
+fn read_items<T: Line>(
     alloc: Global,
     count: usize,
     at: usize,
     bytes: &[u8],
-) -> Result<(Vec<Part>, &[u8]), LoadError>
+) -> Result<(Vec<T>, &[u8]), LoadError>
     requires { at + count < 2 ^ 32 }
-    ensures read { Gives (λ p. (p.0.items, p.1.now)) result (spec.items_at spec.part_form count 0 at bytes.now) }
+    ensures read { Gives (λ p. (p.0.items, p.1.now)) result (spec.items_at T.form count 0 at bytes.now) }
     ensures count { IfOk result (λ p. length p.0.items ≡ count) }
 {
     let mut items = Vec::new(alloc);
     let mut rest = bytes;
     'lines: for k in 0..count {
-        let (item, after) = part_at(alloc, k, at + k, rest)?;
-        items.push(item)?;
-        rest = after;
-    }
-    Ok((items, rest))
-}
-
-fn read_groups(
-    alloc: Global,
-    count: usize,
-    at: usize,
-    bytes: &[u8],
-) -> Result<(Vec<GroupStart>, &[u8]), LoadError>
-    requires { at + count < 2 ^ 32 }
-    ensures read { Gives (λ p. (p.0.items, p.1.now)) result (spec.items_at spec.group_form count 0 at bytes.now) }
-    ensures count { IfOk result (λ p. length p.0.items ≡ count) }
-{
-    let mut items = Vec::new(alloc);
-    let mut rest = bytes;
-    'lines: for k in 0..count {
-        let (item, after) = group_at(alloc, k, at + k, rest)?;
-        items.push(item)?;
-        rest = after;
-    }
-    Ok((items, rest))
-}
-
-fn read_steps(
-    alloc: Global,
-    count: usize,
-    at: usize,
-    bytes: &[u8],
-) -> Result<(Vec<Step>, &[u8]), LoadError>
-    requires { at + count < 2 ^ 32 }
-    ensures read { Gives (λ p. (p.0.items, p.1.now)) result (spec.items_at spec.step_form count 0 at bytes.now) }
-    ensures count { IfOk result (λ p. length p.0.items ≡ count) }
-{
-    let mut items = Vec::new(alloc);
-    let mut rest = bytes;
-    'lines: for k in 0..count {
-        let (item, after) = step_at(k, at + k, rest)?;
+        let (item, after) = item_at(alloc, k, at + k, rest)?;
         items.push(item)?;
         rest = after;
     }
@@ -228,9 +180,9 @@ pub fn read_lines(alloc: Global, bytes: &[u8]) -> Result<Lines, LoadError>
     ensures small { IfOk result IsSmall }
 {
     let (header, rest) = header_at(bytes)?;
-    let (parts, rest) = read_parts(alloc, header.parts, 2, rest)?;
-    let (starts, rest) = read_groups(alloc, header.groups, 2 + header.parts, rest)?;
-    let (steps, rest) = read_steps(alloc, header.steps, 2 + header.parts + header.groups, rest)?;
+    let (parts, rest) = read_items(alloc, header.parts, 2, rest)?;
+    let (starts, rest) = read_items(alloc, header.groups, 2 + header.parts, rest)?;
+    let (steps, rest) = read_items(alloc, header.steps, 2 + header.parts + header.groups, rest)?;
     if !rest.is_empty() {
         return Err(LoadError::BadLine(2 + header.parts + header.groups + header.steps));
     }

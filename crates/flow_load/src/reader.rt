@@ -71,7 +71,10 @@ fn read_image(alloc: Global, bytes: &[u8]) -> Result<Flow, LoadError>
     Ok(flow)
 }
 
-/// The steps whose image the bytes are.
+/// The steps of the checked flow whose image the bytes are. Other bytes are refused for their first
+/// fault: first each line by itself, from the first line on (`BadHeader`, `BadLine`, `BadNumber`), then
+/// the version (`BadLine`, `BadHeader`), then the lines together (`BadTarget`, `NoReturn`), at last the
+/// flow (`Flow`). `OutOfMemory` may stand in for any answer and says nothing of the bytes.
 pub fn load(alloc: Global, bytes: &[u8]) -> Result<Code, LoadError>
     ensures exact { Gives (λ code. code) result (spec.load_of bytes.now) }
     ensures found { IfOk result (λ code. bytes.now ≡ image_of code) }

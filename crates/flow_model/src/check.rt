@@ -6,9 +6,8 @@ ghost use Rattle.flow_model.specs.declared.flow.Group.{Group as Shown};
 
 use crate::error::FlowError;
 use crate::flow::{Entry, Flow, Group};
-use sw_participant::Kind;
-
 pub use sw_context::is_name;
+use sw_participant::Kind;
 
 const MAX_GROUPS: usize = 256;
 

@@ -21,6 +21,24 @@ const PICKING_IMAGE: &str = "image 1 0 4 3 8\npart 0 pick select\npart 1 last pl
     part 2 pa plain\npart 3 pb plain\ngroup 0 main 0\ngroup 1 a 4\ngroup 2 b 6\n\
     0 call 0\n1 pick 0\n2 call 1\n3 return\n4 call 2\n5 return\n6 call 3\n7 return\n";
 
+/// The flow of a small switch: three groups, a selector and an abort-aware participant.
+const SWITCH: &str = "[[group]]\nname = \"main\"\n\
+    [[group.entry]]\nparticipant = \"check\"\n[[group.entry]]\nparticipant = \"limits\"\n\
+    [[group.entry]]\nparticipant = \"route\"\nselector = true\n\
+    [[group.entry]]\nparticipant = \"forward\"\n\
+    [[group.entry]]\nparticipant = \"respond\"\nabort_aware = true\n\
+    [[group]]\nname = \"alpha\"\n[[group.entry]]\nparticipant = \"reverse\"\n\
+    [[group.entry]]\nparticipant = \"query_alpha\"\n[[group.entry]]\nparticipant = \"standin\"\n\
+    [[group]]\nname = \"beta\"\n[[group.entry]]\nparticipant = \"reverse\"\n\
+    [[group.entry]]\nparticipant = \"query_beta\"\n[[group.entry]]\nparticipant = \"standin\"\n";
+
+const SWITCH_IMAGE: &str = "image 1 0 9 3 15\npart 0 check plain\npart 1 limits plain\n\
+    part 2 route select\npart 3 forward plain\npart 4 respond aware\npart 5 reverse plain\n\
+    part 6 query_alpha plain\npart 7 standin plain\npart 8 query_beta plain\n\
+    group 0 main 0\ngroup 1 alpha 7\ngroup 2 beta 11\n\
+    0 call 0\n1 call 1\n2 call 2\n3 pick 2\n4 call 3\n5 call 4\n6 return\n\
+    7 call 5\n8 call 6\n9 call 7\n10 return\n11 call 5\n12 call 8\n13 call 7\n14 return\n";
+
 /// The image of a flow file.
 fn assembled(alloc: Global, text: &str) -> Result<String, Fail> {
     let mut out = Vec::new(alloc);
@@ -40,6 +58,7 @@ fn refusal(rt: &impl Abort, alloc: Global, bytes: &[u8]) -> Result<String, Fail>
 fn a_flow_file_is_assembled(rt: HostRuntime) -> Result<(), Fail> {
     assert_eq!(rt; assembled(rt.alloc(), PLAIN)?.as_str(), PLAIN_IMAGE);
     assert_eq!(rt; assembled(rt.alloc(), PICKING)?.as_str(), PICKING_IMAGE);
+    assert_eq!(rt; assembled(rt.alloc(), SWITCH)?.as_str(), SWITCH_IMAGE);
     Ok(())
 }
 
@@ -55,6 +74,7 @@ fn an_image_is_listed(rt: HostRuntime) -> Result<(), Fail> {
     let alloc = rt.alloc();
     assert_eq!(rt; listed_again(alloc, PLAIN_IMAGE)?.as_str(), PLAIN_IMAGE);
     assert_eq!(rt; listed_again(alloc, PICKING_IMAGE)?.as_str(), PICKING_IMAGE);
+    assert_eq!(rt; listed_again(alloc, SWITCH_IMAGE)?.as_str(), SWITCH_IMAGE);
     Ok(())
 }
 

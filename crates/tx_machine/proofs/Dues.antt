@@ -1,10 +1,9 @@
 -- The reply that a due call asks for is due.
-use Rattle.std.proofs.Common.{◌≡◌, ℕ, Bool, true, false, ◌<◌, List, [], ◌∷◌, length, refl, subst, sym, inl, inr, if◌then◌else◌}
+use Rattle.std.proofs.Common.{◌≡◌, ℕ, Bool, true, false, List, [], ◌∷◌, length, refl, if◌then◌else◌}
 use Rattle.std.specs.Prelude.{nat_lt, slice_index, ◌&&◌}
-use Rattle.std.proofs.lemmas.Bool.{cases_Bool}
+use Rattle.flow_model.specs.declared.flow.Flow.{Flow}
 use Rattle.tx_machine.specs.declared.values.Phase.{Phase}
 use Rattle.tx_machine.specs.declared.values.Phase.TheVariants.{Preparing, Aborting, Committing, Undoing}
-use Rattle.tx_machine.specs.declared.values.Due.{Due}
 use Rattle.tx_machine.specs.declared.values.Due.TheVariants as due
 use Rattle.tx_machine.specs.Table.{Standing, Mark, Enter, Ask}
 use Rattle.tx_machine.specs.Due.{due_at, due_of, end_by, IsAsked}
@@ -22,15 +21,15 @@ aborts : (b : Bool) (p : ℕ) (s : Standing) → nat_lt s.told (length s.joined)
 aborts true p s h = h
 aborts false p s h = ends s.retry (nat_lt 0 s.tries) (record s { phase = Undoing })
 
-asked_at : (s : Standing) (p : Phase) (ms : List Mark) → IsAsked (due_at s p ms) (record s { phase = p; rest = ms })
-asked_at s Preparing [] = tt
-asked_at s Preparing (Enter e ∷ tail) = refl
-asked_at s Preparing (Ask e ∷ tail) = refl
-asked_at s Aborting [] = ends s.retry (nat_lt 0 s.tries) (record s { phase = Aborting; rest = [] })
-asked_at s Aborting (Enter e ∷ tail) = refl
-asked_at s Aborting (Ask e ∷ tail) = refl
-asked_at s Committing ms = commits (nat_lt s.told (length s.joined)) (slice_index s.joined s.told) (record s { rest = ms }) refl
-asked_at s Undoing ms = aborts (nat_lt s.told (length s.joined)) (slice_index s.joined s.told) (record s { rest = ms }) refl
+asked_at : (f : Flow) (s : Standing) (p : Phase) (ms : List Mark) → IsAsked (due_at f s p ms) (record s { phase = p; rest = ms })
+asked_at f s Preparing [] = tt
+asked_at f s Preparing (Enter e ∷ tail) = refl
+asked_at f s Preparing (Ask e ∷ tail) = refl
+asked_at f s Aborting [] = ends s.retry (nat_lt 0 s.tries) (record s { phase = Aborting; rest = [] })
+asked_at f s Aborting (Enter e ∷ tail) = refl
+asked_at f s Aborting (Ask e ∷ tail) = refl
+asked_at f s Committing ms = commits (nat_lt s.told (length s.joined)) (slice_index s.joined s.told) (record s { rest = ms }) refl
+asked_at f s Undoing ms = aborts (nat_lt s.told (length s.joined)) (slice_index s.joined s.told) (record s { rest = ms }) refl
 
-pub asked : (s : Standing) → IsAsked (due_of s) s
-asked s = asked_at s s.phase s.rest
+pub asked : (f : Flow) (s : Standing) → IsAsked (due_of f s) s
+asked f s = asked_at f s s.phase s.rest

@@ -3,3 +3,8 @@ pub mod Choosing
 pub mod Marks
 pub mod ListLaws
 pub mod Dues
+pub mod Moves
+pub mod Frames
+pub mod GroupNames
+pub mod Visits
+pub mod Copies

@@ -1,19 +1,17 @@
 -- Over whole lists of items: members, number told, saved context and calls are those of the list,
 -- and the bound holds.
-use Rattle.std.proofs.Common.{◌≡◌, ℕ, ◌+◌, ◌<◌, ◌≤◌, Bool, true, false, ◌⊎◌, inl, inr, List, [], ◌∷◌, ◌++◌, length, map, refl, sym, ap, ◌∙◌, subst, arith, if◌then◌else◌, append_assoc, length-append}
+use Rattle.std.proofs.Common.{◌≡◌, ℕ, ◌+◌, ◌<◌, ◌≤◌, Bool, true, false, ◌⊎◌, inl, inr, List, [], ◌∷◌, ◌++◌, length, map, refl, sym, ap, ◌∙◌, arith, if◌then◌else◌, append_assoc, length-append}
 use Rattle.std.specs.Prelude.{◌==◌, ◌&&◌, nat_lt, codes}
-use Rattle.std.proofs.lemmas.Bool.{cases_Bool}
 use Rattle.std.proofs.lemmas.Bool.Decides.{nat_tests}
 use Rattle.std.proofs.lemmas.List.{append-nil}
 use Rattle.sw_participant.specs.Answers.{stays_out}
 use Rattle.flow_model.specs.declared.flow.Flow.{Flow}
 use Rattle.flow_model.specs.Places.{slots_named}
-use Rattle.tx_machine.specs.declared.values.Phase.{Phase}
 use Rattle.tx_machine.specs.declared.values.Phase.TheVariants.{Preparing}
 use Rattle.tx_machine.specs.declared.values.Item.{Item}
 use Rattle.tx_machine.specs.declared.values.Item.TheVariants.{Answer, Choice, Told}
-use Rattle.tx_machine.specs.Table.{Standing, Mark, Enter, Ask, next, after, is_due, is_open, enters, asks, advanced, limited, decided, cut_at, decide_at, settled, is_aborting, after_byte, retry_after, joined_after, saved_after, entered, chosen, answered_at, chosen_at, opening}
-use Rattle.tx_machine.specs.Lists.{is_lawful, saved_in, told_in, calls_in, joined_in, preparing, IsWhole, IsBounded}
+use Rattle.tx_machine.specs.Table.{Standing, Mark, Enter, Ask, next, after, is_due, is_open, enters, asks, advanced, limited, cut_at, decide_at, settled, is_aborting, after_byte, retry_after, joined_after, saved_after, entered, chosen, answered_at, chosen_at, opening}
+use Rattle.tx_machine.specs.Lists.{is_lawful, saved_in, joined_in, preparing, IsWhole, IsBounded}
 
 -- what going on leaves as it was
 record Same (s t : Standing) : Type 0 where

@@ -1,12 +1,11 @@
 -- What stands first, and the places of what waits.
-use Rattle.std.proofs.Common.{◌≡◌, ℕ, List, [], ◌∷◌, map, Option, Some, None, Bool, true, false, drop, refl, ap}
+use Rattle.std.proofs.Common.{◌≡◌, List, [], ◌∷◌, map, Option, Some, None, false, drop, refl, ap}
 use Rattle.std.specs.Prelude.{reverse}
 use Rattle.flow_model.specs.declared.flow.Slot.{Slot}
-use Rattle.tx_machine.specs.declared.machine.First.{First}
-use Rattle.tx_machine.specs.declared.machine.First.TheVariants.{Nothing, Entry, Question}
+use Rattle.tx_machine.specs.declared.plain.First.TheVariants.{Nothing, Entry, Question}
 use Rattle.tx_machine.specs.Table.{Mark, Enter, Ask, enters, asks}
 use Rattle.tx_machine.specs.Due.{places_of}
-use Rattle.tx_machine.specs.Contract.{marks_of, place_of, first_of}
+use Rattle.tx_machine.specs.Plain.{marks_of, place_of, first_of}
 
 places_of_entries : (ss : List Slot) → places_of (map Enter ss) ≡ map place_of ss
 places_of_entries [] = refl

@@ -1,5 +1,5 @@
 -- A text that begins with a name: the run before its first gap, and what follows.
-use Rattle.std.proofs.Common.{◌≡◌, ℕ, ◌+◌, ◌-◌, ◌<◌, Bool, true, false, not, List, [], ◌∷◌, ◌++◌, take, drop, refl, ap, ◌∙◌, sym, inl, inr, arith, if◌then◌else◌, suc}
+use Rattle.std.proofs.Common.{◌≡◌, ℕ, ◌+◌, ◌-◌, ◌<◌, Bool, true, false, not, List, [], ◌∷◌, ◌++◌, take, drop, refl, ap, inl, inr, arith, if◌then◌else◌, suc}
 use Rattle.std.specs.List.{flat_map}
 use Rattle.std.proofs.lemmas.Bool.{cases_Bool}
 use Rattle.tx_machine.specs.Names.{is_gap, begins_with_name, before_first, names_of}

@@ -1,5 +1,5 @@
 -- The names in a selector's text (jPOS: the groups that `GroupSelector.select` gives).
-use Rattle.std.specs.Prelude.{ℕ, Bool, true, false, not, ◌==◌, ◌||◌, List, [], ◌∷◌, if◌then◌else◌}
+use Rattle.std.specs.Prelude.{ℕ, Bool, false, not, ◌==◌, ◌||◌, List, [], ◌∷◌, if◌then◌else◌}
 
 -- a space or a comma parts names
 abbrev pub is_gap : ℕ → Bool

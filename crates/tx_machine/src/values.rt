@@ -23,6 +23,8 @@ pub enum Phase {
 /// The entry whose call is due.
 #[derive(Clone, Copy, PartialEq, Eq, Debug)]
 pub struct Spot {
+    /// The number of the due step: of a preparation the `Call`, of a selection the `Pick`.
+    pub step: usize,
     /// The group's number in the flow, from 0.
     pub group: usize,
     /// The entry's number in its group, from 0.

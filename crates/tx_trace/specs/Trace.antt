@@ -1,5 +1,5 @@
 -- The text of the trace.
-use Rattle.std.specs.Prelude.{ℕ, Bool, true, false, List, [], ◌∷◌, ◌++◌, Option, Some, None, codes, if◌then◌else◌, ◌/◌, ◌%◌, ◌+◌, nat_lt, slice_get, take, map, filter, is_some}
+use Rattle.std.specs.Prelude.{ℕ, Bool, List, [], ◌∷◌, ◌++◌, codes, if◌then◌else◌, ◌/◌, ◌%◌, ◌+◌, nat_lt, slice_get, take, map, filter, is_some}
 use Rattle.std.specs.Borrow.{Bor}
 use Rattle.std.specs.List.{flat_map}
 use Rattle.std.specs.Option.{option_map_or}
@@ -109,4 +109,4 @@ head_text id f phase call = decimal id ++ codes " " ++ phase_text phase ++ codes
 
 -- `ID PHASE CALL .. -> NEXT`: an event that leads from one standing to the next
 abbrev pub step_text : ℕ → Flow → Standing → Event → Standing → Text
-step_text id f before event after = head_text id f before.phase (due_of before) ++ (event_text f event before.told after.bound ++ codes "-> " ++ due_text f (due_of after))
+step_text id f before event after = head_text id f before.phase (due_of f before) ++ (event_text f event before.told after.bound ++ codes "-> " ++ due_text f (due_of f after))

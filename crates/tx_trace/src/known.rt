@@ -2,9 +2,10 @@
 
 ghost use Rattle.std.specs.Prelude.{◌≡◌, Some, IfOk, OnOk, IfSome, IfNone, filter, ◌++◌, ◌∷◌, [], true, false};
 ghost use Rattle.flow_model.specs.Check.{is_named};
+ghost use Rattle.tx_trace.specs.Starts.{is_start};
 ghost use Rattle.tx_trace.specs.Trace.{comma_list, known, list_text, texts_of};
 
-use flow_model::Group;
+use flow_asm::{Code, GroupStart};
 use std::alloc::{AllocError, Global};
 use std::fmt;
 use tx_machine::names::first_name;
@@ -12,11 +13,11 @@ use tx_machine::names::first_name;
 /// How many names of a selection count.
 const MAX_NAMES: usize = 16;
 
-// A group's name, where one of the groups has the name.
-fn find_name<'a>(groups: &'a [Group], name: &[u8]) -> Option<&'a str>
+// The name of a group of the table, where one has the name.
+fn find_start<'a>(groups: &'a [GroupStart], name: &[u8]) -> Option<&'a str>
     ensures found { IfSome result (λ found. found.now ≡ name.now) }
-    ensures known { IfSome result (λ found. is_named name.now groups.entry.now ≡ true) }
-    ensures unknown { IfNone result (is_named name.now groups.entry.now ≡ false) }
+    ensures known { IfSome result (λ found. is_start name.now groups.entry.now ≡ true) }
+    ensures unknown { IfNone result (is_start name.now groups.entry.now ≡ false) }
 {
     'groups: for group in groups {
         if group.name.as_str().as_bytes() == name {
@@ -26,15 +27,20 @@ fn find_name<'a>(groups: &'a [Group], name: &[u8]) -> Option<&'a str>
     None
 }
 
-// Adds a name, where one of the groups has it.
-fn add_known<'a>(
-    names: &mut Vec<&'a str>,
-    groups: &'a [Group],
-    name: &[u8],
-) -> Result<(), AllocError>
-    ensures { OnOk result (texts_of names.new.items ≡ texts_of names.old.items ++ filter (λ n. is_named n groups.entry.now) (name.now ∷ [])) }
+// A group's name, where one of the groups has the name.
+fn find_name<'a>(code: &'a Code, name: &[u8]) -> Option<&'a str>
+    ensures found { IfSome result (λ found. found.now ≡ name.now) }
+    ensures known { IfSome result (λ found. is_named name.now code.entry.now.groups ≡ true) }
+    ensures unknown { IfNone result (is_named name.now code.entry.now.groups ≡ false) }
 {
-    match find_name(groups, name) {
+    find_start(code.groups(), name)
+}
+
+// Adds a name, where one of the groups has it.
+fn add_known<'a>(names: &mut Vec<&'a str>, code: &'a Code, name: &[u8]) -> Result<(), AllocError>
+    ensures { OnOk result (texts_of names.new.items ≡ texts_of names.old.items ++ filter (λ n. is_named n code.entry.now.groups) (name.now ∷ [])) }
+{
+    match find_name(code, name) {
         Some(name) => {
             names.push(name)?;
             Ok(())
@@ -46,10 +52,10 @@ fn add_known<'a>(
 /// The names of groups among the first 16 names of a selection's text.
 pub fn known_names<'a>(
     alloc: Global,
-    groups: &'a [Group],
+    code: &'a Code,
     text: &str,
 ) -> Result<Vec<&'a str>, AllocError>
-    ensures { IfOk result (λ names. texts_of names.items ≡ known groups.entry.now text.now) }
+    ensures { IfOk result (λ names. texts_of names.items ≡ known code.entry.now.groups text.now) }
 {
     let mut names = Vec::new(alloc);
     let mut rest = text.as_bytes();
@@ -57,7 +63,7 @@ pub fn known_names<'a>(
         let Some(first) = first_name(rest) else {
             return Ok(names);
         };
-        add_known(&mut names, groups, first.name)?;
+        add_known(&mut names, code, first.name)?;
         rest = first.rest;
     }
     Ok(names)

@@ -8,15 +8,15 @@ ghost use Rattle.tx_trace.specs.Trace.{choice_text, due_text, event_text, head_t
 use crate::known::{ChoiceText, known_names};
 use crate::names::Names;
 use crate::text::{AnswerText, Head, NextText, ToldText, bound_word};
-use flow_model::{Flow, participants};
+use flow_asm::Code;
 use std::alloc::{AllocError, Global};
 use tx_engine::Event;
 use tx_machine::Machine;
 
-fn choice(alloc: Global, flow: &Flow, text: &str, bound: &str) -> Result<String, AllocError>
-    ensures { IfOk result (λ s. string_bytes s ≡ choice_text flow.now text.now ++ bound.now) }
+fn choice(alloc: Global, code: &Code, text: &str, bound: &str) -> Result<String, AllocError>
+    ensures { IfOk result (λ s. string_bytes s ≡ choice_text code.now text.now ++ bound.now) }
 {
-    let known = known_names(alloc, flow.groups.as_slice(), text)?;
+    let known = known_names(alloc, code, text)?;
     let choice = ChoiceText(known.as_slice());
     format!(in alloc; "{choice}{bound}")
 }
@@ -24,12 +24,12 @@ fn choice(alloc: Global, flow: &Flow, text: &str, bound: &str) -> Result<String,
 // What an event adds behind its call.
 fn detail(
     alloc: Global,
-    flow: &Flow,
+    code: &Code,
     event: &Event,
     place: usize,
     bound: bool,
 ) -> Result<String, AllocError>
-    ensures { IfOk result (λ s. string_bytes s ≡ event_text flow.now event.now place bound) }
+    ensures { IfOk result (λ s. string_bytes s ≡ event_text code.now event.now place bound) }
 {
     let bound = bound_word(bound);
     match event {
@@ -37,7 +37,7 @@ fn detail(
             let answer = AnswerText(*byte);
             format!(in alloc; "{answer}{bound}")
         }
-        Event::Chose { text, .. } => choice(alloc, flow, text.as_str(), bound),
+        Event::Chose { text, .. } => choice(alloc, code, text.as_str(), bound),
         Event::Told { advice, .. } => {
             let advised = advice.is_some();
             let told = ToldText { advised, place };
@@ -48,29 +48,29 @@ fn detail(
 
 // The transaction, its phase and the call that is due.
 fn head<'a>(id: u64, names: Names<'a>, machine: &Machine) -> Head<'a>
-    requires { IsSound names.flow.now machine.now }
-    ensures { head_text result.id result.call.names.flow.now result.phase result.call.due ≡ head_text id names.entry.flow.now (standing names.entry.flow.now machine.now).phase (due_of (standing names.entry.flow.now machine.now)) }
+    requires { IsSound names.code.now machine.now }
+    ensures { head_text result.id result.call.names.code.now result.phase result.call.due ≡ head_text id names.entry.code.now (standing names.entry.code.now machine.now).phase (due_of names.entry.code.now (standing names.entry.code.now machine.now)) }
 {
     Head {
         id,
         phase: machine.phase(),
         call: NextText {
             names,
-            due: machine.due(names.flow),
+            due: machine.due(names.code),
         },
     }
 }
 
 fn event_detail(
     alloc: Global,
-    flow: &Flow,
+    code: &Code,
     before: &Machine,
     event: &Event,
     after: &Machine,
 ) -> Result<String, AllocError>
-    ensures { IfOk result (λ s. string_bytes s ≡ event_text flow.now event.now (standing flow.now before.now).told (standing flow.now after.now).bound) }
+    ensures { IfOk result (λ s. string_bytes s ≡ event_text code.now event.now (standing code.now before.now).told (standing code.now after.now).bound) }
 {
-    detail(alloc, flow, event, before.told_count(), after.bound())
+    detail(alloc, code, event, before.told_count(), after.bound())
 }
 
 fn joined(
@@ -79,7 +79,7 @@ fn joined(
     detail: &str,
     next: &NextText<'_>,
 ) -> Result<String, AllocError>
-    ensures { IfOk result (λ s. string_bytes s ≡ head_text head.now.id head.now.call.names.flow.now head.now.phase head.now.call.due ++ (detail.now ++ codes "-> " ++ due_text next.now.names.flow.now next.now.due)) }
+    ensures { IfOk result (λ s. string_bytes s ≡ head_text head.now.id head.now.call.names.code.now head.now.phase head.now.call.due ++ (detail.now ++ codes "-> " ++ due_text next.now.names.code.now next.now.due)) }
 {
     format!(in alloc; "{head}{detail}-> {next}")
 }
@@ -89,25 +89,21 @@ fn joined(
 pub fn step_line(
     alloc: Global,
     id: u64,
-    flow: &Flow,
+    code: &Code,
     before: &Machine,
     event: &Event,
     after: &Machine,
 ) -> Result<String, AllocError>
-    requires before { IsSound flow.now before.now }
-    requires after { IsSound flow.now after.now }
-    ensures { IfOk result (λ s. string_bytes s ≡ step_text id flow.now (standing flow.now before.now) event.now (standing flow.now after.now)) }
+    requires before { IsSound code.now before.now }
+    requires after { IsSound code.now after.now }
+    ensures { IfOk result (λ s. string_bytes s ≡ step_text id code.now (standing code.now before.now) event.now (standing code.now after.now)) }
 {
-    let parts = participants(alloc, flow)?;
-    let names = Names {
-        flow,
-        parts: parts.as_slice(),
-    };
+    let names = Names { code };
     let head = head(id, names, before);
-    let detail = event_detail(alloc, flow, before, event, after)?;
+    let detail = event_detail(alloc, code, before, event, after)?;
     let next = NextText {
         names,
-        due: after.due(flow),
+        due: after.due(code),
     };
     joined(alloc, &head, detail.as_str(), &next)
 }

@@ -34,7 +34,7 @@ struct SpotText<'a> {
 }
 
 impl fmt::Display for SpotText<'_> {
-    ghost output = { λ s. Some (spot_text s.names.flow.now s.spot) };
+    ghost output = { λ s. Some (spot_text s.names.code.now s.spot) };
 
     fn fmt<W: fmt::Write>(&self, f: &mut fmt::Formatter<W>) -> fmt::Result {
         let name = self.names.participant(self.spot.participant);
@@ -52,7 +52,7 @@ pub struct NextText<'a> {
 }
 
 impl fmt::Display for NextText<'_> {
-    ghost output = { λ n. Some (due_text n.names.flow.now n.due) };
+    ghost output = { λ n. Some (due_text n.names.code.now n.due) };
 
     fn fmt<W: fmt::Write>(&self, f: &mut fmt::Formatter<W>) -> fmt::Result {
         let names = self.names;
@@ -92,7 +92,7 @@ pub struct Head<'a> {
 }
 
 impl fmt::Display for Head<'_> {
-    ghost output = { λ h. Some (head_text h.id h.call.names.flow.now h.phase h.call.due) };
+    ghost output = { λ h. Some (head_text h.id h.call.names.code.now h.phase h.call.due) };
 
     fn fmt<W: fmt::Write>(&self, f: &mut fmt::Formatter<W>) -> fmt::Result {
         let id = self.id;

@@ -1,4 +1,3 @@
-use Rattle.std.proofs.Common.{sym}
 use Rattle.tx_trace.proofs.known.CommaListDisplay.fmt.Goals as goal
 
 pub returns-in-Some-clause-writes : goal.returns-in-Some-clause-writes

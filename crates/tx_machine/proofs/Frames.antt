@@ -1,0 +1,111 @@
+-- The stack: its top frame, and what a return does.
+use Rattle.std.proofs.Common.{◌≡◌, ℕ, suc, ◌+◌, ◌<◌, Bool, true, false, ◌⊎◌, ⊎_elim, List, [], ◌∷◌, ◌++◌, length, map, take, get_or, set, refl, sym, ap, ◌∙◌, subst, arith, append_assoc, if◌then◌else◌}
+use Rattle.std.specs.List.{All, remove}
+use Rattle.std.proofs.lemmas.List.{take_all, take_more, take-set, set_split, drop_all, map-append}
+use Rattle.std.proofs.lemmas.List.Elements.{All-set, All-take}
+use Rattle.flow_model.specs.declared.flow.Flow.{Flow}
+use Rattle.flow_model.specs.declared.flow.Slot.{Slot}
+use Rattle.flow_asm.specs.Steps.{first_step, layout}
+use Rattle.flow_asm.specs.Places.{group_at}
+use Rattle.tx_machine.specs.declared.walk.Frame.{Frame}
+use Rattle.tx_machine.specs.Table.{Mark, Enter, Ask, passed, settled}
+use Rattle.tx_machine.specs.Position.{marks_at, left_at, frame_marks, stack_marks, frame_left, stack_left, groups_left, rest_of, slots_in, IsFrame, IsCall, IsPick}
+use Rattle.tx_machine.proofs.Moves.{is_first, stack_marks_top, stack_left_top}
+
+-- the stack is what lies below, and the top
+top_of : (xs : List Frame) (top : ℕ) (d : Frame) → length xs ≡ top + 1 → xs ≡ take top xs ++ get_or xs top d ∷ []
+top_of xs top d e = sym (take_all (top + 1) xs (omega arith)) ∙ take_more xs top d (omega arith)
+
+set_top : (xs : List Frame) (top : ℕ) (y : Frame) → length xs ≡ top + 1 → set xs top y ≡ take top xs ++ y ∷ []
+set_top xs top y e = set_split xs top y (omega arith) ∙ ap (λ zs. take top xs ++ y ∷ zs) (drop_all (suc top) xs (omega arith))
+
+-- a return leads from one stack to a step and another
+pub record IsLeft (f : Flow) (step : ℕ) (new old : List Frame) : Type 0 where
+  pub rest : rest_of f step new ≡ stack_marks f old
+  pub left : left_at f step + stack_left f new ≡ stack_left f old
+
+-- the top frame has no group left: the way back
+goes_back : (f : Flow) (xs : List Frame) (top : ℕ) (d : Frame) → length xs ≡ top + 1 → (get_or xs top d).pending.items ≡ [] → IsLeft f (get_or xs top d).back (take top xs) xs
+goes_back f xs top d e p =
+    let t : Frame = get_or xs top d in
+    let whole : xs ≡ take top xs ++ t ∷ [] = top_of xs top d e in
+    let marks : stack_marks f xs ≡ frame_marks f t ++ stack_marks f (take top xs) = ap (stack_marks f) whole ∙ stack_marks_top f (take top xs) t in
+    let lefts : stack_left f xs ≡ frame_left f t + stack_left f (take top xs) = ap (stack_left f) whole ∙ stack_left_top f (take top xs) t in
+    let none : frame_left f t ≡ 0 + left_at f t.back = ap (λ gs. groups_left f gs + left_at f t.back) p in
+    record {
+      rest = sym (marks ∙ ap (λ gs. (map Enter (slots_in f gs) ++ marks_at f t.back) ++ stack_marks f (take top xs)) p);
+      left = omega arith;
+    }
+
+-- the top frame's next group is entered
+goes_in : (f : Flow) (xs : List Frame) (top : ℕ) (d new : Frame) (g : ℕ) (gs : List ℕ) → length xs ≡ top + 1 → (get_or xs top d).pending.items ≡ g ∷ gs → new.pending.items ≡ gs → new.back ≡ (get_or xs top d).back → g < length (layout f) → IsLeft f (first_step f g) (set xs top new) xs
+goes_in f xs top d new g gs e p q b h =
+    let t : Frame = get_or xs top d in
+    let first = is_first f g h in
+    let whole : xs ≡ take top xs ++ t ∷ [] = top_of xs top d e in
+    let ss : List Slot = group_at (layout f) g in
+    let es : List Mark = map Enter (group_at (layout f) g) in
+    let later : List Mark = map Enter (slots_in f gs) in
+    let below : List Mark = stack_marks f (take top xs) in
+    let marks : stack_marks f xs ≡ frame_marks f t ++ below = ap (stack_marks f) whole ∙ stack_marks_top f (take top xs) t in
+    let lefts : stack_left f xs ≡ frame_left f t + stack_left f (take top xs) = ap (stack_left f) whole ∙ stack_left_top f (take top xs) t in
+    let put = set_top xs top new e in
+    let new_marks : stack_marks f (set xs top new) ≡ frame_marks f new ++ below = ap (stack_marks f) put ∙ stack_marks_top f (take top xs) new in
+    let new_lefts : stack_left f (set xs top new) ≡ frame_left f new + stack_left f (take top xs) = ap (stack_left f) put ∙ stack_left_top f (take top xs) new in
+    let old_frame : frame_marks f t ≡ es ++ (later ++ marks_at f t.back) = ap (λ ps. map Enter (slots_in f ps) ++ marks_at f t.back) p ∙ ap (λ ms. ms ++ marks_at f t.back) (map-append Enter ss (slots_in f gs)) ∙ append_assoc es later (marks_at f t.back) in
+    let new_frame : frame_marks f new ≡ later ++ marks_at f t.back = ap (λ ps. map Enter (slots_in f ps) ++ marks_at f new.back) q ∙ ap (λ n. later ++ marks_at f n) b in
+    let old_left : frame_left f t ≡ groups_left f (g ∷ gs) + left_at f t.back = ap (λ ps. groups_left f ps + left_at f t.back) p in
+    let new_left : frame_left f new ≡ groups_left f gs + left_at f t.back = ap (λ ps. groups_left f ps + left_at f new.back) q ∙ ap (λ n. groups_left f gs + left_at f n) b in
+    record {
+      rest = ap (λ ms. ms ++ stack_marks f (set xs top new)) first.marks ∙ ap (λ ms. es ++ ms) new_marks ∙ ap (λ ms. es ++ (ms ++ below)) new_frame ∙ sym (append_assoc es (later ++ marks_at f t.back) below) ∙ ap (λ ms. ms ++ below) (sym old_frame) ∙ sym marks;
+      left = omega (arith, first.left);
+    }
+
+uncons : {X : Type 0} (xs : List X) (d : X) → 0 < length xs → xs ≡ get_or xs 0 d ∷ remove xs 0
+uncons [] d h = absurd (omega (arith, h))
+uncons (x ∷ xs) d h = refl
+
+-- an abort passes over a call
+pub passes : (f : Flow) (k : ℕ) (s : Slot) (tail ms : List Mark) → IsCall f k s tail → s.kind.abort_aware ≡ false → passed (marks_at f (k + 1) ++ ms) ≡ passed (marks_at f k ++ ms)
+passes f k s tail ms is a =
+    ap (λ l. passed (l ++ ms)) is.after ∙ by s.kind.selector refl ∙ sym (ap (λ l. passed (l ++ ms)) is.marks)
+  where
+    by : (b : Bool) → s.kind.selector ≡ b → passed ((if b then Ask s ∷ tail else tail) ++ ms) ≡ (if s.kind.abort_aware then Enter s ∷ (tail ++ ms) else if b then Ask s ∷ (tail ++ ms) else passed (tail ++ ms))
+    by true e = ap (λ c. if c then Enter s ∷ (tail ++ ms) else Ask s ∷ (tail ++ ms)) (sym a)
+    by false e = ap (λ c. if c then Enter s ∷ (tail ++ ms) else passed (tail ++ ms)) (sym a)
+
+-- and stops at one of an abort-aware participant, and at a pick
+pub settled_call : (f : Flow) (k : ℕ) (s : Slot) (tail ms : List Mark) (aborting : Bool) → IsCall f k s tail → ((s.kind.abort_aware ≡ true) ⊎ (aborting ≡ false)) → settled aborting (marks_at f k ++ ms) ≡ marks_at f k ++ ms
+settled_call f k s tail ms false is h = refl
+settled_call f k s tail ms true is h =
+    ap (λ l. passed (l ++ ms)) is.marks ∙ ⊎_elim (λ a. ap (λ c. if c then Enter s ∷ (tail ++ ms) else (if s.kind.selector then Ask s ∷ (tail ++ ms) else passed (tail ++ ms))) a) (λ (e : true ≡ false). absurd cc) h ∙ sym (ap (λ l. l ++ ms) is.marks)
+
+pub settled_pick : (f : Flow) (k : ℕ) (s : Slot) (ms : List Mark) (aborting : Bool) → IsPick f k s → settled aborting (marks_at f k ++ ms) ≡ marks_at f k ++ ms
+settled_pick f k s ms false is = refl
+settled_pick f k s ms true is = ap (λ l. passed (l ++ ms)) is.marks ∙ sym (ap (λ l. l ++ ms) is.marks)
+
+pub settled_nil : (aborting : Bool) → settled aborting [] ≡ []
+settled_nil true = refl
+settled_nil false = refl
+
+pub back_at : (f : Flow) (xs ys : List Frame) (top : ℕ) (t : Frame) → length xs ≡ top + 1 → t ≡ get_or xs top t → t.pending.items ≡ [] → ys ≡ take top (set xs top t) → IsLeft f t.back ys xs
+back_at f xs ys top t e h p q =
+    let w = goes_back f xs top t e (ap (λ (x : Frame). x.pending.items) (sym h) ∙ p) in
+    let same : take top xs ≡ ys = sym (q ∙ take-set xs top t) in
+    subst (λ zs. IsLeft f t.back zs xs) same (subst (λ (x : Frame). IsLeft f x.back (take top xs) xs) (sym h) w)
+
+pub in_at : (f : Flow) (xs : List Frame) (top : ℕ) (t new : Frame) (g step : ℕ) → length xs ≡ top + 1 → t ≡ get_or xs top t → g ≡ get_or t.pending.items 0 g → 0 < length t.pending.items → new.pending.items ≡ remove t.pending.items 0 → new.back ≡ t.back → g < length (layout f) → step ≡ first_step f g → IsLeft f step (set xs top new) xs
+in_at f xs top t new g step e h v l q b w s =
+    let cut : (get_or xs top t).pending.items ≡ g ∷ remove t.pending.items 0 = ap (λ (x : Frame). x.pending.items) (sym h) ∙ uncons t.pending.items g l ∙ ap (λ n. n ∷ remove t.pending.items 0) (sym v) in
+    let way : new.back ≡ (get_or xs top t).back = b ∙ ap (λ (x : Frame). x.back) h in
+    subst (λ n. IsLeft f n (set xs top new) xs) (sym s) (goes_in f xs top t new g (remove t.pending.items 0) e cut q way w)
+
+pub frame_at : (f : Flow) (xs : List Frame) (top : ℕ) (t : Frame) → length xs ≡ top + 1 → t ≡ get_or xs top t → All (IsFrame f) xs → IsFrame f t
+frame_at f xs top t e h all = subst (IsFrame f) (sym h) (all top t (omega arith))
+
+pub group_within : (f : Flow) (t : Frame) (g : ℕ) → IsFrame f t → 0 < length t.pending.items → g ≡ get_or t.pending.items 0 g → g < length (layout f)
+group_within f t g h l v = subst (λ n. n < length (layout f)) (sym v) (h.pending 0 g l)
+
+pub frames_below : (f : Flow) (xs ys : List Frame) (top n : ℕ) (t : Frame) → All (IsFrame f) xs → IsFrame f t → ys ≡ take n (set xs top t) → All (IsFrame f) ys
+frames_below f xs ys top n t all one e =
+    subst (All (IsFrame f)) (sym e) (All-take (IsFrame f) n (set xs top t) (All-set (IsFrame f) xs top t one all))

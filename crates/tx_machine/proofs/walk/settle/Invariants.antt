@@ -1,0 +1,18 @@
+use Rattle.std.proofs.Common.{◌≡◌, ◌+◌, ◌<◌, length}
+use Rattle.std.specs.List.{All}
+use Rattle.flow_asm.specs.Steps.{stages}
+use Rattle.tx_machine.specs.Table.{settled}
+use Rattle.tx_machine.specs.Position.{rest_of, IsFrame, left_at, stack_left}
+use Rattle.tx_machine.proofs.walk.settle.Given as goal
+
+-- there is as much to do as at the start
+abbrev pub invariant-steps : goal.invariant-steps
+invariant-steps l = record {
+  within : l.step < length (stages l.code);
+  frames : All (IsFrame l.code) l.stack.items;
+  rest : settled l.aborting (rest_of l.code l.step l.stack.items) ≡ settled l.aborting (rest_of l.code l.from l.fn.stack.items);
+}
+
+-- the steps that can still be taken
+abbrev pub decreases-steps : goal.decreases-steps
+decreases-steps l = left_at l.code l.step + stack_left l.code l.stack.items
