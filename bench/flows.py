@@ -5,8 +5,10 @@ Run from the top of the repository after `(cd crates/cardswitch && rt run < stdi
 program in crates/cardswitch/out/cardswitch. The largest flow has 256 groups of 64 entries, 16,384 different
 participants in all; a transaction of n selections of its own group has 2 n answers and choices.
 """
+import os
 import subprocess
 import sys
+import tempfile
 import time
 
 PROGRAM = "crates/cardswitch/out/cardswitch"
@@ -21,6 +23,17 @@ def largest_flow():
         for entry in range(64):
             lines.append(f'[[group.entry]]\nparticipant = "participant-{group:03}-{entry:02}-of-the-switch"')
     return ("\n".join(lines) + "\n").encode()
+
+
+def far_flow():
+    """A selector that asks for the last of 256 groups, behind 32,000 steps, which asks for itself again."""
+    lines = ['[[group]]\nname = "main"\n[[group.entry]]\nparticipant = "loop"\nselector = true']
+    for group in range(254):
+        lines.append(f'[[group]]\nname = "group-{group}"')
+        for entry in range(64):
+            lines.append(f'[[group.entry]]\nparticipant = "participant-{group}-{entry}"\nselector = true')
+    lines.append('[[group]]\nname = "again"\n[[group.entry]]\nparticipant = "loop"\nselector = true')
+    return "\n".join(lines) + "\n"
 
 
 def looping(choices):
@@ -51,6 +64,13 @@ def main():
     for choices in (125, 250, 499):
         took, lines = timed(["step"], looping(choices))
         print(f"a transaction of {lines.count(10)} lines: {took:.3f} s")
+    with tempfile.TemporaryDirectory() as folder:
+        path = os.path.join(folder, "far.toml")
+        with open(path, "w", encoding="ascii") as out:
+            out.write(far_flow())
+        script = ("choose loop again\n" * 499 + "auto\n").encode()
+        took, lines = timed(["step", "--flow", path], script)
+        print(f"one of {lines.count(10)} lines behind 32,000 steps: {took:.3f} s")
 
 
 if __name__ == "__main__":

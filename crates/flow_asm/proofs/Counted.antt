@@ -4,7 +4,7 @@ use Rattle.std.specs.Prelude.{slice_get, nat_lt}
 use Rattle.std.specs.List.{flat_map}
 use Rattle.std.proofs.lemmas.Bool.{cases_lt}
 use Rattle.std.proofs.lemmas.Bool.Decides.{Decides-ltb}
-use Rattle.std.proofs.lemmas.List.{append-nil, length_push, take_at}
+use Rattle.std.proofs.lemmas.List.{append-nil, drop_at, length-take-le, length_push, take_at}
 use Rattle.std.proofs.lemmas.List.Concat.{flat_map-append}
 use Rattle.std.proofs.lemmas.Option.{none-some}
 use Rattle.flow_model.specs.declared.flow.Flow.{Flow}
@@ -156,6 +156,41 @@ moved f n g i h j xs a b c = subst (λ (m : ℕ). Counted f n m j xs) (sym a) (s
 
 pub goes_on : (n m : ℕ) → n ≤ m → (n ≡ m → ⊥) → n + 1 ≤ m
 goes_on n m h d = ⊎_elim (λ (l : n < m). (let w : n + 1 ≤ m = omega (arith, l) in w)) (λ (l : m ≤ n). absurd (d (let w : n ≡ m = omega (arith, h, l) in w))) (cases_lt n m)
+
+drop_groups : (ps : List Part) (h g : ℕ) (gs : List Group) → drop g (groups_from ps h gs) ≡ groups_from ps (h + g) (drop g gs)
+drop_groups ps h zero gs = ap (λ n. groups_from ps n gs) (let e : h ≡ h + 0 = omega arith in e)
+drop_groups ps h (suc g) [] = refl
+drop_groups ps h (suc g) (x ∷ gs) = drop_groups ps (h + 1) g gs ∙ ap (λ n. groups_from ps n (drop g gs)) (let e : h + 1 + g ≡ h + suc g = omega arith in e)
+
+split_groups : (gs : List (List Slot)) (g : ℕ) → gs ≡ take g gs ++ drop g gs
+split_groups [] zero = refl
+split_groups [] (suc g) = refl
+split_groups (ss ∷ gs) zero = refl
+split_groups (ss ∷ gs) (suc g) = ap (λ xs. ss ∷ xs) (split_groups gs g)
+
+-- counting may begin at a group's first step
+pub counted_at : (f : Flow) (g : ℕ) → g ≤ length (layout f) → Counted f (first_step f g) g 0 (drop (first_step f g) (stages f))
+counted_at f g h =
+    let before : List (List Slot) = take g (layout f) in
+    let later : drop g (layout f) ≡ groups_from (parts_of f) g (drop g f.groups) = drop_groups (parts_of f) 0 g f.groups ∙ ap (λ n. groups_from (parts_of f) n (drop g f.groups)) (let e : 0 + g ≡ g = omega arith in e) in
+    let is : layout f ≡ before ++ groups_from (parts_of f) g (drop g f.groups) = split_groups (layout f) g ∙ ap (λ xs. before ++ xs) later in
+    let rest : drop (first_step f g) (stages f) ≡ flat_map stages_of_group (groups_from (parts_of f) g (drop g f.groups)) = ap (λ xs. drop (first_step f g) (flat_map stages_of_group xs)) is ∙ ap (drop (first_step f g)) (flat_map-append stages_of_group before (groups_from (parts_of f) g (drop g f.groups))) ∙ drop_at (flat_map stages_of_group before) (flat_map stages_of_group (groups_from (parts_of f) g (drop g f.groups))) (first_step f g) refl in
+    subst (Counted f (first_step f g) g 0) (sym rest) (counted_groups f before g (first_step f g) (drop g f.groups) is (length-take-le g (layout f) h) refl)
+
+-- a group has a step at least
+some_stage : (ss : List Slot) → 1 ≤ length (stages_of_group ss)
+some_stage [] = omega arith
+some_stage (s ∷ ss) = omega (arith, length-append (stages_of_entry s) (stages_of_group ss), some_stage ss)
+
+first_past : (gs : List (List Slot)) (g : ℕ) → g ≤ length gs → g ≤ length (flat_map stages_of_group (take g gs))
+first_past gs zero h = omega arith
+first_past [] (suc g) h = absurd (omega (arith, h))
+first_past (ss ∷ gs) (suc g) h =
+    let ih = first_past gs g (omega (arith, h)) in
+    omega (arith, ih, some_stage ss, length-append (stages_of_group ss) (flat_map stages_of_group (take g gs)))
+
+pub group_past_first : (f : Flow) (g : ℕ) → g ≤ length (layout f) → g ≤ first_step f g
+group_past_first f g h = first_past (layout f) g h
 
 -- the step of a call is its entry's call step
 pub call_counted : (f : Flow) (n g i k : ℕ) (xs : List Stage) (s : Slot) → Counted f n g i xs → slice_get xs k ≡ Some (AtCall s) → call_step f s.group s.index ≡ n + k

@@ -1,23 +1,53 @@
 //! Which entry a step belongs to, and which step calls an entry.
 
-ghost use Rattle.std.specs.Prelude.{◌≡◌, ◌<◌, length, Some, IfSome};
+ghost use Rattle.std.specs.Prelude.{◌≡◌, ◌<◌, ◌≤◌, length, Some, IfSome};
+ghost use Rattle.flow_asm.specs.Steps.{first_step, layout};
 ghost use Rattle.flow_asm.specs.Places.{IsStepOf, call_of, place_of};
 ghost use Rattle.flow_asm.specs.Walks.{call_from};
 
 use crate::code::{Code, Step};
 use crate::listing::steps_from;
 
+// A group that begins at or before a step, with its first step: the last such one. The first step
+// of all where there is none.
+#[derive(Clone, Copy)]
+struct Before {
+    group: usize,
+    first: usize,
+}
+
+fn last_before(code: &Code, step: usize) -> Before
+    ensures first { result.first ≡ first_step code.now result.group }
+    ensures within { result.group ≤ length (layout code.now) }
+    ensures before { result.first ≤ step }
+{
+    let mut last = Before { group: 0, first: 0 };
+    'groups: for (group, start) in code.groups().iter().enumerate() {
+        if start.first > step {
+            return last;
+        }
+        last = Before {
+            group,
+            first: start.first,
+        };
+    }
+    last
+}
+
 /// The place (group, index) of the entry that a step calls or, for a selector, asks; `None` for the
-/// end of a group and for a number that no step has. Looks at the steps up to this one.
+/// end of a group and for a number that no step has. Looks at the groups up to the step's, and at
+/// the steps of that group.
 pub fn place(code: &Code, step: usize) -> Option<(usize, usize)>
     ensures value { result ≡ place_of code.now step }
     ensures entry { IfSome result (λ at. IsStepOf code.now at.0 at.1 step) }
 {
-    let mut group = 0;
+    let before = last_before(code, step);
+    let mut group = before.group;
     // The next entry of the group.
     let mut next = 0;
-    'steps: for (number, found) in code.steps().iter().enumerate() {
-        match found {
+    let all = code.steps();
+    'steps: for number in before.first..all.len() {
+        match all[number] {
             Step::Call(_) => {
                 if number == step {
                     return Some((group, next));

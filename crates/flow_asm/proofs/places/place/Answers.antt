@@ -2,58 +2,63 @@ use Rattle.std.proofs.Common.{◌∙◌, ap, sym, subst, arith, ◌+◌, ◌-◌
 use Rattle.std.proofs.lemmas.Option.{slice_get_past}
 use Rattle.flow_asm.specs.Places.{IsStepOf, place_at, place_of}
 use Rattle.flow_asm.specs.Steps.{stages}
-use Rattle.flow_asm.proofs.Counted.{call_read, counted, goes_on, moved, pick_read, return_read}
+use Rattle.flow_asm.proofs.Counted.{Counted, call_read, counted_at, goes_on, group_past_first, moved, pick_read, return_read}
 use Rattle.flow_asm.proofs.Stages.{length-steps}
 use Rattle.flow_asm.proofs.places.place.Goals as goal
 use Rattle.flow_asm.proofs.places.place.Goals.{in-Call+else-number-step, in-Pick+else-number-step-2, in-Return+else-number-step-3}
 
 pub steps-init : goal.steps-init
-steps-init c = record { counted = counted c.args.code.now; group = omega arith; next = omega arith; step = omega arith }
+steps-init c = record {
+  counted = subst (λ n. Counted c.args.code.now n c.last_before-before.result.group 0 (drop n (stages c.args.code.now))) (sym c.last_before-before.ensures.first) (counted_at c.args.code.now c.last_before-before.result.group c.last_before-before.ensures.within);
+  group = omega (arith, group_past_first c.args.code.now c.last_before-before.result.group c.last_before-before.ensures.within, c.last_before-before.ensures.first);
+  next = omega arith;
+  step = c.last_before-before.ensures.before;
+}
 
 pub returns-then-number-step-clause-value : goal.returns-then-number-step-clause-value
 returns-then-number-step-clause-value c =
-    let w = call_read c.args.code.now _ _ _ _ _ _ c.steps-found-items.ensures c.steps-test.true c.steps.invariant.counted c.in-Call.is in
+    let w = call_read c.args.code.now _ _ _ _ _ _ c.steps-all.ensures c.steps-test.true c.steps.invariant.counted c.in-Call.is in
     sym w.place ∙ ap (place_of c.args.code.now) c.if-number-step.true
 
 pub returns-then-number-step-clause-entry : goal.returns-then-number-step-clause-entry
 returns-then-number-step-clause-entry c =
-    let w = call_read c.args.code.now _ _ _ _ _ _ c.steps-found-items.ensures c.steps-test.true c.steps.invariant.counted c.in-Call.is in
+    let w = call_read c.args.code.now _ _ _ _ _ _ c.steps-all.ensures c.steps-test.true c.steps.invariant.counted c.in-Call.is in
     subst (IsStepOf c.args.code.now c.steps.group c.steps.next) c.if-number-step.true w.entry
 
 pub overflow_sub-result : goal.overflow_sub-result
-overflow_sub-result c = (pick_read c.args.code.now _ _ _ _ _ _ c.steps-found-items.ensures c.steps-test.true c.steps.invariant.counted c.in-Pick.is).some
+overflow_sub-result c = (pick_read c.args.code.now _ _ _ _ _ _ c.steps-all.ensures c.steps-test.true c.steps.invariant.counted c.in-Pick.is).some
 
 pub returns-then-number-step-2-clause-value : goal.returns-then-number-step-2-clause-value
 returns-then-number-step-2-clause-value c =
-    let w = pick_read c.args.code.now _ _ _ _ _ _ c.steps-found-items.ensures c.steps-test.true c.steps.invariant.counted c.in-Pick.is in
+    let w = pick_read c.args.code.now _ _ _ _ _ _ c.steps-all.ensures c.steps-test.true c.steps.invariant.counted c.in-Pick.is in
     sym w.place ∙ ap (place_of c.args.code.now) c.if-number-step-2.true
 
 pub returns-then-number-step-2-clause-entry : goal.returns-then-number-step-2-clause-entry
 returns-then-number-step-2-clause-entry c =
-    let w = pick_read c.args.code.now _ _ _ _ _ _ c.steps-found-items.ensures c.steps-test.true c.steps.invariant.counted c.in-Pick.is in
+    let w = pick_read c.args.code.now _ _ _ _ _ _ c.steps-all.ensures c.steps-test.true c.steps.invariant.counted c.in-Pick.is in
     subst (IsStepOf c.args.code.now c.steps.group (c.steps.next - 1)) c.if-number-step-2.true w.entry
 
 pub returns-then-number-step-3-clause-value : goal.returns-then-number-step-3-clause-value
 returns-then-number-step-3-clause-value c =
-    let w = return_read c.args.code.now _ _ _ _ _ c.steps-found-items.ensures c.steps-test.true c.steps.invariant.counted c.in-Return.is in
+    let w = return_read c.args.code.now _ _ _ _ _ c.steps-all.ensures c.steps-test.true c.steps.invariant.counted c.in-Return.is in
     sym w.place ∙ ap (place_of c.args.code.now) c.if-number-step-3.true
 
 pub steps-preserved : goal.steps-preserved
-steps-preserved c = elim c.match-found.branch [
+steps-preserved c = elim c.match-all-number.branch [
   | in-Call+else-number-step w ↦ record {
-    counted = moved c.args.code.now (c.steps.number + 1) _ _ _ _ (drop (c.steps.number + 1) (stages c.args.code.now)) w.group-is w.next-is (call_read c.args.code.now _ _ _ _ _ _ c.steps-found-items.ensures c.steps-test.true c.steps.invariant.counted w.in-Call.is).next;
+    counted = moved c.args.code.now (c.steps.number + 1) _ _ _ _ (drop (c.steps.number + 1) (stages c.args.code.now)) w.group-is w.next-is (call_read c.args.code.now _ _ _ _ _ _ c.steps-all.ensures c.steps-test.true c.steps.invariant.counted w.in-Call.is).next;
     group = omega (arith, w.group-is, c.steps.invariant.group);
     next = omega (arith, w.next-is, c.steps.invariant.next);
     step = goes_on _ _ c.steps.invariant.step w.if-number-step.false;
   }
   | in-Pick+else-number-step-2 w ↦ record {
-    counted = moved c.args.code.now (c.steps.number + 1) _ _ _ _ (drop (c.steps.number + 1) (stages c.args.code.now)) w.group-is w.next-is (pick_read c.args.code.now _ _ _ _ _ _ c.steps-found-items.ensures c.steps-test.true c.steps.invariant.counted w.in-Pick.is).next;
+    counted = moved c.args.code.now (c.steps.number + 1) _ _ _ _ (drop (c.steps.number + 1) (stages c.args.code.now)) w.group-is w.next-is (pick_read c.args.code.now _ _ _ _ _ _ c.steps-all.ensures c.steps-test.true c.steps.invariant.counted w.in-Pick.is).next;
     group = omega (arith, w.group-is, c.steps.invariant.group);
     next = omega (arith, w.next-is, c.steps.invariant.next);
     step = goes_on _ _ c.steps.invariant.step w.if-number-step-2.false;
   }
   | in-Return+else-number-step-3 w ↦ record {
-    counted = moved c.args.code.now (c.steps.number + 1) _ _ _ _ (drop (c.steps.number + 1) (stages c.args.code.now)) w.group-is w.next-is (return_read c.args.code.now _ _ _ _ _ c.steps-found-items.ensures c.steps-test.true c.steps.invariant.counted w.in-Return.is).next;
+    counted = moved c.args.code.now (c.steps.number + 1) _ _ _ _ (drop (c.steps.number + 1) (stages c.args.code.now)) w.group-is w.next-is (return_read c.args.code.now _ _ _ _ _ c.steps-all.ensures c.steps-test.true c.steps.invariant.counted w.in-Return.is).next;
     group = omega (arith, w.group-is, c.steps.invariant.group);
     next = omega (arith, w.next-is);
     step = goes_on _ _ c.steps.invariant.step w.if-number-step-3.false;
@@ -61,4 +66,4 @@ steps-preserved c = elim c.match-found.branch [
 ]
 
 pub returns-clause-value : goal.returns-clause-value
-returns-clause-value c = sym (ap place_at (slice_get_past (stages c.args.code.now) c.args.step (omega (arith, length-steps c.args.code.now, ap length c.steps-found-items.ensures, c.steps-test.false, c.steps.invariant.step))))
+returns-clause-value c = sym (ap place_at (slice_get_past (stages c.args.code.now) c.args.step (omega (arith, length-steps c.args.code.now, ap length c.steps-all.ensures, c.steps-test.false, c.steps.invariant.step))))
