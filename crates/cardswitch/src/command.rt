@@ -1,5 +1,8 @@
 //! The lines of a script as commands.
 
+ghost use Rattle.std.specs.Prelude.{◌≡◌, IfSome};
+ghost use Rattle.cardswitch.specs.Stated.{marks_of};
+
 use crate::fault::Fault;
 use flow_model::check::is_name;
 use flow_model::{Entry, Group};
@@ -57,7 +60,9 @@ fn text(alloc: Global, word: &str) -> Result<Text, Fault> {
 
 /// The marks of an entry: `s` a selector, `a` abort-aware, `r` recovering, in this order after a
 /// leading `r`.
-fn kind_of(marks: &str) -> Option<Kind> {
+fn kind_of(marks: &str) -> Option<Kind>
+    ensures { IfSome result (λ kind. marks.now ≡ marks_of kind) }
+{
     let (selector, abort_aware, recovers) = match marks {
         "s" => (true, false, false),
         "a" => (false, true, false),

@@ -1,7 +1,8 @@
 //! What the settings of a script say: the flow, and the replies that its participants will give.
 
-ghost use Rattle.std.specs.Prelude.{IfOk};
-ghost use Rattle.flow_model.specs.Check.{IsChecked};
+ghost use Rattle.std.specs.Prelude.{◌≡◌, ◌++◌, ◌∷◌, [], Some, IfErr, IfOk, OnOk, is_some, min};
+ghost use Rattle.flow_model.specs.Check.{IsChecked, first_fault};
+ghost use Rattle.cardswitch.specs.Stated.{stated_flow};
 
 use crate::fault::Fault;
 use flow_model::{Flow, FlowError, Group};
@@ -50,16 +51,22 @@ impl<'a> Settings<'a> {
     }
 
     /// A number over 255 is kept as 255: both are more than a flow may have.
-    pub fn set_retries(&mut self, retries: u64) {
+    pub fn set_retries(&mut self, retries: u64)
+        ensures { self.new.retries ≡ Some (min retries 255) }
+    {
         self.retries = Some(u8::try_from(retries).unwrap_or(u8::MAX));
     }
 
     /// Whether the flow is that of a flow file.
-    pub fn has_file(&self) -> bool {
+    pub fn has_file(&self) -> bool
+        ensures { result ≡ is_some self.now.file }
+    {
         self.file.is_some()
     }
 
-    pub fn add_group(&mut self, group: Group) -> Result<(), Fault> {
+    pub fn add_group(&mut self, group: Group) -> Result<(), Fault>
+        ensures { OnOk result (self.new.groups.items ≡ self.old.groups.items ++ group ∷ []) }
+    {
         self.groups.push(group)?;
         Ok(())
     }
@@ -100,7 +107,9 @@ impl<'a> Settings<'a> {
     /// The flow of the flow file, else that of the groups so far, with the retries that were set. It is
     /// taken out.
     pub fn take_flow(&mut self, alloc: Global) -> Result<Flow, FlowError>
-        ensures { IfOk result IsChecked }
+        ensures checked { IfOk result IsChecked }
+        ensures stated { IfOk result (λ flow. flow ≡ stated_flow self.old.file self.old.retries self.old.groups.items) }
+        ensures refused { IfErr result (λ fault. first_fault (stated_flow self.old.file self.old.retries self.old.groups.items) ≡ Some fault) }
     {
         let flow = match self.file.take() {
             Some(flow) => Flow {
