@@ -1,8 +1,10 @@
 #!/usr/bin/env python3
-"""Times `cardswitch decode` on 100,000 authorization requests, beside a plain copy of the same bytes.
+"""Times `cardswitch decode` on 200,000 authorization requests, beside a plain C program that does the same
+(bench/decode.c, compiled here) and a plain copy of the bytes.
 
-Build the program first: (cd crates/cardswitch && rt run < stdin -- step). Both runs are pinned to one
-core where the machine has taskset. The requests differ in card, amount, time, STAN and terminal.
+Build the program first: (cd crates/cardswitch && rt run < stdin -- step). Another program may be named as
+the only argument. All runs are pinned to one core where the machine has taskset, and take turns. The requests
+differ in card, amount, time, STAN and terminal.
 """
 
 import os
@@ -12,8 +14,8 @@ import sys
 import tempfile
 import time
 
-COUNT = 100_000
-ROUNDS = 5
+COUNT = 200_000
+ROUNDS = 9
 ROOT = os.path.dirname(os.path.dirname(os.path.abspath(__file__)))
 PROGRAM = os.path.join(ROOT, "crates", "cardswitch", "out", "cardswitch")
 # Fields 2, 3, 4, 7, 11, 41 and 49.
@@ -43,24 +45,32 @@ def seconds(command, source, target):
 
 
 def main():
-    if not os.path.exists(PROGRAM):
-        sys.exit(f"{PROGRAM} is missing: build it by (cd crates/cardswitch && rt run < stdin -- step)")
+    command = [sys.argv[1]] if len(sys.argv) > 1 else [PROGRAM, "decode"]
+    if not os.path.exists(command[0]):
+        sys.exit(f"{command[0]} is missing: build it by (cd crates/cardswitch && rt run < stdin -- step)")
     with tempfile.TemporaryDirectory() as folder:
         source, target = os.path.join(folder, "frames"), os.path.join(folder, "text")
+        plain, plain_target = os.path.join(folder, "decode"), os.path.join(folder, "plain text")
+        subprocess.run(["gcc", "-O2", "-o", plain, os.path.join(ROOT, "bench", "decode.c")], check=True)
         with open(source, "wb") as out:
             for number in range(1, COUNT + 1):
                 out.write(request(number))
         size = os.path.getsize(source)
-        copies = [seconds(["cat"], source, target) for _ in range(ROUNDS)]
-        decodes = [seconds([PROGRAM, "decode"], source, target) for _ in range(ROUNDS)]
-        with open(target, "rb") as text:
-            lines = text.read().count(b"\n")
-        if lines != COUNT * 9:
-            sys.exit(f"decode printed {lines} lines, not {COUNT * 9}")
-        print(f"{COUNT} messages, {size} bytes, best and worst of {ROUNDS} runs")
-        for name, times in (("copy", copies), ("decode", decodes)):
-            best, worst = min(times), max(times)
-            print(f"{name}: {best:.3f} to {worst:.3f} s, {COUNT / worst:,.0f} to {COUNT / best:,.0f} messages per second")
+        times = {"copy": [], "plain C": [], "decode": []}
+        for _ in range(ROUNDS):
+            times["copy"].append(seconds(["cat"], source, os.path.join(folder, "copy")))
+            times["plain C"].append(seconds([plain], source, plain_target))
+            times["decode"].append(seconds(command, source, target))
+        with open(target, "rb") as text, open(plain_target, "rb") as plain_text:
+            lines = text.read()
+            if lines != plain_text.read() or lines.count(b"\n") != COUNT * 9:
+                sys.exit("decode and the plain C program print different texts")
+        print(f"{COUNT} messages, {size} bytes, best and middle of {ROUNDS} runs")
+        for name, runs in times.items():
+            best, middle = min(runs), sorted(runs)[ROUNDS // 2]
+            print(f"{name}: {best:.3f} and {middle:.3f} s, {COUNT / best:,.0f} messages per second")
+        ratio = min(times["plain C"]) / min(times["decode"])
+        print(f"decode is {ratio:.2f} times as fast as the plain C program")
 
 
 if __name__ == "__main__":

@@ -1,19 +1,61 @@
--- What a subcommand that ends with status 0 has done.
-use Rattle.std.specs.Prelude.{◌≡◌, ⊤, ℕ, false, List, Option, IfSome}
-use Rattle.std.specs.Io.KnownBytes.{Appends}
-use Rattle.sw_frame.specs.Stream.{State, Stream}
-use Rattle.switch_decode.specs.Decoded.{has_refusal, stream_text}
-use Rattle.switch_flows.specs.Subcommands.{IsAssembled, IsListed}
-use Rattle.switch_options.specs.declared.choice.Options.{Options}
-use Rattle.switch_options.specs.declared.choice.Options.TheVariants.{Asm, Decode, List as ListImage, Step}
-
--- the text of the whole stream is written, and nothing of the stream is refused
-abbrev pub IsDecoded : Option (List ℕ) → Option (List ℕ) → Option (List ℕ) → Type 0
-IsDecoded unread written written_now = IfSome unread (λ bytes. (fs : List (List ℕ)) × (s : State) × Stream bytes fs s × Appends written written_now (stream_text fs s) × (has_refusal fs s ≡ false))
+-- What a subcommand has done, by the status with which it ends.
+use Rattle.std.specs.Prelude.{◌≡◌, ⊤, ℕ, true, false, List, Option, None, Some}
+use Rattle.cli_decode.specs.Decoded.{IsDecodedStream}
+use Rattle.cli_flows.specs.Errors.{IsUnwritten, RefusesFile, RefusesImage}
+use Rattle.cli_flows.specs.Subcommands.{IsAssembled, IsListed}
+use Rattle.cli_options.specs.declared.choice.Options.{Options}
+use Rattle.cli_options.specs.declared.choice.Options.TheVariants.{Asm, Decode, List as ListImage, Step}
+use Rattle.cardswitch.specs.Errors.{run_status}
+use Rattle.cardswitch.specs.declared.error.RunError.{RunError}
+use Rattle.cardswitch.specs.declared.error.RunError.TheVariants as error
 
 -- what is said of the bytes that were to be read and those that are written; of a script nothing
 abbrev pub IsDone : Options → Option (List ℕ) → Option (List ℕ) → Option (List ℕ) → Type 0
 IsDone (Step flow) unread written written_now = ⊤
 IsDone Asm unread written written_now = IsAssembled unread written written_now
 IsDone ListImage unread written written_now = IsListed unread written written_now
-IsDone Decode unread written written_now = IsDecoded unread written written_now
+IsDone Decode unread written written_now = IsDecodedStream unread written written_now false
+
+-- why a flow file from standard input is refused: it has the fault that is told, and nothing is written
+abbrev pub IsAsmError : Option (List ℕ) → Option (List ℕ) → Option (List ℕ) → RunError → Type 0
+IsAsmError unread written written_now (error.Input e) = RefusesFile unread e × IsUnwritten written written_now e
+IsAsmError unread written written_now (error.Read e) = written_now ≡ written
+IsAsmError unread written written_now (error.Write e) = ⊤
+IsAsmError unread written written_now error.OutOfMemory = ⊤
+IsAsmError unread written written_now _ = ⊥
+
+-- the same of an image
+abbrev pub IsListError : Option (List ℕ) → Option (List ℕ) → Option (List ℕ) → RunError → Type 0
+IsListError unread written written_now (error.Input e) = RefusesImage unread e × IsUnwritten written written_now e
+IsListError unread written written_now (error.Read e) = written_now ≡ written
+IsListError unread written written_now (error.Write e) = ⊤
+IsListError unread written written_now error.OutOfMemory = ⊤
+IsListError unread written written_now _ = ⊥
+
+-- why a stream is refused: its text is written, and something of it is refused
+abbrev pub IsDecodeError : Option (List ℕ) → Option (List ℕ) → Option (List ℕ) → RunError → Type 0
+IsDecodeError unread written written_now error.Refused = IsDecodedStream unread written written_now true
+IsDecodeError unread written written_now (error.Read e) = ⊤
+IsDecodeError unread written written_now (error.Write e) = ⊤
+IsDecodeError unread written written_now error.OutOfMemory = ⊤
+IsDecodeError unread written written_now _ = ⊥
+
+-- what an error says of the bytes that were to be read and those that are written; of a script nothing
+abbrev pub IsErrorOf : Options → Option (List ℕ) → Option (List ℕ) → Option (List ℕ) → RunError → Type 0
+IsErrorOf (Step flow) unread written written_now e = ⊤
+IsErrorOf Asm unread written written_now e = IsAsmError unread written written_now e
+IsErrorOf ListImage unread written written_now e = IsListError unread written written_now e
+IsErrorOf Decode unread written written_now e = IsDecodeError unread written written_now e
+
+-- a status that is not 0 is that of an error, and the error holds
+abbrev pub IsFailed : Options → Option (List ℕ) → Option (List ℕ) → Option (List ℕ) → ℕ → Type 0
+IsFailed o unread written written_now status =
+    (e : RunError) × (status ≡ run_status e) × IsErrorOf o unread written written_now e
+
+abbrev pub shown_status : Option RunError → ℕ
+shown_status None = 0
+shown_status (Some e) = run_status e
+
+-- the status of a text that was asked for: 0, or that of the failed write
+abbrev pub IsShown : ℕ → Type 0
+IsShown status = (e : Option RunError) × (status ≡ shown_status e)

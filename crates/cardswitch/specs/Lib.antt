@@ -1,3 +1,2 @@
-pub mod Faults
+pub mod Errors
 pub mod Done
-pub mod Stated

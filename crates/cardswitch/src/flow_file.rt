@@ -3,21 +3,21 @@
 ghost use Rattle.std.specs.Prelude.{IfOk};
 ghost use Rattle.flow_model.specs.Check.{IsChecked};
 
-use crate::fault::Fault;
+use crate::error::RunError;
+use cli_flows::{FlowsError, open_flow};
 use flow_model::Flow;
 use std::alloc::Global;
 use std::fs::Files;
 use sw_participant::Text;
-use switch_flows::{FlowFault, open_flow};
 
 /// The flow of the flow file at a path.
-pub fn flow_at<F: Files>(alloc: Global, files: &F, path: &str) -> Result<Flow, Fault>
+pub fn flow_at<F: Files>(alloc: Global, files: &F, path: &str) -> Result<Flow, RunError>
     ensures { IfOk result (λ flow. IsChecked flow) }
 {
     match open_flow(alloc, files, path) {
         Ok(flow) => Ok(flow),
-        Err(FlowFault::OutOfMemory) => Err(Fault::OutOfMemory),
-        Err(cause) => Err(Fault::FlowFile {
+        Err(FlowsError::OutOfMemory) => Err(RunError::OutOfMemory),
+        Err(cause) => Err(RunError::FlowFile {
             path: Text::from_str(alloc, path)?,
             cause,
         }),

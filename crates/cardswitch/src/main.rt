@@ -1,22 +1,20 @@
 //! The card switch's program.
 //!
-//! The edge of the program: it reads its words and its input, runs the subcommand, and tells a fault
-//! by a text on standard error and by the exit status: 0 done, 1 refused input or a fault of reading
-//! or writing, 2 a bad command line, 4 want of memory.
+//! The edge of the program: it reads its words and its input, runs the subcommand, and tells an error
+//! by a text on standard error and by the exit status: 0 done, 1 refused input or a failed read or
+//! write, 2 a bad command line, 4 want of memory.
 #![tactic(auto)]
 
-mod command;
 mod drive;
-mod fault;
+mod error;
 mod flow_file;
 mod program;
 mod script;
-mod settings;
 
+use cli_options::command_line::options;
 use std::alloc::Global;
 use std::io;
 use std::process::ExitCode;
-use switch_options::command_line::options;
 
 /// The words of the command line, the program's name first.
 fn arguments(rt: &HostRuntime, alloc: Global) -> io::Result<Vec<String>> {

@@ -1,24 +1,27 @@
 //! The subcommands, over a reader and two writers.
-ghost use Rattle.std.specs.Prelude.{◌≡◌, ◌≢◌, OnOk};
+ghost use Rattle.std.specs.Prelude.{◌≡◌, ◌≢◌, IfErr, OnOk, false};
 ghost use Rattle.std.specs.Io.KnownBytes.{Keeps};
 ghost use Rattle.std.specs.IoError.{error_kind};
-ghost use Rattle.cardswitch.specs.Done.{IsDecoded, IsDone};
-ghost use Rattle.cardswitch.specs.Faults.{fault_status};
-ghost use Rattle.switch_options.specs.Refusal.{status_of};
+ghost use Rattle.cardswitch.specs.Done.{IsDecodeError, IsDone, IsErrorOf, IsFailed, IsShown};
+ghost use Rattle.cardswitch.specs.Errors.{run_status};
+ghost use Rattle.cli_decode.specs.Decoded.{IsDecodedStream};
+ghost use Rattle.cli_options.specs.Refusal.{status_of};
 
-use crate::fault::Fault;
+use crate::error::RunError;
 use crate::flow_file::flow_at;
 use crate::script::run_script;
+use cli_decode::decode_stream;
+use cli_flows::{asm, list};
+use cli_io::{Input, WriteError, read_input};
+use cli_options::OptionsError;
+use cli_options::choice::Options;
 use std::alloc::Global;
 use std::fs::Files;
 use std::io::{self, ErrorKind, Read, Write};
-use switch_decode::decode_stream;
-use switch_flows::{asm, list};
-use switch_io::read_input;
-use switch_options::choice::{Options, OptionsError};
 
-/// Runs a subcommand, and gives the exit status. What it prints goes to `out`, and a fault that ends
-/// it to `err`. Files that the options name are opened through `files`.
+/// Runs a subcommand, and gives the exit status: 0 where it is done, or else that of the error, which
+/// is told. What it prints goes to `out`, and the error's text to `err`. Files that the options name
+/// are opened through `files`.
 pub fn run<F: Files, R: Read + Drop, O: Write, E: Write>(
     alloc: Global,
     files: &F,
@@ -28,21 +31,24 @@ pub fn run<F: Files, R: Read + Drop, O: Write, E: Write>(
     err: &mut E,
 ) -> u8
     ensures quiet { result ≡ 0 → Keeps (E.contents err.old) (E.contents err.new) }
-    ensures done { result ≡ 0 → IsDone options.now (R.remaining input) (O.contents out.old) (O.contents out.new) }
+    ensures done { result ≡ 0 → IsDone options.now
+        (R.remaining input) (O.contents out.old) (O.contents out.new) }
+    ensures failed { result ≢ 0 → IsFailed options.now
+        (R.remaining input) (O.contents out.old) (O.contents out.new) result }
 {
     match run_subcommand(alloc, files, options, input, out) {
         Ok(()) => 0,
-        Err(fault) => tell(&fault, err),
+        Err(error) => tell(&error, err),
     }
 }
 
-/// Tells a fault, and gives the exit status that goes with it.
-pub fn tell<E: Write>(fault: &Fault, err: &mut E) -> u8
-    ensures { result ≡ fault_status fault.now }
+/// Tells an error, and gives the exit status that goes with it.
+fn tell<E: Write>(error: &RunError, err: &mut E) -> u8
+    ensures { result ≡ run_status error.now }
 {
     // Where standard error takes nothing the status still says it.
-    let _ = writeln!(err, "cardswitch: {fault}");
-    fault.status()
+    let _ = writeln!(err, "cardswitch: {error}");
+    error.status()
 }
 
 // Runs a script over the flow of its own lines, or over that of a flow file.
@@ -52,21 +58,25 @@ fn step<F: Files, R: Read + Drop, O: Write>(
     path: Option<&str>,
     input: R,
     out: &mut O,
-) -> Result<(), Fault> {
+) -> Result<(), RunError> {
     let flow = match path {
         Some(path) => Some(flow_at(alloc, files, path)?),
         None => None,
     };
-    let script = read_input(alloc, input)?;
+    let script = read_input(alloc, &mut Input::new(input))?;
     run_script(alloc, flow, script.as_slice(), out)
 }
 
-fn decode<R: Read + Drop, O: Write>(alloc: Global, input: R, out: &mut O) -> Result<(), Fault>
-    ensures { OnOk result (IsDecoded (R.remaining input) (O.contents out.old) (O.contents out.new)) }
+fn decode<R: Read + Drop, O: Write>(alloc: Global, input: R, out: &mut O) -> Result<(), RunError>
+    ensures done { OnOk result (IsDecodedStream
+        (R.remaining input) (O.contents out.old) (O.contents out.new) false) }
+    ensures failed { IfErr result (IsDecodeError
+        (R.remaining input) (O.contents out.old) (O.contents out.new)) }
 {
-    let refused = decode_stream(alloc, input, out)?;
-    out.flush().map_err(Fault::of_write)?;
-    if refused { Err(Fault::Refused) } else { Ok(()) }
+    if decode_stream(alloc, &mut Input::new(input), out)? {
+        return Err(RunError::Refused);
+    }
+    Ok(())
 }
 
 fn run_subcommand<F: Files, R: Read + Drop, O: Write>(
@@ -75,8 +85,11 @@ fn run_subcommand<F: Files, R: Read + Drop, O: Write>(
     options: &Options<'_>,
     input: R,
     out: &mut O,
-) -> Result<(), Fault>
-    ensures { OnOk result (IsDone options.now (R.remaining input) (O.contents out.old) (O.contents out.new)) }
+) -> Result<(), RunError>
+    ensures done { OnOk result (IsDone options.now
+        (R.remaining input) (O.contents out.old) (O.contents out.new)) }
+    ensures failed { IfErr result (IsErrorOf options.now
+        (R.remaining input) (O.contents out.old) (O.contents out.new)) }
 {
     match options {
         Options::Step { flow } => step(alloc, files, *flow, input, out),
@@ -87,15 +100,16 @@ fn run_subcommand<F: Files, R: Read + Drop, O: Write>(
 }
 
 /// Writes a text that was asked for.
-fn show<O: Write>(text: &OptionsError, out: &mut O) -> Result<(), Fault> {
-    write!(out, "{text}").map_err(Fault::of_write)?;
-    out.flush().map_err(Fault::of_write)
+fn show<O: Write>(text: &OptionsError, out: &mut O) -> Result<(), WriteError> {
+    write!(out, "{text}")?;
+    Ok(out.flush()?)
 }
 
 /// Tells why a command line gives no options, and gives the exit status. Help and the version go to
 /// `out`, and all else to `err`.
 pub fn refuse<O: Write, E: Write>(error: &OptionsError, out: &mut O, err: &mut E) -> u8
     ensures status { status_of error.now ≢ 0 → result ≡ status_of error.now }
+    ensures shown { status_of error.now ≡ 0 → IsShown result }
     ensures out { status_of error.now ≢ 0 → Keeps (O.contents out.old) (O.contents out.new) }
     ensures err { result ≡ 0 → Keeps (E.contents err.old) (E.contents err.new) }
 {
@@ -106,17 +120,18 @@ pub fn refuse<O: Write, E: Write>(error: &OptionsError, out: &mut O, err: &mut E
     }
     match show(error, out) {
         Ok(()) => error.status(),
-        Err(fault) => tell(&fault, err),
+        Err(fault) => tell(&RunError::from(fault), err),
     }
 }
 
 /// Tells that the words of the command line could not be had, and gives the exit status: 4 for want
 /// of memory, and else 2, since they are no text.
 pub fn refuse_words<E: Write>(error: io::Error, err: &mut E) -> u8
-    ensures { (error_kind error ≢ ErrorKind.OutOfMemory) → result ≡ 2 }
+    ensures memory { error_kind error ≡ ErrorKind.OutOfMemory → result ≡ 4 }
+    ensures no_text { (error_kind error ≢ ErrorKind.OutOfMemory) → result ≡ 2 }
 {
     match error.kind() {
-        ErrorKind::OutOfMemory => tell(&Fault::OutOfMemory, err),
+        ErrorKind::OutOfMemory => tell(&RunError::OutOfMemory, err),
         _ => {
             let _ = writeln!(err, "cardswitch: reading the command line: {error}");
             2

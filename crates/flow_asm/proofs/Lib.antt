@@ -1,9 +1,9 @@
-pub mod Checked
-pub mod Numbers
-pub mod Round
+pub mod AssemblyListing
 pub mod Stages
-pub mod Counted
-pub mod Walking
-pub mod Named
-pub mod Following
-pub mod SlotKinds
+pub mod StepPlaces
+pub mod StepOrder
+pub mod StepCounts
+pub mod EntryKinds
+mod CallSearch
+pub mod NumberMap
+mod GroupNames

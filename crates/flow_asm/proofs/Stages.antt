@@ -1,4 +1,5 @@
 -- What stands at a step, and where a group's steps begin.
+-- for: places::place, code::Code::look, code::Code::find_group
 use Rattle.std.proofs.Common.{◌≡◌, ℕ, zero, suc, ◌+◌, ◌<◌, ◌≤◌, List, [], ◌∷◌, ◌++◌, length, map, take, drop, get_or, Option, Some, None, refl, sym, ap, ◌∙◌, subst, arith, length-append}
 use Rattle.std.specs.Prelude.{slice_get}
 use Rattle.std.specs.List.{flat_map}
@@ -6,7 +7,7 @@ use Rattle.std.proofs.lemmas.List.{drop_more, drop_at, drop-drop, length-map}
 use Rattle.std.proofs.lemmas.Option.{get_or_from_slice_get, none-some, same_Some, slice_get-get_or, slice_get_within}
 use Rattle.flow_model.specs.declared.flow.Flow.{Flow}
 use Rattle.flow_model.specs.declared.flow.Group.{Group}
-use Rattle.flow_model.specs.declared.flow.Slot.{Slot}
+use Rattle.flow_model.specs.declared.flow.PlacedEntry.{PlacedEntry}
 use Rattle.flow_model.specs.declared.numbering.Part.{Part}
 use Rattle.flow_model.specs.Places.{parts_of}
 use Rattle.flow_asm.specs.declared.code.GroupStart.{GroupStart}
@@ -35,19 +36,19 @@ shows (AtPick s ∷ xs) zero x h = sym (same_Some _ _ h)
 shows (AtReturn ∷ xs) zero x h = sym (same_Some _ _ h)
 shows (s ∷ xs) (suc k) x h = shows xs k x h
 
-pub call_shown : (xs : List Stage) (k p : ℕ) → slice_get (map step_of xs) k ≡ Some (Call p) → (s : Slot) × (slice_get xs k ≡ Some (AtCall s)) × (s.participant ≡ p)
+pub call_shown : (xs : List Stage) (k p : ℕ) → slice_get (map step_of xs) k ≡ Some (Call p) → (s : PlacedEntry) × (slice_get xs k ≡ Some (AtCall s)) × (s.participant ≡ p)
 call_shown xs k p h = by (slice_get xs k) refl (shows xs k (Call p) h)
   where
-    by : (o : Option Stage) → slice_get xs k ≡ o → Shows o (Call p) → (s : Slot) × (slice_get xs k ≡ Some (AtCall s)) × (s.participant ≡ p)
+    by : (o : Option Stage) → slice_get xs k ≡ o → Shows o (Call p) → (s : PlacedEntry) × (slice_get xs k ≡ Some (AtCall s)) × (s.participant ≡ p)
     by None e w = absurd w
     by (Some (AtCall s)) e w = (s, e, cc)
     by (Some (AtPick s)) e w = absurd cc
     by (Some AtReturn) e w = absurd cc
 
-pub pick_shown : (xs : List Stage) (k p : ℕ) → slice_get (map step_of xs) k ≡ Some (Pick p) → (s : Slot) × (slice_get xs k ≡ Some (AtPick s)) × (s.participant ≡ p)
+pub pick_shown : (xs : List Stage) (k p : ℕ) → slice_get (map step_of xs) k ≡ Some (Pick p) → (s : PlacedEntry) × (slice_get xs k ≡ Some (AtPick s)) × (s.participant ≡ p)
 pick_shown xs k p h = by (slice_get xs k) refl (shows xs k (Pick p) h)
   where
-    by : (o : Option Stage) → slice_get xs k ≡ o → Shows o (Pick p) → (s : Slot) × (slice_get xs k ≡ Some (AtPick s)) × (s.participant ≡ p)
+    by : (o : Option Stage) → slice_get xs k ≡ o → Shows o (Pick p) → (s : PlacedEntry) × (slice_get xs k ≡ Some (AtPick s)) × (s.participant ≡ p)
     by None e w = absurd w
     by (Some (AtCall s)) e w = absurd cc
     by (Some (AtPick s)) e w = (s, e, cc)
@@ -70,7 +71,7 @@ pub length-steps : (f : Flow) → length (steps_of f) ≡ length (stages f)
 length-steps f = length-map (stages f) step_of
 
 -- from a group's first step on
-pub group_front : (gs : List (List Slot)) (g : ℕ) → g < length gs → drop (length (flat_map stages_of_group (take g gs))) (flat_map stages_of_group gs) ≡ stages_of_group (group_at gs g) ++ flat_map stages_of_group (drop (suc g) gs)
+pub group_front : (gs : List (List PlacedEntry)) (g : ℕ) → g < length gs → drop (length (flat_map stages_of_group (take g gs))) (flat_map stages_of_group gs) ≡ stages_of_group (group_at gs g) ++ flat_map stages_of_group (drop (suc g) gs)
 group_front [] g h = absurd (omega (arith, h))
 group_front (ss ∷ gs) zero h = refl
 group_front (ss ∷ gs) (suc g) h =
@@ -100,7 +101,7 @@ pub first_at : (f : Flow) (k : ℕ) (d : GroupStart) → k < length (layout f) �
 first_at f k d h =
     first_from f 0 k f.groups d (subst (λ n. k < n) (length-groups_from (parts_of f) 0 f.groups) h) ∙ ap (first_step f) (let e : 0 + k ≡ k = omega arith in e)
 
-pub group_past : (gs : List (List Slot)) (g : ℕ) → length gs ≤ g → group_at gs g ≡ []
+pub group_past : (gs : List (List PlacedEntry)) (g : ℕ) → length gs ≤ g → group_at gs g ≡ []
 group_past [] g h = refl
 group_past (ss ∷ gs) zero h = absurd (omega (arith, h))
 group_past (ss ∷ gs) (suc g) h = group_past gs g (omega (arith, h))

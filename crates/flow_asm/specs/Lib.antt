@@ -2,5 +2,6 @@ pub mod Steps
 pub mod Listing
 pub mod Emit
 pub mod Places
-pub mod Walks
+pub mod CallSearch
+pub mod Views
 pub mod Numbering

@@ -16,6 +16,10 @@ abbrev pub entry_of : Option Part → List Entry
 entry_of None = []
 entry_of (Some p) = record { participant = p.name; kind = p.kind } ∷ []
 
+-- the participant's entry joins the entries
+abbrev pub AddsEntry : (old new : List Entry) → Option Part → Type 0
+AddsEntry old new part = new ≡ old ++ entry_of part
+
 -- the entries whose calls stand before the next return
 abbrev pub entries_from : List Part → List Step → List Entry
 entries_from parts [] = []

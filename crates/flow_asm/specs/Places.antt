@@ -2,7 +2,7 @@
 use Rattle.std.specs.Prelude.{◌≡◌, ◌⊎◌, ℕ, zero, suc, ◌+◌, ◌-◌, Bool, true, false, List, [], ◌∷◌, length, take, nat_lt, if◌then◌else◌, Option, Some, None, slice_get}
 use Rattle.std.specs.List.{flat_map}
 use Rattle.flow_model.specs.declared.flow.Flow.{Flow}
-use Rattle.flow_model.specs.declared.flow.Slot.{Slot}
+use Rattle.flow_model.specs.declared.flow.PlacedEntry.{PlacedEntry}
 use Rattle.flow_asm.specs.declared.code.Step.{Step}
 use Rattle.flow_asm.specs.declared.code.Step.TheVariants.{Pick}
 use Rattle.flow_asm.specs.Steps.{Stage, AtCall, AtPick, AtReturn, first_step, layout, stages, stages_of_entry, steps_of}
@@ -18,13 +18,13 @@ abbrev pub place_of : Flow → ℕ → Option (ℕ × ℕ)
 place_of f step = place_at (slice_get (stages f) step)
 
 -- the entries of a group; none where the flow has no such group
-abbrev pub group_at : List (List Slot) → ℕ → List Slot
+abbrev pub group_at : List (List PlacedEntry) → ℕ → List PlacedEntry
 group_at [] g = []
 group_at (ss ∷ gs) zero = ss
 group_at (ss ∷ gs) (suc g) = group_at gs g
 
 -- the steps of a group's entries before this one
-abbrev pub call_within : List Slot → ℕ → ℕ
+abbrev pub call_within : List PlacedEntry → ℕ → ℕ
 call_within ss i = length (flat_map stages_of_entry (take i ss))
 
 -- the step that calls the entry: it stands behind the steps of the groups and entries before it

@@ -3,33 +3,33 @@ use Rattle.std.specs.Prelude.{ℕ, ◌+◌, List, [], ◌∷◌, ◌++◌, lengt
 use Rattle.std.specs.List.{flat_map}
 use Rattle.flow_model.specs.declared.flow.Flow.{Flow}
 use Rattle.flow_model.specs.declared.flow.Group.{Group}
-use Rattle.flow_model.specs.declared.flow.Slot.{Slot}
+use Rattle.flow_model.specs.declared.flow.PlacedEntry.{PlacedEntry}
 use Rattle.flow_model.specs.declared.numbering.Part.{Part}
-use Rattle.flow_model.specs.Places.{parts_of, slots_from}
+use Rattle.flow_model.specs.Places.{parts_of, placed_from}
 use Rattle.flow_asm.specs.declared.code.GroupStart.{GroupStart}
 use Rattle.flow_asm.specs.declared.code.Step.{Step}
 use Rattle.flow_asm.specs.declared.code.Step.TheVariants.{Call, Pick, Return}
 
-abbrev pub groups_from : List Part → ℕ → List Group → List (List Slot)
+abbrev pub groups_from : List Part → ℕ → List Group → List (List PlacedEntry)
 groups_from parts g [] = []
-groups_from parts g (x ∷ xs) = slots_from parts g 0 x.entries ∷ groups_from parts (g + 1) xs
+groups_from parts g (x ∷ xs) = placed_from parts g 0 x.entries ∷ groups_from parts (g + 1) xs
 
 -- the groups of a flow, each as its entries at their places
-abbrev pub layout : Flow → List (List Slot)
+abbrev pub layout : Flow → List (List PlacedEntry)
 layout f = groups_from (parts_of f) 0 f.groups
 
 -- what a step stands for: an entry's call, the question to a selector, or the end of a group
 pub data Stage : Type 0 where
-  AtCall : (s : Slot) → Stage
-  AtPick : (s : Slot) → Stage
+  AtCall : (s : PlacedEntry) → Stage
+  AtPick : (s : PlacedEntry) → Stage
   AtReturn : Stage
 
 -- an entry is called, and then asked if it is a selector
-abbrev pub stages_of_entry : Slot → List Stage
+abbrev pub stages_of_entry : PlacedEntry → List Stage
 stages_of_entry s = if s.kind.selector then AtCall s ∷ AtPick s ∷ [] else AtCall s ∷ []
 
 -- a group ends with a return
-abbrev pub stages_of_group : List Slot → List Stage
+abbrev pub stages_of_group : List PlacedEntry → List Stage
 stages_of_group [] = AtReturn ∷ []
 stages_of_group (s ∷ ss) = stages_of_entry s ++ stages_of_group ss
 

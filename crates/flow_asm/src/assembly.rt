@@ -40,7 +40,7 @@ fn emit_group(
     requires { IsNumbering parts.now numbers.now }
     ensures { OnOk result (steps.new.items ≡ steps.old.items ++ group_steps parts.now group.now) }
 {
-    'entries: for entry in group.entries.as_slice() {
+    for entry in group.entries.as_slice() {
         emit_entry(steps, parts, numbers, entry)?;
     }
     steps.push(Step::Return)?;
@@ -49,7 +49,7 @@ fn emit_group(
 
 // The steps of a flow, with the groups' first steps.
 #[derive(Drop)]
-struct Laid {
+struct Layout {
     starts: Vec<GroupStart>,
     steps: Vec<Step>,
 }
@@ -59,7 +59,7 @@ fn lay_out(
     parts: &[Part],
     numbers: &BTreeMap<&str, usize>,
     flow: &Flow,
-) -> Result<Laid, AllocError>
+) -> Result<Layout, AllocError>
     requires parts { parts.now ≡ parts_of flow.now }
     requires numbers { IsNumbering parts.now numbers.now }
     ensures starts { IfOk result (λ laid. laid.starts.items ≡ starts_of flow.now) }
@@ -67,7 +67,7 @@ fn lay_out(
 {
     let mut starts = Vec::new(alloc);
     let mut steps = Vec::new(alloc);
-    'groups: for group in flow.groups.as_slice() {
+    for group in flow.groups.as_slice() {
         let name = group.name.copy()?;
         starts.push(GroupStart {
             name,
@@ -75,7 +75,7 @@ fn lay_out(
         })?;
         emit_group(&mut steps, parts, numbers, group)?;
     }
-    Ok(Laid { starts, steps })
+    Ok(Layout { starts, steps })
 }
 
 /// The steps of a checked flow. The only refusal is want of memory.

@@ -12,7 +12,7 @@ use sw_participant::{Sequence, Text};
 pub enum Step {
     /// The participant of this number is prepared: an entry of a group.
     Call(usize),
-    /// The selector of this number, which the step before calls, is asked for groups.
+    /// The selector of this number, which the step before calls, selects groups.
     Pick(usize),
     /// The end of a group.
     Return,
@@ -54,7 +54,7 @@ fn copy_parts(alloc: Global, parts: &[Part]) -> Result<Vec<Part>, AllocError>
     ensures { IfOk result (λ copy. copy.items ≡ parts.now) }
 {
     let mut copy = Vec::new(alloc);
-    'parts: for part in parts {
+    for part in parts {
         let name = part.name.copy()?;
         copy.push(Part {
             name,
@@ -68,7 +68,7 @@ fn copy_starts(alloc: Global, starts: &[GroupStart]) -> Result<Vec<GroupStart>, 
     ensures { IfOk result (λ copy. copy.items ≡ starts.now) }
 {
     let mut copy = Vec::new(alloc);
-    'starts: for start in starts {
+    for start in starts {
         let name = start.name.copy()?;
         copy.push(GroupStart {
             name,
@@ -79,7 +79,7 @@ fn copy_starts(alloc: Global, starts: &[GroupStart]) -> Result<Vec<GroupStart>, 
 }
 
 impl Code {
-    ghost use Rattle.std.specs.Prelude.{◌≡◌, IfOk};
+    ghost use Rattle.std.specs.Prelude.{◌≡◌, ◌≤◌, length, IfOk};
     ghost use Rattle.flow_model.specs.Check.{IsChecked};
     ghost use Rattle.flow_model.specs.Places.{parts_of};
     ghost use Rattle.flow_asm.specs.Steps.{starts_of, steps_of};
@@ -94,7 +94,8 @@ impl Code {
 
     /// The participants, each at its number.
     pub fn participants(&self) -> &[Part]
-        ensures { result.now ≡ parts_of self.now }
+        ensures participants { result.now ≡ parts_of self.now }
+        ensures few { length result.now ≤ 16384 }
     {
         self.parts.as_slice()
     }
@@ -128,6 +129,3 @@ impl Code {
         })
     }
 }
-
-#[cfg(test)]
-mod tests;

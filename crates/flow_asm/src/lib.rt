@@ -5,15 +5,18 @@
 //!   contracts see a [`Code`] as the flow that it was assembled from.
 //! - [`place`] and [`step_at`] agree: the call of an entry is the step whose place the entry is, and
 //!   a selector's pick is the step behind its call.
+//! - [`Code::look`] says what stands at a step, and [`Code::find_group`] finds a group by its name.
 #![tactic(auto)]
 
-pub mod assembly;
-pub mod code;
-pub mod listing;
+mod assembly;
+mod code;
+mod listing;
 mod numbering;
-pub mod places;
+mod places;
+mod view;
 
 pub use assembly::assemble;
 pub use code::{Code, GroupStart, Step};
-pub use listing::list;
+pub use listing::{add_entry, list};
 pub use places::{place, step_at};
+pub use view::StepView;

@@ -1,8 +1,8 @@
 //! From the steps back to the flow.
 
-ghost use Rattle.std.specs.Prelude.{◌≡◌, ◌++◌, map, drop, slice_get, IfOk, OnOk};
+ghost use Rattle.std.specs.Prelude.{◌≡◌, map, drop, slice_get, IfOk, OnErr, OnOk};
 ghost use Rattle.flow_model.specs.Check.{IsChecked};
-ghost use Rattle.flow_asm.specs.Listing.{entry_of, entries_from, group_of};
+ghost use Rattle.flow_asm.specs.Listing.{AddsEntry, entries_from, group_of};
 
 use crate::code::{Code, GroupStart, Step};
 use flow_model::{Entry, Flow, Group, Part};
@@ -20,8 +20,11 @@ pub(crate) fn steps_from(steps: &[Step], first: usize) -> &[Step]
     }
 }
 
-fn add_entry(entries: &mut Vec<Entry>, parts: &[Part], number: usize) -> Result<(), AllocError>
-    ensures { OnOk result (entries.new.items ≡ entries.old.items ++ entry_of (slice_get parts.now number)) }
+/// Adds the entry of the participant of this number; none where no participant has it. The only
+/// refusal is want of memory.
+pub fn add_entry(entries: &mut Vec<Entry>, parts: &[Part], number: usize) -> Result<(), AllocError>
+    ensures ok { OnOk result (AddsEntry entries.old.items entries.new.items (slice_get parts.now number)) }
+    ensures err { OnErr result (entries.new.items ≡ entries.old.items) }
 {
     if let Some(part) = parts.get(number) {
         let participant = part.name.copy()?;
@@ -37,7 +40,7 @@ fn list_entries(alloc: Global, parts: &[Part], steps: &[Step]) -> Result<Vec<Ent
     ensures { IfOk result (λ entries. entries.items ≡ entries_from parts.now steps.now) }
 {
     let mut entries = Vec::new(alloc);
-    'steps: for step in steps {
+    for step in steps {
         match step {
             Step::Call(number) => add_entry(&mut entries, parts, *number)?,
             Step::Pick(_) => {}
@@ -72,7 +75,7 @@ fn list_groups(
     ensures { IfOk result (λ groups. groups.items ≡ map (group_of parts.now steps.now) starts.now) }
 {
     let mut groups = Vec::new(alloc);
-    'starts: for start in starts {
+    for start in starts {
         groups.push(list_group(alloc, parts, steps, start)?)?;
     }
     Ok(groups)

@@ -1,9 +1,7 @@
 //! The participants of a flow and their numbers, found by name.
 
 ghost use Rattle.std.specs.Prelude.{◌≡◌, OnOk};
-ghost use Rattle.std.specs.List.{flat_map};
-ghost use Rattle.flow_model.specs.Places.{add_new, number_in, parts_from};
-ghost use Rattle.flow_model.specs.declared.flow.Group.{Group as Shown};
+ghost use Rattle.flow_model.specs.Places.{add_new, entries_of, number_in, parts_from};
 ghost use Rattle.flow_asm.specs.Numbering.{IsNumbering};
 
 use flow_model::{Entry, Group, Part};
@@ -52,7 +50,7 @@ fn number_entries<'a>(
     ensures parts { OnOk result (parts.new.items ≡ parts_from parts.old.items entries.now) }
     ensures numbers { OnOk result (IsNumbering parts.new.items numbers.new) }
 {
-    'entries: for entry in entries {
+    for entry in entries {
         number_entry(parts, numbers, entry)?;
     }
     Ok(())
@@ -66,10 +64,10 @@ pub fn number_groups<'a>(
     groups: &'a [Group],
 ) -> Result<(), AllocError>
     requires { IsNumbering parts.old.items numbers.old }
-    ensures parts { OnOk result (parts.new.items ≡ parts_from parts.old.items (flat_map (λ (g : Shown). g.entries) groups.now)) }
+    ensures parts { OnOk result (parts.new.items ≡ parts_from parts.old.items (entries_of groups.now)) }
     ensures numbers { OnOk result (IsNumbering parts.new.items numbers.new) }
 {
-    'groups: for group in groups {
+    for group in groups {
         number_entries(parts, numbers, group.entries.as_slice())?;
     }
     Ok(())

@@ -3,7 +3,7 @@
 ghost use Rattle.std.specs.Prelude.{◌≡◌, ◌<◌, ◌≤◌, length, Some, IfSome};
 ghost use Rattle.flow_asm.specs.Steps.{first_step, layout};
 ghost use Rattle.flow_asm.specs.Places.{IsStepOf, call_of, place_of};
-ghost use Rattle.flow_asm.specs.Walks.{call_from};
+ghost use Rattle.flow_asm.specs.CallSearch.{call_from};
 
 use crate::code::{Code, Step};
 use crate::listing::steps_from;
@@ -22,7 +22,7 @@ fn last_before(code: &Code, step: usize) -> Before
     ensures before { result.first ≤ step }
 {
     let mut last = Before { group: 0, first: 0 };
-    'groups: for (group, start) in code.groups().iter().enumerate() {
+    for (group, start) in code.groups().iter().enumerate() {
         if start.first > step {
             return last;
         }
@@ -46,7 +46,7 @@ pub fn place(code: &Code, step: usize) -> Option<(usize, usize)>
     // The next entry of the group.
     let mut next = 0;
     let all = code.steps();
-    'steps: for number in before.first..all.len() {
+    for number in before.first..all.len() {
         match all[number] {
             Step::Call(_) => {
                 if number == step {
@@ -77,7 +77,7 @@ fn nth_call(steps: &[Step], index: usize) -> Option<usize>
     ensures within { IfSome result (λ number. number < length steps.now) }
 {
     let mut left = index;
-    'steps: for (number, step) in steps.iter().enumerate() {
+    for (number, step) in steps.iter().enumerate() {
         match step {
             Step::Call(_) => {
                 if left == 0 {

@@ -1,4 +1,5 @@
 -- The parts of a conjunction that holds.
+-- for: forms::is_header, words::number (through LineSpelling and LinesRead)
 use Rattle.std.proofs.Common.{◌≡◌, Bool, true, false, ◌&&◌, refl}
 
 pub first_part : (a b : Bool) → (a && b) ≡ true → a ≡ true

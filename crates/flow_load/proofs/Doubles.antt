@@ -1,4 +1,5 @@
 -- Participants with the name of an earlier one.
+-- for: groups::first_double
 use Rattle.std.specs.Prelude.{min, is_some}
 use Rattle.std.specs.Str.{bytes_eq}
 use Rattle.std.proofs.Common.{◌≡◌, ℕ, zero, suc, ◌+◌, ◌<◌, ◌≤◌, Bool, true, false, List, [], ◌∷◌, ◌++◌, length, take, drop, get_or, Some, None, refl, sym, ap, ◌∙◌, arith, inl, inr, nat_lt, cond}
@@ -8,7 +9,7 @@ use Rattle.std.proofs.lemmas.Bool.Decides.{nat_tests}
 use Rattle.flow_model.specs.declared.numbering.Part.{Part}
 use Rattle.flow_model.specs.Places.{number_in}
 use Rattle.flow_asm.specs.Numbering.{known}
-use Rattle.flow_asm.proofs.Named.{pushed}
+use Rattle.flow_asm.proofs.NumberMap.{pushed}
 use Rattle.flow_load.specs.Groups.{double_from}
 
 pub number_take : (parts : List Part) (name : List ℕ) (m : ℕ) → number_in (take m parts) name ≡ min (number_in parts name) (min m (length parts))

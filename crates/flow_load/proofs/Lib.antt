@@ -1,11 +1,11 @@
-pub mod Printed
-pub mod Conjunctions
-pub mod Loop
-pub mod Doubles
-pub mod Spelled
-pub mod Laid
-pub mod Found
-pub mod Reread
-pub mod Relisted
-pub mod Fine
-pub mod Only
+mod LinesPrinted
+mod Conjunctions
+mod ItemLoop
+mod Doubles
+mod LineSpelling
+mod StepsRead
+mod ImageFound
+mod LinesRead
+mod FlowLines
+mod ImageLimits
+mod ImageOnly

@@ -1,10 +1,10 @@
 -- Bounds within which the numbers of lines and steps fit.
 use Rattle.std.specs.Prelude.{ℕ, ◌<◌, ◌≤◌, length}
-use Rattle.flow_load.specs.declared.groups.Turn.{Turn}
-use Rattle.flow_load.specs.declared.groups.Turn.TheVariants.{Calls, Picks, Returns}
+use Rattle.flow_load.specs.declared.groups.StepRole.{StepRole}
+use Rattle.flow_load.specs.declared.groups.StepRole.TheVariants.{Calls, Picks, Returns}
 use Rattle.flow_load.specs.declared.lines.Lines.{Lines}
 
-abbrev pub IsCallBelow : ℕ → Turn → Type 0
+abbrev pub IsCallBelow : ℕ → StepRole → Type 0
 IsCallBelow n (Calls p) = p < n
 IsCallBelow n Picks = Unit {0}
 IsCallBelow n Returns = Unit {0}

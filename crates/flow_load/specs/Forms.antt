@@ -7,10 +7,10 @@ use Rattle.flow_asm.specs.declared.code.Step.{Step}
 use Rattle.flow_asm.specs.declared.code.Step.TheVariants.{Call, Pick, Return}
 use Rattle.flow_load.specs.declared.error.LoadError.{LoadError}
 use Rattle.flow_load.specs.declared.error.LoadError.TheVariants.{BadHeader, BadLine, BadNumber}
-use Rattle.flow_load.specs.declared.lines.Header.{Header}
+use Rattle.flow_load.specs.declared.lines.ImageHeader.{ImageHeader}
 use Rattle.flow_load.specs.declared.lines.Lines.{Lines}
 use Rattle.flow_load.specs.Image.{Text}
-use Rattle.flow_load.specs.Reading.{◌>>=◌, found}
+use Rattle.flow_load.specs.Reads.{◌>>=◌, found}
 use Rattle.flow_load.specs.Words.{cut, kind_of, name_at, number_at, number_of, word_at, word_is}
 
 -- `part N NAME KIND`. Each form has the fault of the line that it stands on.
@@ -50,11 +50,11 @@ step_form e text = do
   Ok (n.0, s)
 
 -- version 1 or 2, and the limits of an image
-abbrev pub is_header : Header → Bool
+abbrev pub is_header : ImageHeader → Bool
 is_header h = (nat_le 1 h.version && nat_le h.version 2) && ((nat_le h.retries 100 && nat_le h.parts 16384) && (nat_le h.groups 256 && nat_le h.steps 33024))
 
 -- `image V R P G S`
-unfoldable pub header_form : Text → Result Header LoadError
+unfoldable pub header_form : Text → Result ImageHeader LoadError
 header_form text = do
   rest ← word_is BadHeader (codes "image") text
   v ← number_at BadHeader rest
@@ -65,7 +65,7 @@ header_form text = do
   Ok (record { version = v.0; retries = r.0; parts = p.0; groups = g.0; steps = s })
 
 -- the first line, and the text behind it
-unfoldable pub header_at : Text → Result (Header × Text) LoadError
+unfoldable pub header_at : Text → Result (ImageHeader × Text) LoadError
 header_at text = do
   line ← found BadHeader (cut 10 text)
   h ← header_form line.0

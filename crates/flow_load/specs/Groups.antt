@@ -12,11 +12,12 @@ use Rattle.flow_asm.specs.Listing.{entry_of}
 use Rattle.flow_load.specs.declared.error.LoadError.{LoadError}
 use Rattle.flow_load.specs.declared.error.LoadError.TheVariants.{BadTarget, NoReturn}
 use Rattle.flow_load.specs.declared.lines.Lines.{Lines}
-use Rattle.flow_load.specs.declared.groups.Walked.{Walked}
-use Rattle.flow_load.specs.declared.groups.WalkedAll.{WalkedAll}
-use Rattle.flow_load.specs.declared.groups.Turn.{Turn}
-use Rattle.flow_load.specs.declared.groups.Turn.TheVariants.{Calls, Picks, Returns}
-use Rattle.flow_load.specs.Reading.{◌>>=◌, refused}
+use Rattle.flow_load.specs.declared.groups.GroupRead.{GroupRead}
+use Rattle.flow_load.specs.declared.groups.GroupsRead.{GroupsRead}
+use Rattle.flow_load.specs.declared.groups.StepRole.{StepRole}
+use Rattle.flow_load.specs.declared.groups.StepRole.TheVariants.{Calls, Picks, Returns}
+use Rattle.flow_load.specs.Reads.{◌>>=◌}
+use Rattle.sw_base.specs.Refusals.{refused}
 
 -- the number of the first participant, from number n on, whose name one of a lower number has
 abbrev pub double_from : List Part → ℕ → List Part → Option ℕ
@@ -37,16 +38,16 @@ abbrev pub cut_off : ℕ → ℕ → Option ℕ → LoadError
 cut_off g here None = NoReturn g
 cut_off g here (Some p) = BadTarget (here - 1)
 
--- What is read of a group: its entries, the number of the next step, how many participants were met
+-- What is read of a group: its entries, the number of the next step, how many participants were seen
 -- so far, and the steps that are left.
 pub record Walk : Type 0 where
   pub entries : List Entry
   pub at : ℕ
-  pub met : ℕ
+  pub seen : ℕ
   pub rest : List Step
 
-abbrev pub walk_of : Walked → Walk
-walk_of w = record { entries = w.entries.items; at = w.at; met = w.met; rest = w.rest.now }
+abbrev pub walk_of : GroupRead → Walk
+walk_of w = record { entries = w.entries.items; at = w.at; seen = w.seen; rest = w.rest.now }
 
 abbrev pub with_entries : List Entry → Walk → Walk
 with_entries es w = record w { entries = es ++ w.entries }
@@ -55,50 +56,50 @@ with_entries es w = record w { entries = es ++ w.entries }
 pub record Walks : Type 0 where
   pub groups : List Group
   pub at : ℕ
-  pub met : ℕ
+  pub seen : ℕ
   pub rest : List Step
 
-abbrev pub walks_of : WalkedAll → Walks
-walks_of w = record { groups = w.groups.items; at = w.at; met = w.met; rest = w.rest.now }
+abbrev pub walks_of : GroupsRead → Walks
+walks_of w = record { groups = w.groups.items; at = w.at; seen = w.seen; rest = w.rest.now }
 
 abbrev pub with_groups : List Group → Walks → Walks
 with_groups gs w = record w { groups = gs ++ w.groups }
 
 module _ (parts : List Part) where
-  -- What a step on that line is, where a pick may be owed to the call before it, and so many
-  -- participants were met.
-  abbrev pub turn_of : ℕ → Option ℕ → ℕ → Step → Result Turn LoadError
-  turn_of here None met (Call p) = if nat_lt p (length parts) && nat_le p met then Ok (Calls p) else Err (BadTarget here)
-  turn_of here None met (Pick p) = Err (BadTarget here)
-  turn_of here None met Return = Ok Returns
-  turn_of here (Some q) met (Call p) = Err (BadTarget (here - 1))
-  turn_of here (Some q) met (Pick p) = if p == q then Ok Picks else Err (BadTarget (here - 1))
-  turn_of here (Some q) met Return = Err (BadTarget (here - 1))
+  -- What a step on that line is, where a pick may be select_due to the call before it, and so many
+  -- participants were seen.
+  abbrev pub role_of : ℕ → Option ℕ → ℕ → Step → Result StepRole LoadError
+  role_of here None seen (Call p) = if nat_lt p (length parts) && nat_le p seen then Ok (Calls p) else Err (BadTarget here)
+  role_of here None seen (Pick p) = Err (BadTarget here)
+  role_of here None seen Return = Ok Returns
+  role_of here (Some q) seen (Call p) = Err (BadTarget (here - 1))
+  role_of here (Some q) seen (Pick p) = if p == q then Ok Picks else Err (BadTarget (here - 1))
+  role_of here (Some q) seen Return = Err (BadTarget (here - 1))
 
-  -- what comes of a step: the walk goes on, with a pick owed and participants met, or is done
-  abbrev pub after : (Option ℕ → ℕ → Result Walk LoadError) → ℕ → ℕ → List Step → Turn → Result Walk LoadError
-  after goes_on at met xs (Calls p) = goes_on (wanted p (slice_get parts p)) (max met (p + 1)) >>= λ w. Ok (with_entries (entry_of (slice_get parts p)) w)
-  after goes_on at met xs Picks = goes_on None met
-  after goes_on at met xs Returns = Ok (record { entries = []; at = at + 1; met = met; rest = xs })
+  -- what comes of a step: the walk goes on, with a pick select_due and participants seen, or is done
+  abbrev pub after : (Option ℕ → ℕ → Result Walk LoadError) → ℕ → ℕ → List Step → StepRole → Result Walk LoadError
+  after goes_on at seen xs (Calls p) = goes_on (wanted p (slice_get parts p)) (max seen (p + 1)) >>= λ w. Ok (with_entries (entry_of (slice_get parts p)) w)
+  after goes_on at seen xs Picks = goes_on None seen
+  after goes_on at seen xs Returns = Ok (record { entries = []; at = at + 1; seen = seen; rest = xs })
 
 -- the participants, and the line of step 0
 module _ (parts : List Part) (line : ℕ) where
   -- group g, from step `at` on
   abbrev pub walk : ℕ → Option ℕ → ℕ → ℕ → List Step → Result Walk LoadError
-  walk g owed at met [] = Err (cut_off g (line + at) owed)
-  walk g owed at met (x ∷ xs) = turn_of parts (line + at) owed met x >>= λ t. after parts (λ o m. walk g o (at + 1) m xs) at met xs t
+  walk g select_due at seen [] = Err (cut_off g (line + at) select_due)
+  walk g select_due at seen (x ∷ xs) = role_of parts (line + at) select_due seen x >>= λ t. after parts (λ o m. walk g o (at + 1) m xs) at seen xs t
 
   -- the groups, from group g on, which is to start with step `at`
   abbrev pub walks : ℕ → ℕ → ℕ → List Step → List GroupStart → Result Walks LoadError
-  walks g at met xs [] = Ok (record { groups = []; at = at; met = met; rest = xs })
-  walks g at met xs (s ∷ ss) =
+  walks g at seen xs [] = Ok (record { groups = []; at = at; seen = seen; rest = xs })
+  walks g at seen xs (s ∷ ss) =
       if s.first == at
-      then (walk g None at met xs >>= λ w. walks (g + 1) w.at w.met w.rest ss >>= λ more. Ok (with_groups (record { name = s.name; entries = w.entries } ∷ []) more))
+      then (walk g None at seen xs >>= λ w. walks (g + 1) w.at w.seen w.rest ss >>= λ more. Ok (with_groups (record { name = s.name; entries = w.entries } ∷ []) more))
       else Err (BadTarget (2 + length parts + g))
 
-  -- the first step that is left, or the first participant that was never met
+  -- the first step that is left, or the first participant that was never seen
   abbrev pub end_fault : Walks → Option LoadError
-  end_fault w = if nat_le 1 (length w.rest) then Some (BadTarget (line + w.at)) else (if nat_lt w.met (length parts) then Some (BadTarget (2 + w.met)) else None)
+  end_fault w = if nat_le 1 (length w.rest) then Some (BadTarget (line + w.at)) else (if nat_lt w.seen (length parts) then Some (BadTarget (2 + w.seen)) else None)
 
 -- the line of step 0 is behind those of the header, the participants and the groups
 abbrev pub steps_line : Lines → ℕ

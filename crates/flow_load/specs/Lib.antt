@@ -1,5 +1,5 @@
 pub mod Image
-pub mod Reading
+pub mod Reads
 pub mod Words
 pub mod Forms
 pub mod Groups

@@ -8,7 +8,8 @@ use Rattle.flow_load.specs.declared.error.LoadError.{LoadError}
 use Rattle.flow_load.specs.declared.error.LoadError.TheVariants.{BadHeader, BadLine, Flow}
 use Rattle.flow_load.specs.declared.lines.Lines.{Lines}
 use Rattle.flow_load.specs.Image.{Text}
-use Rattle.flow_load.specs.Reading.{◌>>=◌, refused}
+use Rattle.flow_load.specs.Reads.{◌>>=◌}
+use Rattle.sw_base.specs.Refusals.{refused}
 use Rattle.flow_load.specs.Forms.{lines_in}
 use Rattle.flow_load.specs.Groups.{flow_in}
 

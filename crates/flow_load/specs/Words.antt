@@ -5,7 +5,7 @@ use Rattle.sw_participant.specs.declared.kind.Kind.{Kind}
 use Rattle.sw_context.specs.Names.{is_name}
 use Rattle.flow_load.specs.declared.error.LoadError.{LoadError}
 use Rattle.flow_load.specs.Image.{Text, kind_text}
-use Rattle.flow_load.specs.Reading.{◌>>=◌, found}
+use Rattle.flow_load.specs.Reads.{◌>>=◌, found}
 
 -- what stands before the first such byte, and behind it
 abbrev pub cut : ℕ → Text → Option (Text × Text)

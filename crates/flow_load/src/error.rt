@@ -4,25 +4,34 @@ use flow_model::FlowError;
 use std::alloc::{AllocError, AllocFailed};
 use thiserror::Error;
 
-/// The first fault of an image. Lines are numbered from 1, groups from 0.
+/// The first fault of an image, its kinds in the order of their numbers, from 0. Lines are numbered
+/// from 1, groups from 0.
 #[derive(Clone, Copy, Debug, PartialEq, Eq, Error)]
 pub enum LoadError {
+    /// An allocation failed, which says nothing of the image.
+    #[error("out of memory")]
+    OutOfMemory,
     /// The first line is missing, not of its form, of a version other than 1 and 2, or counts more
     /// than an image may have; or it says version 2 where no participant recovers.
-    #[error("line 1: bad header: expected `image 1` or `image 2`, retries up to 100, and the numbers of participants up to 16384, of groups up to 256 and of steps up to 33024; version 2 where a participant recovers")]
+    #[error("line 1: bad header: expected `image 1` or `image 2`, retries up to 100, and the numbers of \
+         participants up to 16384, of groups up to 256 and of steps up to 33024; version 2 where a \
+         participant recovers")]
     BadHeader,
     /// The line is missing, has no line feed or is not of its form; or it stands behind the last
     /// one; or it marks a participant as recovering in version 1.
-    #[error("line {0}: bad line: expected the participants, the groups and the steps that line 1 counts, each line ended by a line feed, numbers up to 100000, and `recover` only in version 2")]
+    #[error("line {0}: bad line: expected the participants, the groups and the steps that line 1 counts, \
+         each line ended by a line feed, numbers up to 100000, and `recover` only in version 2")]
     BadLine(usize),
     /// The line's own number is not its place among the lines of its kind, from 0.
-    #[error("line {0}: bad number: expected the participants, the groups and the steps to be numbered from 0 without a gap")]
+    #[error("line {0}: bad number: expected the participants, the groups and the steps to be numbered \
+         from 0 without a gap")]
     BadNumber(usize),
     /// What the line says does not fit the lines before it: a doubled or unused participant, a
     /// group that does not start behind the one before it, a call of a participant that is none or
     /// not the next new one, a selector's call without its pick, a pick elsewhere, or a step behind
     /// the last group.
-    #[error("line {0}: bad target: expected distinct participants in the order of their first calls, groups one behind the other, and a pick exactly behind each call of a selector")]
+    #[error("line {0}: bad target: expected distinct participants in the order of their first calls, \
+         groups one behind the other, and a pick exactly behind each call of a selector")]
     BadTarget(usize),
     /// The steps end before the group's return.
     #[error("group {0}: no return: expected one at its end")]
@@ -30,9 +39,6 @@ pub enum LoadError {
     /// The image is that of a flow which its check refuses.
     #[error("{0}")]
     Flow(FlowError),
-    /// An allocation failed, which says nothing of the image.
-    #[error("out of memory")]
-    OutOfMemory,
 }
 
 impl From<AllocError> for LoadError {

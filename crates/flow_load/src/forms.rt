@@ -2,12 +2,12 @@
 
 ghost use Rattle.std.specs.Prelude.{ℕ, List, Result, ◌≡◌, ◌+◌, ◌<◌, ◌^◌, length, IfOk, true};
 ghost use Rattle.flow_load.specs.declared.error.LoadError.{LoadError};
-ghost use Rattle.flow_load.specs.Reading.{Gives};
+ghost use Rattle.flow_load.specs.Reads.{Gives};
 ghost use Rattle.flow_load.specs.Forms as spec;
 ghost use Rattle.flow_load.specs.Bounds.{IsSmall};
 
 use crate::error::LoadError;
-use crate::lines::{Header, Lines};
+use crate::lines::{ImageHeader, Lines};
 use crate::words::{kind_at, line_at, name_at, number_at, number_of, word_at, word_is};
 use flow_asm::{GroupStart, Step};
 use flow_model::Part;
@@ -95,7 +95,7 @@ impl Line for Step {
 }
 
 #[tactic(auto, unfolding(crate::specs::Forms::header_form))]
-fn header_form(line: &[u8]) -> Result<Header, LoadError>
+fn header_form(line: &[u8]) -> Result<ImageHeader, LoadError>
     ensures { Gives (λ h. h) result (spec.header_form line.now) }
 {
     let rest = word_is(LoadError::BadHeader, b"image", line)?;
@@ -104,7 +104,7 @@ fn header_form(line: &[u8]) -> Result<Header, LoadError>
     let (parts, rest) = number_at(LoadError::BadHeader, rest)?;
     let (groups, rest) = number_at(LoadError::BadHeader, rest)?;
     let steps = number_of(LoadError::BadHeader, rest)?;
-    Ok(Header {
+    Ok(ImageHeader {
         version,
         retries,
         parts,
@@ -113,7 +113,7 @@ fn header_form(line: &[u8]) -> Result<Header, LoadError>
     })
 }
 
-fn is_header(h: Header) -> bool
+fn is_header(h: ImageHeader) -> bool
     ensures { result ≡ spec.is_header h }
 {
     (1 <= h.version && h.version <= 2)
@@ -121,7 +121,7 @@ fn is_header(h: Header) -> bool
 }
 
 #[tactic(auto, unfolding(crate::specs::Forms::header_at))]
-fn header_at(bytes: &[u8]) -> Result<(Header, &[u8]), LoadError>
+fn header_at(bytes: &[u8]) -> Result<(ImageHeader, &[u8]), LoadError>
     ensures read { Gives (λ p. (p.0, p.1.now)) result (spec.header_at bytes.now) }
     ensures limits { IfOk result (λ p. spec.is_header p.0 ≡ true) }
 {
@@ -165,7 +165,7 @@ fn read_items<T: Line>(
 {
     let mut items = Vec::new(alloc);
     let mut rest = bytes;
-    'lines: for k in 0..count {
+    for k in 0..count {
         let (item, after) = item_at(alloc, k, at + k, rest)?;
         items.push(item)?;
         rest = after;

@@ -1,14 +1,14 @@
 //! From the lines of an image to the flow that they lay out.
 
-ghost use Rattle.std.specs.Prelude.{◌≡◌, ◌≤◌, ◌<◌, ◌+◌, ◌^◌, ◌++◌, length, slice_get, IfOk, IfSome, OnOk, None};
-ghost use Rattle.flow_asm.specs.Listing.{entry_of};
-ghost use Rattle.flow_load.specs.Reading.{Gives, refused};
+ghost use Rattle.std.specs.Prelude.{◌≡◌, ◌≤◌, ◌<◌, ◌+◌, ◌^◌, length, slice_get, IfOk, IfSome, OnOk, None};
+ghost use Rattle.flow_load.specs.Reads.{Gives};
+ghost use Rattle.sw_base.specs.Refusals.{refused};
 ghost use Rattle.flow_load.specs.Groups as spec;
 ghost use Rattle.flow_load.specs.Bounds.{IsCallBelow, IsSmall};
 
 use crate::error::LoadError;
 use crate::lines::Lines;
-use flow_asm::{GroupStart, Step};
+use flow_asm::{GroupStart, Step, add_entry};
 use flow_model::{Entry, Flow, Group, Part};
 use std::alloc::{AllocError, Global};
 use std::collections::BTreeMap;
@@ -16,7 +16,7 @@ use sw_participant::Sequence;
 
 /// What a step is in its place.
 #[derive(Clone, Copy)]
-pub(crate) enum Turn {
+pub(crate) enum StepRole {
     /// The next entry: a call of the participant of this number.
     Calls(usize),
     /// The pick behind a selector's call.
@@ -31,7 +31,7 @@ fn first_double(alloc: Global, parts: &[Part]) -> Result<Option<usize>, AllocErr
     ensures within { IfOk result (λ number. IfSome number (λ n. n < length parts.now)) }
 {
     let mut seen = BTreeMap::new(alloc);
-    'parts: for (number, part) in parts.iter().enumerate() {
+    for (number, part) in parts.iter().enumerate() {
         let name = part.name.as_str();
         if seen.contains_key(name) {
             return Ok(Some(number));
@@ -52,34 +52,34 @@ fn test_distinct(alloc: Global, parts: &[Part]) -> Result<(), LoadError>
 }
 
 // What the step on the line `here` is.
-fn turn_of(
+fn role_of(
     parts: &[Part],
     here: usize,
-    owed: Option<usize>,
-    met: usize,
+    select_due: Option<usize>,
+    seen: usize,
     step: Step,
-) -> Result<Turn, LoadError>
+) -> Result<StepRole, LoadError>
     requires { 1 ≤ here }
-    ensures read { Gives (λ t. t) result (spec.turn_of parts.now here owed met step) }
+    ensures read { Gives (λ t. t) result (spec.role_of parts.now here select_due seen step) }
     ensures known { IfOk result (IsCallBelow (length parts.now)) }
 {
-    match owed {
+    match select_due {
         None => match step {
             Step::Call(number) => {
-                if number < parts.len() && number <= met {
-                    Ok(Turn::Calls(number))
+                if number < parts.len() && number <= seen {
+                    Ok(StepRole::Calls(number))
                 } else {
                     Err(LoadError::BadTarget(here))
                 }
             }
             Step::Pick(_) => Err(LoadError::BadTarget(here)),
-            Step::Return => Ok(Turn::Returns),
+            Step::Return => Ok(StepRole::Returns),
         },
         Some(called) => match step {
             Step::Call(_) => Err(LoadError::BadTarget(here - 1)),
             Step::Pick(number) => {
                 if number == called {
-                    Ok(Turn::Picks)
+                    Ok(StepRole::Picks)
                 } else {
                     Err(LoadError::BadTarget(here - 1))
                 }
@@ -87,19 +87,6 @@ fn turn_of(
             Step::Return => Err(LoadError::BadTarget(here - 1)),
         },
     }
-}
-
-fn add_entry(entries: &mut Vec<Entry>, parts: &[Part], number: usize) -> Result<(), AllocError>
-    ensures { OnOk result (entries.new.items ≡ entries.old.items ++ entry_of (slice_get parts.now number)) }
-{
-    if let Some(part) = parts.get(number) {
-        let participant = part.name.copy()?;
-        entries.push(Entry {
-            participant,
-            kind: part.kind,
-        })?;
-    }
-    Ok(())
 }
 
 // The pick that a call wants behind it.
@@ -118,23 +105,23 @@ fn wanted(parts: &[Part], number: usize) -> Option<usize>
     }
 }
 
-fn cut_off(group: usize, here: usize, owed: Option<usize>) -> LoadError
+fn cut_off(group: usize, here: usize, select_due: Option<usize>) -> LoadError
     requires { 1 ≤ here }
-    ensures { result ≡ spec.cut_off group here owed }
+    ensures { result ≡ spec.cut_off group here select_due }
 {
-    match owed {
+    match select_due {
         None => LoadError::NoReturn(group),
         Some(_) => LoadError::BadTarget(here - 1),
     }
 }
 
-// A group, the number of the step behind its return, how many participants were met so far, and the
+// A group, the number of the step behind its return, how many participants were seen so far, and the
 // steps that are left.
 #[derive(Drop)]
-struct Walked<'a> {
+struct GroupRead<'a> {
     entries: Vec<Entry>,
     at: usize,
-    met: usize,
+    seen: usize,
     rest: &'a [Step],
 }
 
@@ -145,45 +132,45 @@ fn read_group<'a>(
     line: usize,
     group: usize,
     at: usize,
-    met: usize,
+    seen: usize,
     steps: &'a [Step],
-) -> Result<Walked<'a>, LoadError>
+) -> Result<GroupRead<'a>, LoadError>
     requires line { 2 ≤ line }
     requires few { line + at + length steps.now < 2 ^ 32 }
-    ensures read { Gives spec.walk_of result (spec.walk parts.now line group None at met steps.now) }
+    ensures read { Gives spec.walk_of result (spec.walk parts.now line group None at seen steps.now) }
     ensures within { IfOk result (λ w. w.at + length w.rest.now ≤ at + length steps.now) }
 {
     let mut entries = Vec::new(alloc);
-    let mut owed = None;
-    let mut met = met;
-    'steps: for (k, step) in steps.iter().enumerate() {
-        match turn_of(parts, line + at + k, owed, met, *step)? {
-            Turn::Calls(number) => {
+    let mut select_due = None;
+    let mut seen = seen;
+    for (k, step) in steps.iter().enumerate() {
+        match role_of(parts, line + at + k, select_due, seen, *step)? {
+            StepRole::Calls(number) => {
                 add_entry(&mut entries, parts, number)?;
-                owed = wanted(parts, number);
-                met = met.max(number + 1);
+                select_due = wanted(parts, number);
+                seen = seen.max(number + 1);
             }
-            Turn::Picks => owed = None,
-            Turn::Returns => {
-                return Ok(Walked {
+            StepRole::Picks => select_due = None,
+            StepRole::Returns => {
+                return Ok(GroupRead {
                     entries,
                     at: at + k + 1,
-                    met,
+                    seen,
                     rest: &steps[k + 1..],
                 });
             }
         }
     }
-    Err(cut_off(group, line + at + steps.len(), owed))
+    Err(cut_off(group, line + at + steps.len(), select_due))
 }
 
 // The groups in their order, the number of the first step behind them, how many participants were
-// met, and the steps that are left.
+// seen, and the steps that are left.
 #[derive(Drop)]
-struct WalkedAll<'a> {
+struct GroupsRead<'a> {
     groups: Vec<Group>,
     at: usize,
-    met: usize,
+    seen: usize,
     rest: &'a [Step],
 }
 
@@ -193,7 +180,7 @@ fn read_groups<'a>(
     line: usize,
     starts: &[GroupStart],
     steps: &'a [Step],
-) -> Result<WalkedAll<'a>, LoadError>
+) -> Result<GroupsRead<'a>, LoadError>
     requires line { 2 ≤ line }
     requires few { line + length parts.now + length starts.now + length steps.now < 2 ^ 32 }
     ensures read { Gives spec.walks_of result (spec.walks parts.now line 0 0 0 steps.now starts.now) }
@@ -201,40 +188,40 @@ fn read_groups<'a>(
 {
     let mut groups = Vec::new(alloc);
     let mut at = 0;
-    let mut met = 0;
+    let mut seen = 0;
     let mut rest = steps;
-    'groups: for (number, start) in starts.iter().enumerate() {
+    for (number, start) in starts.iter().enumerate() {
         if start.first != at {
             return Err(LoadError::BadTarget(2 + parts.len() + number));
         }
-        let walked = read_group(alloc, parts, line, number, at, met, rest)?;
+        let walked = read_group(alloc, parts, line, number, at, seen, rest)?;
         let name = start.name.copy()?;
         groups.push(Group {
             name,
             entries: Sequence::new(walked.entries),
         })?;
         at = walked.at;
-        met = walked.met;
+        seen = walked.seen;
         rest = walked.rest;
     }
-    Ok(WalkedAll {
+    Ok(GroupsRead {
         groups,
         at,
-        met,
+        seen,
         rest,
     })
 }
 
 // All steps are a group's, and each participant is called.
-fn test_end(parts: &[Part], line: usize, walked: &WalkedAll<'_>) -> Result<(), LoadError>
+fn test_end(parts: &[Part], line: usize, walked: &GroupsRead<'_>) -> Result<(), LoadError>
     requires { line + walked.now.at < 2 ^ 32 }
     ensures { Gives (λ u. u) result (refused (spec.end_fault parts.now line (spec.walks_of walked.now))) }
 {
     if !walked.rest.is_empty() {
         return Err(LoadError::BadTarget(line + walked.at));
     }
-    if walked.met < parts.len() {
-        return Err(LoadError::BadTarget(2 + walked.met));
+    if walked.seen < parts.len() {
+        return Err(LoadError::BadTarget(2 + walked.seen));
     }
     Ok(())
 }

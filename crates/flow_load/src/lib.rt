@@ -23,17 +23,14 @@
 //!   the first fault in one written order.
 #![tactic(auto)]
 
-pub mod error;
+mod error;
 mod forms;
 mod groups;
 mod lines;
-pub mod print;
-pub mod reader;
+mod print;
+mod reader;
 mod words;
 
 pub use error::LoadError;
 pub use print::image;
 pub use reader::load;
-
-#[cfg(test)]
-mod tests;

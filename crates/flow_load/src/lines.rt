@@ -6,7 +6,7 @@ use sw_participant::Sequence;
 
 /// The first line.
 #[derive(Clone, Copy)]
-pub(crate) struct Header {
+pub(crate) struct ImageHeader {
     /// 1, or 2 where a participant recovers.
     pub version: usize,
     pub retries: usize,

@@ -86,7 +86,7 @@ impl fmt::Display for PartLines<'_> {
     ghost output = { λ p. Some (spec.lines_text spec.part_text 0 p.0.now) };
 
     fn fmt<W: fmt::Write>(&self, f: &mut fmt::Formatter<W>) -> fmt::Result {
-        'parts: for (number, part) in self.0.iter().enumerate() {
+        for (number, part) in self.0.iter().enumerate() {
             let line = PartLine { number, part };
             write!(f, "{line}\n")?;
         }
@@ -101,7 +101,7 @@ impl fmt::Display for GroupLines<'_> {
     ghost output = { λ g. Some (spec.lines_text spec.group_text 0 g.0.now) };
 
     fn fmt<W: fmt::Write>(&self, f: &mut fmt::Formatter<W>) -> fmt::Result {
-        'groups: for (number, start) in self.0.iter().enumerate() {
+        for (number, start) in self.0.iter().enumerate() {
             let line = GroupLine { number, start };
             write!(f, "{line}\n")?;
         }
@@ -116,7 +116,7 @@ impl fmt::Display for StepLines<'_> {
     ghost output = { λ s. Some (spec.lines_text spec.step_text 0 s.0.now) };
 
     fn fmt<W: fmt::Write>(&self, f: &mut fmt::Formatter<W>) -> fmt::Result {
-        'steps: for (number, step) in self.0.iter().enumerate() {
+        for (number, step) in self.0.iter().enumerate() {
             let step = *step;
             let line = StepLine { number, step };
             write!(f, "{line}\n")?;
@@ -129,7 +129,7 @@ impl fmt::Display for StepLines<'_> {
 fn version_of(parts: &[Part]) -> usize
     ensures { result ≡ spec.version_of parts.now }
 {
-    'parts: for part in parts {
+    for part in parts {
         if part.kind.recovers {
             return 2;
         }

@@ -4,7 +4,8 @@ ghost use Rattle.std.specs.Prelude.{◌≡◌, Ok, IfOk};
 ghost use Rattle.flow_model.specs.Check.{IsChecked, first_fault};
 ghost use Rattle.flow_model.specs.declared.flow.Flow.{Flow as Shown};
 ghost use Rattle.flow_load.specs.Image.{image_of};
-ghost use Rattle.flow_load.specs.Reading.{Gives, refused};
+ghost use Rattle.flow_load.specs.Reads.{Gives};
+ghost use Rattle.sw_base.specs.Refusals.{refused};
 ghost use Rattle.flow_load.specs.Load as spec;
 
 use crate::error::LoadError;
@@ -19,7 +20,7 @@ use std::alloc::Global;
 fn first_recovering(parts: &[Part]) -> Option<usize>
     ensures { result ≡ spec.first_recovering 2 parts.now }
 {
-    'parts: for (number, part) in parts.iter().enumerate() {
+    for (number, part) in parts.iter().enumerate() {
         if part.kind.recovers {
             return Some(2 + number);
         }

@@ -1,20 +1,20 @@
 //! The words of a line. Where a word is not of its form, the line's fault is answered.
 
 ghost use Rattle.std.specs.Prelude.{◌≡◌, option_map};
-ghost use Rattle.flow_load.specs.Reading.{Gives, found};
+ghost use Rattle.flow_load.specs.Reads.{Gives, found};
 ghost use Rattle.flow_load.specs.Words as spec;
 
 use crate::error::LoadError;
 use crate::print::kind_word;
-use flow_model::check::is_name;
 use std::alloc::Global;
+use sw_context::is_name;
 use sw_participant::{Kind, Text};
 
 /// What stands before the first such byte, and behind it.
 pub fn cut(byte: u8, text: &[u8]) -> Option<(&[u8], &[u8])>
     ensures { option_map (λ p. (p.0.now, p.1.now)) result ≡ spec.cut byte text.now }
 {
-    'bytes: for (index, x) in text.iter().enumerate() {
+    for (index, x) in text.iter().enumerate() {
         if *x == byte {
             return Some((&text[..index], &text[index + 1..]));
         }
@@ -26,7 +26,7 @@ fn value(word: &[u8]) -> Option<usize>
     ensures { result ≡ spec.value_on 0 word.now }
 {
     let mut value = 0;
-    'bytes: for c in word {
+    for c in word {
         if *c < b'0' || *c > b'9' {
             return None;
         }
@@ -109,59 +109,12 @@ pub fn name_at(alloc: Global, error: LoadError, text: &[u8]) -> Result<(Text, &[
     Ok((name, rest))
 }
 
-fn kinds() -> &'static [Kind]
-    ensures { result.now ≡ spec.kinds }
-{
-    &[
-        Kind {
-            selector: false,
-            abort_aware: false,
-            recovers: false,
-        },
-        Kind {
-            selector: true,
-            abort_aware: false,
-            recovers: false,
-        },
-        Kind {
-            selector: false,
-            abort_aware: true,
-            recovers: false,
-        },
-        Kind {
-            selector: true,
-            abort_aware: true,
-            recovers: false,
-        },
-        Kind {
-            selector: false,
-            abort_aware: false,
-            recovers: true,
-        },
-        Kind {
-            selector: true,
-            abort_aware: false,
-            recovers: true,
-        },
-        Kind {
-            selector: false,
-            abort_aware: true,
-            recovers: true,
-        },
-        Kind {
-            selector: true,
-            abort_aware: true,
-            recovers: true,
-        },
-    ]
-}
-
 #[tactic(auto, unfolding(crate::specs::Words::kind_of))]
 fn kind_of(word: &[u8]) -> Option<Kind>
     ensures { result ≡ spec.kind_of word.now }
 {
-    let kinds = kinds();
-    'kinds: for kind in kinds {
+    let kinds = Kind::ALL.as_slice();
+    for kind in kinds {
         if kind_word(*kind).as_bytes() == word {
             return Some(*kind);
         }

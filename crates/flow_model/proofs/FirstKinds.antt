@@ -11,7 +11,8 @@ use Rattle.sw_participant.specs.declared.kind.Kind.{Kind}
 use Rattle.flow_model.specs.declared.flow.Entry.{Entry}
 use Rattle.flow_model.specs.declared.flow.Group.{Group}
 use Rattle.flow_model.specs.declared.error.FlowError.TheVariants.{KindClash}
-use Rattle.flow_model.specs.Check.{or_else, kind_in, first_kind, first_at, is_kind}
+use Rattle.flow_model.specs.Check.{kind_in, first_kind, is_kind}
+use Rattle.sw_base.specs.Refusals.{or_else, first_at}
 use Rattle.flow_model.specs.Kinds.{clash_by, clash_in_by, kind_at}
 
 or_none : {A : Type 0} (a : Option A) → or_else a None ≡ a

@@ -1,12 +1,12 @@
 //! What a checked flow is: the tests, each of which answers the first fault of its kind.
 
-ghost use Rattle.std.specs.Prelude.{◌≡◌, ◌≤◌, length, sum_by, Some, None, false};
+ghost use Rattle.std.specs.Prelude.{◌≡◌, ◌≤◌, length, Some, None, false};
 ghost use Rattle.flow_model.specs.Check as spec;
-ghost use Rattle.flow_model.specs.declared.flow.Group.{Group as Shown};
+ghost use Rattle.sw_base.specs.Refusals.{first_at, refused};
 
 use crate::error::FlowError;
 use crate::flow::{Entry, Flow, Group};
-pub use sw_context::is_name;
+use sw_context::is_name;
 use sw_participant::Kind;
 
 const MAX_GROUPS: usize = 256;
@@ -20,22 +20,19 @@ const MAX_RETRIES: u8 = 100;
 fn has_large_group(groups: &[Group]) -> bool
     ensures { result ≡ spec.has_large_group groups.now }
 {
-    'groups: for group in groups {
-        if group.entries.as_slice().len() > MAX_ENTRIES {
-            return true;
-        }
-    }
-    false
+    groups
+        .iter()
+        .any(|group| group.entries.as_slice().len() > MAX_ENTRIES)
 }
 
 // Over at most 256 groups of at most 256 entries, so the sum is small.
 fn count_entries(groups: &[Group]) -> usize
     requires no_large_group { spec.has_large_group groups.now ≡ false }
     requires few { length groups.now ≤ 256 }
-    ensures { result ≡ sum_by (λ (g : Shown). length g.entries) groups.now }
+    ensures { result ≡ spec.entries_in_all groups.now }
 {
     let mut total = 0;
-    'groups: for group in groups {
+    for group in groups {
         total += group.entries.as_slice().len();
     }
     total
@@ -52,7 +49,7 @@ fn is_large(groups: &[Group], flow: &Flow) -> bool
 }
 
 pub(crate) fn test_sizes(flow: &Flow) -> Result<(), FlowError>
-    ensures { result ≡ spec.refused (spec.or_else (spec.large flow.now) (spec.bad_retries flow.now)) }
+    ensures { result ≡ refused (spec.size_fault flow.now) }
 {
     if is_large(flow.groups.as_slice(), flow) {
         return Err(FlowError::TooLarge);
@@ -64,7 +61,7 @@ pub(crate) fn test_sizes(flow: &Flow) -> Result<(), FlowError>
 }
 
 fn test_name(name: &str, group: usize, index: Option<usize>) -> Result<(), FlowError>
-    ensures { result ≡ spec.refused (spec.bad_name group index name.now) }
+    ensures { result ≡ refused (spec.bad_name group index name.now) }
 {
     if is_name(name) {
         Ok(())
@@ -74,25 +71,25 @@ fn test_name(name: &str, group: usize, index: Option<usize>) -> Result<(), FlowE
 }
 
 fn test_participants(group: usize, entries: &[Entry]) -> Result<(), FlowError>
-    ensures { result ≡ spec.refused (spec.first_at (spec.bad_entry group) 0 entries.now) }
+    ensures { result ≡ refused (first_at (spec.bad_entry group) 0 entries.now) }
 {
-    'entries: for (index, entry) in entries.iter().enumerate() {
+    for (index, entry) in entries.iter().enumerate() {
         test_name(entry.participant.as_str(), group, Some(index))?;
     }
     Ok(())
 }
 
 fn test_names_of(number: usize, group: &Group) -> Result<(), FlowError>
-    ensures { result ≡ spec.refused (spec.bad_group number group.now) }
+    ensures { result ≡ refused (spec.bad_group number group.now) }
 {
     test_name(group.name.as_str(), number, None)?;
     test_participants(number, group.entries.as_slice())
 }
 
 pub(crate) fn test_names(groups: &[Group]) -> Result<(), FlowError>
-    ensures { result ≡ spec.refused (spec.first_at spec.bad_group 0 groups.now) }
+    ensures { result ≡ refused (first_at spec.bad_group 0 groups.now) }
 {
-    'groups: for (number, group) in groups.iter().enumerate() {
+    for (number, group) in groups.iter().enumerate() {
         test_names_of(number, group)?;
     }
     Ok(())
@@ -101,18 +98,13 @@ pub(crate) fn test_names(groups: &[Group]) -> Result<(), FlowError>
 fn is_named(name: &str, groups: &[Group]) -> bool
     ensures { result ≡ spec.is_named name.now groups.now }
 {
-    'groups: for group in groups {
-        if group.name.as_str() == name {
-            return true;
-        }
-    }
-    false
+    groups.iter().any(|group| group.name.as_str() == name)
 }
 
 pub(crate) fn test_doubles(groups: &[Group]) -> Result<(), FlowError>
-    ensures { result ≡ spec.refused (spec.first_at (spec.double_group groups.now) 0 groups.now) }
+    ensures { result ≡ refused (first_at (spec.double_group groups.now) 0 groups.now) }
 {
-    'groups: for (number, group) in groups.iter().enumerate() {
+    for (number, group) in groups.iter().enumerate() {
         if is_named(group.name.as_str(), &groups[..number]) {
             return Err(FlowError::DoubleGroup(number));
         }
@@ -121,7 +113,7 @@ pub(crate) fn test_doubles(groups: &[Group]) -> Result<(), FlowError>
 }
 
 pub(crate) fn test_main(groups: &[Group]) -> Result<(), FlowError>
-    ensures { result ≡ spec.refused (spec.no_main groups.now) }
+    ensures { result ≡ refused (spec.no_main groups.now) }
 {
     if is_named("main", groups) {
         Ok(())
@@ -133,7 +125,7 @@ pub(crate) fn test_main(groups: &[Group]) -> Result<(), FlowError>
 fn kind_in(name: &str, entries: &[Entry]) -> Option<Kind>
     ensures { result ≡ spec.kind_in name.now entries.now }
 {
-    'entries: for entry in entries {
+    for entry in entries {
         if entry.participant.as_str() == name {
             return Some(entry.kind);
         }
@@ -144,7 +136,7 @@ fn kind_in(name: &str, entries: &[Entry]) -> Option<Kind>
 fn first_kind(name: &str, groups: &[Group]) -> Option<Kind>
     ensures { result ≡ spec.first_kind name.now groups.now }
 {
-    'groups: for group in groups {
+    for group in groups {
         if let Some(kind) = kind_in(name, group.entries.as_slice()) {
             return Some(kind);
         }
@@ -162,7 +154,7 @@ pub(crate) fn is_kind(kind: Kind, first: Option<Kind>) -> bool
 }
 
 fn test_kind(groups: &[Group], group: usize, index: usize, entry: &Entry) -> Result<(), FlowError>
-    ensures { result ≡ spec.refused (spec.clash groups.now group index entry.now) }
+    ensures { result ≡ refused (spec.clash groups.now group index entry.now) }
 {
     if is_kind(entry.kind, first_kind(entry.participant.as_str(), groups)) {
         Ok(())
@@ -172,24 +164,24 @@ fn test_kind(groups: &[Group], group: usize, index: usize, entry: &Entry) -> Res
 }
 
 fn test_kinds_in(groups: &[Group], group: usize, entries: &[Entry]) -> Result<(), FlowError>
-    ensures { result ≡ spec.refused (spec.first_at (spec.clash groups.now group) 0 entries.now) }
+    ensures { result ≡ refused (first_at (spec.clash groups.now group) 0 entries.now) }
 {
-    'entries: for (index, entry) in entries.iter().enumerate() {
+    for (index, entry) in entries.iter().enumerate() {
         test_kind(groups, group, index, entry)?;
     }
     Ok(())
 }
 
 fn test_kinds_of(groups: &[Group], number: usize, group: &Group) -> Result<(), FlowError>
-    ensures { result ≡ spec.refused (spec.clash_in groups.now number group.now) }
+    ensures { result ≡ refused (spec.clash_in groups.now number group.now) }
 {
     test_kinds_in(groups, number, group.entries.as_slice())
 }
 
 fn test_kinds(groups: &[Group]) -> Result<(), FlowError>
-    ensures { result ≡ spec.refused (spec.first_at (spec.clash_in groups.now) 0 groups.now) }
+    ensures { result ≡ refused (spec.clashes groups.now) }
 {
-    'groups: for (number, group) in groups.iter().enumerate() {
+    for (number, group) in groups.iter().enumerate() {
         test_kinds_of(groups, number, group)?;
     }
     Ok(())
@@ -197,7 +189,8 @@ fn test_kinds(groups: &[Group]) -> Result<(), FlowError>
 
 impl Flow {
     ghost use Rattle.std.specs.Prelude.{◌≡◌};
-    ghost use Rattle.flow_model.specs.Check.{first_fault, refused};
+    ghost use Rattle.flow_model.specs.Check.{first_fault};
+    ghost use Rattle.sw_base.specs.Refusals.{refused};
 
     /// Accepts exactly a flow without a fault, and else answers its first one, tested in the order
     /// size, retries, names (a group's, then its entries', group by group), doubled groups, the
@@ -214,6 +207,3 @@ impl Flow {
         test_kinds(groups)
     }
 }
-
-#[cfg(test)]
-mod tests;

@@ -3,41 +3,43 @@
 use std::fmt;
 use thiserror::Error;
 
-/// The first fault of a flow. Groups and entries are numbered from 0.
+/// The first fault of a flow, its kinds in the order of their numbers, from 1. Groups and entries are
+/// numbered from 0.
 #[derive(Clone, Copy, Debug, PartialEq, Eq, Error)]
 pub enum FlowError {
+    /// No group is named `main`.
+    #[error("no group is named main: expected one, with which a transaction starts")]
+    NoMain,
+    /// The group has the name of an earlier one.
+    #[error("group {0}: an earlier group has the same name: expected distinct names")]
+    DoubleGroup(usize),
+    /// The name of a group, or of the participant of an entry of it, breaks the name rule.
+    #[error("{}: bad name: expected 1 to 32 of a-z A-Z 0-9 _ - .", name_path(*.0, *.1))]
+    BadName(usize, Option<usize>),
+    /// The participant of the entry has other marks than at its first place.
+    #[error("group {0}, entry {1}: the participant has other marks at its first place: expected the same")]
+    KindClash(usize, usize),
     /// More than 256 groups, 256 entries in a group or 16,384 entries in all.
-    #[error("the flow is too large: expected at most 256 groups, 256 entries in a group, 16384 entries in all")]
+    #[error("the flow is too large: expected at most 256 groups, \
+         256 entries in a group, 16384 entries in all")]
     TooLarge,
     /// `retries` is over 100.
     #[error("retries is too large: expected 0 to 100")]
     BadRetries,
-    /// The name of a group, or of the participant of an entry of it, breaks the name rule.
-    #[error("{}: bad name: expected 1 to 32 of a-z A-Z 0-9 _ - .", name_place(*.0, *.1))]
-    BadName(usize, Option<usize>),
-    /// The group has the name of an earlier one.
-    #[error("group {0}: an earlier group has the same name: expected distinct names")]
-    DoubleGroup(usize),
-    /// No group is named `main`.
-    #[error("no group is named main: expected one, with which a transaction starts")]
-    NoMain,
-    /// The participant of the entry has other marks than at its first place.
-    #[error("group {0}, entry {1}: the participant has other marks at its first place: expected the same")]
-    KindClash(usize, usize),
 }
 
 /// `group G` or `group G, entry I`.
 #[derive(Drop)]
-struct Place {
+struct EntryPath {
     group: usize,
     index: Option<usize>,
 }
 
-fn name_place(group: usize, index: Option<usize>) -> Place {
-    Place { group, index }
+fn name_path(group: usize, index: Option<usize>) -> EntryPath {
+    EntryPath { group, index }
 }
 
-impl fmt::Display for Place {
+impl fmt::Display for EntryPath {
     fn fmt<W: fmt::Write>(&self, f: &mut fmt::Formatter<W>) -> fmt::Result {
         let group = self.group;
         match self.index {

@@ -31,7 +31,7 @@ pub struct Flow {
 
 /// An entry at its place: the entry `index` of the group `group`, both from 0.
 #[derive(Clone, Copy, PartialEq, Eq, Debug)]
-pub struct Slot {
+pub struct PlacedEntry {
     pub group: usize,
     pub index: usize,
     /// The participant's number, by first appearance in the flow.

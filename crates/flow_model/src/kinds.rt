@@ -1,8 +1,10 @@
 //! The check of a flow by a map from participants to their kinds, for whoever has memory.
 
-ghost use Rattle.std.specs.Prelude.{◌≡◌, ◌∷◌, [], ℕ, List, IfOk, OnOk};
+ghost use Rattle.std.specs.Prelude.{◌≡◌, ◌∷◌, [], IfOk, OnOk};
 ghost use Rattle.flow_model.specs.Check as spec;
-ghost use Rattle.flow_model.specs.Kinds.{clash_by, clash_in_by, kind_at};
+ghost use Rattle.sw_base.specs.Refusals.{first_at, refused};
+ghost use Rattle.flow_model.specs.Kinds.{clash_by, clashes_by, kind_at};
+ghost use Rattle.flow_model.specs.Kinds.{Has, Joins, kinds_of_entries, kinds_of_groups};
 
 use crate::check::{is_kind, test_doubles, test_main, test_names, test_sizes};
 use crate::error::FlowError;
@@ -12,7 +14,7 @@ use std::collections::BTreeMap;
 use sw_participant::Kind;
 
 fn add_first<'a>(kinds: &mut BTreeMap<&'a str, Kind>, entry: &'a Entry) -> Result<(), AllocError>
-    ensures { OnOk result ((name : List ℕ) → kind_at kinds.new name ≡ spec.or_else (kind_at kinds.old name) (spec.kind_in name (entry.now ∷ []))) }
+    ensures { OnOk result (Joins kinds.old kinds.new (kinds_of_entries (entry.now ∷ []))) }
 {
     let name = entry.participant.as_str();
     if kinds.contains_key(name) {
@@ -26,9 +28,9 @@ fn add_entries<'a>(
     kinds: &mut BTreeMap<&'a str, Kind>,
     entries: &'a [Entry],
 ) -> Result<(), AllocError>
-    ensures { OnOk result ((name : List ℕ) → kind_at kinds.new name ≡ spec.or_else (kind_at kinds.old name) (spec.kind_in name entries.now)) }
+    ensures { OnOk result (Joins kinds.old kinds.new (kinds_of_entries entries.now)) }
 {
-    'entries: for entry in entries {
+    for entry in entries {
         add_first(kinds, entry)?;
     }
     Ok(())
@@ -38,9 +40,9 @@ fn add_groups<'a>(
     kinds: &mut BTreeMap<&'a str, Kind>,
     groups: &'a [Group],
 ) -> Result<(), AllocError>
-    ensures { OnOk result ((name : List ℕ) → kind_at kinds.new name ≡ spec.or_else (kind_at kinds.old name) (spec.first_kind name groups.now)) }
+    ensures { OnOk result (Joins kinds.old kinds.new (kinds_of_groups groups.now)) }
 {
-    'groups: for group in groups {
+    for group in groups {
         add_entries(kinds, group.entries.as_slice())?;
     }
     Ok(())
@@ -48,7 +50,7 @@ fn add_groups<'a>(
 
 // Each participant's kind at its first place.
 fn first_kinds(alloc: Global, groups: &[Group]) -> Result<BTreeMap<&str, Kind>, AllocError>
-    ensures { IfOk result (λ m. (name : List ℕ) → kind_at m name ≡ spec.first_kind name groups.now) }
+    ensures { IfOk result (λ m. Has m (kinds_of_groups groups.now)) }
 {
     let mut kinds = BTreeMap::new(alloc);
     add_groups(&mut kinds, groups)?;
@@ -61,7 +63,7 @@ fn test_kind(
     index: usize,
     entry: &Entry,
 ) -> Result<(), FlowError>
-    ensures { result ≡ spec.refused (clash_by (kind_at kinds.now) group index entry.now) }
+    ensures { result ≡ refused (clash_by (kind_at kinds.now) group index entry.now) }
 {
     if is_kind(entry.kind, kinds.get(entry.participant.as_str()).copied()) {
         Ok(())
@@ -75,18 +77,18 @@ fn test_kinds_of(
     group: usize,
     entries: &[Entry],
 ) -> Result<(), FlowError>
-    ensures { result ≡ spec.refused (spec.first_at (clash_by (kind_at kinds.now) group) 0 entries.now) }
+    ensures { result ≡ refused (first_at (clash_by (kind_at kinds.now) group) 0 entries.now) }
 {
-    'entries: for (index, entry) in entries.iter().enumerate() {
+    for (index, entry) in entries.iter().enumerate() {
         test_kind(kinds, group, index, entry)?;
     }
     Ok(())
 }
 
 fn test_kinds_by(kinds: &BTreeMap<&str, Kind>, groups: &[Group]) -> Result<(), FlowError>
-    ensures { result ≡ spec.refused (spec.first_at (clash_in_by (kind_at kinds.now)) 0 groups.now) }
+    ensures { result ≡ refused (clashes_by (kind_at kinds.now) groups.now) }
 {
-    'groups: for (number, group) in groups.iter().enumerate() {
+    for (number, group) in groups.iter().enumerate() {
         test_kinds_of(kinds, number, group.entries.as_slice())?;
     }
     Ok(())
@@ -94,8 +96,8 @@ fn test_kinds_by(kinds: &BTreeMap<&str, Kind>, groups: &[Group]) -> Result<(), F
 
 // As the comparison of kinds without a map, which has each participant's kind at its first place.
 fn test_kinds(kinds: &BTreeMap<&str, Kind>, groups: &[Group]) -> Result<(), FlowError>
-    requires { (name : List ℕ) → kind_at kinds.now name ≡ spec.first_kind name groups.now }
-    ensures { result ≡ spec.refused (spec.first_at (spec.clash_in groups.now) 0 groups.now) }
+    requires { Has kinds.now (kinds_of_groups groups.now) }
+    ensures { result ≡ refused (spec.clashes groups.now) }
 {
     test_kinds_by(kinds, groups)
 }
@@ -103,8 +105,8 @@ fn test_kinds(kinds: &BTreeMap<&str, Kind>, groups: &[Group]) -> Result<(), Flow
 // As the check without a map, with the same kinds.
 #[tactic(auto, unfolding(crate::specs::Check::first_fault))]
 fn check_with(flow: &Flow, kinds: &BTreeMap<&str, Kind>) -> Result<(), FlowError>
-    requires { (name : List ℕ) → kind_at kinds.now name ≡ spec.first_kind name flow.now.groups }
-    ensures { result ≡ spec.refused (spec.first_fault flow.now) }
+    requires { Has kinds.now (kinds_of_groups flow.now.groups) }
+    ensures { result ≡ refused (spec.first_fault flow.now) }
 {
     test_sizes(flow)?;
     let groups = flow.groups.as_slice();
@@ -116,7 +118,8 @@ fn check_with(flow: &Flow, kinds: &BTreeMap<&str, Kind>) -> Result<(), FlowError
 
 impl Flow {
     ghost use Rattle.std.specs.Prelude.{◌≡◌, None, IfOk, OnErr};
-    ghost use Rattle.flow_model.specs.Check.{first_fault, refused};
+    ghost use Rattle.flow_model.specs.Check.{first_fault};
+    ghost use Rattle.sw_base.specs.Refusals.{refused};
 
     /// As [`Flow::check`], but through a map from participants to kinds, so that n entries take
     /// n × log n steps. The outer error is want of memory, which is told of a flow without a fault

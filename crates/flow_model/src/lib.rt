@@ -5,14 +5,17 @@
 //!   written order.
 //! - [`participants`] numbers the participants of a flow by first appearance, and [`number_of`]
 //!   finds a number again, so a participant has one number in whatever form a flow is kept.
+//! - A checked flow has at most 16,384 participants, and each placed entry's number is one of theirs.
 #![tactic(auto)]
 
-pub mod check;
-pub mod error;
-pub mod flow;
-pub mod kinds;
-pub mod numbering;
+mod bounds;
+mod check;
+mod error;
+mod flow;
+mod kinds;
+mod numbering;
 
+pub use bounds::{entries_have_participants, participants_are_few};
 pub use error::FlowError;
-pub use flow::{Entry, Flow, Group, Slot};
+pub use flow::{Entry, Flow, Group, PlacedEntry};
 pub use numbering::{Part, number_of, participants};

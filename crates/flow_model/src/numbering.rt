@@ -1,9 +1,8 @@
 //! The participants of a flow, numbered from 0 in the order of first appearance.
 
-ghost use Rattle.std.specs.Prelude.{◌≡◌, [], IfOk, OnOk};
-ghost use Rattle.std.specs.List.{flat_map};
-ghost use Rattle.flow_model.specs.Places.{number_in, add_new, parts_from, parts_of};
-ghost use Rattle.flow_model.specs.declared.flow.Group.{Group as Shown};
+ghost use Rattle.std.specs.Prelude.{◌≡◌, ◌≤◌, [], length, IfOk, OnOk};
+ghost use Rattle.flow_model.specs.Check.{IsChecked};
+ghost use Rattle.flow_model.specs.Places.{add_new, entries_of, number_in, parts_from, parts_of};
 
 use crate::flow::{Entry, Flow, Group};
 use std::alloc::{AllocError, Global};
@@ -20,7 +19,7 @@ pub struct Part {
 pub fn number_of(parts: &[Part], name: &str) -> usize
     ensures { result ≡ number_in parts.now name.now }
 {
-    'parts: for (number, part) in parts.iter().enumerate() {
+    for (number, part) in parts.iter().enumerate() {
         if part.name.as_str() == name {
             return number;
         }
@@ -45,17 +44,17 @@ fn add_part(parts: &mut Vec<Part>, entry: &Entry) -> Result<(), AllocError>
 fn add_parts(parts: &mut Vec<Part>, entries: &[Entry]) -> Result<(), AllocError>
     ensures { OnOk result (parts.new.items ≡ parts_from parts.old.items entries.now) }
 {
-    'entries: for entry in entries {
+    for entry in entries {
         add_part(parts, entry)?;
     }
     Ok(())
 }
 
 fn collect_parts(alloc: Global, groups: &[Group]) -> Result<Vec<Part>, AllocError>
-    ensures { IfOk result (λ parts. parts.items ≡ parts_from [] (flat_map (λ (g : Shown). g.entries) groups.now)) }
+    ensures { IfOk result (λ parts. parts.items ≡ parts_from [] (entries_of groups.now)) }
 {
     let mut parts = Vec::new(alloc);
-    'groups: for group in groups {
+    for group in groups {
         add_parts(&mut parts, group.entries.as_slice())?;
     }
     Ok(parts)
@@ -64,7 +63,8 @@ fn collect_parts(alloc: Global, groups: &[Group]) -> Result<Vec<Part>, AllocErro
 /// The participants of a flow, each at its number, with the kind of its first place. The only
 /// refusal is want of memory.
 pub fn participants(alloc: Global, flow: &Flow) -> Result<Sequence<Part>, AllocError>
-    ensures { IfOk result (λ parts. parts ≡ parts_of flow.now) }
+    ensures parts { IfOk result (λ parts. parts ≡ parts_of flow.now) }
+    ensures few { IsChecked flow.now → IfOk result (λ parts. length parts ≤ 16384) }
 {
     Ok(Sequence::new(collect_parts(alloc, flow.groups.as_slice())?))
 }

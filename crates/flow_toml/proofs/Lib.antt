@@ -1,4 +1,4 @@
-pub mod Loop
-pub mod Checked
-pub mod Put
-pub mod Round
+mod ItemLoop
+mod TableInserts
+mod DocumentOfFlow
+mod LeastKeys

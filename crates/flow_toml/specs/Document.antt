@@ -1,17 +1,26 @@
 -- The document that is printed for a flow, each key written out.
-use Rattle.std.specs.Prelude.{ℕ, List, pos, codes, map}
+use Rattle.std.specs.Prelude.{◌≡◌, ◌≤◌, ℕ, List, Some, pos, codes, map}
 use Rattle.std.specs.Ordering.{nat_cmp, match_ordering}
 use Rattle.std.specs.Cmp.Lexicographic.{slice_cmp}
 use Rattle.toml.specs.View.{items_of}
 use Rattle.flow_model.specs.declared.flow.Flow as flow
 use Rattle.flow_model.specs.declared.flow.Group as group
 use Rattle.flow_model.specs.declared.flow.Entry as entry
-use Rattle.toml.specs.Data.{Data, string, integer, boolean, array, table, Members, no_members, member}
+use Rattle.toml.specs.Data.{Data, string, integer, boolean, array, table, Members, no_members, member, members_depth}
+use Rattle.toml.specs.Parse.{parse_document}
 
 -- members, with a value put at a key
 abbrev pub insert_member : List ℕ → Data → Members → Members
 insert_member k d no_members = member k d no_members
 insert_member k d (member l e ms) = match_ordering (slice_cmp nat_cmp k l) (member k d (member l e ms)) (member l d ms) (member l e (insert_member k d ms))
+
+-- the new members are the old ones with a value put at a key
+abbrev pub Puts : (old new : Members) → List ℕ → Data → Type 0
+Puts old new k d = new ≡ insert_member k d old
+
+-- a text in which nothing stands too deep reads back as the members
+abbrev pub ReadsBack : Members → List ℕ → Type 0
+ReadsBack ms text = members_depth ms ≤ 80 → parse_document text ≡ Some ms
 
 abbrev pub entry_members : entry.Entry → Members
 entry_members e =

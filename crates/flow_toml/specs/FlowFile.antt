@@ -10,13 +10,14 @@ use Rattle.toml.specs.Parse.{parse_document}
 use Rattle.toml.specs.Errors.{IsWithin}
 use Rattle.flow_toml.specs.declared.error.FlowTomlError.{FlowTomlError}
 use Rattle.flow_toml.specs.declared.error.FlowTomlError.TheVariants.{OutOfMemory, Toml, Flow}
-use Rattle.flow_toml.specs.declared.keys.Place.{Place}
-use Rattle.flow_toml.specs.declared.keys.Place.TheVariants as place
+use Rattle.flow_toml.specs.declared.keys.TablePath.{TablePath}
+use Rattle.flow_toml.specs.declared.keys.TablePath.TheVariants as path
 use Rattle.flow_toml.specs.declared.keys.Key.{Key}
 use Rattle.flow_toml.specs.declared.keys.Key.TheVariants as key
 use Rattle.flow_toml.specs.Keys.{spelling}
 use Rattle.flow_toml.specs.Faults.{table_fault}
-use Rattle.flow_toml.specs.Reading.{◌>>=◌, refused, each}
+use Rattle.flow_toml.specs.Reads.{◌>>=◌, each}
+use Rattle.sw_base.specs.Refusals.{refused}
 
 -- What stands at a key of a table without a fault: the default where it is absent. (Other tables have
 -- a value here too, which is never read.)
@@ -48,23 +49,35 @@ abbrev pub retries_at : Members → ℕ
 retries_at ms = retries_of (option_and_then as_integer (get_member (spelling key.Retries) ms))
 
 -- each table: its own first fault, then those of the tables in it, in order
-abbrev pub entry_at : Place → Members → Result entry.Entry FlowTomlError
+abbrev pub entry_at : TablePath → Members → Result entry.Entry FlowTomlError
 entry_at p ms = refused (table_fault p ms) >>= λ _. Ok (record {
   participant = text_at key.Participant ms;
   kind = record { selector = flag_at key.Selector ms; abort_aware = flag_at key.AbortAware ms; recovers = flag_at key.Recovers ms };
 })
 
 abbrev pub entry_of : ℕ → ℕ → Members → Result entry.Entry FlowTomlError
-entry_of g i ms = entry_at (place.Entry g i) ms
+entry_of g i ms = entry_at (path.Entry g i) ms
+
+abbrev pub entries_in : ℕ → Items → Result (List entry.Entry) FlowTomlError
+entries_in g ds = each (entry_of g) 0 (tables_in ds)
+
+abbrev pub entries_at : ℕ → Members → Result (List entry.Entry) FlowTomlError
+entries_at g ms = each (entry_of g) 0 (tables_at key.Entry ms)
 
 abbrev pub group_of : ℕ → Members → Result group.Group FlowTomlError
-group_of g ms = refused (table_fault (place.Group g) ms) >>= λ _. each (entry_of g) 0 (tables_at key.Entry ms) >>= λ es. Ok (record {
+group_of g ms = refused (table_fault (path.Group g) ms) >>= λ _. each (entry_of g) 0 (tables_at key.Entry ms) >>= λ es. Ok (record {
   name = text_at key.Name ms;
   entries = es;
 })
 
+abbrev pub groups_in : Items → Result (List group.Group) FlowTomlError
+groups_in ds = each group_of 0 (tables_in ds)
+
+abbrev pub groups_at : Members → Result (List group.Group) FlowTomlError
+groups_at ms = each group_of 0 (tables_at key.Group ms)
+
 abbrev pub flow_of : Members → Result flow.Flow FlowTomlError
-flow_of ms = refused (table_fault place.Top ms) >>= λ _. each group_of 0 (tables_at key.Group ms) >>= λ gs. Ok (record {
+flow_of ms = refused (table_fault path.Top ms) >>= λ _. each group_of 0 (tables_at key.Group ms) >>= λ gs. Ok (record {
   retries = retries_at ms;
   groups = gs;
 })

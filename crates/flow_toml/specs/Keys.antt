@@ -1,7 +1,7 @@
 -- The tables of a flow file: the keys of each, which of them it must have, and what stands at a key.
 use Rattle.std.specs.Prelude.{ℕ, Bool, true, false, List, [], ◌∷◌, codes}
-use Rattle.flow_toml.specs.declared.keys.Place.{Place}
-use Rattle.flow_toml.specs.declared.keys.Place.TheVariants as place
+use Rattle.flow_toml.specs.declared.keys.TablePath.{TablePath}
+use Rattle.flow_toml.specs.declared.keys.TablePath.TheVariants as path
 use Rattle.flow_toml.specs.declared.keys.Key.{Key}
 use Rattle.flow_toml.specs.declared.keys.Key.TheVariants as key
 use Rattle.flow_toml.specs.declared.keys.Want.{Want}
@@ -18,10 +18,10 @@ spelling key.Recovers = codes "recovers"
 spelling key.Selector = codes "selector"
 
 -- ascending by their spelling
-abbrev pub keys_of : Place → List Key
-keys_of place.Top = key.Group ∷ key.Retries ∷ []
-keys_of (place.Group g) = key.Entry ∷ key.Name ∷ []
-keys_of (place.Entry g i) = key.AbortAware ∷ key.Participant ∷ key.Recovers ∷ key.Selector ∷ []
+abbrev pub keys_of : TablePath → List Key
+keys_of path.Top = key.Group ∷ key.Retries ∷ []
+keys_of (path.Group g) = key.Entry ∷ key.Name ∷ []
+keys_of (path.Entry g i) = key.AbortAware ∷ key.Participant ∷ key.Recovers ∷ key.Selector ∷ []
 
 abbrev pub is_required : Key → Bool
 is_required key.Group = true

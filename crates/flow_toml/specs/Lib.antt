@@ -1,4 +1,4 @@
-pub mod Reading
+pub mod Reads
 pub mod Keys
 pub mod Faults
 pub mod FlowFile

@@ -1,49 +1,49 @@
 //! Why a flow file is refused.
 
-use crate::keys::{Key, Place, keys_of};
+use crate::keys::{Key, TablePath, keys_of};
 use flow_model::FlowError;
 use std::alloc::{AllocError, AllocFailed};
 use std::fmt;
 use sw_participant::Text;
 use thiserror::Error;
 
-/// The first fault of a flow file.
+/// The first fault of a flow file, its kinds in the order of their numbers, from 0.
 #[derive(Debug, Drop, Error)]
 pub enum FlowTomlError {
-    /// The text is no TOML; the reason has its line and column, both from 1.
-    #[error("{0}")]
-    Toml(toml::de::Error),
-    /// The table has a key that is none of its keys; of several the least, by its bytes.
-    #[error("{}: unknown key {:?}: expected one of {}", .1, .0.as_str(), keys_for(*.1))]
-    Unknown(Text, Place),
-    /// The table lacks the key.
-    #[error("{}: key {} is missing: expected {}", .1, .0, .0.wants())]
-    Missing(Key, Place),
-    /// A value of another kind stands at the key; of several such keys the least.
-    #[error("{}: key {} has a value of the wrong kind: expected {}", .1, .0, .0.wants())]
-    WrongKind(Key, Place),
-    /// The file states a flow that its check refuses.
-    #[error("{0}")]
-    Flow(FlowError),
     /// An allocation failed, which says nothing of the file.
     #[error("out of memory")]
     OutOfMemory,
+    /// The text is no TOML; the reason has its line and column, both from 1.
+    #[error("{0}")]
+    Toml(toml::de::Error),
+    /// The table lacks the key.
+    #[error("{}: key {} is missing: expected {}", .1, .0, .0.wants())]
+    Missing(Key, TablePath),
+    /// A value of another kind stands at the key; of several such keys the least.
+    #[error("{}: key {} has a value of the wrong kind: expected {}", .1, .0, .0.wants())]
+    WrongKind(Key, TablePath),
+    /// The table has a key that is none of its keys; of several the least, by its bytes.
+    #[error("{}: unknown key: expected one of {}", .1, keys_for(*.1))]
+    Unknown(Text, TablePath),
+    /// The file states a flow that its check refuses.
+    #[error("{0}")]
+    Flow(FlowError),
 }
 
 /// The keys of a table, for a message.
 #[derive(Drop)]
 struct Known {
-    place: Place,
+    path: TablePath,
 }
 
-fn keys_for(place: Place) -> Known {
-    Known { place }
+fn keys_for(path: TablePath) -> Known {
+    Known { path }
 }
 
 impl fmt::Display for Known {
     fn fmt<W: fmt::Write>(&self, f: &mut fmt::Formatter<W>) -> fmt::Result {
         let mut gap = "";
-        for key in keys_of(self.place) {
+        for key in keys_of(self.path) {
             write!(f, "{gap}{key}")?;
             gap = ", ";
         }

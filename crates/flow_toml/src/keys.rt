@@ -7,7 +7,7 @@ use std::fmt;
 
 /// A table of a flow file. Groups, and the entries of a group, are numbered from 0.
 #[derive(Clone, Copy, PartialEq, Eq, Debug)]
-pub enum Place {
+pub enum TablePath {
     /// The table that the whole file is.
     Top,
     /// The group of this number.
@@ -40,13 +40,13 @@ pub(crate) enum Want {
 }
 
 /// The keys of a table, ascending by their spelling.
-pub(crate) fn keys_of(place: Place) -> &'static [Key]
-    ensures { result.now ≡ spec.keys_of place }
+pub(crate) fn keys_of(path: TablePath) -> &'static [Key]
+    ensures { result.now ≡ spec.keys_of path }
 {
-    match place {
-        Place::Top => &[Key::Group, Key::Retries],
-        Place::Group(_) => &[Key::Entry, Key::Name],
-        Place::Entry(_, _) => &[
+    match path {
+        TablePath::Top => &[Key::Group, Key::Retries],
+        TablePath::Group(_) => &[Key::Entry, Key::Name],
+        TablePath::Entry(_, _) => &[
             Key::AbortAware,
             Key::Participant,
             Key::Recovers,
@@ -109,12 +109,12 @@ impl fmt::Display for Want {
     }
 }
 
-impl fmt::Display for Place {
+impl fmt::Display for TablePath {
     fn fmt<W: fmt::Write>(&self, f: &mut fmt::Formatter<W>) -> fmt::Result {
         match *self {
-            Place::Top => f.write_str("top table"),
-            Place::Group(group) => write!(f, "group {group}"),
-            Place::Entry(group, index) => write!(f, "group {group}, entry {index}"),
+            TablePath::Top => f.write_str("top table"),
+            TablePath::Group(group) => write!(f, "group {group}"),
+            TablePath::Entry(group, index) => write!(f, "group {group}, entry {index}"),
         }
     }
 }

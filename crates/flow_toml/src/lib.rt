@@ -22,15 +22,12 @@
 //! - [`print_flow`] writes a text that reads back as the same flow.
 #![tactic(auto)]
 
-pub mod error;
-pub mod keys;
-pub mod print;
-pub mod read;
+mod error;
+mod keys;
+mod print;
+mod read;
 
 pub use error::FlowTomlError;
-pub use keys::{Key, Place};
+pub use keys::{Key, TablePath};
 pub use print::print_flow;
 pub use read::read_flow;
-
-#[cfg(test)]
-mod tests;

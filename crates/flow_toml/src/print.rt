@@ -7,7 +7,7 @@ ghost use Rattle.toml.specs.View.{view, table_view};
 ghost use Rattle.flow_model.specs.Check.{IsChecked};
 ghost use Rattle.flow_toml.specs.Keys.{spelling};
 ghost use Rattle.flow_toml.specs.FlowFile.{IsFlowFile};
-ghost use Rattle.flow_toml.specs.Document.{insert_member, entry_data, group_data, document_of};
+ghost use Rattle.flow_toml.specs.Document.{Puts, ReadsBack, document_of, entry_data, group_data};
 
 use crate::keys::Key;
 use flow_model::{Entry, Flow, Group};
@@ -16,7 +16,7 @@ use toml::value::Array;
 use toml::{Table, Value};
 
 fn put(alloc: Global, table: &mut Table, key: Key, value: Value) -> Result<(), AllocError>
-    ensures { OnOk result (table_view table.new ≡ insert_member (spelling key) (view value) (table_view table.old)) }
+    ensures { OnOk result (Puts (table_view table.old) (table_view table.new) (spelling key) (view value)) }
 {
     let name = String::from_str(alloc, key.as_str())?;
     table.insert(name, value)?;
@@ -54,7 +54,7 @@ fn entry_values(alloc: Global, entries: &[Entry]) -> Result<Array, AllocError>
     ensures { IfOk result (λ v. map view v.items ≡ map entry_data entries.now) }
 {
     let mut values = Vec::new(alloc);
-    'entries: for entry in entries {
+    for entry in entries {
         values.push(entry_value(alloc, entry)?)?;
     }
     Ok(values)
@@ -79,7 +79,7 @@ fn group_values(alloc: Global, groups: &[Group]) -> Result<Array, AllocError>
     ensures { IfOk result (λ v. map view v.items ≡ map group_data groups.now) }
 {
     let mut values = Vec::new(alloc);
-    'groups: for group in groups {
+    for group in groups {
         values.push(group_value(alloc, group)?)?;
     }
     Ok(values)
@@ -98,7 +98,7 @@ fn document(alloc: Global, flow: &Flow) -> Result<Table, AllocError>
 // `toml` reads back what nests at most 80 deep; a flow's document has no date.
 fn print_table(alloc: Global, table: &Table) -> Result<String, AllocError>
     requires { members_have_valid_dates (table_view table.now) ≡ true }
-    ensures { IfOk result (λ s. members_depth (table_view table.now) ≤ 80 → parse_document (string_bytes s) ≡ Some (table_view table.now)) }
+    ensures { IfOk result (λ s. ReadsBack (table_view table.now) (string_bytes s)) }
 {
     match toml::table_to_string(alloc, table) {
         Ok(text) => Ok(text),

@@ -5,14 +5,15 @@ ghost use Rattle.flow_model.specs.Check.{IsChecked};
 ghost use Rattle.toml.specs.Data.{get_member};
 ghost use Rattle.toml.specs.Text.{are_tables};
 ghost use Rattle.toml.specs.View.{view, table_view, array_view};
-ghost use Rattle.flow_toml.specs.Reading.{Gives, refused, each};
+ghost use Rattle.flow_toml.specs.Reads.{Gives, each};
+ghost use Rattle.sw_base.specs.Refusals.{refused};
 ghost use Rattle.flow_toml.specs.Keys as keys;
 ghost use Rattle.flow_toml.specs.Faults as faults;
 ghost use Rattle.flow_toml.specs.FlowFile as spec;
 ghost use Rattle.flow_toml.specs.declared.keys.Key.TheVariants as key;
 
 use crate::error::FlowTomlError;
-use crate::keys::{Key, Place, Want, keys_of};
+use crate::keys::{Key, TablePath, Want, keys_of};
 use flow_model::{Entry, Flow, Group};
 use std::alloc::{AllocError, Global};
 use sw_participant::{Kind, Sequence, Text};
@@ -28,7 +29,7 @@ fn member(table: &Table, key: Key) -> Option<&Value>
 fn are_tables(array: &Array) -> bool
     ensures { result ≡ are_tables (array_view array.now) }
 {
-    'items: for item in array {
+    for item in array {
         if !item.is_table() {
             return false;
         }
@@ -50,11 +51,11 @@ fn fits(want: Want, value: &Value) -> bool
     }
 }
 
-fn is_known(place: Place, name: &str) -> bool
-    ensures { result ≡ faults.is_known place name.now }
+fn is_known(path: TablePath, name: &str) -> bool
+    ensures { result ≡ faults.is_known path name.now }
 {
-    let keys = keys_of(place);
-    'keys: for key in keys {
+    let keys = keys_of(path);
+    for key in keys {
         if name == key.as_str() {
             return true;
         }
@@ -78,22 +79,22 @@ fn is_wrong(table: &Table, key: Key) -> bool
 }
 
 // A table's keys ascend, so the first is the least.
-fn unknown_key(place: Place, table: &Table) -> Option<&String>
-    ensures { option_map (λ k. string_bytes k.now) result ≡ faults.unknown_key place (table_view table.now) }
+fn unknown_key(path: TablePath, table: &Table) -> Option<&String>
+    ensures { option_map (λ k. string_bytes k.now) result ≡ faults.unknown_key path (table_view table.now) }
 {
-    'members: for (name, _value) in table.iter() {
-        if !is_known(place, name.as_str()) {
+    for (name, _value) in table.iter() {
+        if !is_known(path, name.as_str()) {
             return Some(name);
         }
     }
     None
 }
 
-fn missing_key(place: Place, table: &Table) -> Option<Key>
-    ensures { result ≡ find (faults.is_missing (table_view table.now)) (keys.keys_of place) }
+fn missing_key(path: TablePath, table: &Table) -> Option<Key>
+    ensures { result ≡ find (faults.is_missing (table_view table.now)) (keys.keys_of path) }
 {
-    let keys = keys_of(place);
-    'keys: for key in keys {
+    let keys = keys_of(path);
+    for key in keys {
         if is_missing(table, *key) {
             return Some(*key);
         }
@@ -101,11 +102,11 @@ fn missing_key(place: Place, table: &Table) -> Option<Key>
     None
 }
 
-fn wrong_key(place: Place, table: &Table) -> Option<Key>
-    ensures { result ≡ find (faults.is_wrong (table_view table.now)) (keys.keys_of place) }
+fn wrong_key(path: TablePath, table: &Table) -> Option<Key>
+    ensures { result ≡ find (faults.is_wrong (table_view table.now)) (keys.keys_of path) }
 {
-    let keys = keys_of(place);
-    'keys: for key in keys {
+    let keys = keys_of(path);
+    for key in keys {
         if is_wrong(table, *key) {
             return Some(*key);
         }
@@ -114,18 +115,18 @@ fn wrong_key(place: Place, table: &Table) -> Option<Key>
 }
 
 // A table by itself, without the tables in it.
-fn test_table(alloc: Global, place: Place, table: &Table) -> Result<(), FlowTomlError>
-    ensures { Gives (λ u. u) result (refused (faults.table_fault place (table_view table.now))) }
+fn test_table(alloc: Global, path: TablePath, table: &Table) -> Result<(), FlowTomlError>
+    ensures { Gives (λ u. u) result (refused (faults.table_fault path (table_view table.now))) }
 {
-    if let Some(name) = unknown_key(place, table) {
+    if let Some(name) = unknown_key(path, table) {
         let name = Text::from_str(alloc, name.as_str())?;
-        return Err(FlowTomlError::Unknown(name, place));
+        return Err(FlowTomlError::Unknown(name, path));
     }
-    if let Some(key) = missing_key(place, table) {
-        return Err(FlowTomlError::Missing(key, place));
+    if let Some(key) = missing_key(path, table) {
+        return Err(FlowTomlError::Missing(key, path));
     }
-    match wrong_key(place, table) {
-        Some(key) => Err(FlowTomlError::WrongKind(key, place)),
+    match wrong_key(path, table) {
+        Some(key) => Err(FlowTomlError::WrongKind(key, path)),
         None => Ok(()),
     }
 }
@@ -177,10 +178,10 @@ fn retries_at(table: &Table) -> u8
     }
 }
 
-fn read_entry(alloc: Global, place: Place, table: &Table) -> Result<Entry, FlowTomlError>
-    ensures { Gives (λ e. e) result (spec.entry_at place (table_view table.now)) }
+fn read_entry(alloc: Global, path: TablePath, table: &Table) -> Result<Entry, FlowTomlError>
+    ensures { Gives (λ e. e) result (spec.entry_at path (table_view table.now)) }
 {
-    test_table(alloc, place, table)?;
+    test_table(alloc, path, table)?;
     let participant = text_at(alloc, table, Key::Participant)?;
     let kind = Kind {
         selector: flag_at(table, Key::Selector),
@@ -191,20 +192,20 @@ fn read_entry(alloc: Global, place: Place, table: &Table) -> Result<Entry, FlowT
 }
 
 fn read_entries(alloc: Global, group: usize, array: &Array) -> Result<Vec<Entry>, FlowTomlError>
-    ensures { Gives (λ es. es.items) result (each (spec.entry_of group) 0 (spec.tables_in (array_view array.now))) }
+    ensures { Gives (λ es. es.items) result (spec.entries_in group (array_view array.now)) }
 {
     let mut entries = Vec::new(alloc);
-    'items: for value in array {
+    for value in array {
         if let Some(table) = value.as_table() {
-            let place = Place::Entry(group, entries.len());
-            entries.push(read_entry(alloc, place, table)?)?;
+            let path = TablePath::Entry(group, entries.len());
+            entries.push(read_entry(alloc, path, table)?)?;
         }
     }
     Ok(entries)
 }
 
 fn entries_at(alloc: Global, group: usize, table: &Table) -> Result<Vec<Entry>, FlowTomlError>
-    ensures { Gives (λ es. es.items) result (each (spec.entry_of group) 0 (spec.tables_at key.Entry (table_view table.now))) }
+    ensures { Gives (λ es. es.items) result (spec.entries_at group (table_view table.now)) }
 {
     match member(table, Key::Entry) {
         Some(value) => match value.as_array() {
@@ -218,7 +219,7 @@ fn entries_at(alloc: Global, group: usize, table: &Table) -> Result<Vec<Entry>, 
 fn read_group(alloc: Global, number: usize, table: &Table) -> Result<Group, FlowTomlError>
     ensures { Gives (λ g. g) result (spec.group_of number (table_view table.now)) }
 {
-    test_table(alloc, Place::Group(number), table)?;
+    test_table(alloc, TablePath::Group(number), table)?;
     let entries = entries_at(alloc, number, table)?;
     let name = text_at(alloc, table, Key::Name)?;
     Ok(Group {
@@ -228,10 +229,10 @@ fn read_group(alloc: Global, number: usize, table: &Table) -> Result<Group, Flow
 }
 
 fn read_groups(alloc: Global, array: &Array) -> Result<Vec<Group>, FlowTomlError>
-    ensures { Gives (λ gs. gs.items) result (each spec.group_of 0 (spec.tables_in (array_view array.now))) }
+    ensures { Gives (λ gs. gs.items) result (spec.groups_in (array_view array.now)) }
 {
     let mut groups = Vec::new(alloc);
-    'items: for value in array {
+    for value in array {
         if let Some(table) = value.as_table() {
             groups.push(read_group(alloc, groups.len(), table)?)?;
         }
@@ -240,7 +241,7 @@ fn read_groups(alloc: Global, array: &Array) -> Result<Vec<Group>, FlowTomlError
 }
 
 fn groups_at(alloc: Global, table: &Table) -> Result<Vec<Group>, FlowTomlError>
-    ensures { Gives (λ gs. gs.items) result (each spec.group_of 0 (spec.tables_at key.Group (table_view table.now))) }
+    ensures { Gives (λ gs. gs.items) result (spec.groups_at (table_view table.now)) }
 {
     match member(table, Key::Group) {
         Some(value) => match value.as_array() {
@@ -254,7 +255,7 @@ fn groups_at(alloc: Global, table: &Table) -> Result<Vec<Group>, FlowTomlError>
 fn read_tables(alloc: Global, table: &Table) -> Result<Flow, FlowTomlError>
     ensures { Gives (λ f. f) result (spec.flow_of (table_view table.now)) }
 {
-    test_table(alloc, Place::Top, table)?;
+    test_table(alloc, TablePath::Top, table)?;
     let groups = groups_at(alloc, table)?;
     Ok(Flow {
         retries: retries_at(table),

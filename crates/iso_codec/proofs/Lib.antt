@@ -1,8 +1,10 @@
-pub mod Loops
-pub mod Binds
-pub mod Values
-pub mod Maps
-pub mod Messages
-pub mod Spellings
-pub mod Written
-pub mod Answering
+mod DigitLoops
+mod ResultSteps
+mod FieldValues
+mod Bitmaps
+mod MessageReads
+mod BitmapWrites
+mod Encoding
+mod EncodedLength
+mod DecodeAnswers
+pub mod FrontReads

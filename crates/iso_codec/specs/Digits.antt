@@ -1,6 +1,5 @@
--- Digits in text.
+-- Hexadecimal digits in text.
 use Rattle.std.specs.Prelude.{ℕ, ◌+◌, ◌-◌, ◌*◌, ◌%◌, Bool, ◌&&◌, nat_le, List, [], ◌∷◌, ◌++◌, Option, Some, None, if◌then◌else◌}
-use Rattle.iso_msg.specs.Values.{is_digit}
 
 -- the value of a hexadecimal digit, in either case
 abbrev pub hex_value : ℕ → Option ℕ
@@ -20,7 +19,8 @@ bit n is_set = if is_set then n ∷ [] else []
 
 -- the numbers of the set bits of a hexadecimal digit, whose highest bit has number n
 abbrev pub nibble : ℕ → ℕ → List ℕ
-nibble n d = bit n (nat_le 8 d) ++ bit (n + 1) (nat_le 4 (d % 8)) ++ bit (n + 2) (nat_le 2 (d % 4)) ++ bit (n + 3) (nat_le 1 (d % 2))
+nibble n d =
+    bit n (nat_le 8 d) ++ bit (n + 1) (nat_le 4 (d % 8)) ++ bit (n + 2) (nat_le 2 (d % 4)) ++ bit (n + 3) (nat_le 1 (d % 2))
 
 -- the numbers of the set bits of a text of hexadecimal digits, of which the first bit has number n
 unfoldable pub bits_at : ℕ → List ℕ → Option (List ℕ)
@@ -32,11 +32,3 @@ unfoldable pub octets : List ℕ → Option (List ℕ)
 octets [] = Some []
 octets (c ∷ []) = None
 octets (c ∷ e ∷ cs) = both (λ b bs. b ∷ bs) (both (λ h l. 16 * h + l) (hex_value c) (hex_value e)) (octets cs)
-
--- the number whose decimal digits are those of n and then these
-abbrev pub number_after : ℕ → List ℕ → Option ℕ
-number_after n [] = Some n
-number_after n (c ∷ cs) = if is_digit c then number_after (10 * n + (c - 48)) cs else None
-
-abbrev pub number_of : List ℕ → Option ℕ
-number_of cs = number_after 0 cs

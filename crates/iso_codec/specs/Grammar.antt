@@ -7,13 +7,15 @@ use Rattle.iso_msg.specs.declared.table.Form.TheVariants.{Fixed, Variable, Binar
 use Rattle.iso_msg.specs.Table.{form_of}
 use Rattle.iso_msg.specs.Values.{takes}
 use Rattle.iso_msg.specs.Messages.{Fields, PlainMessage, IsMti, numbers_of}
-use Rattle.iso_codec.specs.Digits.{bits_at, octets, number_of}
+use Rattle.iso_codec.specs.Digits.{bits_at, octets}
+use Rattle.sw_base.specs.Digits.{number_of}
 
 -- The text of a value: the value itself, of its exact length; or behind as many digits of length as
 -- the form has, that tell the value's length; or sixteen hexadecimal digits of eight bytes.
 abbrev pub SpellsValue : Option Form → List ℕ → List ℕ → Type 0
 SpellsValue None text value = ⊥
-SpellsValue (Some (Fixed content exact)) text value = (text ≡ value) × (length value ≡ exact) × (takes content value ≡ true)
+SpellsValue (Some (Fixed content exact)) text value =
+    (text ≡ value) × (length value ≡ exact) × (takes content value ≡ true)
 SpellsValue (Some (Variable content places most)) text value =
     (digits : List ℕ) × (text ≡ digits ++ value) × (length digits ≡ places) × (number_of digits ≡ Some (length value))
     × (length value ≤ most) × (takes content value ≡ true)
@@ -29,9 +31,10 @@ SpellsFields bytes (field ∷ fields) =
 -- one bitmap, whose set bits are the numbers of fields; or two, and then bit 1 is set beside them
 abbrev pub SpellsNumbers : List ℕ → List ℕ → Type 0
 SpellsNumbers text numbers =
-    ((length text ≡ 16) × (bits_at 1 text ≡ Some numbers)) ⊎ ((length text ≡ 32) × (bits_at 1 text ≡ Some (1 ∷ numbers)))
+    ((length text ≡ 16) × (bits_at 1 text ≡ Some numbers))
+    ⊎ ((length text ≡ 32) × (bits_at 1 text ≡ Some (1 ∷ numbers)))
 
 abbrev pub Spells : List ℕ → PlainMessage → Type 0
 Spells bytes m =
-    (maps rest : List ℕ) × (bytes ≡ m.mti ++ (maps ++ rest)) × IsMti m.mti
-    × SpellsNumbers maps (numbers_of m.fields) × SpellsFields rest m.fields
+    (bitmaps rest : List ℕ) × (bytes ≡ m.mti ++ (bitmaps ++ rest)) × IsMti m.mti
+    × SpellsNumbers bitmaps (numbers_of m.fields) × SpellsFields rest m.fields

@@ -1,6 +1,6 @@
 pub mod Digits
 pub mod Grammar
-pub mod Reading
+pub mod Reads
 pub mod Spelling
-pub mod Growing
-pub mod Merging
+pub mod GrowingMessage
+pub mod RisingBitmaps

@@ -2,7 +2,8 @@
 
 ghost use Rattle.std.specs.Prelude.{◌≡◌, ◌<◌, ◌≤◌, ◌+◌, [], length, option_map};
 ghost use Rattle.iso_codec.specs.Digits.{bits_at};
-ghost use Rattle.iso_codec.specs.Reading.{Exactly, map_at, maps_at, known, behind, put_before, field_numbers, starts_with_1};
+ghost use Rattle.iso_codec.specs.Reads.{Exactly, behind, bitmap_at, bitmaps_at, field_numbers};
+ghost use Rattle.iso_codec.specs.Reads.{known, put_before, starts_with_1};
 
 use crate::error::DecodeError;
 use crate::numbers::Numbers;
@@ -29,12 +30,16 @@ fn read_bits(text: &[u8], first: u8, numbers: &mut Numbers) -> Option<()>
     Some(())
 }
 
-#[tactic(auto, unfolding(crate::specs::Reading::map_at))]
-fn read_map<'a>(bytes: &'a [u8], first: u8, numbers: &mut Numbers) -> Result<&'a [u8], DecodeError>
+#[tactic(auto, unfolding(crate::specs::Reads::bitmap_at))]
+fn read_bitmap<'a>(
+    bytes: &'a [u8],
+    first: u8,
+    numbers: &mut Numbers,
+) -> Result<&'a [u8], DecodeError>
     requires first { first ≤ 65 }
     requires room { length numbers.old < first }
     ensures map { Exactly (λ rest. (numbers.new, rest.now)) result
-        (behind numbers.old (map_at first bytes.now)) }
+        (behind numbers.old (bitmap_at first bytes.now)) }
     ensures small { length numbers.new ≤ length numbers.old + 64 }
 {
     let (text, rest) = split(bytes, 16)?;
@@ -54,14 +59,14 @@ fn is_first_1(numbers: &[u8]) -> bool
 }
 
 /// Collects the numbers of the set bits of one bitmap or two, and answers the bytes after them.
-#[tactic(auto, unfolding(crate::specs::Reading::maps_at))]
-pub fn read_maps<'a>(bytes: &'a [u8], numbers: &mut Numbers) -> Result<&'a [u8], DecodeError>
+#[tactic(auto, unfolding(crate::specs::Reads::bitmaps_at))]
+pub fn read_bitmaps<'a>(bytes: &'a [u8], numbers: &mut Numbers) -> Result<&'a [u8], DecodeError>
     requires { numbers.old ≡ [] }
-    ensures { Exactly (λ rest. (numbers.new, rest.now)) result (maps_at bytes.now) }
+    ensures { Exactly (λ rest. (numbers.new, rest.now)) result (bitmaps_at bytes.now) }
 {
-    let rest = read_map(bytes, 1, numbers)?;
+    let rest = read_bitmap(bytes, 1, numbers)?;
     if is_first_1(numbers.as_slice()) {
-        return read_map(rest, 65, numbers);
+        return read_bitmap(rest, 65, numbers);
     }
     Ok(rest)
 }
@@ -78,7 +83,7 @@ pub fn fields_of(numbers: &[u8]) -> &[u8]
 }
 
 /// Refuses the first number that the profile does not have.
-#[tactic(auto, unfolding(crate::specs::Reading::known))]
+#[tactic(auto, unfolding(crate::specs::Reads::known))]
 pub fn check_known(numbers: &[u8]) -> Result<(), DecodeError>
     ensures { Exactly (λ _. tt) result (known numbers.now) }
 {

@@ -1,16 +1,21 @@
 //! Why bytes are no message.
 
 ghost use Rattle.std.specs.Prelude.{◌≡◌};
+ghost use Rattle.iso_codec.specs.GrowingMessage.{error_of};
 ghost use Rattle.iso_codec.specs.declared.error.DecodeError.TheVariants.{OutOfMemory};
 
-use iso_msg::{ExpectedValue, FieldLabel};
+use iso_msg::{ExpectedValue, FieldLabel, MessageError};
 use std::alloc::AllocError;
 use thiserror::Error;
 
 /// The first fault from the left, or want of memory. Fields have their number, and the text of a
-/// fault tells their name and what was expected.
+/// fault tells their name and what was expected. Their numbers are 0 of want of memory, and 1 to 7 in
+/// this order.
 #[derive(Clone, Copy, Debug, PartialEq, Eq, Drop, Error)]
 pub enum DecodeError {
+    /// The allocator has refused memory. The bytes are those of a message.
+    #[error("out of memory")]
+    OutOfMemory,
     /// A part is longer than what is left of the bytes.
     #[error("the bytes end within the message")]
     Short,
@@ -32,9 +37,6 @@ pub enum DecodeError {
     /// Bytes stand after the last field.
     #[error("there are bytes after the last field")]
     Trailing,
-    /// The allocator has refused memory. The bytes are those of a message.
-    #[error("out of memory")]
-    OutOfMemory,
 }
 
 impl From<AllocError> for DecodeError {
@@ -42,5 +44,20 @@ impl From<AllocError> for DecodeError {
 
     fn from(_e: AllocError) -> DecodeError {
         DecodeError::OutOfMemory
+    }
+}
+
+/// The fault of a value that a message does not take.
+impl From<MessageError> for DecodeError {
+    ghost from_gives = { λ e f. f ≡ error_of e };
+
+    fn from(e: MessageError) -> DecodeError {
+        match e {
+            MessageError::FieldNotInProfile(number) => DecodeError::FieldNotInProfile(number),
+            MessageError::BadLength(number) => DecodeError::BadLength(number),
+            MessageError::BadContent(number) => DecodeError::BadContent(number),
+            MessageError::BadMti => DecodeError::BadMti,
+            MessageError::OutOfMemory => DecodeError::OutOfMemory,
+        }
     }
 }

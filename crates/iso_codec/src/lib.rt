@@ -5,23 +5,27 @@
 //! `specs/Grammar.antt`) relates bytes and messages, apart from both directions.
 //!
 //! - `decode` answers a message exactly where the grammar relates it to the bytes, and else the
-//!   first fault from the left, which `read` of `specs/Reading.antt` names. It reads the bytes once
+//!   first fault from the left, which `read` of `specs/Reads.antt` names. It reads the bytes once
 //!   and copies only the values. Want of memory is told only of bytes that are readable.
 //! - `encode` answers the one spelling with upper case digits and without an empty secondary
-//!   bitmap (`spelling` of `specs/Spelling.antt`), and what `decode` reads of it is the message.
+//!   bitmap (`spelling` of `specs/Spelling.antt`), and what `decode` reads of it is the message. It
+//!   has at most 9,999 bytes.
+//! - `read_front`, `split`, `read_variable`, `read_binary` and `check_content` are the steps of the same
+//!   reading, for a caller that keeps no message: what each of them answers is that step of `read`.
 #![tactic(auto)]
 
 mod bitmap;
-mod checking;
+mod check;
 mod error;
+mod in_place;
 mod numbers;
 mod parts;
-mod reading;
-mod writing;
+mod read;
+mod write;
 
 pub use error::DecodeError;
-pub use reading::decode;
-pub use writing::encode;
-
-#[cfg(test)]
-mod tests;
+pub use in_place::{check_content, read_front};
+pub use numbers::Numbers;
+pub use parts::{read_binary, read_variable, split};
+pub use read::decode;
+pub use write::{encode, push_hex};

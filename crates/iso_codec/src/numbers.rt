@@ -2,10 +2,13 @@
 
 ghost use Rattle.std.specs.Prelude.{◌≡◌, ◌<◌, ◌≤◌, ◌+◌, ℕ, List, [], ◌∷◌, ◌++◌, length, take};
 ghost use Rattle.iso_codec.specs.Digits.{bit, nibble};
+ghost use Rattle.iso_codec.specs.Reads.{field_numbers};
 
+use crate::bitmap::fields_of;
 use std::marker::Model;
 
-/// Contracts see the list.
+/// A list of up to 128 numbers of fields, bit 1 among them where there is a second bitmap. Contracts see
+/// the list.
 #[derive(Drop)]
 pub struct Numbers {
     list: [u8; 128],
@@ -28,6 +31,13 @@ impl Numbers {
             list: [0; 128],
             len: 0,
         }
+    }
+
+    /// The numbers without bit 1, which is no field.
+    pub fn fields(&self) -> &[u8]
+        ensures { result.now ≡ field_numbers self.now }
+    {
+        fields_of(self.as_slice())
     }
 
     pub fn as_slice(&self) -> &[u8]

@@ -1,11 +1,12 @@
 //! The parts of a message from the left, read without memory.
 
 ghost use Rattle.std.specs.Prelude.{◌≡◌, ◌<◌, ◌≤◌, ◌+◌, ◌*◌, length, IfOk, IfSome};
-ghost use Rattle.iso_codec.specs.Digits.{both, hex_value, octets, number_of};
-ghost use Rattle.iso_codec.specs.Reading.{Exactly, part, mti_is, behind_length, octets_at};
+ghost use Rattle.iso_codec.specs.Digits.{both, hex_value, octets};
+ghost use Rattle.iso_codec.specs.Reads.{Exactly, part, mti_is, behind_length, octets_at};
 
 use crate::error::DecodeError;
 use iso_msg::Mti;
+use sw_base::decimal;
 
 /// So many bytes, and those after them.
 pub fn split(bytes: &[u8], count: usize) -> Result<(&[u8], &[u8]), DecodeError>
@@ -45,42 +46,27 @@ pub fn hex_digit(c: u8) -> Option<u8>
     None
 }
 
-/// The length that two or three digits tell.
-fn length_of(digits: &[u8]) -> Option<u16>
-    requires { length digits.now ≤ 3 }
-    ensures { result ≡ number_of digits.now }
-{
-    let mut n = 0;
-    for c in digits {
-        if *c < b'0' || b'9' < *c {
-            return None;
-        }
-        n = 10 * n + (*c - b'0') as u16;
-    }
-    Some(n)
-}
-
-/// The text of a field of variable length, and the bytes after it.
-#[tactic(auto, unfolding(crate::specs::Reading::behind_length))]
+/// The value of an LLVAR or LLLVAR field, behind digits of its length, and the bytes after it.
+#[tactic(auto, unfolding(crate::specs::Reads::behind_length))]
 pub fn read_variable(
-    places: u16,
-    most: u16,
+    length_digits: u16,
+    max_length: u16,
     number: u8,
     bytes: &[u8],
 ) -> Result<(&[u8], &[u8]), DecodeError>
-    requires { places ≤ 3 }
+    requires { length_digits ≤ 3 }
     ensures text { Exactly (λ x. (x.0.now, x.1.now)) result
-        (behind_length places most number bytes.now) }
-    ensures len { IfOk result (λ x. length x.0.now ≤ most) }
+        (behind_length length_digits max_length number bytes.now) }
+    ensures len { IfOk result (λ x. length x.0.now ≤ max_length) }
 {
-    let (digits, after) = split(bytes, places as usize)?;
-    let Some(len) = length_of(digits) else {
+    let (digits, after) = split(bytes, length_digits as usize)?;
+    let Some(length) = decimal(digits) else {
         return Err(DecodeError::BadLength(number));
     };
-    if most < len {
+    if u32::from(max_length) < length {
         return Err(DecodeError::BadLength(number));
     }
-    let (text, rest) = split(after, len as usize)?;
+    let (text, rest) = split(after, length as usize)?;
     Ok((text, rest))
 }
 
@@ -108,7 +94,7 @@ fn read_octets(text: &[u8]) -> Option<[u8; 8]>
 }
 
 /// The bytes of a binary field, and the bytes after its digits.
-#[tactic(auto, unfolding(crate::specs::Reading::octets_at))]
+#[tactic(auto, unfolding(crate::specs::Reads::octets_at))]
 pub fn read_binary(number: u8, bytes: &[u8]) -> Result<([u8; 8], &[u8]), DecodeError>
     ensures { Exactly (λ x. (x.0, x.1.now)) result (octets_at number bytes.now) }
 {

@@ -1,4 +1,5 @@
 pub mod Bools
-pub mod Tables
-pub mod Maps
-pub mod Walks
+pub mod FieldTable
+mod FieldMaps
+pub mod FieldLists
+mod FieldSearch

@@ -1,7 +1,8 @@
 -- What a message is: a type of four digits, and a finite map of valid values.
 use Rattle.std.specs.Prelude.{◌≡◌, ◌≢◌, ◌<◌, ℕ, true, List, [], ◌∷◌, length, map, Option, Some, None, ◌==◌, nat_lt, if◌then◌else◌}
 use Rattle.std.specs.List.{list_all}
-use Rattle.iso_msg.specs.Values.{is_digit, refusal}
+use Rattle.sw_base.specs.Digits.{is_digit}
+use Rattle.iso_msg.specs.Values.{refusal}
 
 -- a finite map from numbers to values, as the list of its pairs
 abbrev pub Fields : Type 0
@@ -50,7 +51,8 @@ abbrev pub ReadsBack : Type 0
 ReadsBack = (n : ℕ) (value : List ℕ) (fields : Fields) → value_at n (with_value n value fields) ≡ Some value
 
 abbrev pub KeepsOthers : Type 0
-KeepsOthers = (n k : ℕ) (value : List ℕ) (fields : Fields) → k ≢ n → value_at k (with_value n value fields) ≡ value_at k fields
+KeepsOthers = (n k : ℕ) (value : List ℕ) (fields : Fields) → k ≢ n
+    → value_at k (with_value n value fields) ≡ value_at k fields
 
 abbrev pub TakesOut : Type 0
 TakesOut = (n low : ℕ) (fields : Fields) → AreFields low fields → value_at n (without n fields) ≡ None

@@ -5,73 +5,93 @@ use Rattle.iso_msg.specs.declared.name.FieldName.TheVariants.{PrimaryAccountNumb
 use Rattle.iso_msg.specs.declared.table.Definition.{Definition}
 use Rattle.iso_msg.specs.declared.table.Form.{Form}
 use Rattle.iso_msg.specs.declared.table.Form.TheVariants.{Fixed, Variable, Binary}
-use Rattle.iso_msg.specs.declared.table.Content.TheVariants.{Digits, Text}
+use Rattle.iso_msg.specs.declared.table.Content.TheVariants.{Numeric, Printable}
 
 abbrev pub Row : Type 0
 Row = ℕ × FieldName × Form
 
--- Fixed: so many digits or characters. Variable: digits of length, then at most so many. Binary: 64 bits
+-- The forms as the standard writes them: so many digits (n) or characters (ans), at most so many behind two
+-- digits of length (LLVAR) or three (LLLVAR), and 64 bits (b).
+abbrev n : ℕ → Form
+n length = Fixed Numeric length
+
+abbrev ans : ℕ → Form
+ans length = Fixed Printable length
+
+abbrev n_llvar : ℕ → Form
+n_llvar most = Variable Numeric 2 most
+
+abbrev ans_llvar : ℕ → Form
+ans_llvar most = Variable Printable 2 most
+
+abbrev ans_lllvar : ℕ → Form
+ans_lllvar most = Variable Printable 3 most
+
+abbrev b64 : Form
+b64 = Binary
+
 unfoldable pub rows : List Row
 rows =
-    (2, PrimaryAccountNumber, Variable Digits 2 19) ∷
-    (3, ProcessingCode, Fixed Digits 6) ∷
-    (4, AmountTransaction, Fixed Digits 12) ∷
-    (5, AmountSettlement, Fixed Digits 12) ∷
-    (6, AmountCardholderBilling, Fixed Digits 12) ∷
-    (7, TransmissionDateAndTime, Fixed Digits 10) ∷
-    (9, ConversionRateSettlement, Fixed Digits 8) ∷
-    (10, ConversionRateCardholderBilling, Fixed Digits 8) ∷
-    (11, SystemsTraceAuditNumber, Fixed Digits 6) ∷
-    (12, TimeLocalTransaction, Fixed Digits 6) ∷
-    (13, DateLocalTransaction, Fixed Digits 4) ∷
-    (14, DateExpiration, Fixed Digits 4) ∷
-    (15, DateSettlement, Fixed Digits 4) ∷
-    (16, DateConversion, Fixed Digits 4) ∷
-    (17, DateCapture, Fixed Digits 4) ∷
-    (18, MerchantType, Fixed Digits 4) ∷
-    (19, AcquiringInstitutionCountryCode, Fixed Digits 3) ∷
-    (22, PointOfServiceEntryMode, Fixed Digits 3) ∷
-    (23, CardSequenceNumber, Fixed Digits 3) ∷
-    (24, NetworkInternationalIdentifier, Fixed Digits 3) ∷
-    (25, PointOfServiceConditionCode, Fixed Digits 2) ∷
-    (26, PointOfServicePinCaptureCode, Fixed Digits 2) ∷
-    (32, AcquiringInstitutionIdentificationCode, Variable Digits 2 11) ∷
-    (33, ForwardingInstitutionIdentificationCode, Variable Digits 2 11) ∷
-    (35, Track2Data, Variable Text 2 37) ∷
-    (37, RetrievalReferenceNumber, Fixed Text 12) ∷
-    (38, AuthorizationIdentificationResponse, Fixed Text 6) ∷
-    (39, ResponseCode, Fixed Text 2) ∷
-    (41, CardAcceptorTerminalIdentification, Fixed Text 8) ∷
-    (42, CardAcceptorIdentificationCode, Fixed Text 15) ∷
-    (43, CardAcceptorNameAndLocation, Fixed Text 40) ∷
-    (44, AdditionalResponseData, Variable Text 2 25) ∷
-    (45, Track1Data, Variable Text 2 76) ∷
-    (48, AdditionalDataPrivate, Variable Text 3 999) ∷
-    (49, CurrencyCodeTransaction, Fixed Text 3) ∷
-    (50, CurrencyCodeSettlement, Fixed Text 3) ∷
-    (51, CurrencyCodeCardholderBilling, Fixed Text 3) ∷
-    (52, PersonalIdentificationNumberData, Binary) ∷
-    (53, SecurityRelatedControlInformation, Fixed Digits 16) ∷
-    (54, AdditionalAmounts, Variable Text 3 120) ∷
-    (55, ReservedForIsoUse, Variable Text 3 999) ∷
-    (60, ReservedForPrivateUse, Variable Text 3 999) ∷
-    (61, ReservedForPrivateUse, Variable Text 3 999) ∷
-    (62, ReservedForPrivateUse, Variable Text 3 999) ∷
-    (63, ReservedForPrivateUse, Variable Text 3 999) ∷
-    (64, MessageAuthenticationCode, Binary) ∷
-    (70, NetworkManagementInformationCode, Fixed Digits 3) ∷
-    (90, OriginalDataElements, Fixed Digits 42) ∷
-    (95, ReplacementAmounts, Fixed Text 42) ∷
-    (100, ReceivingInstitutionIdentificationCode, Variable Digits 2 11) ∷
-    (102, AccountIdentification1, Variable Text 2 28) ∷
-    (103, AccountIdentification2, Variable Text 2 28) ∷
-    (128, MessageAuthenticationCode, Binary) ∷
+    (2, PrimaryAccountNumber, n_llvar 19) ∷
+    (3, ProcessingCode, n 6) ∷
+    (4, AmountTransaction, n 12) ∷
+    (5, AmountSettlement, n 12) ∷
+    (6, AmountCardholderBilling, n 12) ∷
+    (7, TransmissionDateAndTime, n 10) ∷
+    (9, ConversionRateSettlement, n 8) ∷
+    (10, ConversionRateCardholderBilling, n 8) ∷
+    (11, SystemsTraceAuditNumber, n 6) ∷
+    (12, TimeLocalTransaction, n 6) ∷
+    (13, DateLocalTransaction, n 4) ∷
+    (14, DateExpiration, n 4) ∷
+    (15, DateSettlement, n 4) ∷
+    (16, DateConversion, n 4) ∷
+    (17, DateCapture, n 4) ∷
+    (18, MerchantType, n 4) ∷
+    (19, AcquiringInstitutionCountryCode, n 3) ∷
+    (22, PointOfServiceEntryMode, n 3) ∷
+    (23, CardSequenceNumber, n 3) ∷
+    (24, NetworkInternationalIdentifier, n 3) ∷
+    (25, PointOfServiceConditionCode, n 2) ∷
+    (26, PointOfServicePinCaptureCode, n 2) ∷
+    (32, AcquiringInstitutionIdentificationCode, n_llvar 11) ∷
+    (33, ForwardingInstitutionIdentificationCode, n_llvar 11) ∷
+    (35, Track2Data, ans_llvar 37) ∷
+    (37, RetrievalReferenceNumber, ans 12) ∷
+    (38, AuthorizationIdentificationResponse, ans 6) ∷
+    (39, ResponseCode, ans 2) ∷
+    (41, CardAcceptorTerminalIdentification, ans 8) ∷
+    (42, CardAcceptorIdentificationCode, ans 15) ∷
+    (43, CardAcceptorNameAndLocation, ans 40) ∷
+    (44, AdditionalResponseData, ans_llvar 25) ∷
+    (45, Track1Data, ans_llvar 76) ∷
+    (48, AdditionalDataPrivate, ans_lllvar 999) ∷
+    (49, CurrencyCodeTransaction, ans 3) ∷
+    (50, CurrencyCodeSettlement, ans 3) ∷
+    (51, CurrencyCodeCardholderBilling, ans 3) ∷
+    (52, PersonalIdentificationNumberData, b64) ∷
+    (53, SecurityRelatedControlInformation, n 16) ∷
+    (54, AdditionalAmounts, ans_lllvar 120) ∷
+    (55, ReservedForIsoUse, ans_lllvar 999) ∷
+    (60, ReservedForPrivateUse, ans_lllvar 999) ∷
+    (61, ReservedForPrivateUse, ans_lllvar 999) ∷
+    (62, ReservedForPrivateUse, ans_lllvar 999) ∷
+    (63, ReservedForPrivateUse, ans_lllvar 999) ∷
+    (64, MessageAuthenticationCode, b64) ∷
+    (70, NetworkManagementInformationCode, n 3) ∷
+    (90, OriginalDataElements, n 42) ∷
+    (95, ReplacementAmounts, ans 42) ∷
+    (100, ReceivingInstitutionIdentificationCode, n_llvar 11) ∷
+    (102, AccountIdentification1, ans_llvar 28) ∷
+    (103, AccountIdentification2, ans_llvar 28) ∷
+    (128, MessageAuthenticationCode, b64) ∷
     []
 
 -- the definition of a number in the first row that has it
 abbrev pub definition_in : ℕ → List Row → Option Definition
 definition_in n [] = None
-definition_in n (row ∷ others) = if row.0 == n then Some (record { name = row.1; form = row.2 }) else definition_in n others
+definition_in n (row ∷ others) =
+    if row.0 == n then Some (record { name = row.1; form = row.2 }) else definition_in n others
 
 unfoldable pub definition_of : ℕ → Option Definition
 definition_of n = definition_in n rows

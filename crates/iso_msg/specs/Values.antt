@@ -4,14 +4,11 @@ use Rattle.std.specs.List.{list_all}
 use Rattle.iso_msg.specs.declared.table.Form.{Form}
 use Rattle.iso_msg.specs.declared.table.Form.TheVariants.{Fixed, Variable, Binary}
 use Rattle.iso_msg.specs.declared.table.Content.{Content}
-use Rattle.iso_msg.specs.declared.table.Content.TheVariants.{Digits, Text}
+use Rattle.iso_msg.specs.declared.table.Content.TheVariants.{Numeric, Printable}
 use Rattle.iso_msg.specs.declared.error.MessageError.{MessageError}
 use Rattle.iso_msg.specs.declared.error.MessageError.TheVariants.{FieldNotInProfile, BadLength, BadContent, BadMti, OutOfMemory}
 use Rattle.iso_msg.specs.Table.{form_of}
-
--- 0 to 9
-abbrev pub is_digit : ℕ → Bool
-is_digit b = nat_le 48 b && nat_le b 57
+use Rattle.sw_base.specs.Digits.{is_digit}
 
 -- printable ASCII, 0x20 to 0x7E
 abbrev pub is_text : ℕ → Bool
@@ -21,8 +18,8 @@ abbrev pub is_byte : ℕ → Bool
 is_byte b = nat_lt b 256
 
 abbrev pub takes : Content → List ℕ → Bool
-takes Digits value = list_all is_digit value
-takes Text value = list_all is_text value
+takes Numeric value = list_all is_digit value
+takes Printable value = list_all is_text value
 
 abbrev pub has_length : Form → ℕ → Bool
 has_length (Fixed content exact) len = len == exact

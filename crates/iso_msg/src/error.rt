@@ -9,9 +9,13 @@ use std::fmt;
 use thiserror::Error;
 
 /// A refusal. One that a field gets has the field's number; its text tells the name and what was
-/// expected too. The refusals of `Message::set` are tested in this order.
+/// expected too. The refusals of `Message::set` are tested in this order, want of memory last. Their
+/// numbers are 0 of want of memory, 1, 2 and 3 of a field's and 4 of a message type's.
 #[derive(Clone, Copy, Debug, PartialEq, Eq, Drop, Error)]
 pub enum MessageError {
+    /// The allocator has refused memory.
+    #[error("out of memory")]
+    OutOfMemory,
     /// The number is no field of the profile.
     #[error("field {0}: the profile has no field of this number")]
     FieldNotInProfile(u8),
@@ -24,9 +28,6 @@ pub enum MessageError {
     /// A message type is four digits.
     #[error("message type: expected 4 digits")]
     BadMti,
-    /// The allocator has refused memory.
-    #[error("out of memory")]
-    OutOfMemory,
 }
 
 impl From<AllocError> for MessageError {

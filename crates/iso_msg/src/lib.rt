@@ -31,6 +31,3 @@ pub use mti::Mti;
 pub use name::FieldName;
 pub use table::{Content, Definition, Form, definition_at, form_at};
 pub use value::fits_content;
-
-#[cfg(test)]
-mod tests;

@@ -1,6 +1,6 @@
 //! A message: a type, and values of fields.
 
-ghost use Rattle.std.specs.Prelude.{◌≡◌, ◌<◌, [], length, IfOk, OnErr, OnOk, IfErr, None, get_or, option_map};
+ghost use Rattle.std.specs.Prelude.{◌≡◌, ◌<◌, [], length, IfOk, OnErr, OnOk, IfErr, IfSome, None, get_or, option_map};
 ghost use Rattle.iso_msg.specs.Messages.{PlainMessage, IsMessage, numbers_of, value_at, with_value, without};
 ghost use Rattle.iso_msg.specs.Values.{refusal, IsRefusal};
 
@@ -73,7 +73,9 @@ impl Message {
 
     /// The value at a number.
     pub fn get(&self, number: u8) -> Option<&[u8]>
-        ensures { option_map (λ v. v.now) result ≡ value_at number self.now.fields }
+        ensures value { option_map (λ v. v.now) result ≡ value_at number self.now.fields }
+        // Whatever calls were made, a value that is there fits its field.
+        ensures fits { IfSome result (λ v. refusal number v.now ≡ None) }
     {
         storage::get(&self.fields, number)
     }

@@ -34,7 +34,7 @@ impl Mti {
         ensures accepted { IsMti digits.now → IsOk result }
         ensures refused { OnErr result (result ≡ Err BadMti) }
     {
-        if !takes_all(Content::Digits, digits) {
+        if !takes_all(Content::Numeric, digits) {
             return Err(MessageError::BadMti);
         }
         match digits {

@@ -1,7 +1,8 @@
 //! Fields in rising order of their numbers.
 
-ghost use Rattle.std.specs.Prelude.{◌≡◌, OnOk, OnErr, IfOk, IfErr, option_map};
+ghost use Rattle.std.specs.Prelude.{◌≡◌, OnOk, OnErr, IfOk, IfErr, IfSome, None, option_map};
 ghost use Rattle.iso_msg.specs.Messages.{AreFields, value_at, with_value, without};
+ghost use Rattle.iso_msg.specs.Values.{refusal};
 ghost use Rattle.iso_msg.specs.Storage.{pairs, place_of};
 ghost use Rattle.iso_msg.specs.declared.error.MessageError.TheVariants.{OutOfMemory};
 
@@ -9,23 +10,16 @@ use crate::error::MessageError;
 use crate::field::Field;
 use std::alloc::{AllocError, Global};
 
-/// Where a number stands, or else where it has to go.
+/// Where a number is, or else where it has to go.
 fn place(fields: &[Field], number: u8) -> Result<usize, usize>
+    requires { AreFields 1 (pairs fields.now) }
     ensures { result ≡ place_of number (pairs fields.now) }
 {
-    for (i, field) in fields.iter().enumerate() {
-        if field.number >= number {
-            return if field.number == number {
-                Ok(i)
-            } else {
-                Err(i)
-            };
-        }
-    }
-    Err(fields.len())
+    fields.binary_search_by_key(&number, |field| field.number)
 }
 
 pub fn put(fields: &mut Vec<Field>, number: u8, value: Vec<u8>) -> Result<(), MessageError>
+    requires { AreFields 1 (pairs fields.old.items) }
     ensures ok { OnOk result (pairs fields.new.items
         ≡ with_value number value.items (pairs fields.old.items)) }
     ensures err { OnErr result (fields.new.items ≡ fields.old.items) }
@@ -39,14 +33,14 @@ pub fn put(fields: &mut Vec<Field>, number: u8, value: Vec<u8>) -> Result<(), Me
 }
 
 pub fn get(fields: &[Field], number: u8) -> Option<&[u8]>
-    ensures { option_map (λ v. v.now) result ≡ value_at number (pairs fields.now) }
+    requires { AreFields 1 (pairs fields.now) }
+    ensures value { option_map (λ v. v.now) result ≡ value_at number (pairs fields.now) }
+    ensures fits { IfSome result (λ v. refusal number v.now ≡ None) }
 {
-    for field in fields {
-        if field.number == number {
-            return Some(&field.value);
-        }
+    match place(fields, number) {
+        Ok(i) => Some(&fields[i].value),
+        Err(_) => None,
     }
-    None
 }
 
 pub fn take(fields: &mut Vec<Field>, number: u8) -> Option<Vec<u8>>

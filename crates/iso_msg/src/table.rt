@@ -6,24 +6,31 @@ ghost use Rattle.iso_msg.specs.Table.{definition_of, definitions, form_of, IsKno
 use crate::name::FieldName;
 use std::fmt;
 
-/// Which bytes a value may have.
+/// Which characters a value may have.
 #[derive(Clone, Copy, Debug, PartialEq, Eq)]
 pub enum Content {
-    /// Decimal digits, `0` to `9`.
-    Digits,
-    /// Printable ASCII, 0x20 to 0x7E.
-    Text,
+    /// `n`: decimal digits, `0` to `9`.
+    Numeric,
+    /// `ans`: letters, digits and special characters, the printable ASCII from 0x20 to 0x7E.
+    Printable,
 }
 
 /// What the values of a field are, and how one is spelled.
 #[derive(Clone, Copy, Debug, PartialEq, Eq)]
 pub enum Form {
-    /// A value of this many bytes, spelled as it is.
-    Fixed(Content, u16),
-    /// The first number is how many digits of length stand before the value, and the second is the
-    /// greatest length. A value may be empty.
-    Variable(Content, u16, u16),
-    /// Eight bytes of any kind, spelled as sixteen hexadecimal digits.
+    /// `n 6` or `ans 6`: a value of this length, spelled as it is.
+    Fixed {
+        content: Content,
+        length: u16,
+    },
+    /// LLVAR or LLLVAR: a value of at most this length behind two or three digits that tell its
+    /// length. It may be empty.
+    Variable {
+        content: Content,
+        length_digits: u16,
+        max_length: u16,
+    },
+    /// `b 64`: eight bytes of any kind, spelled as sixteen hexadecimal digits.
     Binary,
 }
 
@@ -31,14 +38,24 @@ pub enum Form {
 impl fmt::Display for Form {
     fn fmt<W: fmt::Write>(&self, f: &mut fmt::Formatter<W>) -> fmt::Result {
         match *self {
-            Form::Fixed(Content::Digits, length) => write!(f, "{length} digits"),
-            Form::Fixed(Content::Text, length) => write!(f, "{length} printable characters"),
-            Form::Variable(Content::Digits, _, most) => write!(f, "at most {most} digits"),
-            Form::Variable(Content::Text, _, most) => {
-                write!(f, "at most {most} printable characters")
-            }
+            Form::Fixed { content, length } => write!(f, "{length} {content}"),
+            Form::Variable {
+                content,
+                max_length,
+                ..
+            } => write!(f, "at most {max_length} {content}"),
             Form::Binary => f.write_str("8 bytes"),
         }
+    }
+}
+
+/// As a person reads it, as in "digits".
+impl fmt::Display for Content {
+    fn fmt<W: fmt::Write>(&self, f: &mut fmt::Formatter<W>) -> fmt::Result {
+        f.write_str(match self {
+            Content::Numeric => "digits",
+            Content::Printable => "printable characters",
+        })
     }
 }
 
@@ -49,297 +66,170 @@ pub struct Definition {
     pub form: Form,
 }
 
+// A definition as the standard writes it: the field's name, and `n`, `ans` or `b` with a length, or
+// with LLVAR or LLLVAR and the greatest length.
+macro_rules! definition {
+    ($name:ident, n $length:literal) => {
+        definition!($name; Form::Fixed { content: Content::Numeric, length: $length })
+    };
+    ($name:ident, ans $length:literal) => {
+        definition!($name; Form::Fixed { content: Content::Printable, length: $length })
+    };
+    ($name:ident, n LLVAR $max:literal) => {
+        definition!($name; Form::Variable {
+            content: Content::Numeric, length_digits: 2, max_length: $max
+        })
+    };
+    ($name:ident, ans LLVAR $max:literal) => {
+        definition!($name; Form::Variable {
+            content: Content::Printable, length_digits: 2, max_length: $max
+        })
+    };
+    ($name:ident, ans LLLVAR $max:literal) => {
+        definition!($name; Form::Variable {
+            content: Content::Printable, length_digits: 3, max_length: $max
+        })
+    };
+    ($name:ident, b 64) => {
+        definition!($name; Form::Binary)
+    };
+    ($name:ident; $form:expr) => {
+        Some(Definition { name: FieldName::$name, form: $form })
+    };
+}
+
 /// The definition of each number from 0 to 128. Those of fields outside this profile are missing;
 /// bit 1 only tells that there is a second bitmap, and is no field.
 static TABLE: [Option<Definition>; 129] = [
-    None,
-    None,
-    Some(Definition {
-        name: FieldName::PrimaryAccountNumber,
-        form: Form::Variable(Content::Digits, 2, 19),
-    }), // 2
-    Some(Definition {
-        name: FieldName::ProcessingCode,
-        form: Form::Fixed(Content::Digits, 6),
-    }), // 3
-    Some(Definition {
-        name: FieldName::AmountTransaction,
-        form: Form::Fixed(Content::Digits, 12),
-    }), // 4
-    Some(Definition {
-        name: FieldName::AmountSettlement,
-        form: Form::Fixed(Content::Digits, 12),
-    }), // 5
-    Some(Definition {
-        name: FieldName::AmountCardholderBilling,
-        form: Form::Fixed(Content::Digits, 12),
-    }), // 6
-    Some(Definition {
-        name: FieldName::TransmissionDateAndTime,
-        form: Form::Fixed(Content::Digits, 10),
-    }), // 7
-    None,
-    Some(Definition {
-        name: FieldName::ConversionRateSettlement,
-        form: Form::Fixed(Content::Digits, 8),
-    }), // 9
-    Some(Definition {
-        name: FieldName::ConversionRateCardholderBilling,
-        form: Form::Fixed(Content::Digits, 8),
-    }), // 10
-    Some(Definition {
-        name: FieldName::SystemsTraceAuditNumber,
-        form: Form::Fixed(Content::Digits, 6),
-    }), // 11
-    Some(Definition {
-        name: FieldName::TimeLocalTransaction,
-        form: Form::Fixed(Content::Digits, 6),
-    }), // 12
-    Some(Definition {
-        name: FieldName::DateLocalTransaction,
-        form: Form::Fixed(Content::Digits, 4),
-    }), // 13
-    Some(Definition {
-        name: FieldName::DateExpiration,
-        form: Form::Fixed(Content::Digits, 4),
-    }), // 14
-    Some(Definition {
-        name: FieldName::DateSettlement,
-        form: Form::Fixed(Content::Digits, 4),
-    }), // 15
-    Some(Definition {
-        name: FieldName::DateConversion,
-        form: Form::Fixed(Content::Digits, 4),
-    }), // 16
-    Some(Definition {
-        name: FieldName::DateCapture,
-        form: Form::Fixed(Content::Digits, 4),
-    }), // 17
-    Some(Definition {
-        name: FieldName::MerchantType,
-        form: Form::Fixed(Content::Digits, 4),
-    }), // 18
-    Some(Definition {
-        name: FieldName::AcquiringInstitutionCountryCode,
-        form: Form::Fixed(Content::Digits, 3),
-    }), // 19
-    None,
-    None,
-    Some(Definition {
-        name: FieldName::PointOfServiceEntryMode,
-        form: Form::Fixed(Content::Digits, 3),
-    }), // 22
-    Some(Definition {
-        name: FieldName::CardSequenceNumber,
-        form: Form::Fixed(Content::Digits, 3),
-    }), // 23
-    Some(Definition {
-        name: FieldName::NetworkInternationalIdentifier,
-        form: Form::Fixed(Content::Digits, 3),
-    }), // 24
-    Some(Definition {
-        name: FieldName::PointOfServiceConditionCode,
-        form: Form::Fixed(Content::Digits, 2),
-    }), // 25
-    Some(Definition {
-        name: FieldName::PointOfServicePinCaptureCode,
-        form: Form::Fixed(Content::Digits, 2),
-    }), // 26
-    None,
-    None,
-    None,
-    None,
-    None,
-    Some(Definition {
-        name: FieldName::AcquiringInstitutionIdentificationCode,
-        form: Form::Variable(Content::Digits, 2, 11),
-    }), // 32
-    Some(Definition {
-        name: FieldName::ForwardingInstitutionIdentificationCode,
-        form: Form::Variable(Content::Digits, 2, 11),
-    }), // 33
-    None,
-    Some(Definition {
-        name: FieldName::Track2Data,
-        form: Form::Variable(Content::Text, 2, 37),
-    }), // 35
-    None,
-    Some(Definition {
-        name: FieldName::RetrievalReferenceNumber,
-        form: Form::Fixed(Content::Text, 12),
-    }), // 37
-    Some(Definition {
-        name: FieldName::AuthorizationIdentificationResponse,
-        form: Form::Fixed(Content::Text, 6),
-    }), // 38
-    Some(Definition {
-        name: FieldName::ResponseCode,
-        form: Form::Fixed(Content::Text, 2),
-    }), // 39
-    None,
-    Some(Definition {
-        name: FieldName::CardAcceptorTerminalIdentification,
-        form: Form::Fixed(Content::Text, 8),
-    }), // 41
-    Some(Definition {
-        name: FieldName::CardAcceptorIdentificationCode,
-        form: Form::Fixed(Content::Text, 15),
-    }), // 42
-    Some(Definition {
-        name: FieldName::CardAcceptorNameAndLocation,
-        form: Form::Fixed(Content::Text, 40),
-    }), // 43
-    Some(Definition {
-        name: FieldName::AdditionalResponseData,
-        form: Form::Variable(Content::Text, 2, 25),
-    }), // 44
-    Some(Definition {
-        name: FieldName::Track1Data,
-        form: Form::Variable(Content::Text, 2, 76),
-    }), // 45
-    None,
-    None,
-    Some(Definition {
-        name: FieldName::AdditionalDataPrivate,
-        form: Form::Variable(Content::Text, 3, 999),
-    }), // 48
-    Some(Definition {
-        name: FieldName::CurrencyCodeTransaction,
-        form: Form::Fixed(Content::Text, 3),
-    }), // 49
-    Some(Definition {
-        name: FieldName::CurrencyCodeSettlement,
-        form: Form::Fixed(Content::Text, 3),
-    }), // 50
-    Some(Definition {
-        name: FieldName::CurrencyCodeCardholderBilling,
-        form: Form::Fixed(Content::Text, 3),
-    }), // 51
-    Some(Definition {
-        name: FieldName::PersonalIdentificationNumberData,
-        form: Form::Binary,
-    }), // 52
-    Some(Definition {
-        name: FieldName::SecurityRelatedControlInformation,
-        form: Form::Fixed(Content::Digits, 16),
-    }), // 53
-    Some(Definition {
-        name: FieldName::AdditionalAmounts,
-        form: Form::Variable(Content::Text, 3, 120),
-    }), // 54
-    Some(Definition {
-        name: FieldName::ReservedForIsoUse,
-        form: Form::Variable(Content::Text, 3, 999),
-    }), // 55
-    None,
-    None,
-    None,
-    None,
-    Some(Definition {
-        name: FieldName::ReservedForPrivateUse,
-        form: Form::Variable(Content::Text, 3, 999),
-    }), // 60
-    Some(Definition {
-        name: FieldName::ReservedForPrivateUse,
-        form: Form::Variable(Content::Text, 3, 999),
-    }), // 61
-    Some(Definition {
-        name: FieldName::ReservedForPrivateUse,
-        form: Form::Variable(Content::Text, 3, 999),
-    }), // 62
-    Some(Definition {
-        name: FieldName::ReservedForPrivateUse,
-        form: Form::Variable(Content::Text, 3, 999),
-    }), // 63
-    Some(Definition {
-        name: FieldName::MessageAuthenticationCode,
-        form: Form::Binary,
-    }), // 64
-    None,
-    None,
-    None,
-    None,
-    None,
-    Some(Definition {
-        name: FieldName::NetworkManagementInformationCode,
-        form: Form::Fixed(Content::Digits, 3),
-    }), // 70
-    None,
-    None,
-    None,
-    None,
-    None,
-    None,
-    None,
-    None,
-    None,
-    None,
-    None,
-    None,
-    None,
-    None,
-    None,
-    None,
-    None,
-    None,
-    None,
-    Some(Definition {
-        name: FieldName::OriginalDataElements,
-        form: Form::Fixed(Content::Digits, 42),
-    }), // 90
-    None,
-    None,
-    None,
-    None,
-    Some(Definition {
-        name: FieldName::ReplacementAmounts,
-        form: Form::Fixed(Content::Text, 42),
-    }), // 95
-    None,
-    None,
-    None,
-    None,
-    Some(Definition {
-        name: FieldName::ReceivingInstitutionIdentificationCode,
-        form: Form::Variable(Content::Digits, 2, 11),
-    }), // 100
-    None,
-    Some(Definition {
-        name: FieldName::AccountIdentification1,
-        form: Form::Variable(Content::Text, 2, 28),
-    }), // 102
-    Some(Definition {
-        name: FieldName::AccountIdentification2,
-        form: Form::Variable(Content::Text, 2, 28),
-    }), // 103
-    None,
-    None,
-    None,
-    None,
-    None,
-    None,
-    None,
-    None,
-    None,
-    None,
-    None,
-    None,
-    None,
-    None,
-    None,
-    None,
-    None,
-    None,
-    None,
-    None,
-    None,
-    None,
-    None,
-    None,
-    Some(Definition {
-        name: FieldName::MessageAuthenticationCode,
-        form: Form::Binary,
-    }), // 128
+    None, // 0
+    None, // 1
+    definition!(PrimaryAccountNumber, n LLVAR 19), // 2
+    definition!(ProcessingCode, n 6), // 3
+    definition!(AmountTransaction, n 12), // 4
+    definition!(AmountSettlement, n 12), // 5
+    definition!(AmountCardholderBilling, n 12), // 6
+    definition!(TransmissionDateAndTime, n 10), // 7
+    None, // 8
+    definition!(ConversionRateSettlement, n 8), // 9
+    definition!(ConversionRateCardholderBilling, n 8), // 10
+    definition!(SystemsTraceAuditNumber, n 6), // 11
+    definition!(TimeLocalTransaction, n 6), // 12
+    definition!(DateLocalTransaction, n 4), // 13
+    definition!(DateExpiration, n 4), // 14
+    definition!(DateSettlement, n 4), // 15
+    definition!(DateConversion, n 4), // 16
+    definition!(DateCapture, n 4), // 17
+    definition!(MerchantType, n 4), // 18
+    definition!(AcquiringInstitutionCountryCode, n 3), // 19
+    None, // 20
+    None, // 21
+    definition!(PointOfServiceEntryMode, n 3), // 22
+    definition!(CardSequenceNumber, n 3), // 23
+    definition!(NetworkInternationalIdentifier, n 3), // 24
+    definition!(PointOfServiceConditionCode, n 2), // 25
+    definition!(PointOfServicePinCaptureCode, n 2), // 26
+    None, // 27
+    None, // 28
+    None, // 29
+    None, // 30
+    None, // 31
+    definition!(AcquiringInstitutionIdentificationCode, n LLVAR 11), // 32
+    definition!(ForwardingInstitutionIdentificationCode, n LLVAR 11), // 33
+    None, // 34
+    definition!(Track2Data, ans LLVAR 37), // 35
+    None, // 36
+    definition!(RetrievalReferenceNumber, ans 12), // 37
+    definition!(AuthorizationIdentificationResponse, ans 6), // 38
+    definition!(ResponseCode, ans 2), // 39
+    None, // 40
+    definition!(CardAcceptorTerminalIdentification, ans 8), // 41
+    definition!(CardAcceptorIdentificationCode, ans 15), // 42
+    definition!(CardAcceptorNameAndLocation, ans 40), // 43
+    definition!(AdditionalResponseData, ans LLVAR 25), // 44
+    definition!(Track1Data, ans LLVAR 76), // 45
+    None, // 46
+    None, // 47
+    definition!(AdditionalDataPrivate, ans LLLVAR 999), // 48
+    definition!(CurrencyCodeTransaction, ans 3), // 49
+    definition!(CurrencyCodeSettlement, ans 3), // 50
+    definition!(CurrencyCodeCardholderBilling, ans 3), // 51
+    definition!(PersonalIdentificationNumberData, b 64), // 52
+    definition!(SecurityRelatedControlInformation, n 16), // 53
+    definition!(AdditionalAmounts, ans LLLVAR 120), // 54
+    definition!(ReservedForIsoUse, ans LLLVAR 999), // 55
+    None, // 56
+    None, // 57
+    None, // 58
+    None, // 59
+    definition!(ReservedForPrivateUse, ans LLLVAR 999), // 60
+    definition!(ReservedForPrivateUse, ans LLLVAR 999), // 61
+    definition!(ReservedForPrivateUse, ans LLLVAR 999), // 62
+    definition!(ReservedForPrivateUse, ans LLLVAR 999), // 63
+    definition!(MessageAuthenticationCode, b 64), // 64
+    None, // 65
+    None, // 66
+    None, // 67
+    None, // 68
+    None, // 69
+    definition!(NetworkManagementInformationCode, n 3), // 70
+    None, // 71
+    None, // 72
+    None, // 73
+    None, // 74
+    None, // 75
+    None, // 76
+    None, // 77
+    None, // 78
+    None, // 79
+    None, // 80
+    None, // 81
+    None, // 82
+    None, // 83
+    None, // 84
+    None, // 85
+    None, // 86
+    None, // 87
+    None, // 88
+    None, // 89
+    definition!(OriginalDataElements, n 42), // 90
+    None, // 91
+    None, // 92
+    None, // 93
+    None, // 94
+    definition!(ReplacementAmounts, ans 42), // 95
+    None, // 96
+    None, // 97
+    None, // 98
+    None, // 99
+    definition!(ReceivingInstitutionIdentificationCode, n LLVAR 11), // 100
+    None, // 101
+    definition!(AccountIdentification1, ans LLVAR 28), // 102
+    definition!(AccountIdentification2, ans LLVAR 28), // 103
+    None, // 104
+    None, // 105
+    None, // 106
+    None, // 107
+    None, // 108
+    None, // 109
+    None, // 110
+    None, // 111
+    None, // 112
+    None, // 113
+    None, // 114
+    None, // 115
+    None, // 116
+    None, // 117
+    None, // 118
+    None, // 119
+    None, // 120
+    None, // 121
+    None, // 122
+    None, // 123
+    None, // 124
+    None, // 125
+    None, // 126
+    None, // 127
+    definition!(MessageAuthenticationCode, b 64), // 128
 ];
 
 /// The array has the definition of each number.

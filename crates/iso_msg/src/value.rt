@@ -2,7 +2,8 @@
 
 ghost use Rattle.std.specs.Prelude.{◌≡◌, length};
 ghost use Rattle.std.specs.List.{list_all};
-ghost use Rattle.iso_msg.specs.Values.{is_digit, is_text, takes, has_length, has_content, refusal};
+ghost use Rattle.sw_base.specs.Digits.{is_digit};
+ghost use Rattle.iso_msg.specs.Values.{is_text, takes, has_length, has_content, refusal};
 
 use crate::error::MessageError;
 use crate::table::{Content, Form, form_at};
@@ -10,7 +11,7 @@ use crate::table::{Content, Form, form_at};
 fn are_digits(bytes: &[u8]) -> bool
     ensures { result ≡ list_all is_digit bytes.now }
 {
-    bytes.iter().all(|b| b'0' <= *b && *b <= b'9')
+    bytes.iter().all(u8::is_ascii_digit)
 }
 
 fn are_text(bytes: &[u8]) -> bool
@@ -23,18 +24,18 @@ pub(crate) fn takes_all(content: Content, bytes: &[u8]) -> bool
     ensures { result ≡ takes content bytes.now }
 {
     match content {
-        Content::Digits => are_digits(bytes),
-        Content::Text => are_text(bytes),
+        Content::Numeric => are_digits(bytes),
+        Content::Printable => are_text(bytes),
     }
 }
 
-fn fits_length(form: Form, length: usize) -> bool
-    ensures { result ≡ has_length form length }
+fn fits_length(form: Form, value_length: usize) -> bool
+    ensures { result ≡ has_length form value_length }
 {
     match form {
-        Form::Fixed(_, exact) => length == exact as usize,
-        Form::Variable(_, _, most) => length <= most as usize,
-        Form::Binary => length == 8,
+        Form::Fixed { length, .. } => value_length == length as usize,
+        Form::Variable { max_length, .. } => value_length <= max_length as usize,
+        Form::Binary => value_length == 8,
     }
 }
 
@@ -43,7 +44,7 @@ pub fn fits_content(form: Form, value: &[u8]) -> bool
     ensures { result ≡ has_content form value.now }
 {
     match form {
-        Form::Fixed(content, _) | Form::Variable(content, _, _) => takes_all(content, value),
+        Form::Fixed { content, .. } | Form::Variable { content, .. } => takes_all(content, value),
         Form::Binary => true,
     }
 }

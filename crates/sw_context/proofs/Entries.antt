@@ -1,4 +1,5 @@
 -- What a contract sees of the map's entries, and of its look-ups, insertions and removals.
+-- for: context::Context::get, put, take, copy, to_bytes, bytes_len
 use Rattle.std.proofs.Common.{◌≡◌, ℕ, Bool, true, false, cond, List, [], ◌∷◌, Some, map, option_map, refl, sym, ap, ◌∙◌, Vec, Global, String}
 use Rattle.std.specs.String.{string_bytes, string_eq}
 use Rattle.std.specs.Str.{bytes_eq}

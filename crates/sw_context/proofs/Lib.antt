@@ -1,4 +1,5 @@
-pub mod Entries
+mod Entries
+-- what crates cite that read names from bytes
 pub mod NameLaws
-pub mod PairLaws
-pub mod SpellingLaws
+mod PairLaws
+mod SpellingLaws

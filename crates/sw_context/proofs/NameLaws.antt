@@ -1,4 +1,5 @@
 -- Names are short ASCII texts.
+-- for: context::reading::name_at_front
 use Rattle.std.proofs.Common.{◌≡◌, ℕ, ◌<◌, ◌≤◌, Bool, true, false, ◌&&◌, nat_le, List, [], ◌∷◌, length, refl, arith}
 use Rattle.std.specs.List.{list_all}
 use Rattle.std.specs.Str.{IsAscii, IsUtf8}

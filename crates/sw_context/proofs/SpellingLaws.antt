@@ -1,11 +1,15 @@
 -- A spelling is that of one context.
+-- for: context::reading::has_name, context::reading::are_entries, laws::spellings_read_back
 use Rattle.std.proofs.Common.{◌≡◌, ℕ, ◌+◌, ◌-◌, ◌*◌, ◌/◌, ◌%◌, ◌<◌, ◌≤◌, ◌^◌, true, false, cond, List, [], ◌∷◌, ◌++◌, length, take, drop, Option, Some, None, is_some, refl, sym, ap, subst, ◌∙◌, append_assoc, arith}
 use Rattle.std.specs.List.{flat_map}
+use Rattle.std.specs.Prelude.{Result, Ok, Err, MatchResult}
 use Rattle.std.specs.Str.{bytes_eq}
 use Rattle.std.proofs.Math.Nat.{div-add-mod}
 use Rattle.std.proofs.lemmas.List.{take_at, drop_at, length-append}
 use Rattle.sw_context.specs.Pairs.{Pairs, find, AreEntries, IsContext, IsEntry}
-use Rattle.sw_context.specs.Spelling.{name_bytes, value_bytes, entry_bytes, bytes_of, Spells}
+use Rattle.sw_context.specs.Spelling.{name_bytes, value_bytes, entry_bytes, bytes_of, Spells, IsReading}
+use Rattle.sw_context.specs.declared.error.ContextError.{ContextError}
+use Rattle.sw_context.specs.declared.error.ContextError.TheVariants.{OutOfMemory, Full, BadName, BadBytes, ValueTooLong}
 use Rattle.sw_context.proofs.NameLaws.{name-length}
 
 -- two lists of one length that begin the same bytes
@@ -50,6 +54,28 @@ first-entry e rest count (f ∷ more) some l h =
 no-entries : (es : Pairs) → length es ≡ 0 → es ≡ []
 no-entries [] l = refl
 no-entries (e ∷ es) l = absurd (omega (arith, l))
+
+-- as many entries with the same bytes are the same
+pub same-entries : (es fs : Pairs) → length es ≡ length fs → flat_map entry_bytes es ≡ flat_map entry_bytes fs → es ≡ fs
+same-entries [] fs l h = sym (no-entries fs (sym l))
+same-entries (e ∷ es) fs l h =
+    let first = first-entry e (flat_map entry_bytes es) (length es + 1) fs (omega arith) (omega (arith, l)) h in
+    ap (λ (z : Pairs). e ∷ z) (same-entries es first.0 (omega (arith, first.2)) first.3) ∙ sym first.1
+
+-- two contexts with the same bytes are the same
+pub same-context : (es fs : Pairs) → bytes_of es ≡ bytes_of fs → es ≡ fs
+same-context es fs h =
+    let parts = heads (length es) (length fs) (flat_map entry_bytes es) (flat_map entry_bytes fs) h in
+    same-entries es fs parts.0 parts.1
+
+-- the bytes of a context are read as that context
+pub reads-back : (es : Pairs) (read : Result Pairs ContextError) → IsContext es → IsReading (bytes_of es) read → MatchResult read (λ c. c ≡ es) (λ e. e ≡ OutOfMemory)
+reads-back es (Ok fs) is h = sym (same-context es fs h.1)
+reads-back es (Err BadBytes) is h = absurd (h (es, is, refl))
+reads-back es (Err OutOfMemory) is h = refl
+reads-back es (Err Full) is h = absurd h
+reads-back es (Err BadName) is h = absurd h
+reads-back es (Err ValueTooLong) is h = absurd h
 
 -- ---- whether a name is among entries
 

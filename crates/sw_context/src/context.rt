@@ -1,4 +1,5 @@
-ghost use Rattle.std.specs.Prelude.{◌≡◌, ℕ, ◌≤◌, ◌↔◌, IsTrue, List, [], length, Some, None, OnOk, OnErr, IfOk, IfErr, option_map, slice_get};
+ghost use Rattle.std.specs.Prelude.{◌≡◌, ℕ, ◌≤◌, ◌↔◌, IsTrue, List, [], length, Some, None, OnOk, OnErr};
+ghost use Rattle.std.specs.Prelude.{IfOk, IfErr, option_map, slice_get};
 ghost use Rattle.sw_context.specs.Pairs.{find, with_value, without, refusal, IsContext, IsRefusal};
 
 mod reading;
@@ -70,7 +71,8 @@ impl Context {
 
     /// The name of an entry, counted from 0.
     pub fn name_at(&self, index: usize) -> Option<&str>
-        ensures { option_map (λ n. n.now) result ≡ option_map (λ e. e.0) (slice_get self.now index) }
+        ensures { option_map (λ n. n.now) result
+            ≡ option_map (λ e. e.0) (slice_get self.now index) }
     {
         match self.entries.get_index(index) {
             Some((name, _)) => Some(name.as_str()),
@@ -80,7 +82,8 @@ impl Context {
 
     /// The value of an entry, counted from 0.
     pub fn value_at(&self, index: usize) -> Option<&[u8]>
-        ensures { option_map (λ v. v.now) result ≡ option_map (λ e. e.1) (slice_get self.now index) }
+        ensures { option_map (λ v. v.now) result
+            ≡ option_map (λ e. e.1) (slice_get self.now index) }
     {
         match self.entries.get_index(index) {
             Some((_, value)) => Some(value.as_slice()),

@@ -1,10 +1,12 @@
 -- Frames one after the other.
+-- for: framer::Framer, walk::take_frames, pieces::read_pieces
 use Rattle.std.proofs.Common.{◌≡◌, cond, inl, inr, ℕ, ◌<◌, ◌≤◌, ◌+◌, Bool, true, false, List, [], ◌∷◌, ◌++◌, length, get_or, take, drop, Some, None, Result, Ok, Err, refl, sym, ap, subst, ◌∙◌, append_assoc, arith}
 use Rattle.std.proofs.lemmas.List.{append-nil, take_more, length-drop, length-take, length-append, take-append-drop, take-append-le, take_at}
 use Rattle.std.proofs.Math.Seq.{take-add}
-use Rattle.sw_frame.specs.Stream.{number_of, Framed, AreFramed, IsPartial, IsBad, State, Stream, Ends}
+use Rattle.sw_frame.specs.Stream.{Framed, AreFramed, IsPartial, IsBad, State, Stream, Ends}
+use Rattle.sw_base.specs.Digits.{number_of}
 use Rattle.std.proofs.lemmas.List.Concat.{flat_map-append}
-use Rattle.sw_frame.specs.Feeds.{joined, IsRest, IsHeld, messages, IsAnswer, IsFault, GoesOn}
+use Rattle.sw_frame.specs.Feeds.{joined, IsRest, IsHeld, messages, IsAnswer, IsFault, StreamGoesOn}
 use Rattle.std.specs.Global.{Vec}
 use Rattle.sw_frame.specs.declared.error.FrameError.{FrameError}
 use Rattle.sw_frame.specs.declared.error.FrameError.TheVariants.{OutOfMemory, BadLength, TooLong}
@@ -148,7 +150,7 @@ same-stream bytes fs gs s t p q = same-from fs gs p.text q.text p.rest q.rest s 
 bad-stream : (bytes : List ℕ) (t : State) → IsBad bytes → t ≡ record { pending = []; failed = true } → Stream bytes [] t
 bad-stream bytes t bad is = record { text = []; rest = bytes; whole = refl; frames = refl; ends = inr (bad, is) }
 
-pub so-far : (before : List ℕ) (fs : List (List ℕ)) (piece : List ℕ) (r : Result (Vec (Vec ℕ)) FrameError) (s t : State) → Stream before fs s → IsAnswer s piece r t → GoesOn before fs piece r s t
+pub so-far : (before : List ℕ) (fs : List (List ℕ)) (piece : List ℕ) (r : Result (Vec (Vec ℕ)) FrameError) (s t : State) → Stream before fs s → IsAnswer s piece r t → StreamGoesOn before fs piece r s t
 so-far before fs piece (Ok out) s t p a = Stream-append before piece fs (messages out.items) s t a.0 p a.1
 so-far before fs piece (Err OutOfMemory) s t p a = a.1
 so-far before fs piece (Err TooLong) s t p a = absurd a

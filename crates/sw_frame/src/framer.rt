@@ -1,10 +1,10 @@
 //! Frames out of a stream that comes in pieces.
 
 ghost use Rattle.std.specs.Prelude.{◌≡◌, ◌<◌, ◌≤◌, ◌+◌, ℕ, List, [], ◌++◌, length, take, drop, IfOk, true, false};
-ghost use Rattle.sw_frame.specs.Stream.{Framed, IsPartial, State, Stream, blank};
-ghost use Rattle.sw_frame.specs.Feeds.{messages, IsHeld, IsAnswer, GoesOn};
+ghost use Rattle.sw_frame.specs.Stream.{IsPartial, State, Stream, blank};
+ghost use Rattle.sw_frame.specs.Feeds.{messages, IsHeld, IsAnswer, MakesWhole, StreamGoesOnFrom};
 
-use crate::digits::{Header, joined_header};
+use crate::digits::{LengthHeader, joined_header};
 use crate::error::FrameError;
 use crate::walk::take_frames;
 use std::alloc::{AllocError, Global};
@@ -35,8 +35,9 @@ struct Found {
 /// The messages of the frame that the first bytes of a piece make whole, and of those that follow it.
 fn finish(alloc: Global, held: &[u8], piece: &[u8], missing: usize) -> Result<Found, AllocError>
     requires within { missing ≤ length piece.now }
-    requires whole { Framed (held.now ++ take missing piece.now) (drop 4 (held.now ++ take missing piece.now)) }
-    ensures { IfOk result (λ f. Stream (held.now ++ piece.now) (messages f.messages.items) (record { pending = f.held.items; failed = f.failed })) }
+    requires whole { MakesWhole held.now piece.now missing }
+    ensures { IfOk result (λ f. Stream (held.now ++ piece.now) (messages f.messages.items)
+        (record { pending = f.held.items; failed = f.failed })) }
 {
     let (first, rest) = piece.split_at(missing);
     let mut messages = Vec::new(alloc);
@@ -103,7 +104,7 @@ impl Framer {
     pub fn feed(&mut self, piece: &[u8]) -> Result<Vec<Vec<u8>>, FrameError>
         ensures answer { IsAnswer self.old piece.now result self.new }
         // However the stream was cut: the frames that were answered so far are those of the pieces joined.
-        ensures so_far { (before : List ℕ) (fs : List (List ℕ)) → Stream before fs self.old → GoesOn before fs piece.now result self.old self.new }
+        ensures so_far { StreamGoesOnFrom piece.now result self.old self.new }
     {
         self.advance(piece)
     }
@@ -115,14 +116,14 @@ impl Framer {
             return Err(FrameError::BadLength);
         }
         match joined_header(&self.held, piece) {
-            Header::Short => self.hold(piece),
-            Header::Bad => {
+            LengthHeader::Short => self.hold(piece),
+            LengthHeader::Bad => {
                 self.held.clear();
                 self.failed = true;
                 Err(FrameError::BadLength)
             }
-            Header::Length(length) => {
-                let missing = 4 + usize::from(length) - self.held.len();
+            LengthHeader::Length(length) => {
+                let missing = 4 + length as usize - self.held.len();
                 if piece.len() < missing {
                     self.hold(piece)
                 } else {
@@ -146,7 +147,7 @@ impl Framer {
     fn take(&mut self, piece: &[u8], missing: usize) -> Result<Vec<Vec<u8>>, FrameError>
         requires open { self.old.failed ≡ false }
         requires within { missing ≤ length piece.now }
-        requires whole { Framed (self.old.pending ++ take missing piece.now) (drop 4 (self.old.pending ++ take missing piece.now)) }
+        requires whole { MakesWhole self.old.pending piece.now missing }
         ensures { IsAnswer self.old piece.now result self.new }
     {
         let found = finish(*self.held.allocator(), &self.held, piece, missing)?;

@@ -11,12 +11,9 @@ mod error;
 mod framer;
 mod pieces;
 mod walk;
-mod writing;
+mod write;
 
 pub use error::FrameError;
 pub use framer::Framer;
-pub use pieces::{Reading, no_stream, one_stream, read_pieces};
-pub use writing::frame;
-
-#[cfg(test)]
-mod tests;
+pub use pieces::{StreamReading, no_stream, one_stream, read_pieces};
+pub use write::frame;

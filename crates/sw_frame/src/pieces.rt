@@ -1,8 +1,8 @@
 //! Whole streams.
 
-ghost use Rattle.std.specs.Prelude.{◌≡◌, ℕ, List, [], ◌++◌, IfOk, true, false};
-ghost use Rattle.sw_frame.specs.Stream.{State, Stream, blank};
-ghost use Rattle.sw_frame.specs.Feeds.{messages, joined};
+ghost use Rattle.std.specs.Prelude.{[], IfOk};
+ghost use Rattle.sw_frame.specs.Stream.{HasOneReading, Stream, blank};
+ghost use Rattle.sw_frame.specs.Feeds.{ReadsStream, messages, joined};
 
 use crate::error::FrameError;
 use crate::framer::Framer;
@@ -10,19 +10,18 @@ use std::alloc::{AllocError, Global};
 
 /// The messages of a stream, and the framer that read it: what is pending, and whether it met a fault.
 #[derive(Debug, Drop)]
-pub struct Reading {
+pub struct StreamReading {
     pub messages: Vec<Vec<u8>>,
     pub framer: Framer,
 }
 
 /// Reads a stream that comes in these pieces.
-pub fn read_pieces(alloc: Global, pieces: &[Vec<u8>]) -> Result<Reading, AllocError>
-    // Up to what is pending, or to the fault, the stream is the frames of these messages.
-    ensures stream { IfOk result (λ r. Stream (joined pieces.now) (messages r.messages.items) r.framer) }
-    // It is the frames of no others, so it doesn't matter how the stream was cut into pieces.
-    ensures only { IfOk result (λ r. (fs : List (List ℕ)) (s : State) → Stream (joined pieces.now) fs s → (fs ≡ messages r.messages.items) × (s ≡ r.framer)) }
+pub fn read_pieces(alloc: Global, pieces: &[Vec<u8>]) -> Result<StreamReading, AllocError>
+    // Up to what is pending, or to the fault, the stream is the frames of these messages and of no
+    // others, so it doesn't matter how it was cut into pieces.
+    ensures { IfOk result (λ r. ReadsStream (joined pieces.now) (messages r.messages.items) r.framer) }
 {
-    let mut reading = Reading {
+    let mut reading = StreamReading {
         messages: Vec::new(alloc),
         framer: Framer::new(alloc),
     };
@@ -39,7 +38,7 @@ pub fn read_pieces(alloc: Global, pieces: &[Vec<u8>]) -> Result<Reading, AllocEr
 
 /// A stream has its frames and no others.
 pub fn one_stream()
-    ensures { (bytes : List ℕ) (fs gs : List (List ℕ)) (s t : State) → Stream bytes fs s → Stream bytes gs t → (fs ≡ gs) × (s ≡ t) }
+    ensures { HasOneReading }
 {}
 
 /// No bytes are no frames: where a reading begins.

@@ -1,10 +1,9 @@
 //! The whole frames at the front of bytes.
 
 ghost use Rattle.std.specs.Prelude.{◌≡◌, ◌<◌, ◌≤◌, ◌+◌, ℕ, List, [], ◌++◌, length, take, drop, IfOk, true, false};
-ghost use Rattle.sw_frame.specs.Stream.{AreFramed, Framed};
-ghost use Rattle.sw_frame.specs.Feeds.{messages, IsRest};
+ghost use Rattle.sw_frame.specs.Feeds.{AddsFrames, messages, IsRest};
 
-use crate::digits::{Header, header_of};
+use crate::digits::{LengthHeader, header_of};
 use std::alloc::{AllocError, Global};
 
 /// Messages, how many bytes their frames take, and whether bytes follow that are no length.
@@ -18,8 +17,8 @@ pub struct Walk {
 /// Adds the messages of the frames at the front of bytes.
 pub fn take_frames(alloc: Global, earlier: Vec<Vec<u8>>, bytes: &[u8]) -> Result<Walk, AllocError>
     ensures taken { IfOk result (λ w. w.taken ≤ length bytes.now) }
-    // Whatever text the earlier messages are the frames of, all are those of the text and the bytes taken.
-    ensures framed { IfOk result (λ w. (text : List ℕ) → AreFramed text (messages earlier.items) → AreFramed (text ++ take w.taken bytes.now) (messages w.messages.items)) }
+    ensures framed { IfOk result (λ w. AddsFrames (messages earlier.items)
+        (take w.taken bytes.now) (messages w.messages.items)) }
     ensures rest { IfOk result (λ w. IsRest w.bad (drop w.taken bytes.now)) }
 {
     let mut walk = Walk {
@@ -29,12 +28,12 @@ pub fn take_frames(alloc: Global, earlier: Vec<Vec<u8>>, bytes: &[u8]) -> Result
     };
     let mut rest = bytes;
     while rest.len() >= 4 {
-        let Header::Length(length) = header_of(rest) else {
+        let LengthHeader::Length(length) = header_of(rest) else {
             walk.bad = true;
             return Ok(walk);
         };
         let (_, after) = rest.split_at(4);
-        let length = usize::from(length);
+        let length = length as usize;
         if after.len() < length {
             return Ok(walk);
         }

@@ -1,8 +1,9 @@
 -- Chains of calls: what happened to the stations of a plant, in order, so that their objects join from start to end,
 -- and the contexts of each transaction.
-use Rattle.std.specs.Prelude.{◌≡◌, ℕ, zero, suc, ◌+◌, ◌-◌, ◌^◌, ◌==◌, min, List, [], ◌∷◌, Option, Some, get_or, slice_set, if◌then◌else◌}
+use Rattle.std.specs.Prelude.{◌≡◌, ℕ, zero, suc, ◌+◌, ◌-◌, ◌^◌, ◌==◌, min, Bool, true, false, List, [], ◌∷◌, Option, Some, None, get_or, slice_set, if◌then◌else◌}
 use Rattle.sw_context.specs.Pairs.{Pairs}
 use Rattle.sw_participant.specs.declared.call.Act.{Act}
+use Rattle.sw_participant.specs.declared.call.Act.TheVariants.{Prepare, PrepareForAbort, Select, Commit, Abort, Recover}
 use Rattle.sw_participant.specs.declared.call.Call.{Call}
 use Rattle.sw_participant.specs.declared.call.Reply.{Reply}
 
@@ -16,12 +17,18 @@ rule_at rule [] k = λ id act o x reply p y. ⊥
 rule_at rule (s ∷ ss) zero = rule s
 rule_at rule (s ∷ ss) (suc k) = rule_at rule ss k
 
--- One call among stations with these objects: the one that it names met its rule, and the others stayed.
+-- One call among stations with these objects: it is one by the rule of the station that it names, and the others stayed.
 abbrev pub Makes : (ℕ → Rule) → List (List ℕ) → Pairs → Call → Reply → List (List ℕ) → Pairs → Type 0
 Makes rule os x call reply ps y =
     (p : List ℕ)
     × rule call.participant call.id call.act (get_or os call.participant []) x reply p y
     × (ps ≡ slice_set os call.participant p)
+
+-- what one rule allows the other allows, of each participant
+abbrev pub IsWider : {S : Type 0} → (S → Rule) → (S → Rule) → Type 0
+IsWider {S = S} rule wide =
+    (s : S) (id : ℕ) (act : Act) (o : List ℕ) (x : Pairs) (reply : Reply) (p : List ℕ) (y : Pairs)
+    → rule s id act o x reply p y → wide s id act o x reply p y
 
 -- the contexts of transactions under their ids
 abbrev pub Contexts : Type 0
@@ -30,21 +37,36 @@ Contexts = ℕ → Option Pairs
 abbrev pub with_context : Contexts → ℕ → Pairs → Contexts
 with_context live id x i = if i == id then Some x else live i
 
--- What happened, in order: a transaction began with a context; a participant was called; everything stopped but the
--- stations, and what was written down then is all that is left of the contexts. A plant is free in what it notes
--- beside a call (N) and in what it writes down (V).
-pub data Item (N V : Type 0) : Type 0 where
-  Began : (id : ℕ) → (context : Pairs) → Item N V
-  Called : (note : N) → (call : Call) → (reply : Reply) → Item N V
-  Stopped : (view : V) → Item N V
+-- what the one keeps the other has, and with the same context
+abbrev pub Among : Contexts → Contexts → Type 0
+Among now live = (id : ℕ) → (x : Pairs) → now id ≡ Some x → live id ≡ Some x
 
--- From these objects and contexts to those: each call meets its participant's rule with the object that its station's
--- last call left and the context that its transaction's last call left. A transaction starts from the context that it
--- began with, and after a stop from the recovered one.
-abbrev pub Chain : {N V : Type 0} → (V → Contexts) → (ℕ → Rule) → List (List ℕ) → Contexts → List (Item N V) → List (List ℕ) → Contexts → Type 0
+-- What happened, in order: a transaction began with a context; a participant was called; everything stopped but the
+-- stations, and what was written down then is all that is left of the contexts. The record of a call has the call, its
+-- place, by which an outcome call is told from the others of its transaction, and the reply. V is what a plant writes
+-- down. A participant's number is its station's.
+pub data ChainItem (V : Type 0) : Type 0 where
+  Began : (id : ℕ) → (context : Pairs) → ChainItem V
+  Called : (call : Call) → (place : Option ℕ) → (reply : Reply) → ChainItem V
+  Stopped : (view : V) → ChainItem V
+
+-- the place of a call: where a member is told the outcome, and as it recovers before that, the number of members that
+-- were told before
+abbrev pub place_of : Act → ℕ → Option ℕ
+place_of Prepare told = None
+place_of PrepareForAbort told = None
+place_of Select told = None
+place_of (Commit recovering) told = Some told
+place_of (Abort recovering) told = Some told
+place_of (Recover commit) told = Some told
+
+-- From these objects and contexts to those: each call is one by its participant's rule, with the object that its
+-- station's last call left and the context that its transaction's last call left. A transaction begins where it has no
+-- context, and starts from the one that it began with; after a stop it starts from the recovered one.
+abbrev pub Chain : {V : Type 0} → (V → Contexts) → (ℕ → Rule) → List (List ℕ) → Contexts → List (ChainItem V) → List (List ℕ) → Contexts → Type 0
 Chain recovered rule os live [] ps now = (ps ≡ os) × ((id : ℕ) → now id ≡ live id)
-Chain recovered rule os live (Began id x ∷ items) ps now = Chain recovered rule os (with_context live id x) items ps now
-Chain recovered rule os live (Called note call reply ∷ items) ps now =
+Chain recovered rule os live (Began id x ∷ items) ps now = (live id ≡ None) × Chain recovered rule os (with_context live id x) items ps now
+Chain recovered rule os live (Called call place reply ∷ items) ps now =
     (x : Pairs)
     × (qs : List (List ℕ))
     × (y : Pairs)
@@ -53,18 +75,25 @@ Chain recovered rule os live (Called note call reply ∷ items) ps now =
     × Chain recovered rule qs (with_context live call.id y) items ps now
 Chain recovered rule os live (Stopped view ∷ items) ps now = Chain recovered rule os (recovered view) items ps now
 
+-- whether these items begin the transaction, before any stop
+abbrev pub begins : {V : Type 0} → ℕ → List (ChainItem V) → Bool
+begins id [] = false
+begins id (Began i x ∷ items) = if id == i then true else begins id items
+begins id (Called call place reply ∷ items) = begins id items
+begins id (Stopped view ∷ items) = false
+
 -- the counts of the stations after one call of the station k: a count stays at 2^64 - 1
 abbrev pub counted : List ℕ → ℕ → List ℕ
 counted counts k = slice_set counts k (min (get_or counts k 0 + 1) (2 ^ 64 - 1))
 
 -- the counts of the stations after all this
-abbrev pub counts_after : {N V : Type 0} → List ℕ → List (Item N V) → List ℕ
+abbrev pub counts_after : {V : Type 0} → List ℕ → List (ChainItem V) → List ℕ
 counts_after counts [] = counts
-counts_after counts (Called note call reply ∷ items) = counts_after (counted counts call.participant) items
+counts_after counts (Called call place reply ∷ items) = counts_after (counted counts call.participant) items
 counts_after counts (_ ∷ items) = counts_after counts items
 
 -- how many calls of the station k these are
-abbrev pub calls_to : {N V : Type 0} → ℕ → List (Item N V) → ℕ
+abbrev pub calls_to : {V : Type 0} → ℕ → List (ChainItem V) → ℕ
 calls_to k [] = 0
-calls_to k (Called note call reply ∷ items) = if call.participant == k then calls_to k items + 1 else calls_to k items
+calls_to k (Called call place reply ∷ items) = if call.participant == k then calls_to k items + 1 else calls_to k items
 calls_to k (_ ∷ items) = calls_to k items

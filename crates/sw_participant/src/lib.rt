@@ -10,21 +10,21 @@
 //!   speaks of capacities or addresses.
 #![tactic(auto)]
 
-pub mod answer;
-pub mod call;
-pub mod kind;
-pub mod laws;
-pub mod participant;
-pub mod station;
-pub mod values;
+mod answer;
+mod call;
+mod kind;
+mod laws;
+mod participant;
+mod station;
+mod values;
 
 pub use answer::{Answer, Reading, read_answer};
 pub use call::{Act, Call, Reply};
 pub use kind::Kind;
-pub use laws::{Rules, calls_are_counted, chains_append, kinds_decide, others_stay, rules_widen};
+pub use laws::{
+    Rules, calls_are_counted, chains_append, chains_widen, others_stay, rules_widen, shown_apart,
+    types_decide,
+};
 pub use participant::{NoMemory, Participant};
 pub use station::{Station, StationError, call_station};
 pub use values::{Bytes, Sequence, Text};
-
-#[cfg(test)]
-mod tests;

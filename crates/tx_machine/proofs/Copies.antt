@@ -1,29 +1,31 @@
 -- A machine with the same step and frames that say the same stands where the other does.
+-- for: machine::Machine::copy
 use Rattle.std.proofs.Common.{◌≡◌, ℕ, ◌<◌, ◌≤◌, inl, inr, ⊎_elim, List, [], ◌∷◌, ◌++◌, length, map, refl, sym, ap, ◌∙◌, subst}
 use Rattle.std.specs.Prelude.{slice_get}
 use Rattle.std.specs.List.{All, AllByRecursion}
 use Rattle.std.proofs.lemmas.List.Elements.{All-from_recursion, recursion_from_All}
 use Rattle.flow_model.specs.declared.flow.Flow.{Flow}
+use Rattle.flow_model.specs.Places.{parts_of}
 use Rattle.flow_asm.specs.Steps.{layout, stages}
 use Rattle.tx_machine.specs.declared.walk.Frame.{Frame}
 use Rattle.tx_machine.specs.declared.machine.Machine.{Machine}
-use Rattle.tx_machine.specs.Table.{Enter, Standing}
-use Rattle.tx_machine.specs.Position.{frame_marks, marks_at, rest_of, shown, slots_in, stack_marks, IsFrame}
+use Rattle.tx_machine.specs.Table.{Prepare, TxState}
+use Rattle.tx_machine.specs.Position.{frame_upcoming, upcoming_at, rest_of, shown, entries_in, stack_upcoming, IsFrame}
 use Rattle.tx_machine.specs.Contract.{IsReady, state}
 
-same_marks : (f : Flow) (xs ys : List Frame) → map shown xs ≡ map shown ys → stack_marks f xs ≡ stack_marks f ys
-same_marks f [] [] h = refl
-same_marks f [] (y ∷ ys) h = absurd cc
-same_marks f (x ∷ xs) [] h = absurd cc
-same_marks f (x ∷ xs) (y ∷ ys) h =
+same_upcoming : (f : Flow) (xs ys : List Frame) → map shown xs ≡ map shown ys → stack_upcoming f xs ≡ stack_upcoming f ys
+same_upcoming f [] [] h = refl
+same_upcoming f [] (y ∷ ys) h = absurd cc
+same_upcoming f (x ∷ xs) [] h = absurd cc
+same_upcoming f (x ∷ xs) (y ∷ ys) h =
     let same : shown x ≡ shown y = cc in
     let rest : map shown xs ≡ map shown ys = cc in
     let back : x.back ≡ y.back = ap (λ (p : ℕ × List ℕ). p.0) same in
     let pending : x.pending.items ≡ y.pending.items = ap (λ (p : ℕ × List ℕ). p.1) same in
-    ap (λ ms. ms ++ frame_marks f x) (same_marks f xs ys rest) ∙ ap (λ gs. stack_marks f ys ++ (map Enter (slots_in f gs) ++ marks_at f x.back)) pending ∙ ap (λ k. stack_marks f ys ++ (map Enter (slots_in f y.pending.items) ++ marks_at f k)) back
+    ap (λ ms. ms ++ frame_upcoming f x) (same_upcoming f xs ys rest) ∙ ap (λ gs. stack_upcoming f ys ++ (map Prepare (entries_in f gs) ++ upcoming_at f x.back)) pending ∙ ap (λ k. stack_upcoming f ys ++ (map Prepare (entries_in f y.pending.items) ++ upcoming_at f k)) back
 
 same_rest : (f : Flow) (step : ℕ) (xs ys : List Frame) → map shown xs ≡ map shown ys → rest_of f step xs ≡ rest_of f step ys
-same_rest f step xs ys h = ap (λ ms. marks_at f step ++ ms) (same_marks f xs ys h)
+same_rest f step xs ys h = ap (λ ms. upcoming_at f step ++ ms) (same_upcoming f xs ys h)
 
 pub record IsSame (m n : Machine) : Type 0 where
   pub phase : n.phase ≡ m.phase
@@ -65,8 +67,9 @@ same_ready f m n s h = record {
       within = subst (λ k. k < length (stages f)) (sym s.step) h.settled.fits.within;
       frames = All-from_recursion (IsFrame f) n.stack.items (same_frames f n.stack.items m.stack.items s.stack (recursion_from_All (IsFrame f) m.stack.items h.settled.fits.frames));
       few = subst (λ k. k ≤ 1000) (sym s.calls) h.settled.fits.few;
+      members = subst (All (λ p. p < length (parts_of f))) (sym s.joined) h.settled.fits.members;
     };
     rested = λ e. same_empty n.stack.items m.stack.items s.stack (h.settled.rested (ap (λ k. slice_get (stages f) k) (sym s.step) ∙ e));
   };
-  few = ⊎_elim (λ none. inl (ap (λ (t : Standing). t.rest) (same_state f m n s) ∙ none)) (λ less. inr (subst (λ k. k < 1000) (sym s.calls) less)) h.few;
+  few = ⊎_elim (λ none. inl (ap (λ (t : TxState). t.rest) (same_state f m n s) ∙ none)) (λ less. inr (subst (λ k. k < 1000) (sym s.calls) less)) h.few;
 }

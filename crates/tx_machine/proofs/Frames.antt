@@ -1,16 +1,17 @@
 -- The stack: its top frame, and what a return does.
+-- for: walk::leave, walk::enter, walk::settle
 use Rattle.std.proofs.Common.{◌≡◌, ℕ, suc, ◌+◌, ◌<◌, Bool, true, false, ◌⊎◌, ⊎_elim, List, [], ◌∷◌, ◌++◌, length, map, take, get_or, set, refl, sym, ap, ◌∙◌, subst, arith, append_assoc, if◌then◌else◌}
 use Rattle.std.specs.List.{All, remove}
 use Rattle.std.proofs.lemmas.List.{take_all, take_more, take-set, set_split, drop_all, map-append}
 use Rattle.std.proofs.lemmas.List.Elements.{All-set, All-take}
 use Rattle.flow_model.specs.declared.flow.Flow.{Flow}
-use Rattle.flow_model.specs.declared.flow.Slot.{Slot}
+use Rattle.flow_model.specs.declared.flow.PlacedEntry.{PlacedEntry}
 use Rattle.flow_asm.specs.Steps.{first_step, layout}
 use Rattle.flow_asm.specs.Places.{group_at}
 use Rattle.tx_machine.specs.declared.walk.Frame.{Frame}
-use Rattle.tx_machine.specs.Table.{Mark, Enter, Ask, passed, settled}
-use Rattle.tx_machine.specs.Position.{marks_at, left_at, frame_marks, stack_marks, frame_left, stack_left, groups_left, rest_of, slots_in, IsFrame, IsCall, IsPick}
-use Rattle.tx_machine.proofs.Moves.{is_first, stack_marks_top, stack_left_top}
+use Rattle.tx_machine.specs.Table.{Upcoming, Prepare, Select, passed, settled}
+use Rattle.tx_machine.specs.Position.{upcoming_at, left_at, frame_upcoming, stack_upcoming, frame_left, stack_left, groups_left, rest_of, entries_in, IsFrame, IsCall, IsPick}
+use Rattle.tx_machine.proofs.StepsAhead.{is_first, stack_upcoming_top, stack_left_top}
 
 -- the stack is what lies below, and the top
 top_of : (xs : List Frame) (top : ℕ) (d : Frame) → length xs ≡ top + 1 → xs ≡ take top xs ++ get_or xs top d ∷ []
@@ -21,7 +22,7 @@ set_top xs top y e = set_split xs top y (omega arith) ∙ ap (λ zs. take top xs
 
 -- a return leads from one stack to a step and another
 pub record IsLeft (f : Flow) (step : ℕ) (new old : List Frame) : Type 0 where
-  pub rest : rest_of f step new ≡ stack_marks f old
+  pub rest : rest_of f step new ≡ stack_upcoming f old
   pub left : left_at f step + stack_left f new ≡ stack_left f old
 
 -- the top frame has no group left: the way back
@@ -29,11 +30,11 @@ goes_back : (f : Flow) (xs : List Frame) (top : ℕ) (d : Frame) → length xs �
 goes_back f xs top d e p =
     let t : Frame = get_or xs top d in
     let whole : xs ≡ take top xs ++ t ∷ [] = top_of xs top d e in
-    let marks : stack_marks f xs ≡ frame_marks f t ++ stack_marks f (take top xs) = ap (stack_marks f) whole ∙ stack_marks_top f (take top xs) t in
+    let upcoming : stack_upcoming f xs ≡ frame_upcoming f t ++ stack_upcoming f (take top xs) = ap (stack_upcoming f) whole ∙ stack_upcoming_top f (take top xs) t in
     let lefts : stack_left f xs ≡ frame_left f t + stack_left f (take top xs) = ap (stack_left f) whole ∙ stack_left_top f (take top xs) t in
     let none : frame_left f t ≡ 0 + left_at f t.back = ap (λ gs. groups_left f gs + left_at f t.back) p in
     record {
-      rest = sym (marks ∙ ap (λ gs. (map Enter (slots_in f gs) ++ marks_at f t.back) ++ stack_marks f (take top xs)) p);
+      rest = sym (upcoming ∙ ap (λ gs. (map Prepare (entries_in f gs) ++ upcoming_at f t.back) ++ stack_upcoming f (take top xs)) p);
       left = omega arith;
     }
 
@@ -43,21 +44,21 @@ goes_in f xs top d new g gs e p q b h =
     let t : Frame = get_or xs top d in
     let first = is_first f g h in
     let whole : xs ≡ take top xs ++ t ∷ [] = top_of xs top d e in
-    let ss : List Slot = group_at (layout f) g in
-    let es : List Mark = map Enter (group_at (layout f) g) in
-    let later : List Mark = map Enter (slots_in f gs) in
-    let below : List Mark = stack_marks f (take top xs) in
-    let marks : stack_marks f xs ≡ frame_marks f t ++ below = ap (stack_marks f) whole ∙ stack_marks_top f (take top xs) t in
+    let ss : List PlacedEntry = group_at (layout f) g in
+    let es : List Upcoming = map Prepare (group_at (layout f) g) in
+    let later : List Upcoming = map Prepare (entries_in f gs) in
+    let below : List Upcoming = stack_upcoming f (take top xs) in
+    let upcoming : stack_upcoming f xs ≡ frame_upcoming f t ++ below = ap (stack_upcoming f) whole ∙ stack_upcoming_top f (take top xs) t in
     let lefts : stack_left f xs ≡ frame_left f t + stack_left f (take top xs) = ap (stack_left f) whole ∙ stack_left_top f (take top xs) t in
     let put = set_top xs top new e in
-    let new_marks : stack_marks f (set xs top new) ≡ frame_marks f new ++ below = ap (stack_marks f) put ∙ stack_marks_top f (take top xs) new in
+    let new_upcoming : stack_upcoming f (set xs top new) ≡ frame_upcoming f new ++ below = ap (stack_upcoming f) put ∙ stack_upcoming_top f (take top xs) new in
     let new_lefts : stack_left f (set xs top new) ≡ frame_left f new + stack_left f (take top xs) = ap (stack_left f) put ∙ stack_left_top f (take top xs) new in
-    let old_frame : frame_marks f t ≡ es ++ (later ++ marks_at f t.back) = ap (λ ps. map Enter (slots_in f ps) ++ marks_at f t.back) p ∙ ap (λ ms. ms ++ marks_at f t.back) (map-append Enter ss (slots_in f gs)) ∙ append_assoc es later (marks_at f t.back) in
-    let new_frame : frame_marks f new ≡ later ++ marks_at f t.back = ap (λ ps. map Enter (slots_in f ps) ++ marks_at f new.back) q ∙ ap (λ n. later ++ marks_at f n) b in
+    let old_frame : frame_upcoming f t ≡ es ++ (later ++ upcoming_at f t.back) = ap (λ ps. map Prepare (entries_in f ps) ++ upcoming_at f t.back) p ∙ ap (λ ms. ms ++ upcoming_at f t.back) (map-append Prepare ss (entries_in f gs)) ∙ append_assoc es later (upcoming_at f t.back) in
+    let new_frame : frame_upcoming f new ≡ later ++ upcoming_at f t.back = ap (λ ps. map Prepare (entries_in f ps) ++ upcoming_at f new.back) q ∙ ap (λ n. later ++ upcoming_at f n) b in
     let old_left : frame_left f t ≡ groups_left f (g ∷ gs) + left_at f t.back = ap (λ ps. groups_left f ps + left_at f t.back) p in
     let new_left : frame_left f new ≡ groups_left f gs + left_at f t.back = ap (λ ps. groups_left f ps + left_at f new.back) q ∙ ap (λ n. groups_left f gs + left_at f n) b in
     record {
-      rest = ap (λ ms. ms ++ stack_marks f (set xs top new)) first.marks ∙ ap (λ ms. es ++ ms) new_marks ∙ ap (λ ms. es ++ (ms ++ below)) new_frame ∙ sym (append_assoc es (later ++ marks_at f t.back) below) ∙ ap (λ ms. ms ++ below) (sym old_frame) ∙ sym marks;
+      rest = ap (λ ms. ms ++ stack_upcoming f (set xs top new)) first.upcoming ∙ ap (λ ms. es ++ ms) new_upcoming ∙ ap (λ ms. es ++ (ms ++ below)) new_frame ∙ sym (append_assoc es (later ++ upcoming_at f t.back) below) ∙ ap (λ ms. ms ++ below) (sym old_frame) ∙ sym upcoming;
       left = omega (arith, first.left);
     }
 
@@ -66,23 +67,23 @@ uncons [] d h = absurd (omega (arith, h))
 uncons (x ∷ xs) d h = refl
 
 -- an abort passes over a call
-pub passes : (f : Flow) (k : ℕ) (s : Slot) (tail ms : List Mark) → IsCall f k s tail → s.kind.abort_aware ≡ false → passed (marks_at f (k + 1) ++ ms) ≡ passed (marks_at f k ++ ms)
+pub passes : (f : Flow) (k : ℕ) (s : PlacedEntry) (tail ms : List Upcoming) → IsCall f k s tail → s.kind.abort_aware ≡ false → passed (upcoming_at f (k + 1) ++ ms) ≡ passed (upcoming_at f k ++ ms)
 passes f k s tail ms is a =
-    ap (λ l. passed (l ++ ms)) is.after ∙ by s.kind.selector refl ∙ sym (ap (λ l. passed (l ++ ms)) is.marks)
+    ap (λ l. passed (l ++ ms)) is.after ∙ by s.kind.selector refl ∙ sym (ap (λ l. passed (l ++ ms)) is.upcoming)
   where
-    by : (b : Bool) → s.kind.selector ≡ b → passed ((if b then Ask s ∷ tail else tail) ++ ms) ≡ (if s.kind.abort_aware then Enter s ∷ (tail ++ ms) else if b then Ask s ∷ (tail ++ ms) else passed (tail ++ ms))
-    by true e = ap (λ c. if c then Enter s ∷ (tail ++ ms) else Ask s ∷ (tail ++ ms)) (sym a)
-    by false e = ap (λ c. if c then Enter s ∷ (tail ++ ms) else passed (tail ++ ms)) (sym a)
+    by : (b : Bool) → s.kind.selector ≡ b → passed ((if b then Select s ∷ tail else tail) ++ ms) ≡ (if s.kind.abort_aware then Prepare s ∷ (tail ++ ms) else if b then Select s ∷ (tail ++ ms) else passed (tail ++ ms))
+    by true e = ap (λ c. if c then Prepare s ∷ (tail ++ ms) else Select s ∷ (tail ++ ms)) (sym a)
+    by false e = ap (λ c. if c then Prepare s ∷ (tail ++ ms) else passed (tail ++ ms)) (sym a)
 
 -- and stops at one of an abort-aware participant, and at a pick
-pub settled_call : (f : Flow) (k : ℕ) (s : Slot) (tail ms : List Mark) (aborting : Bool) → IsCall f k s tail → ((s.kind.abort_aware ≡ true) ⊎ (aborting ≡ false)) → settled aborting (marks_at f k ++ ms) ≡ marks_at f k ++ ms
+pub settled_call : (f : Flow) (k : ℕ) (s : PlacedEntry) (tail ms : List Upcoming) (aborting : Bool) → IsCall f k s tail → ((s.kind.abort_aware ≡ true) ⊎ (aborting ≡ false)) → settled aborting (upcoming_at f k ++ ms) ≡ upcoming_at f k ++ ms
 settled_call f k s tail ms false is h = refl
 settled_call f k s tail ms true is h =
-    ap (λ l. passed (l ++ ms)) is.marks ∙ ⊎_elim (λ a. ap (λ c. if c then Enter s ∷ (tail ++ ms) else (if s.kind.selector then Ask s ∷ (tail ++ ms) else passed (tail ++ ms))) a) (λ (e : true ≡ false). absurd cc) h ∙ sym (ap (λ l. l ++ ms) is.marks)
+    ap (λ l. passed (l ++ ms)) is.upcoming ∙ ⊎_elim (λ a. ap (λ c. if c then Prepare s ∷ (tail ++ ms) else (if s.kind.selector then Select s ∷ (tail ++ ms) else passed (tail ++ ms))) a) (λ (e : true ≡ false). absurd cc) h ∙ sym (ap (λ l. l ++ ms) is.upcoming)
 
-pub settled_pick : (f : Flow) (k : ℕ) (s : Slot) (ms : List Mark) (aborting : Bool) → IsPick f k s → settled aborting (marks_at f k ++ ms) ≡ marks_at f k ++ ms
+pub settled_pick : (f : Flow) (k : ℕ) (s : PlacedEntry) (ms : List Upcoming) (aborting : Bool) → IsPick f k s → settled aborting (upcoming_at f k ++ ms) ≡ upcoming_at f k ++ ms
 settled_pick f k s ms false is = refl
-settled_pick f k s ms true is = ap (λ l. passed (l ++ ms)) is.marks ∙ sym (ap (λ l. l ++ ms) is.marks)
+settled_pick f k s ms true is = ap (λ l. passed (l ++ ms)) is.upcoming ∙ sym (ap (λ l. l ++ ms) is.upcoming)
 
 pub settled_nil : (aborting : Bool) → settled aborting [] ≡ []
 settled_nil true = refl

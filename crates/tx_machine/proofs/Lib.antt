@@ -1,10 +1,9 @@
-pub mod NameRuns
-pub mod Choosing
-pub mod Marks
+mod NameRuns
+-- what crates over transactions cite
+pub mod BoundLaws
 pub mod ListLaws
-pub mod Dues
-pub mod Moves
-pub mod Frames
-pub mod GroupNames
-pub mod Visits
-pub mod Copies
+mod Dues
+mod StepsAhead
+mod Frames
+mod RestPlaces
+mod Copies

@@ -1,6 +1,6 @@
 -- A text that begins with a name: the run before its first gap, and what follows.
-use Rattle.std.proofs.Common.{◌≡◌, ℕ, ◌+◌, ◌-◌, ◌<◌, Bool, true, false, not, List, [], ◌∷◌, ◌++◌, take, drop, refl, ap, inl, inr, arith, if◌then◌else◌, suc}
-use Rattle.std.specs.List.{flat_map}
+-- for: names::first_name
+use Rattle.std.proofs.Common.{◌≡◌, ℕ, ◌+◌, Bool, true, false, not, List, [], ◌∷◌, take, drop, refl, ap, inl, inr, arith, if◌then◌else◌, suc}
 use Rattle.std.proofs.lemmas.Bool.{cases_Bool}
 use Rattle.tx_machine.specs.Names.{is_gap, begins_with_name, before_first, names_of}
 use Rattle.tx_machine.specs.Runs.{run_of}
@@ -27,9 +27,3 @@ names_of_run (c ∷ cs) h =
       | inl more ↦ rw more (ap (before_first c) (names_of_run cs more))
       | inr done ↦ rw (done, none_begun cs done) refl
     ])
-
--- what the first names that are left give, where one is found and where none is
-pub flat_map-take : {A B : Type 0} (f : A → List B) (n i : ℕ) (x : A) (xs ys : List A) → i < n → ys ≡ x ∷ xs → flat_map f (take (n - i) ys) ≡ f x ++ flat_map f (take (n - (i + 1)) xs)
-flat_map-take f n i x xs ys lt e =
-    let left : n - i ≡ suc (n - (i + 1)) = omega arith in
-    rw (e, left) refl

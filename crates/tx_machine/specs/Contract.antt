@@ -1,24 +1,28 @@
--- What a machine stands for, and when it is sound: the only words of the machine's contract that
--- know how it is made.
-use Rattle.std.specs.Prelude.{◌≡◌, ◌<◌, ◌≤◌, ◌⊎◌, [], length, Some, slice_get}
+-- What a machine stands for, and when it is sound: the only words of the machine's contract that know how it is made.
+use Rattle.std.specs.Prelude.{◌≡◌, ◌<◌, ◌≤◌, ◌⊎◌, true, false, [], length, Some, slice_get, Result, Err, OnOk, OnErr, IfErr}
 use Rattle.std.specs.List.{All}
 use Rattle.flow_model.specs.declared.flow.Flow.{Flow}
+use Rattle.flow_model.specs.Places.{parts_of}
 use Rattle.flow_asm.specs.Steps.{AtReturn, stages}
 use Rattle.tx_machine.specs.declared.machine.Machine.{Machine}
+use Rattle.tx_machine.specs.declared.values.Item.{Item}
+use Rattle.tx_machine.specs.declared.error.MachineError.{MachineError}
+use Rattle.tx_machine.specs.declared.error.MachineError.TheVariants.{NotDue}
 use Rattle.tx_machine.specs.Position.{IsFrame, rest_of}
-use Rattle.tx_machine.specs.Table.{Standing}
+use Rattle.tx_machine.specs.Table.{TxState, is_due, next}
 
-abbrev pub state : Flow → Machine → Standing
+abbrev pub state : Flow → Machine → TxState
 state f m = record { phase = m.phase; rest = rest_of f m.step m.stack.items; retry = m.retry; bound = m.bound; calls = m.calls; joined = m.joined.items; told = m.told; saved = m.saved.items; tries = m.tries }
 
-unfoldable pub standing : Flow → Machine → Standing
-standing f m = state f m
+unfoldable pub tx_state : Flow → Machine → TxState
+tx_state f m = state f m
 
--- the step and the stack are of this flow
+-- the step, the stack and the members are of this flow
 pub record Fits (f : Flow) (m : Machine) : Type 0 where
   pub within : m.step < length (stages f)
   pub frames : All (IsFrame f) m.stack.items
   pub few : m.calls ≤ 1000
+  pub members : All (λ p. p < length (parts_of f)) m.joined.items
 
 -- and a call is due, or nothing is to come
 pub record IsSettled (f : Flow) (m : Machine) : Type 0 where
@@ -32,3 +36,13 @@ pub record IsReady (f : Flow) (m : Machine) : Type 0 where
 
 unfoldable pub IsSound : Flow → Machine → Type 0
 IsSound f m = IsReady f m
+
+-- What becomes of an item that a machine is given. It is taken exactly where it is due, memory aside; where it is not
+-- due, that is the refusal, before any want of memory; and a refusal leaves the machine where it stood.
+pub record TakesItem (f : Flow) (old : Machine) (x : Item) (result : Result (Unit {0}) MachineError) (new : Machine) : Type 0 where
+  pub sound : IsSound f new
+  pub taken : OnOk result (tx_state f new ≡ next f (tx_state f old) x)
+  pub due : OnOk result (is_due (tx_state f old) x ≡ true)
+  pub not_due : IfErr result (λ e. e ≡ NotDue → is_due (tx_state f old) x ≡ false)
+  pub first : is_due (tx_state f old) x ≡ false → result ≡ Err NotDue
+  pub kept : OnErr result (tx_state f new ≡ tx_state f old)

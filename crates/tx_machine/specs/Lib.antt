@@ -2,7 +2,8 @@ pub mod Names
 pub mod Runs
 pub mod Table
 pub mod Due
+pub mod Row
 pub mod Lists
+pub mod Bounds
 pub mod Position
-pub mod Plain
 pub mod Contract

@@ -4,10 +4,10 @@ use Rattle.sw_participant.specs.Answers.{stays_out}
 use Rattle.flow_model.specs.declared.flow.Flow.{Flow}
 use Rattle.tx_machine.specs.declared.values.Item.{Item}
 use Rattle.tx_machine.specs.declared.values.Item.TheVariants.{Answer, Choice, Told}
-use Rattle.tx_machine.specs.Table.{Standing, Mark, Enter, Ask, next, after, is_due, saved_after}
+use Rattle.tx_machine.specs.Table.{TxState, Upcoming, Prepare, Select, next, after, is_due, saved_after}
 
 -- each item is of the kind that was due
-abbrev pub is_lawful : Flow → Standing → List Item → Bool
+abbrev pub is_lawful : Flow → TxState → List Item → Bool
 is_lawful f s [] = true
 is_lawful f s (x ∷ xs) = is_due s x && is_lawful f (next f s x) xs
 
@@ -32,26 +32,27 @@ calls_in (Choice t ∷ xs) = calls_in xs + 1
 calls_in (Told a ∷ xs) = calls_in xs
 
 -- the participant whose preparation is due
-abbrev pub preparing : List Mark → List ℕ
+abbrev pub preparing : List Upcoming → List ℕ
 preparing [] = []
-preparing (Enter e ∷ tail) = e.participant ∷ []
-preparing (Ask e ∷ tail) = []
+preparing (Prepare e ∷ tail) = e.participant ∷ []
+preparing (Select e ∷ tail) = []
 
 -- the participants of the answers without NO_JOIN, in order, once per answer
-abbrev pub joined_in : Flow → Standing → List Item → List ℕ
+abbrev pub joined_in : Flow → TxState → List Item → List ℕ
 joined_in f s [] = []
 joined_in f s (Answer b d ∷ xs) = (if stays_out b then [] else preparing s.rest) ++ joined_in f (next f s (Answer b d)) xs
 joined_in f s (Choice t ∷ xs) = joined_in f (next f s (Choice t)) xs
 joined_in f s (Told a ∷ xs) = joined_in f (next f s (Told a)) xs
 
-pub record IsWhole (f : Flow) (s : Standing) (xs : List Item) : Type 0 where
+pub record IsWhole (f : Flow) (s : TxState) (xs : List Item) : Type 0 where
   pub saved : (after f s xs).saved ≡ saved_in s.saved xs
   pub told : (after f s xs).told ≡ s.told + told_in xs
   pub joined : (after f s xs).joined ≡ s.joined ++ joined_in f s xs
   pub calls : (after f s xs).calls ≡ s.calls + calls_in xs
+  pub tries : (after f s xs).tries ≡ s.tries
 
 -- the bound on one transaction's items
-pub record IsBounded (f : Flow) (s : Standing) (xs : List Item) : Type 0 where
+pub record IsBounded (f : Flow) (s : TxState) (xs : List Item) : Type 0 where
   pub calls : calls_in xs ≤ 1000
   pub members : length (after f s xs).joined ≤ 1000
   pub told : told_in xs ≤ 1000

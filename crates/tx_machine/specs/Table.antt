@@ -4,28 +4,28 @@ use Rattle.std.specs.Prelude.{ℕ, ◌+◌, ◌==◌, Bool, true, false, not, �
 use Rattle.std.specs.List.{flat_map}
 use Rattle.sw_participant.specs.Answers.{is_prepared, asks_retry, stays_out, is_readonly}
 use Rattle.flow_model.specs.declared.flow.Flow.{Flow}
-use Rattle.flow_model.specs.declared.flow.Slot.{Slot}
-use Rattle.flow_model.specs.Places.{slots_named}
+use Rattle.flow_model.specs.declared.flow.PlacedEntry.{PlacedEntry}
+use Rattle.flow_model.specs.Places.{entries_named}
 use Rattle.tx_machine.specs.declared.values.Phase.{Phase}
 use Rattle.tx_machine.specs.declared.values.Phase.TheVariants.{Preparing, Aborting, Committing, Undoing}
 use Rattle.tx_machine.specs.declared.values.Item.{Item}
 use Rattle.tx_machine.specs.declared.values.Item.TheVariants.{Answer, Choice, Told}
 use Rattle.tx_machine.specs.Names.{names_of}
 
--- what is still to come: an entry to be prepared, or a selector to be asked
-pub data Mark : Type 0 where
-  Enter : (s : Slot) → Mark
-  Ask : (s : Slot) → Mark
+-- what is still to come: an entry to be prepared, or a selector to select
+pub data Upcoming : Type 0 where
+  Prepare : (s : PlacedEntry) → Upcoming
+  Select : (s : PlacedEntry) → Upcoming
 
 -- the entries that a selection puts before the rest: those of the groups that the first 16 names
 -- name, in the order of the names; an unknown name counts and gives none
-abbrev pub chosen : Flow → List ℕ → List Slot
-chosen f text = flat_map (slots_named f) (take 16 (names_of text))
+abbrev pub chosen : Flow → List ℕ → List PlacedEntry
+chosen f text = flat_map (entries_named f) (take 16 (names_of text))
 
 -- where a transaction stands
-pub record Standing : Type 0 where
+pub record TxState : Type 0 where
   pub phase : Phase
-  pub rest : List Mark
+  pub rest : List Upcoming
   -- RETRY of the answer that began the abort
   pub retry : Bool
   -- the bound has dropped the rest
@@ -40,11 +40,11 @@ pub record Standing : Type 0 where
   pub tries : ℕ
 
 -- Once aborting, entries that are not abort-aware are passed over; of a selector among them the
--- question stays. While a question stands first, nothing behind it is passed over.
-abbrev pub passed : List Mark → List Mark
+-- selection stays. While a selection stands first, nothing behind it is passed over.
+abbrev pub passed : List Upcoming → List Upcoming
 passed [] = []
-passed (Ask s ∷ tail) = Ask s ∷ tail
-passed (Enter s ∷ tail) = if s.kind.abort_aware then Enter s ∷ tail else if s.kind.selector then Ask s ∷ tail else passed tail
+passed (Select s ∷ tail) = Select s ∷ tail
+passed (Prepare s ∷ tail) = if s.kind.abort_aware then Prepare s ∷ tail else if s.kind.selector then Select s ∷ tail else passed tail
 
 abbrev pub is_aborting : Phase → Bool
 is_aborting Preparing = false
@@ -52,16 +52,16 @@ is_aborting Aborting = true
 is_aborting Committing = false
 is_aborting Undoing = false
 
-abbrev pub settled : Bool → List Mark → List Mark
+abbrev pub settled : Bool → List Upcoming → List Upcoming
 settled aborting rest = if aborting then passed rest else rest
 
 -- After 1,000 answers and choices what is left is dropped: the transaction aborts, without retry.
-abbrev pub cut_at : Standing → List Mark → Bool → Standing
+abbrev pub cut_at : TxState → List Upcoming → Bool → TxState
 cut_at s [] full = s
 cut_at s (m ∷ ms) false = s
 cut_at s (m ∷ ms) true = record s { phase = Aborting; rest = []; retry = false; bound = true }
 
-abbrev pub limited : Standing → Standing
+abbrev pub limited : TxState → TxState
 limited s = cut_at s s.rest (s.calls == 1000)
 
 -- With nothing to come and members, the members are told: commit after preparing, abort after
@@ -72,21 +72,21 @@ outcome Aborting = Undoing
 outcome Committing = Committing
 outcome Undoing = Undoing
 
-abbrev pub decide_at : Standing → List Mark → List ℕ → Standing
+abbrev pub decide_at : TxState → List Upcoming → List ℕ → TxState
 decide_at s (m ∷ ms) ps = s
 decide_at s [] [] = s
 decide_at s [] (p ∷ ps) = record s { phase = outcome s.phase }
 
-abbrev pub decided : Standing → Standing
+abbrev pub decided : TxState → TxState
 decided s = decide_at s s.rest s.joined
 
 -- passing over, then the bound, then the outcome, before anything is due
-abbrev pub advanced : Standing → Standing
+abbrev pub advanced : TxState → TxState
 advanced s = decided (limited (record s { rest = settled (is_aborting s.phase) s.rest }))
 
--- a prepared selector is asked before anything else comes
-abbrev pub entered : Slot → List Mark → List Mark
-entered s tail = if s.kind.selector then Ask s ∷ tail else tail
+-- a prepared selector selects before anything else comes
+abbrev pub entered : PlacedEntry → List Upcoming → List Upcoming
+entered s tail = if s.kind.selector then Select s ∷ tail else tail
 
 -- an answer without PREPARED turns preparing into aborting, and its RETRY is kept; while aborting,
 -- PREPARED and RETRY are ignored
@@ -108,10 +108,10 @@ joined_after b p joined = if stays_out b then joined else joined ++ p ∷ []
 abbrev pub saved_after : ℕ → List ℕ → List ℕ → List ℕ
 saved_after b context saved = if is_readonly b then saved else context
 
-abbrev pub answered_at : Standing → ℕ → List ℕ → List Mark → Standing
+abbrev pub answered_at : TxState → ℕ → List ℕ → List Upcoming → TxState
 answered_at s b c [] = s
-answered_at s b c (Ask e ∷ tail) = s
-answered_at s b c (Enter e ∷ tail) = advanced (record s {
+answered_at s b c (Select e ∷ tail) = s
+answered_at s b c (Prepare e ∷ tail) = advanced (record s {
   phase = after_byte s.phase b;
   rest = entered e tail;
   retry = retry_after s.phase b s.retry;
@@ -120,13 +120,13 @@ answered_at s b c (Enter e ∷ tail) = advanced (record s {
   saved = saved_after b c s.saved;
 })
 
-abbrev pub chosen_at : Flow → Standing → List ℕ → List Mark → Standing
+abbrev pub chosen_at : Flow → TxState → List ℕ → List Upcoming → TxState
 chosen_at f s text [] = s
-chosen_at f s text (Enter e ∷ tail) = s
-chosen_at f s text (Ask e ∷ tail) = advanced (record s { rest = map Enter (chosen f text) ++ tail; calls = s.calls + 1 })
+chosen_at f s text (Prepare e ∷ tail) = s
+chosen_at f s text (Select e ∷ tail) = advanced (record s { rest = map Prepare (chosen f text) ++ tail; calls = s.calls + 1 })
 
 -- one item that was due
-abbrev pub next : Flow → Standing → Item → Standing
+abbrev pub next : Flow → TxState → Item → TxState
 next f s (Answer b c) = answered_at s b c s.rest
 next f s (Choice text) = chosen_at f s text s.rest
 next f s (Told advice) = record s { told = s.told + 1 }
@@ -138,27 +138,31 @@ is_open Aborting = true
 is_open Committing = false
 is_open Undoing = false
 
-abbrev pub enters : List Mark → Bool
-enters [] = false
-enters (Enter e ∷ tail) = true
-enters (Ask e ∷ tail) = false
+abbrev pub prepares_next : List Upcoming → Bool
+prepares_next [] = false
+prepares_next (Prepare e ∷ tail) = true
+prepares_next (Select e ∷ tail) = false
 
-abbrev pub asks : List Mark → Bool
-asks [] = false
-asks (Enter e ∷ tail) = false
-asks (Ask e ∷ tail) = true
+abbrev pub selects_next : List Upcoming → Bool
+selects_next [] = false
+selects_next (Prepare e ∷ tail) = false
+selects_next (Select e ∷ tail) = true
 
 -- whether a call is due to which an item of this kind is the reply
-abbrev pub is_due : Standing → Item → Bool
-is_due s (Answer b c) = is_open s.phase && enters s.rest
-is_due s (Choice text) = is_open s.phase && asks s.rest
+abbrev pub is_due : TxState → Item → Bool
+is_due s (Answer b c) = is_open s.phase && prepares_next s.rest
+is_due s (Choice text) = is_open s.phase && selects_next s.rest
 is_due s (Told advice) = not (is_open s.phase) && nat_lt s.told (length s.joined)
 
 -- before the first item: the entries of the group `main`
-abbrev pub opening : Flow → ℕ → List ℕ → Standing
-opening f tries saved = advanced (record { phase = Preparing; rest = map Enter (slots_named f (codes "main")); retry = false; bound = false; calls = 0; joined = []; told = 0; saved = saved; tries = tries })
+abbrev pub opening : Flow → ℕ → List ℕ → TxState
+opening f tries saved = advanced (record { phase = Preparing; rest = map Prepare (entries_named f (codes "main")); retry = false; bound = false; calls = 0; joined = []; told = 0; saved = saved; tries = tries })
+
+-- a transaction that the journal has, before its first item: its members are told from a number on
+abbrev pub reopening : Bool → List ℕ → ℕ → ℕ → List ℕ → TxState
+reopening committing joined told tries saved = record { phase = if committing then Committing else Undoing; rest = []; retry = false; bound = false; calls = 0; joined = joined; told = told; saved = saved; tries = tries }
 
 -- after a list of items, the latest one last
-abbrev pub after : Flow → Standing → List Item → Standing
+abbrev pub after : Flow → TxState → List Item → TxState
 after f s [] = s
 after f s (x ∷ xs) = after f (next f s x) xs

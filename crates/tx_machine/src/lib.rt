@@ -3,25 +3,28 @@
 //! Promised here, for every list of items (answers, choices, tolds) each of which was due:
 //! - [`Machine`]'s due call, phase, members, number told, saved context, tries, bound and rest are
 //!   those of the written table (`specs/Table.antt`, `specs/Due.antt`), although it keeps a step and
-//!   a stack of selections and no list of what is to come; [`plain::PlainMachine`], which keeps that
-//!   list, is there for comparison;
-//! - a call that is not due is refused, and so is one for which memory is wanting: then nothing has
-//!   changed;
+//!   a stack of selections and no list of what is to come;
+//! - an item that is not due is refused, and so is one for which memory is wanting: then nothing has
+//!   changed (`specs/Contract.antt`, `TakesItem`);
 //! - a transaction has at most 1,000 answers and choices, and at most 1,000 members are told
 //!   ([`bounded_lists`]); members, number told and saved context are those of the whole list
-//!   ([`whole_lists`]).
+//!   ([`whole_lists`]);
+//! - the journal's row of a transaction (`specs/Row.antt`) keeps its bounds, of a reopened one too
+//!   ([`lists_keep_bounds`]).
 #![tactic(auto)]
 
-pub mod laws;
-pub mod machine;
-pub mod names;
+mod error;
+mod laws;
+mod machine;
+mod names;
 mod places;
-pub mod plain;
 mod rules;
 mod selection;
-pub mod values;
+mod values;
 mod walk;
 
-pub use laws::{bounded_lists, whole_lists};
+pub use error::MachineError;
+pub use laws::{bounded_lists, lists_extend, lists_keep_bounds, whole_lists};
 pub use machine::Machine;
-pub use values::{Due, Item, MachineError, Phase, Spot};
+pub use names::{FirstNames, first_names};
+pub use values::{Due, Item, Phase, Spot};

@@ -1,19 +1,24 @@
 //! One transaction over the numbered steps of a flow.
 
-ghost use Rattle.std.specs.Prelude.{◌≡◌, [], None, IfOk, OnOk, IfErr, OnErr, Err, true, false, IsTrue, ◌↔◌};
+ghost use Rattle.std.specs.Prelude.{◌≡◌, ◌↔◌, ◌&&◌, ◌<◌, ◌≤◌, [], length, None, Err, true, false, IsTrue};
+ghost use Rattle.std.specs.Prelude.{IfOk, OnOk, IfErr, OnErr, IfSome};
+ghost use Rattle.std.specs.List.{All};
 ghost use Rattle.flow_model.specs.declared.flow.Flow.{Flow as Shown};
+ghost use Rattle.flow_model.specs.Places.{parts_of};
 ghost use Rattle.tx_machine.specs.Lists.{is_lawful};
-ghost use Rattle.tx_machine.specs.Table.{advanced, after, is_due, limited, next, opening};
-ghost use Rattle.tx_machine.specs.Due.{IsAsked, due_of, places_of};
-ghost use Rattle.tx_machine.specs.Contract.{Fits, IsReady, IsSettled, IsSound, standing, state};
+ghost use Rattle.tx_machine.specs.Table.{advanced, after, is_open as is_open_of, limited, opening};
+ghost use Rattle.tx_machine.specs.Table.{prepares_next, reopening};
+ghost use Rattle.tx_machine.specs.Due.{IsReplyDue, due_of, participant_of, places_of};
+ghost use Rattle.tx_machine.specs.Contract.{Fits, IsReady, IsSettled, IsSound, TakesItem, tx_state, state};
 ghost use Rattle.tx_machine.specs.declared.values.Item.TheVariants.{Answer, Choice, Told};
 
+use crate::error::MachineError;
 use crate::places::{add_frames, add_steps, spot};
 use crate::rules::{MAX_CALLS, end_of, is_open, join, outcome_of, phase_after, retry_by, save};
-use crate::selection::{chosen_groups, main_step};
-use crate::values::{Due, Item, MachineError, Phase};
-use crate::walk::{Frame, Stand, copy_frames, enter, last_step, look, settle};
-use flow_asm::Code;
+use crate::selection::{chosen_groups, end_step, main_step};
+use crate::values::{Due, Item, Phase};
+use crate::walk::{Frame, copy_frames, enter, look, settle};
+use flow_asm::{Code, StepView};
 use std::alloc::{AllocError, Global};
 
 /// One transaction.
@@ -39,7 +44,7 @@ impl Machine {
         requires { IsSettled code.now self.now }
         ensures { IsTrue result ↔ ((state code.now self.now).rest ≡ []) }
     {
-        matches!(look(code, self.step), Stand::Return)
+        matches!(look(code, self.step), StepView::Return)
     }
 
     // Drops what is to come where the bound is met.
@@ -53,7 +58,7 @@ impl Machine {
             self.retry = false;
             self.bound = true;
             self.stack.clear();
-            self.step = last_step(code);
+            self.step = end_step(code);
         }
     }
 
@@ -73,16 +78,10 @@ impl Machine {
 
     /// A transaction before its first item, with so many tries left after this one and the context
     /// that it begins with, as bytes. It takes no memory.
-    #[tactic(auto, unfolding(crate::specs::Contract::standing, crate::specs::Contract::IsSound))]
-    pub fn start(
-        alloc: Global,
-        code: &Code,
-        tries: u8,
-        saved: Vec<u8>,
-    ) -> Result<Machine, MachineError>
-        ensures sound { IfOk result (IsSound code.now) }
-        ensures standing { IfOk result (λ m. standing code.now m ≡ opening code.now tries saved.items) }
-        ensures memory { IfErr result (λ e. e ≡ MachineError.OutOfMemory) }
+    #[tactic(auto, unfolding(crate::specs::Contract::tx_state, crate::specs::Contract::IsSound))]
+    pub fn start(alloc: Global, code: &Code, tries: u8, saved: Vec<u8>) -> Machine
+        ensures sound { IsSound code.now result }
+        ensures state { tx_state code.now result ≡ opening code.now tries saved.items }
     {
         let mut machine = Machine {
             phase: Phase::Preparing,
@@ -97,36 +96,77 @@ impl Machine {
             saved,
         };
         machine.advance(code);
-        Ok(machine)
+        machine
     }
 
-    /// The call that is due, or the end.
-    #[tactic(auto, using(crate::proofs::Dues::asked))]
+    /// A transaction that the journal has, whose members are told from a number on: to commit, or
+    /// else to abort. It is never shelved. It takes no memory.
+    #[tactic(auto, unfolding(crate::specs::Contract::tx_state, crate::specs::Contract::IsSound))]
+    pub fn reopened(
+        alloc: Global,
+        code: &Code,
+        committing: bool,
+        joined: Vec<usize>,
+        told: usize,
+        tries: u8,
+        saved: Vec<u8>,
+    ) -> Machine
+        requires { All (λ p. p < length (parts_of code.now)) joined.items }
+        ensures sound { IsSound code.now result }
+        ensures state { tx_state code.now result
+            ≡ reopening committing joined.items told tries saved.items }
+    {
+        let phase = if committing {
+            Phase::Committing
+        } else {
+            Phase::Undoing
+        };
+        Machine {
+            phase,
+            step: end_step(code),
+            stack: Vec::new(alloc),
+            retry: false,
+            bound: false,
+            calls: 0,
+            joined,
+            told,
+            tries,
+            saved,
+        }
+    }
+
+    /// The call that is due, or the end. Its participant is one of the code's, of which there are at
+    /// most 16,384.
+    #[tactic(auto, using(crate::proofs::Dues::reply_due))]
     pub fn due(&self, code: &Code) -> Due
         requires { IsSound code.now self.now }
-        ensures due { result ≡ due_of code.now (standing code.now self.now) }
-        ensures asked { IsAsked result (standing code.now self.now) }
+        ensures due { result ≡ due_of code.now (tx_state code.now self.now) }
+        ensures reply { IsReplyDue result (tx_state code.now self.now) }
+        ensures participant { IfSome (participant_of result) (λ p. p < length (parts_of code.now)) }
+        ensures few { length (parts_of code.now) ≤ 16384 }
     {
+        let _participants = code.participants();
         self.next_call(code)
     }
 
-    #[tactic(auto, unfolding(crate::specs::Contract::standing, crate::specs::Contract::IsSound))]
+    #[tactic(auto, unfolding(crate::specs::Contract::tx_state, crate::specs::Contract::IsSound))]
     fn next_call(&self, code: &Code) -> Due
         requires { IsSound code.now self.now }
-        ensures { result ≡ due_of code.now (standing code.now self.now) }
+        ensures due { result ≡ due_of code.now (tx_state code.now self.now) }
+        ensures participant { IfSome (participant_of result) (λ p. p < length (parts_of code.now)) }
     {
         match self.phase {
             Phase::Preparing => match look(code, self.step) {
-                Stand::Call(participant, _) => Due::Prepare(spot(code, self.step, participant)),
-                Stand::Pick(participant) => Due::Select(spot(code, self.step, participant)),
-                Stand::Return => Due::Done,
+                StepView::Call(participant, _) => Due::Prepare(spot(code, self.step, participant)),
+                StepView::Pick(participant) => Due::Select(spot(code, self.step, participant)),
+                StepView::Return => Due::Done,
             },
             Phase::Aborting => match look(code, self.step) {
-                Stand::Call(participant, _) => {
+                StepView::Call(participant, _) => {
                     Due::PrepareForAbort(spot(code, self.step, participant))
                 }
-                Stand::Pick(participant) => Due::Select(spot(code, self.step, participant)),
-                Stand::Return => end_of(self.retry, self.tries),
+                StepView::Pick(participant) => Due::Select(spot(code, self.step, participant)),
+                StepView::Return => end_of(self.retry, self.tries),
             },
             Phase::Committing => match self.joined.get(self.told) {
                 Some(member) => Due::Commit(*member),
@@ -141,20 +181,15 @@ impl Machine {
 
     /// The reply to a due preparation: its answer byte, and the context as it is now, which is
     /// dropped where the answer is read-only or the machine refuses it.
-    #[tactic(auto, unfolding(crate::specs::Contract::standing, crate::specs::Contract::IsSound))]
+    #[tactic(auto, unfolding(crate::specs::Contract::tx_state, crate::specs::Contract::IsSound))]
     pub fn answered(&mut self, code: &Code, byte: u8, context: Vec<u8>) -> Result<(), MachineError>
         requires { IsSound code.now self.old }
-        ensures sound { IsSound code.now self.new }
-        ensures ok { OnOk result (standing code.now self.new ≡ next code.now (standing code.now self.old) (Answer byte context.items)) }
-        ensures err { OnErr result (standing code.now self.new ≡ standing code.now self.old) }
-        ensures due { OnOk result (IsTrue (is_due (standing code.now self.old) (Answer byte context.items))) }
-        ensures not_due { IfErr result (λ e. e ≡ MachineError.NotDue → is_due (standing code.now self.old) (Answer byte context.items) ≡ false) }
-        ensures first { is_due (standing code.now self.old) (Answer byte context.items) ≡ false → result ≡ Err MachineError.NotDue }
+        ensures { TakesItem code.now self.old (Answer byte context.items) result self.new }
     {
         if !is_open(self.phase) {
             return Err(MachineError::NotDue);
         }
-        let Stand::Call(participant, _) = look(code, self.step) else {
+        let StepView::Call(participant, _) = look(code, self.step) else {
             return Err(MachineError::NotDue);
         };
         join(&mut self.joined, participant, byte)?;
@@ -169,20 +204,15 @@ impl Machine {
 
     /// The reply to a due selection: its text, in which names of groups stand between spaces and
     /// commas. The first 16 names count, known or not.
-    #[tactic(auto, unfolding(crate::specs::Contract::standing, crate::specs::Contract::IsSound))]
+    #[tactic(auto, unfolding(crate::specs::Contract::tx_state, crate::specs::Contract::IsSound))]
     pub fn chose(&mut self, alloc: Global, code: &Code, text: &str) -> Result<(), MachineError>
         requires { IsSound code.now self.old }
-        ensures sound { IsSound code.now self.new }
-        ensures ok { OnOk result (standing code.now self.new ≡ next code.now (standing code.now self.old) (Choice text.now)) }
-        ensures err { OnErr result (standing code.now self.new ≡ standing code.now self.old) }
-        ensures due { OnOk result (IsTrue (is_due (standing code.now self.old) (Choice text.now))) }
-        ensures not_due { IfErr result (λ e. e ≡ MachineError.NotDue → is_due (standing code.now self.old) (Choice text.now) ≡ false) }
-        ensures first { is_due (standing code.now self.old) (Choice text.now) ≡ false → result ≡ Err MachineError.NotDue }
+        ensures { TakesItem code.now self.old (Choice text.now) result self.new }
     {
         if !is_open(self.phase) {
             return Err(MachineError::NotDue);
         }
-        let Stand::Pick(_) = look(code, self.step) else {
+        let StepView::Pick(_) = look(code, self.step) else {
             return Err(MachineError::NotDue);
         };
         let groups = chosen_groups(alloc, code, text)?;
@@ -193,14 +223,11 @@ impl Machine {
     }
 
     /// The reply to a due commit or abort: the member was told.
-    #[tactic(auto, unfolding(crate::specs::Contract::standing, crate::specs::Contract::IsSound))]
+    #[tactic(auto, unfolding(crate::specs::Contract::tx_state, crate::specs::Contract::IsSound))]
     pub fn told(&mut self, _code: &Code) -> Result<(), MachineError>
         requires { IsSound _code.now self.old }
-        ensures sound { IsSound _code.now self.new }
-        ensures ok { OnOk result (standing _code.now self.new ≡ next _code.now (standing _code.now self.old) (Told None)) }
-        ensures err { OnErr result (standing _code.now self.new ≡ standing _code.now self.old) }
-        ensures due { OnOk result (IsTrue (is_due (standing _code.now self.old) (Told None))) }
-        ensures not_due { IfErr result (λ e. (e ≡ MachineError.NotDue) × (is_due (standing _code.now self.old) (Told None) ≡ false)) }
+        ensures takes { TakesItem _code.now self.old (Told None) result self.new }
+        ensures only { IfErr result (λ e. e ≡ MachineError.NotDue) }
     {
         if is_open(self.phase) || self.told >= self.joined.len() {
             return Err(MachineError::NotDue);
@@ -210,59 +237,62 @@ impl Machine {
     }
 
     /// The phase. At the end of a transaction without members it stays preparing or aborting.
-    #[tactic(auto, unfolding(crate::specs::Contract::standing))]
+    #[tactic(auto, unfolding(crate::specs::Contract::tx_state))]
     pub fn phase(&self) -> Phase
-        ensures { (f : Shown) → result ≡ (standing f self.now).phase }
+        ensures { (f : Shown) → result ≡ (tx_state f self.now).phase }
     {
         self.phase
     }
 
     /// The members, as participants' numbers, in the order of joining and once per joining.
-    #[tactic(auto, unfolding(crate::specs::Contract::standing))]
+    #[tactic(auto, unfolding(crate::specs::Contract::tx_state, crate::specs::Contract::IsSound))]
     pub fn joined(&self) -> &[usize]
-        ensures { (f : Shown) → result.now ≡ (standing f self.now).joined }
+        ensures joined { (f : Shown) → result.now ≡ (tx_state f self.now).joined }
+        ensures participants { (f : Shown) → IsSound f self.now
+            → All (λ p. p < length (parts_of f)) result.now }
     {
         self.joined.as_slice()
     }
 
     /// How many members were told the outcome.
-    #[tactic(auto, unfolding(crate::specs::Contract::standing))]
+    #[tactic(auto, unfolding(crate::specs::Contract::tx_state))]
     pub fn told_count(&self) -> usize
-        ensures { (f : Shown) → result ≡ (standing f self.now).told }
+        ensures { (f : Shown) → result ≡ (tx_state f self.now).told }
     {
         self.told
     }
 
     /// How many tries are left after this one.
-    #[tactic(auto, unfolding(crate::specs::Contract::standing))]
+    #[tactic(auto, unfolding(crate::specs::Contract::tx_state))]
     pub fn tries(&self) -> u8
-        ensures { (f : Shown) → result ≡ (standing f self.now).tries }
+        ensures { (f : Shown) → result ≡ (tx_state f self.now).tries }
     {
         self.tries
     }
 
     /// The saved context, as bytes.
-    #[tactic(auto, unfolding(crate::specs::Contract::standing))]
+    #[tactic(auto, unfolding(crate::specs::Contract::tx_state))]
     pub fn saved(&self) -> &[u8]
-        ensures { (f : Shown) → result.now ≡ (standing f self.now).saved }
+        ensures { (f : Shown) → result.now ≡ (tx_state f self.now).saved }
     {
         self.saved.as_slice()
     }
 
     /// Whether the bound has dropped what was still to come.
-    #[tactic(auto, unfolding(crate::specs::Contract::standing))]
+    #[tactic(auto, unfolding(crate::specs::Contract::tx_state))]
     pub fn bound(&self) -> bool
-        ensures { (f : Shown) → result ≡ (standing f self.now).bound }
+        ensures { (f : Shown) → result ≡ (tx_state f self.now).bound }
     {
         self.bound
     }
 
     /// The places (group, index) of the entries to come, the next one first. A selector that is
-    /// about to be asked is not among them, nor is an entry that the abort has passed over. The only
+    /// about to select is not among them, nor is an entry that the abort has passed over. The only
     /// refusal is want of memory.
-    #[tactic(auto, using(crate::proofs::Visits::places_of_rest), unfolding(crate::specs::Contract::standing))]
+    #[tactic(auto, using(crate::proofs::RestPlaces::places_of_rest), unfolding(crate::specs::Contract::tx_state))]
     pub fn rest(&self, alloc: Global, code: &Code) -> Result<Vec<(usize, usize)>, AllocError>
-        ensures { IfOk result (λ places. places.items ≡ places_of (standing code.now self.now).rest) }
+        ensures { IfOk result (λ places.
+            places.items ≡ places_of (tx_state code.now self.now).rest) }
     {
         let mut places = Vec::new(alloc);
         add_steps(&mut places, code, self.step)?;
@@ -272,7 +302,7 @@ impl Machine {
 
     /// A second machine that stands where this one does. The only refusal is want of memory.
     pub fn copy(&self) -> Result<Machine, AllocError>
-        ensures standing { IfOk result (λ m. (f : Shown) → standing f m ≡ standing f self.now) }
+        ensures state { IfOk result (λ m. (f : Shown) → tx_state f m ≡ tx_state f self.now) }
         ensures sound { IfOk result (λ m. (f : Shown) → IsSound f self.now → IsSound f m) }
     {
         let alloc = *self.stack.allocator();
@@ -293,16 +323,27 @@ impl Machine {
         })
     }
 
-    // The reply to the call that is due.
-    fn reply(&mut self, alloc: Global, code: &Code, item: &Item) -> Result<(), MachineError>
+    // Whether a preparation is due.
+    #[tactic(auto, unfolding(crate::specs::Contract::tx_state, crate::specs::Contract::IsSound))]
+    fn awaits_answer(&self, code: &Code) -> bool
+        requires { IsSound code.now self.now }
+        ensures { result ≡ (is_open_of (tx_state code.now self.now).phase
+            && prepares_next (tx_state code.now self.now).rest) }
+    {
+        is_open(self.phase) && matches!(look(code, self.step), StepView::Call(..))
+    }
+
+    /// Gives the machine the item that is the reply to the call that is due.
+    pub fn apply(&mut self, alloc: Global, code: &Code, item: &Item) -> Result<(), MachineError>
         requires { IsSound code.now self.old }
-        ensures sound { IsSound code.now self.new }
-        ensures ok { OnOk result (standing code.now self.new ≡ next code.now (standing code.now self.old) item.now) }
-        ensures due { OnOk result (is_due (standing code.now self.old) item.now ≡ true) }
-        ensures not_due { IfErr result (λ e. e ≡ MachineError.NotDue → is_due (standing code.now self.old) item.now ≡ false) }
+        ensures { TakesItem code.now self.old item.now result self.new }
     {
         match item {
             Item::Answer(byte, context) => {
+                // The context is copied only where it is wanted, so that want of memory comes last.
+                if !self.awaits_answer(code) {
+                    return Err(MachineError::NotDue);
+                }
                 let context = Vec::from_slice(alloc, context.as_slice())?;
                 self.answered(code, *byte, context)
             }
@@ -321,17 +362,17 @@ impl Machine {
         items: &[Item],
     ) -> Result<Machine, MachineError>
         ensures sound { IfOk result (IsSound code.now) }
-        ensures standing { IfOk result (λ m. standing code.now m ≡ after code.now (opening code.now tries saved.items) items.now) }
-        ensures lawful { OnOk result (is_lawful code.now (opening code.now tries saved.items) items.now ≡ true) }
-        ensures not_due { IfErr result (λ e. e ≡ MachineError.NotDue → is_lawful code.now (opening code.now tries saved.items) items.now ≡ false) }
+        ensures state { IfOk result (λ m.
+            tx_state code.now m ≡ after code.now (opening code.now tries saved.items) items.now) }
+        ensures lawful { OnOk result
+            (is_lawful code.now (opening code.now tries saved.items) items.now ≡ true) }
+        ensures not_due { IfErr result (λ e. e ≡ MachineError.NotDue
+            → is_lawful code.now (opening code.now tries saved.items) items.now ≡ false) }
     {
-        let mut machine = Machine::start(alloc, code, tries, saved)?;
-        'items: for item in items {
-            machine.reply(alloc, code, item)?;
+        let mut machine = Machine::start(alloc, code, tries, saved);
+        for item in items {
+            machine.apply(alloc, code, item)?;
         }
         Ok(machine)
     }
 }
-
-#[cfg(test)]
-mod tests;

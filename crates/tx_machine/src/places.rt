@@ -2,22 +2,27 @@
 
 ghost use Rattle.std.specs.Prelude.{◌≡◌, ◌++◌, map, OnOk, Some, slice_get};
 ghost use Rattle.std.specs.Option.{option_to_list};
-ghost use Rattle.flow_model.specs.declared.flow.Slot.{Slot as Place};
+ghost use Rattle.flow_model.specs.declared.flow.PlacedEntry.{PlacedEntry};
 ghost use Rattle.flow_asm.specs.Steps.{AtCall, AtPick, layout, stages};
 ghost use Rattle.flow_asm.specs.Places.{group_at};
-ghost use Rattle.tx_machine.specs.Due.{asked_spot, places_of, spot_of};
-ghost use Rattle.tx_machine.specs.Position.{marks_at, slots_in, stack_marks};
-ghost use Rattle.tx_machine.specs.Table.{Enter};
+ghost use Rattle.tx_machine.specs.Due.{select_spot, places_of, spot_of};
+ghost use Rattle.tx_machine.specs.Position.{upcoming_at, entries_in, stack_upcoming};
+ghost use Rattle.tx_machine.specs.Table.{Prepare};
 
 use crate::values::Spot;
 use crate::walk::Frame;
 use flow_asm::{Code, Step, place};
 use std::alloc::AllocError;
 
-/// The spot of the entry whose participant a step calls or asks.
+/// The spot of the entry whose participant a step calls or selects_next.
 pub(crate) fn spot(code: &Code, step: usize, participant: usize) -> Spot
-    ensures call { (s : Place) → slice_get (stages code.now) step ≡ Some (AtCall s) → s.participant ≡ participant → result ≡ spot_of code.now s }
-    ensures pick { (s : Place) → slice_get (stages code.now) step ≡ Some (AtPick s) → s.participant ≡ participant → result ≡ asked_spot code.now s }
+    ensures call { (e : PlacedEntry)
+        → slice_get (stages code.now) step ≡ Some (AtCall e) → e.participant ≡ participant
+        → result ≡ spot_of code.now e }
+    ensures pick { (e : PlacedEntry)
+        → slice_get (stages code.now) step ≡ Some (AtPick e) → e.participant ≡ participant
+        → result ≡ select_spot code.now e }
+    ensures same { result.participant ≡ participant }
 {
     let (group, index) = place(code, step).unwrap_or((0, 0));
     Spot {
@@ -46,10 +51,11 @@ pub(crate) fn add_steps(
     code: &Code,
     from: usize,
 ) -> Result<(), AllocError>
-    ensures { OnOk result (places.new.items ≡ places.old.items ++ places_of (marks_at code.now from)) }
+    ensures { OnOk result
+        (places.new.items ≡ places.old.items ++ places_of (upcoming_at code.now from)) }
 {
     let all = code.steps();
-    'steps: for step in from..all.len() {
+    for step in from..all.len() {
         match all[step] {
             Step::Call(_) => add_place(places, place(code, step))?,
             Step::Pick(_) => {}
@@ -60,7 +66,8 @@ pub(crate) fn add_steps(
 }
 
 fn add_group(places: &mut Vec<(usize, usize)>, code: &Code, group: usize) -> Result<(), AllocError>
-    ensures { OnOk result (places.new.items ≡ places.old.items ++ places_of (map Enter (group_at (layout code.now) group))) }
+    ensures { OnOk result (places.new.items
+        ≡ places.old.items ++ places_of (map Prepare (group_at (layout code.now) group))) }
 {
     match code.groups().get(group) {
         Some(start) => add_steps(places, code, start.first),
@@ -73,9 +80,10 @@ fn add_groups(
     code: &Code,
     groups: &[usize],
 ) -> Result<(), AllocError>
-    ensures { OnOk result (places.new.items ≡ places.old.items ++ places_of (map Enter (slots_in code.now groups.now))) }
+    ensures { OnOk result (places.new.items
+        ≡ places.old.items ++ places_of (map Prepare (entries_in code.now groups.now))) }
 {
-    'groups: for group in groups {
+    for group in groups {
         add_group(places, code, *group)?;
     }
     Ok(())
@@ -87,10 +95,11 @@ pub(crate) fn add_frames(
     code: &Code,
     stack: &[Frame],
 ) -> Result<(), AllocError>
-    ensures { OnOk result (places.new.items ≡ places.old.items ++ places_of (stack_marks code.now stack.now)) }
+    ensures { OnOk result (places.new.items
+        ≡ places.old.items ++ places_of (stack_upcoming code.now stack.now)) }
 {
     let mut rest = stack;
-    'frames: while let Some((top, below)) = rest.split_last() {
+    while let Some((top, below)) = rest.split_last() {
         add_groups(places, code, top.pending.as_slice())?;
         add_steps(places, code, top.back)?;
         rest = below;

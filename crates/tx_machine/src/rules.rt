@@ -1,18 +1,18 @@
 //! What an answer does to a transaction, whichever way the rest is kept.
 
-ghost use Rattle.std.specs.Prelude.{◌≡◌, OnOk, OnErr, IfErr};
+ghost use Rattle.std.specs.Prelude.{◌≡◌, ◌<◌, ℕ, OnOk, OnErr, IfErr};
+ghost use Rattle.std.specs.List.{All};
 ghost use Rattle.sw_participant.specs.Answers.{asks_retry, is_prepared};
-ghost use Rattle.tx_machine.specs.Table.{after_byte, is_open as is_open_of, joined_after, outcome, retry_after, saved_after};
+ghost use Rattle.tx_machine.specs.Table.{after_byte, is_open as is_open_of, joined_after, outcome};
+ghost use Rattle.tx_machine.specs.Table.{retry_after, saved_after};
 ghost use Rattle.tx_machine.specs.Due.{end_by};
 
-use crate::values::{Due, MachineError, Phase};
+use crate::error::MachineError;
+use crate::values::{Due, Phase};
 use sw_participant::read_answer;
 
 /// After so many answers and choices the rest is dropped.
 pub(crate) const MAX_CALLS: u16 = 1000;
-
-/// How many names of a selection count.
-pub(crate) const MAX_NAMES: usize = 16;
 
 /// The phase in which the members are told.
 pub(crate) fn outcome_of(phase: Phase) -> Phase
@@ -61,6 +61,9 @@ pub(crate) fn join(
     byte: u8,
 ) -> Result<(), MachineError>
     ensures ok { OnOk result (joined.new.items ≡ joined_after byte participant joined.old.items) }
+    ensures within { OnOk result ((count : ℕ)
+        → participant < count → All (λ p. p < count) joined.old.items
+        → All (λ p. p < count) joined.new.items) }
     ensures err { OnErr result (joined.new.items ≡ joined.old.items) }
     ensures memory { IfErr result (λ e. e ≡ MachineError.OutOfMemory) }
 {

@@ -1,11 +1,6 @@
-//! What a machine answers and is told.
+//! What a machine answers and is given.
 
-ghost use Rattle.tx_machine.specs.declared.values.MachineError.TheVariants.{OutOfMemory};
-ghost use Rattle.std.specs.Prelude.{◌≡◌};
-
-use std::alloc::{AllocError, AllocFailed};
 use sw_participant::{Bytes, Text};
-use thiserror::Error;
 
 /// Where a transaction is on its way.
 #[derive(Clone, Copy, PartialEq, Eq, Debug)]
@@ -38,7 +33,7 @@ pub struct Spot {
 pub enum Due {
     Prepare(Spot),
     PrepareForAbort(Spot),
-    /// A selector is asked for groups (jPOS: `GroupSelector.select`).
+    /// A selector selects groups (jPOS: `GroupSelector.select`).
     Select(Spot),
     /// The participant of this number, a member, is told to commit.
     Commit(usize),
@@ -59,30 +54,4 @@ pub enum Item {
     Choice(Text),
     /// A member was told; it may have given an advice to be forwarded.
     Told(Option<Bytes>),
-}
-
-/// Why a machine refuses an item. It is then as it was.
-#[derive(Clone, Copy, PartialEq, Eq, Debug, Error)]
-pub enum MachineError {
-    /// Another kind of call is due, or none.
-    #[error("no call of this kind is due")]
-    NotDue,
-    #[error("out of memory")]
-    OutOfMemory,
-}
-
-impl From<AllocError> for MachineError {
-    ghost from_gives = { λ _ e. e ≡ OutOfMemory };
-
-    fn from(_error: AllocError) -> MachineError {
-        MachineError::OutOfMemory
-    }
-}
-
-impl<T: Drop> From<AllocFailed<T>> for MachineError {
-    ghost from_gives = { λ _ e. e ≡ OutOfMemory };
-
-    fn from(_error: AllocFailed<T>) -> MachineError {
-        MachineError::OutOfMemory
-    }
 }

@@ -1,17 +1,18 @@
 //! Moves along the steps of a flow.
 
-ghost use Rattle.std.specs.Prelude.{◌≡◌, ◌+◌, ◌^◌, ◌<◌, [], ◌++◌, length, map, slice_get, Some, IfSome, IfNone, IfOk, OnErr, IfErr};
+ghost use Rattle.std.specs.Prelude.{◌≡◌, ◌+◌, ◌^◌, ◌<◌, [], ◌++◌, length, map, slice_get, Some, IfSome};
+ghost use Rattle.std.specs.Prelude.{IfNone, IfOk, OnErr, IfErr};
 ghost use Rattle.std.specs.List.{All};
 ghost use Rattle.flow_model.specs.Check.{IsChecked};
 ghost use Rattle.flow_asm.specs.Steps.{AtReturn, first_step, layout, stages};
 ghost use Rattle.flow_asm.specs.Places.{group_at};
-ghost use Rattle.tx_machine.specs.Table.{Enter, settled};
-ghost use Rattle.tx_machine.specs.Position.{IsFrame, IsReturn, Stands, left_at, marks_at, rest_of, shown, slots_in, stack_left, stack_marks};
+ghost use Rattle.tx_machine.specs.Table.{Prepare, settled};
+ghost use Rattle.tx_machine.specs.Position.{IsFrame, IsAhead, left_at, upcoming_at, rest_of, shown};
+ghost use Rattle.tx_machine.specs.Position.{entries_in, stack_left, stack_upcoming};
 
-use crate::values::MachineError;
-use flow_asm::{Code, Step};
+use crate::error::MachineError;
+use flow_asm::{Code, StepView};
 use std::alloc::{AllocError, Global};
-use sw_participant::Kind;
 
 /// A selection that is under way.
 #[derive(Debug, Drop)]
@@ -22,38 +23,20 @@ pub(crate) struct Frame {
     pub(crate) pending: Vec<usize>,
 }
 
-/// What stands at a step.
-#[derive(Clone, Copy)]
-pub(crate) enum Stand {
-    /// The participant of this number is called.
-    Call(usize, Kind),
-    /// The selector of this number is asked.
-    Pick(usize),
-    /// The end of a group.
-    Return,
-}
-
-/// A code is that of a checked flow.
+/// A code is that of a checked flow: a wrapper for proofs.
 pub(crate) fn flow_is_checked(code: &Code)
     ensures { IsChecked code.now }
 {
     let _retries = code.retries();
 }
 
-pub(crate) fn look(code: &Code, step: usize) -> Stand
+/// What stands at a step. It is `Code::look` with a clause that says what is to come from the step on.
+pub(crate) fn look(code: &Code, step: usize) -> StepView
     requires { step < length (stages code.now) }
-    ensures stands { Stands code.now step result }
+    ensures ahead { IsAhead code.now step result }
     ensures small { length (stages code.now) < 2 ^ 64 }
 {
-    flow_is_checked(code);
-    match code.steps()[step] {
-        Step::Call(participant) => {
-            let part = &code.participants()[participant];
-            Stand::Call(participant, part.kind)
-        }
-        Step::Pick(participant) => Stand::Pick(participant),
-        Step::Return => Stand::Return,
-    }
+    code.look(step)
 }
 
 /// The first step of a group.
@@ -61,7 +44,8 @@ pub(crate) fn group_step(code: &Code, group: usize) -> usize
     requires { group < length (layout code.now) }
     ensures first { result ≡ first_step code.now group }
     ensures within { result < length (stages code.now) }
-    ensures marks { marks_at code.now result ≡ map Enter (group_at (layout code.now) group) }
+    ensures upcoming { upcoming_at code.now result
+        ≡ map Prepare (group_at (layout code.now) group) }
 {
     let start = &code.groups()[group];
     start.first
@@ -73,8 +57,11 @@ pub(crate) fn leave(code: &Code, stack: &mut Vec<Frame>) -> Option<usize>
     ensures frames { All (IsFrame code.now) stack.new.items }
     ensures none { IfNone result ((stack.old.items ≡ []) × (stack.new.items ≡ [])) }
     ensures within { IfSome result (λ step. step < length (stages code.now)) }
-    ensures rest { IfSome result (λ step. rest_of code.now step stack.new.items ≡ stack_marks code.now stack.old.items) }
-    ensures left { IfSome result (λ step. left_at code.now step + stack_left code.now stack.new.items ≡ stack_left code.now stack.old.items) }
+    ensures rest { IfSome result (λ step.
+        rest_of code.now step stack.new.items ≡ stack_upcoming code.now stack.old.items) }
+    ensures left { IfSome result (λ step.
+        left_at code.now step + stack_left code.now stack.new.items
+        ≡ stack_left code.now stack.old.items) }
 {
     if stack.is_empty() {
         return None;
@@ -91,15 +78,6 @@ pub(crate) fn leave(code: &Code, stack: &mut Vec<Frame>) -> Option<usize>
     }
 }
 
-/// The last step, a return.
-pub(crate) fn last_step(code: &Code) -> usize
-    requires { 0 < length (stages code.now) }
-    ensures last { IsReturn code.now result }
-    ensures within { result < length (stages code.now) }
-{
-    code.steps().len() - 1
-}
-
 /// Puts groups before what follows a pick, and goes to their first step.
 pub(crate) fn enter(
     code: &Code,
@@ -113,7 +91,10 @@ pub(crate) fn enter(
     requires frames { All (IsFrame code.now) stack.old.items }
     ensures frames { All (IsFrame code.now) stack.new.items }
     ensures within { IfOk result (λ step. step < length (stages code.now)) }
-    ensures rest { IfOk result (λ step. rest_of code.now step stack.new.items ≡ map Enter (slots_in code.now pending.items) ++ rest_of code.now (pick + 1) stack.old.items) }
+    ensures rest { IfOk result (λ step.
+        rest_of code.now step stack.new.items
+        ≡ map Prepare (entries_in code.now pending.items)
+        ++ rest_of code.now (pick + 1) stack.old.items) }
     ensures err { OnErr result (stack.new.items ≡ stack.old.items) }
     ensures memory { IfErr result (λ e. e ≡ MachineError.OutOfMemory) }
 {
@@ -133,17 +114,18 @@ pub(crate) fn settle(code: &Code, aborting: bool, from: usize, stack: &mut Vec<F
     ensures within { result < length (stages code.now) }
     ensures frames { All (IsFrame code.now) stack.new.items }
     ensures rested { slice_get (stages code.now) result ≡ Some AtReturn → stack.new.items ≡ [] }
-    ensures rest { rest_of code.now result stack.new.items ≡ settled aborting (rest_of code.now from stack.old.items) }
+    ensures rest { rest_of code.now result stack.new.items
+        ≡ settled aborting (rest_of code.now from stack.old.items) }
 {
     let mut step = from;
-    'steps: loop {
+    loop {
         match look(code, step) {
-            Stand::Return => match leave(code, stack) {
+            StepView::Return => match leave(code, stack) {
                 None => return step,
                 Some(next) => step = next,
             },
-            Stand::Pick(_) => return step,
-            Stand::Call(_, kind) => {
+            StepView::Pick(_) => return step,
+            StepView::Call(_, kind) => {
                 if kind.abort_aware || !aborting {
                     return step;
                 }
@@ -158,7 +140,7 @@ pub(crate) fn copy_frames(alloc: Global, stack: &[Frame]) -> Result<Vec<Frame>, 
     ensures { IfOk result (λ copy. map shown copy.items ≡ map shown stack.now) }
 {
     let mut copy = Vec::new(alloc);
-    'frames: for frame in stack {
+    for frame in stack {
         let pending = Vec::from_slice(alloc, frame.pending.as_slice())?;
         copy.push(Frame {
             back: frame.back,

@@ -16,10 +16,10 @@ use Rattle.tx_machine.specs.declared.values.Spot.{Spot}
 use Rattle.tx_machine.specs.declared.values.Due.{Due}
 use Rattle.tx_machine.specs.declared.values.Due.TheVariants as due
 use Rattle.tx_machine.specs.Names.{names_of}
-use Rattle.tx_machine.specs.Table.{Standing}
+use Rattle.tx_machine.specs.Table.{TxState}
 use Rattle.tx_machine.specs.Due.{due_of}
-use Rattle.tx_engine.specs.declared.event.Event.{Event}
-use Rattle.tx_engine.specs.declared.event.Event.TheVariants.{Answered, Chose, Told}
+use Rattle.tx_history.specs.declared.event.Event.{Event}
+use Rattle.tx_history.specs.declared.event.Event.TheVariants.{Answered, Chose, Told}
 
 abbrev pub Text : Type 0
 Text = List ℕ
@@ -97,16 +97,17 @@ told_text advised place = word_if advised (codes "advice " ++ decimal place ++ c
 abbrev pub bound_text : Bool → Text
 bound_text bound = word_if bound (codes "bound ")
 
--- what an event adds behind its call
+-- what an answer, a choice or a told adds behind its call
 abbrev pub event_text : Flow → Event → ℕ → Bool → Text
 event_text f (Answered s b c) place bound = answer_text b ++ bound_text bound
 event_text f (Chose s text) place bound = choice_text f text ++ bound_text bound
 event_text f (Told s advice) place bound = told_text (is_some advice) place
+event_text f _ place bound = []
 
 -- `ID PHASE CALL `
 abbrev pub head_text : ℕ → Flow → Phase → Due → Text
 head_text id f phase call = decimal id ++ codes " " ++ phase_text phase ++ codes " " ++ due_text f call ++ codes " "
 
--- `ID PHASE CALL .. -> NEXT`: an event that leads from one standing to the next
-abbrev pub step_text : ℕ → Flow → Standing → Event → Standing → Text
+-- `ID PHASE CALL .. -> NEXT`: an event that leads from one state to the next
+abbrev pub step_text : ℕ → Flow → TxState → Event → TxState → Text
 step_text id f before event after = head_text id f before.phase (due_of f before) ++ (event_text f event before.told after.bound ++ codes "-> " ++ due_text f (due_of f after))

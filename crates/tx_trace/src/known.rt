@@ -8,10 +8,7 @@ ghost use Rattle.tx_trace.specs.Trace.{comma_list, known, list_text, texts_of};
 use flow_asm::{Code, GroupStart};
 use std::alloc::{AllocError, Global};
 use std::fmt;
-use tx_machine::names::first_name;
-
-/// How many names of a selection count.
-const MAX_NAMES: usize = 16;
+use tx_machine::first_names;
 
 // The name of a group of the table, where one has the name.
 fn find_start<'a>(groups: &'a [GroupStart], name: &[u8]) -> Option<&'a str>
@@ -19,7 +16,7 @@ fn find_start<'a>(groups: &'a [GroupStart], name: &[u8]) -> Option<&'a str>
     ensures known { IfSome result (λ found. is_start name.now groups.entry.now ≡ true) }
     ensures unknown { IfNone result (is_start name.now groups.entry.now ≡ false) }
 {
-    'groups: for group in groups {
+    for group in groups {
         if group.name.as_str().as_bytes() == name {
             return Some(group.name.as_str());
         }
@@ -38,7 +35,9 @@ fn find_name<'a>(code: &'a Code, name: &[u8]) -> Option<&'a str>
 
 // Adds a name, where one of the groups has it.
 fn add_known<'a>(names: &mut Vec<&'a str>, code: &'a Code, name: &[u8]) -> Result<(), AllocError>
-    ensures { OnOk result (texts_of names.new.items ≡ texts_of names.old.items ++ filter (λ n. is_named n code.entry.now.groups) (name.now ∷ [])) }
+    ensures { OnOk result (texts_of names.new.items
+        ≡ texts_of names.old.items
+        ++ filter (λ n. is_named n code.entry.now.groups) (name.now ∷ [])) }
 {
     match find_name(code, name) {
         Some(name) => {
@@ -58,13 +57,8 @@ pub fn known_names<'a>(
     ensures { IfOk result (λ names. texts_of names.items ≡ known code.entry.now.groups text.now) }
 {
     let mut names = Vec::new(alloc);
-    let mut rest = text.as_bytes();
-    'names: for count in 0..MAX_NAMES {
-        let Some(first) = first_name(rest) else {
-            return Ok(names);
-        };
-        add_known(&mut names, code, first.name)?;
-        rest = first.rest;
+    for name in first_names(text) {
+        add_known(&mut names, code, name)?;
     }
     Ok(names)
 }
@@ -112,7 +106,7 @@ impl fmt::Display for MoreNames<'_> {
     ghost output = { λ m. Some (flat_map with_comma (texts_of m.0.now)) };
 
     fn fmt<W: fmt::Write>(&self, f: &mut fmt::Formatter<W>) -> fmt::Result {
-        'names: for name in self.0 {
+        for name in self.0 {
             write!(f, ",{name}")?;
         }
         Ok(())

@@ -1,6 +1,7 @@
 //! A context's bytes, read.
 
-ghost use Rattle.std.specs.Prelude.{◌≡◌, ℕ, ◌≤◌, ◌<◌, ◌^◌, ◌↔◌, ◌++◌, List, length, is_some, IsTrue, IfSome, IfNone, MatchResult};
+ghost use Rattle.std.specs.Prelude.{◌≡◌, ℕ, ◌≤◌, ◌<◌, ◌^◌, ◌↔◌, ◌++◌, List, length, is_some, IsTrue, IfSome};
+ghost use Rattle.std.specs.Prelude.{IfNone, MatchResult};
 ghost use Rattle.std.specs.List.{flat_map};
 ghost use Rattle.sw_context.specs.Names.{is_name};
 ghost use Rattle.sw_context.specs.Pairs.{Pairs, find, AreEntries, IsContext, IsEntry};
@@ -14,8 +15,10 @@ use std::str;
 
 /// The name at the front, and what follows it.
 fn name_at_front(bytes: &[u8]) -> Option<(&str, &[u8])>
-    ensures found { IfSome result (λ r. IsTrue (is_name r.0.now) × (bytes.now ≡ name_bytes r.0.now ++ r.1.now)) }
-    ensures none { IfNone result ((name rest : List ℕ) → IsTrue (is_name name) → bytes.now ≡ name_bytes name ++ rest → ⊥) }
+    ensures found { IfSome result (λ r.
+        IsTrue (is_name r.0.now) × (bytes.now ≡ name_bytes r.0.now ++ r.1.now)) }
+    ensures none { IfNone result ((name rest : List ℕ)
+        → IsTrue (is_name name) → bytes.now ≡ name_bytes name ++ rest → ⊥) }
 {
     let (length, after) = bytes.split_first()?;
     let (name, rest) = after.split_at_checked(usize::from(*length))?;
@@ -30,8 +33,10 @@ fn name_at_front(bytes: &[u8]) -> Option<(&str, &[u8])>
 
 /// The value at the front, and what follows it.
 fn value_at_front(bytes: &[u8]) -> Option<(&[u8], &[u8])>
-    ensures found { IfSome result (λ r. (length r.0.now < 2 ^ 16) × (bytes.now ≡ value_bytes r.0.now ++ r.1.now)) }
-    ensures none { IfNone result ((value rest : List ℕ) → length value < 2 ^ 16 → bytes.now ≡ value_bytes value ++ rest → ⊥) }
+    ensures found { IfSome result (λ r.
+        (length r.0.now < 2 ^ 16) × (bytes.now ≡ value_bytes r.0.now ++ r.1.now)) }
+    ensures none { IfNone result ((value rest : List ℕ)
+        → length value < 2 ^ 16 → bytes.now ≡ value_bytes value ++ rest → ⊥) }
 {
     let (high, after) = bytes.split_first()?;
     let (low, after) = after.split_first()?;
@@ -47,8 +52,11 @@ struct Front<'a> {
 }
 
 fn entry_at_front(bytes: &[u8]) -> Option<Front<'_>>
-    ensures found { IfSome result (λ f. IsEntry (f.name.now, f.value.now) × (bytes.now ≡ entry_bytes (f.name.now, f.value.now) ++ f.rest.now)) }
-    ensures none { IfNone result ((e : List ℕ × List ℕ) (rest : List ℕ) → IsEntry e → bytes.now ≡ entry_bytes e ++ rest → ⊥) }
+    ensures found { IfSome result (λ f.
+        IsEntry (f.name.now, f.value.now)
+        × (bytes.now ≡ entry_bytes (f.name.now, f.value.now) ++ f.rest.now)) }
+    ensures none { IfNone result ((e : List ℕ × List ℕ) (rest : List ℕ)
+        → IsEntry e → bytes.now ≡ entry_bytes e ++ rest → ⊥) }
 {
     let (name, after) = name_at_front(bytes)?;
     let (value, rest) = value_at_front(after)?;
@@ -57,7 +65,9 @@ fn entry_at_front(bytes: &[u8]) -> Option<Front<'_>>
 
 /// Whether one of the entries has the name.
 fn has_name(name: &str, count: u8, bytes: &[u8]) -> bool
-    ensures { (es : Pairs) → AreEntries es → length es ≡ count → bytes.now ≡ flat_map entry_bytes es → result ≡ is_some (find name.now es) }
+    ensures { (es : Pairs)
+        → AreEntries es → length es ≡ count → bytes.now ≡ flat_map entry_bytes es
+        → result ≡ is_some (find name.now es) }
 {
     if count == 0 {
         return false;
@@ -85,7 +95,8 @@ fn are_entries(count: u8, bytes: &[u8]) -> bool
 
 /// Puts so many entries, one after the other.
 fn put_entries(context: &mut Context, count: u8, bytes: &[u8]) -> Result<(), ContextError>
-    ensures { (es : Pairs) → IsContext (context.old ++ es) → length es ≡ count → bytes.now ≡ flat_map entry_bytes es
+    ensures { (es : Pairs)
+        → IsContext (context.old ++ es) → length es ≡ count → bytes.now ≡ flat_map entry_bytes es
         → MatchResult result (λ _. context.new ≡ context.old ++ es) (λ e. e ≡ ContextError.OutOfMemory) }
 {
     if count == 0 {

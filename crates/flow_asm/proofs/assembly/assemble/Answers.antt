@@ -2,7 +2,7 @@ use Rattle.std.proofs.Common.{◌∙◌, List, ap, refl}
 use Rattle.std.specs.List.{flat_map}
 use Rattle.flow_model.specs.declared.flow.Group.{Group}
 use Rattle.flow_model.specs.Places.{parts_from}
-use Rattle.flow_asm.proofs.Round.{listed_is, is_assembly}
+use Rattle.flow_asm.proofs.AssemblyListing.{listed_is, is_assembly}
 use Rattle.flow_asm.proofs.assembly.assemble.Goals as goal
 
 pub invariant_of-result : goal.invariant_of-result

@@ -1,5 +1,5 @@
 use Rattle.std.proofs.Common.{◌≡◌, take}
 use Rattle.flow_asm.proofs.code.copy_starts.Given as goal
 
-abbrev pub invariant-starts : goal.invariant-starts
-invariant-starts l = l.copy.items ≡ take l.start-index l.starts
+abbrev pub invariant-loop-start : goal.invariant-loop-start
+invariant-loop-start l = l.copy.items ≡ take l.start-index l.starts

@@ -3,8 +3,8 @@ use Rattle.flow_model.specs.Places.{parts_from}
 use Rattle.flow_asm.specs.Numbering.{IsNumbering}
 use Rattle.flow_asm.proofs.numbering.number_entries.Given as goal
 
-abbrev pub invariant-entries : goal.invariant-entries
-invariant-entries l = record {
+abbrev pub invariant-loop-entry : goal.invariant-loop-entry
+invariant-loop-entry l = record {
   parts : parts_from l.parts.items (drop l.entry-index l.entries) ≡ parts_from l.fn.parts.items l.entries;
   numbers : IsNumbering l.parts.items l.numbers;
 }

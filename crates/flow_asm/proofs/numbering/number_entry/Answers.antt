@@ -3,7 +3,7 @@ use Rattle.std.specs.Str.{bytes_eq}
 use Rattle.std.proofs.lemmas.Map.Text.{btree_map_updates_str}
 use Rattle.flow_model.specs.declared.numbering.Part.{Part}
 use Rattle.flow_asm.specs.Numbering.{known, number_at}
-use Rattle.flow_asm.proofs.Named.{add_known, add_unknown, pushed}
+use Rattle.flow_asm.proofs.NumberMap.{add_known, add_unknown, pushed}
 use Rattle.flow_asm.proofs.numbering.number_entry.Goals as goal
 
 pub returns-then-contains_key-clause-parts : goal.returns-then-contains_key-clause-parts

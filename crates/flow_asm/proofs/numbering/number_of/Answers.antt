@@ -1,5 +1,5 @@
 use Rattle.std.proofs.Common.{◌∙◌}
-use Rattle.flow_asm.proofs.Named.{no_number}
+use Rattle.flow_asm.proofs.NumberMap.{no_number}
 use Rattle.flow_asm.proofs.numbering.number_of.Goals as goal
 
 pub returns-in-None : goal.returns-in-None

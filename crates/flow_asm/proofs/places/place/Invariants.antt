@@ -1,10 +1,10 @@
 use Rattle.std.proofs.Common.{◌≤◌, drop}
 use Rattle.flow_asm.specs.Steps.{stages}
-use Rattle.flow_asm.proofs.Counted.{Counted}
+use Rattle.flow_asm.proofs.StepPlaces.{Counted}
 use Rattle.flow_asm.proofs.places.place.Given as goal
 
-abbrev pub invariant-steps : goal.invariant-steps
-invariant-steps l = record {
+abbrev pub invariant-loop-number : goal.invariant-loop-number
+invariant-loop-number l = record {
   counted : Counted l.code l.number l.group l.next (drop l.number (stages l.code));
   group : l.group ≤ l.number;
   next : l.next ≤ l.number;

@@ -1,5 +1,5 @@
 use Rattle.std.proofs.Common.{sym}
-use Rattle.flow_asm.proofs.Walking.{call_place, called_at, start_first, start_past}
+use Rattle.flow_asm.proofs.CallSearch.{call_place, called_at, start_first, start_past}
 use Rattle.flow_asm.proofs.places.step_at.Goals as goal
 
 pub returns-in_default-clause-value : goal.returns-in_default-clause-value

@@ -4,9 +4,9 @@ use Rattle.flow_model.specs.declared.flow.Flow.{Flow}
 use Rattle.flow_load.specs.declared.error.LoadError.{LoadError}
 use Rattle.flow_load.specs.Image.{image_of}
 use Rattle.flow_load.specs.Load.{load_of}
-use Rattle.flow_load.specs.Reading.{Fails}
-use Rattle.flow_load.proofs.Found.{image_found}
-use Rattle.flow_load.proofs.Only.{image_read}
+use Rattle.flow_load.specs.Reads.{Fails}
+use Rattle.flow_load.proofs.ImageFound.{image_found}
+use Rattle.flow_load.proofs.ImageOnly.{image_read}
 use Rattle.flow_load.proofs.reader.load.Goals as goal
 
 pub returns-in_err-flow-clause-only : goal.returns-in_err-flow-clause-only

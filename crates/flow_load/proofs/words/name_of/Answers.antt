@@ -2,7 +2,7 @@ use Rattle.std.proofs.Common.{inl, inr}
 use Rattle.std.proofs.lemmas.Bool.{cases_Bool}
 use Rattle.sw_context.specs.Names.{is_name}
 use Rattle.sw_context.proofs.NameLaws.{name-utf8}
-use Rattle.flow_load.proofs.Loop.{fails_same}
+use Rattle.flow_load.proofs.ItemLoop.{fails_same}
 use Rattle.flow_load.proofs.words.name_of.Goals as goal
 
 pub returns-in-Err : goal.returns-in-Err

@@ -1,5 +1,6 @@
 use Rattle.std.proofs.Common.{◌∙◌, ap}
-use Rattle.flow_model.specs.Check.{first_kind, refused}
+use Rattle.flow_model.specs.Check.{first_kind}
+use Rattle.sw_base.specs.Refusals.{refused}
 use Rattle.flow_model.specs.Kinds.{kind_at}
 use Rattle.flow_model.proofs.FirstKinds.{clash_in_same}
 use Rattle.flow_model.proofs.kinds.test_kinds.Goals as goal

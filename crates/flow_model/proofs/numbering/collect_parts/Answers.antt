@@ -6,10 +6,10 @@ use Rattle.flow_model.specs.Places.{parts_from}
 use Rattle.flow_model.proofs.Parts.{parts_from-append}
 use Rattle.flow_model.proofs.numbering.collect_parts.Goals as goal
 
-pub groups-preserved : goal.groups-preserved
-groups-preserved c =
-    let rest = flat_map (λ (g : Group). g.entries) (drop (c.groups.group-index + 1) c.args.groups.now) in
-    ap (λ ps. parts_from ps rest) (c.in_ok-add_parts.ensures ∙ ap (parts_from c.groups.parts.items) (c.as_slice.ensures ∙ ap (λ (g : Group). g.entries) c.group-item.is))
-    ∙ sym (parts_from-append c.groups.parts.items (get_or c.args.groups.now c.groups.group-index c.group-item.result).entries rest)
-    ∙ sym (ap (λ gs. parts_from c.groups.parts.items (flat_map (λ (g : Group). g.entries) gs)) (drop_more c.args.groups.now c.groups.group-index c.group-item.result c.groups-test.true))
-    ∙ c.groups.invariant
+pub loop-group-preserved : goal.loop-group-preserved
+loop-group-preserved c =
+    let rest = flat_map (λ (g : Group). g.entries) (drop (c.loop-group.group-index + 1) c.args.groups.now) in
+    ap (λ ps. parts_from ps rest) (c.in_ok-add_parts.ensures ∙ ap (parts_from c.loop-group.parts.items) (c.as_slice.ensures ∙ ap (λ (g : Group). g.entries) c.group-item.is))
+    ∙ sym (parts_from-append c.loop-group.parts.items (get_or c.args.groups.now c.loop-group.group-index c.group-item.result).entries rest)
+    ∙ sym (ap (λ gs. parts_from c.loop-group.parts.items (flat_map (λ (g : Group). g.entries) gs)) (drop_more c.args.groups.now c.loop-group.group-index c.group-item.result c.loop-group-test.true))
+    ∙ c.loop-group.invariant

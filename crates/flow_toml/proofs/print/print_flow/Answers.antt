@@ -1,6 +1,6 @@
 use Rattle.std.proofs.Common.{string_bytes}
 use Rattle.std.proofs.lemmas.Result.{IfOk-weaker}
-use Rattle.flow_toml.proofs.Round.{document_dates, document_depth, file_again}
+use Rattle.flow_toml.proofs.DocumentOfFlow.{document_dates, document_depth, file_again}
 use Rattle.flow_toml.proofs.print.print_flow.Goals as goal
 
 pub print_table-requires : goal.print_table-requires

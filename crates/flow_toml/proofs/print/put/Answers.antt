@@ -1,7 +1,7 @@
 use Rattle.std.proofs.Common.{◌∙◌, ap}
 use Rattle.toml.specs.View.{view, table_view}
 use Rattle.flow_toml.specs.Document.{insert_member}
-use Rattle.flow_toml.proofs.Put.{members_view-insert}
+use Rattle.flow_toml.proofs.TableInserts.{members_view-insert}
 use Rattle.flow_toml.proofs.print.put.Goals as goal
 
 pub returns : goal.returns

@@ -4,5 +4,5 @@ use Rattle.toml.specs.View.{table_view}
 use Rattle.flow_toml.specs.Faults.{is_missing}
 use Rattle.flow_toml.proofs.read.missing_key.Given as goal
 
-abbrev pub invariant-keys : goal.invariant-keys
-invariant-keys l = find (is_missing (table_view l.table)) (drop l.key-index l.keys) ≡ find (is_missing (table_view l.table)) l.keys
+abbrev pub invariant-loop-key : goal.invariant-loop-key
+invariant-loop-key l = find (is_missing (table_view l.table)) (drop l.key-index l.keys) ≡ find (is_missing (table_view l.table)) l.keys

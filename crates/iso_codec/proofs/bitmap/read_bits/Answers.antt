@@ -1,9 +1,9 @@
 use Rattle.std.proofs.Common.{◌≡◌, ◌∙◌, ◌+◌, sym, subst, arith}
 use Rattle.iso_codec.specs.Digits.{bits_at}
 use Rattle.std.proofs.Common.{drop, List, ℕ}
-use Rattle.iso_codec.proofs.Loops.{bits_step, bits_none, bits_end}
+use Rattle.iso_codec.proofs.DigitLoops.{bits_step, bits_none, bits_end}
 use Rattle.iso_codec.proofs.bitmap.read_bits.Goals as goal
-use Rattle.iso_codec.specs.Reading.{put_before}
+use Rattle.iso_codec.specs.Reads.{put_before}
 
 pub returns-in_default-clause-bits : goal.returns-in_default-clause-bits
 returns-in_default-clause-bits c = bits_none c.args.text.now c.loop-c.numbers c.loop-c.c-index c.loop-c.at _ c.loop-c-test.true (sym c.hex_digit.ensures.value ∙ c.in_default.is) c.loop-c.invariant.so_far

@@ -1,7 +1,7 @@
 use Rattle.std.proofs.Common.{◌≡◌, ◌≤◌, ◌+◌, ◌*◌, drop, length}
 use Rattle.iso_codec.specs.Digits.{bits_at}
 use Rattle.iso_codec.proofs.bitmap.read_bits.Given as goal
-use Rattle.iso_codec.specs.Reading.{put_before}
+use Rattle.iso_codec.specs.Reads.{put_before}
 
 abbrev pub invariant-loop-c : goal.invariant-loop-c
 invariant-loop-c l = record {

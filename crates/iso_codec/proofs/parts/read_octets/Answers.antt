@@ -1,6 +1,6 @@
 use Rattle.std.proofs.Common.{◌∙◌, sym, arith}
 use Rattle.std.proofs.lemmas.List.{length-set}
-use Rattle.iso_codec.proofs.Loops.{octet_step, octet_none, octets_end}
+use Rattle.iso_codec.proofs.DigitLoops.{octet_step, octet_none, octets_end}
 use Rattle.iso_codec.proofs.parts.read_octets.Goals as goal
 
 pub returns-in_default : goal.returns-in_default

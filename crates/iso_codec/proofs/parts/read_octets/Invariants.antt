@@ -1,7 +1,7 @@
 use Rattle.std.proofs.Common.{◌≡◌, ◌*◌, drop, take, length}
 use Rattle.iso_codec.specs.Digits.{octets}
 use Rattle.iso_codec.proofs.parts.read_octets.Given as goal
-use Rattle.iso_codec.specs.Reading.{put_before}
+use Rattle.iso_codec.specs.Reads.{put_before}
 
 abbrev pub invariant-loop-i : goal.invariant-loop-i
 invariant-loop-i l = record {

@@ -1,4 +1,4 @@
-use Rattle.iso_msg.proofs.Maps.{reads_back, keeps_others, takes_out, leaves_others, determined}
+use Rattle.iso_msg.proofs.FieldMaps.{reads_back, keeps_others, takes_out, leaves_others, determined}
 use Rattle.iso_msg.proofs.laws.fields_are_a_map.Goals as goal
 
 pub returns-clause-put : goal.returns-clause-put

@@ -1,7 +1,7 @@
 use Rattle.std.proofs.Common.{◌∙◌, ap, refl}
 use Rattle.std.proofs.lemmas.List.{take_all}
 use Rattle.iso_msg.specs.Storage.{pairs}
-use Rattle.iso_msg.proofs.Walks.{copied}
+use Rattle.iso_msg.proofs.FieldLists.{copied}
 use Rattle.iso_msg.proofs.storage.copy.Goals as goal
 
 pub loop-field-preserved : goal.loop-field-preserved

@@ -1,11 +1,12 @@
-use Rattle.iso_msg.proofs.Walks.{place_step, place_here, place_found, place_missing}
+use Rattle.std.proofs.Common.{rules}
+use Rattle.std.proofs.lemmas.List.Sorted.{answers_always}
+use Rattle.iso_msg.specs.declared.field.Field.{Field}
+use Rattle.iso_msg.proofs.FieldSearch.{searched}
 use Rattle.iso_msg.proofs.storage.place.Goals as goal
 
-pub returns-then-field-number-2 : goal.returns-then-field-number-2
-returns-then-field-number-2 c = place_found c.loop-i.i _ _ _ c.if-field-number-2.true (place_here c.args.fields.now c.loop-i.i c.args.number c.index-fields-i.result _ c.loop-i-test.true c.index-fields-i.is c.if-field-number.true c.loop-i.invariant)
-
-pub returns-else-field-number-2 : goal.returns-else-field-number-2
-returns-else-field-number-2 c = place_missing c.loop-i.i _ _ _ c.if-field-number-2.false (place_here c.args.fields.now c.loop-i.i c.args.number c.index-fields-i.result _ c.loop-i-test.true c.index-fields-i.is c.if-field-number.true c.loop-i.invariant)
-
-pub loop-i-preserved : goal.loop-i-preserved
-loop-i-preserved c = place_step c.args.fields.now c.loop-i.i c.args.number c.index-fields-i.result _ c.loop-i-test.true c.index-fields-i.is c.if-field-number.false c.loop-i.invariant
+-- the closure gives a field's number
+pub returns : goal.returns
+returns c =
+    let facts = c.binary_search_by_key.ensures in
+    searched c.args.fields.now c.args.number c.requires c.binary_search_by_key.result facts.bound
+    (facts.position (λ (f : Field). f.number) (answers_always _ _ _ (λ f a r g called. search rules)))

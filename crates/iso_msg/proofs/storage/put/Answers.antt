@@ -2,7 +2,7 @@ use Rattle.std.proofs.Common.{◌∙◌, sym, ap, List, arith}
 use Rattle.std.proofs.lemmas.List.{map-set, length-map}
 use Rattle.iso_msg.specs.declared.field.Field.{Field}
 use Rattle.iso_msg.specs.Storage.{pair, pairs, place_of}
-use Rattle.iso_msg.proofs.Walks.{found, missing, map-insert}
+use Rattle.iso_msg.proofs.FieldLists.{found, missing, map-insert}
 use Rattle.iso_msg.proofs.storage.put.Goals as goal
 
 pub index_mut-requires : goal.index_mut-requires

@@ -1,6 +1,6 @@
 use Rattle.std.proofs.Common.{◌∙◌, ap, get_or, None, sym, zero-add}
 use Rattle.iso_msg.specs.Table.{definition_of}
-use Rattle.iso_msg.proofs.Tables.{definitions_at, none_past}
+use Rattle.iso_msg.proofs.FieldTable.{definitions_at, none_past}
 use Rattle.iso_msg.proofs.table.definition_at.Goals as goal
 
 pub returns-then-number-lt129 : goal.returns-then-number-lt129

@@ -1,6 +1,6 @@
 use Rattle.std.proofs.Common.{◌≡◌, ◌∙◌, sym, subst, None, Some}
 use Rattle.iso_msg.specs.Table.{form_of, IsKnown}
-use Rattle.iso_msg.proofs.Tables.{form_by, is_known}
+use Rattle.iso_msg.proofs.FieldTable.{form_by, is_known}
 use Rattle.iso_msg.proofs.table.form_at.Goals as goal
 
 pub returns-in-Some-clause-form : goal.returns-in-Some-clause-form

@@ -1,7 +1,7 @@
 use Rattle.std.proofs.Common.{sym, ap, ◌∙◌, arith}
 use Rattle.iso_msg.specs.declared.table.Form.{Form}
 use Rattle.iso_msg.specs.Values.{has_content}
-use Rattle.iso_msg.proofs.Tables.{all_bytes}
+use Rattle.iso_msg.proofs.FieldTable.{all_bytes}
 use Rattle.iso_msg.proofs.value.fits_content.Goals as goal
 
 pub returns-in-Binary : goal.returns-in-Binary

@@ -2,10 +2,10 @@ use Rattle.std.proofs.Common.{◌≡◌, ◌∙◌, ◌++◌, ◌+◌, sym, ap, 
 use Rattle.std.specs.Global.{Vec}
 use Rattle.std.proofs.lemmas.List.{take_all, map-append}
 use Rattle.sw_frame.specs.Stream.{Stream}
-use Rattle.sw_frame.specs.Feeds.{messages, joined, GoesOn}
+use Rattle.sw_frame.specs.Feeds.{messages, joined, StreamGoesOn}
 use Rattle.sw_frame.proofs.Frames.{same-stream, reading-on}
 use Rattle.sw_frame.proofs.pieces.read_pieces.Goals.{in-Ok+in_ok-append-in-Ok, in-Err-BadLength}
-use Rattle.sw_frame.specs.declared.pieces.Reading.{Reading}
+use Rattle.sw_frame.specs.declared.pieces.StreamReading.{StreamReading}
 use Rattle.sw_frame.proofs.pieces.read_pieces.Goals as goal
 
 pub loop-piece-preserved : goal.loop-piece-preserved
@@ -21,18 +21,18 @@ loop-piece-preserved c =
           let next = w.in-Ok.ensures.so_far before old c.loop-piece.invariant in
           let this = subst (λ (z : List ℕ). Stream (before ++ z) (old ++ messages w.in-Ok.messages.items) c.feed.new.self) c.deref.ensures.value next in
           let whole = reading-on pieces i c.piece-item.result _ c.feed.new.self c.loop-piece-test.true c.piece-item.is this in
-          subst (λ (r : Reading). Stream (joined (take (i + 1) pieces)) (messages r.messages.items) r.framer) (sym w.reading-is)
+          subst (λ (r : StreamReading). Stream (joined (take (i + 1) pieces)) (messages r.messages.items) r.framer) (sym w.reading-is)
           (subst (λ (z : List (List ℕ)). Stream (joined (take (i + 1) pieces)) z c.feed.new.self) (sym all) whole)
       | in-Err-BadLength w ↦
           let next =
-          subst (λ e. GoesOn before old c.deref.result.now (Err e) c.loop-piece.reading.framer c.feed.new.self) w.in-Err-BadLength.field-0-is
+          subst (λ e. StreamGoesOn before old c.deref.result.now (Err e) c.loop-piece.reading.framer c.feed.new.self) w.in-Err-BadLength.field-0-is
           (w.in-Err-BadLength.ensures.so_far before old c.loop-piece.invariant) in
           let this = subst (λ (z : List ℕ). Stream (before ++ z) old c.feed.new.self) c.deref.ensures.value next in
           let whole = reading-on pieces i c.piece-item.result old c.feed.new.self c.loop-piece-test.true c.piece-item.is this in
-          subst (λ (r : Reading). Stream (joined (take (i + 1) pieces)) (messages r.messages.items) r.framer) (sym w.reading-is) whole
+          subst (λ (r : StreamReading). Stream (joined (take (i + 1) pieces)) (messages r.messages.items) r.framer) (sym w.reading-is) whole
     ]
 
-pub returns-clause-only : goal.returns-clause-only
-returns-clause-only c = λ fs s p.
+pub returns : goal.returns
+returns c =
     let whole = subst (λ (z : List (Vec ℕ)). Stream (joined z) (messages c.loop-piece.reading.messages.items) c.loop-piece.reading.framer) (take_all c.loop-piece.piece-index c.args.pieces.now c.loop-piece-test.false) c.loop-piece.invariant in
-    same-stream (joined c.args.pieces.now) fs _ s _ p whole
+    (whole, λ fs s p. same-stream (joined c.args.pieces.now) fs _ s _ p whole)

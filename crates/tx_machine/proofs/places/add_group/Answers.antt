@@ -2,7 +2,7 @@ use Rattle.std.proofs.Common.{◌≡◌, ◌∙◌, ◌++◌, ap, sym, subst}
 use Rattle.std.specs.Prelude.{OnOk}
 use Rattle.std.proofs.lemmas.List.{append-nil}
 use Rattle.tx_machine.specs.Due.{places_of}
-use Rattle.tx_machine.proofs.Visits.{group_visited, none_visited}
+use Rattle.tx_machine.proofs.RestPlaces.{group_visited, none_visited}
 use Rattle.tx_machine.proofs.places.add_group.Goals as goal
 
 pub returns-in-Some : goal.returns-in-Some

@@ -1,7 +1,7 @@
 use Rattle.std.proofs.Common.{◌≡◌, ◌∙◌, ℕ, ap, sym}
 use Rattle.std.specs.Option.{unwrap_or}
 use Rattle.flow_asm.specs.Places.{place_at}
-use Rattle.flow_asm.proofs.Counted.{call_step_is, pick_step_is}
+use Rattle.flow_asm.proofs.StepPlaces.{call_step_is, pick_step_is}
 use Rattle.tx_machine.specs.declared.values.Spot.{Spot}
 use Rattle.tx_machine.proofs.places.spot.Goals as goal
 

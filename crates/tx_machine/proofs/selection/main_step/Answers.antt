@@ -1,6 +1,6 @@
 use Rattle.std.proofs.Common.{◌≡◌, ◌∙◌, ap, sym, codes, true, false}
 use Rattle.flow_model.specs.Check.{is_named}
-use Rattle.flow_asm.proofs.Checked.{main_named}
+use Rattle.flow_model.proofs.CheckedKinds.{main_named}
 use Rattle.tx_machine.proofs.selection.main_step.Goals as goal
 
 pub unreachable-requires : goal.unreachable-requires

@@ -2,8 +2,8 @@ use Rattle.std.proofs.Common.{◌≡◌, ◌<◌, ◌∙◌, List, length, get_o
 use Rattle.flow_asm.specs.declared.code.GroupStart.{GroupStart}
 use Rattle.flow_asm.specs.Steps.{first_step, stages}
 use Rattle.flow_asm.proofs.Stages.{first_at, length-starts}
-use Rattle.tx_machine.specs.Position.{marks_at}
-use Rattle.tx_machine.proofs.Moves.{is_first}
+use Rattle.tx_machine.specs.Position.{upcoming_at}
+use Rattle.tx_machine.proofs.StepsAhead.{is_first}
 use Rattle.tx_machine.proofs.walk.group_step.Goals as goal
 use Rattle.tx_machine.proofs.walk.group_step.Goals.{After-index-groups-group}
 
@@ -24,5 +24,5 @@ returns-clause-first c = first c
 pub returns-clause-within : goal.returns-clause-within
 returns-clause-within c = subst (λ n. n < length (stages c.args.code.now)) (sym (first c)) (is_first c.args.code.now c.args.group c.requires).within
 
-pub returns-clause-marks : goal.returns-clause-marks
-returns-clause-marks c = ap (marks_at c.args.code.now) (first c) ∙ (is_first c.args.code.now c.args.group c.requires).marks
+pub returns-clause-upcoming : goal.returns-clause-upcoming
+returns-clause-upcoming c = ap (upcoming_at c.args.code.now) (first c) ∙ (is_first c.args.code.now c.args.group c.requires).upcoming

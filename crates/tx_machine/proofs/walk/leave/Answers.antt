@@ -13,18 +13,18 @@ group_step-requires c =
     let some : 0 < length c.index_mut-frame.result.now.pending.items = grind (arith, common_steps, c.index_mut-frame.result.now.pending.ok.0) in
     group_within c.args.code.now c.index_mut-frame.result.now _ (frame_at c.args.code.now c.args.stack.now.items _ c.index_mut-frame.result.now long c.index_mut-frame.ensures.value c.requires) some c.remove-group.ensures.value
 
-enters : (c : After-group_step) (new : Frame) → new.pending.items ≡ c.remove-group.new.self.items → new.back ≡ c.index_mut-frame.result.now.back → IsLeft c.args.code.now c.group_step.result (set c.args.stack.now.items (c.len-top.result - 1) new) c.args.stack.now.items
-enters c new p b =
+prepares_next : (c : After-group_step) (new : Frame) → new.pending.items ≡ c.remove-group.new.self.items → new.back ≡ c.index_mut-frame.result.now.back → IsLeft c.args.code.now c.group_step.result (set c.args.stack.now.items (c.len-top.result - 1) new) c.args.stack.now.items
+prepares_next c new p b =
     let long : length c.args.stack.now.items ≡ (c.len-top.result - 1) + 1 = grind (arith, common_steps, c.args.stack.now.ok.0) in
     let some : 0 < length c.index_mut-frame.result.now.pending.items = grind (arith, common_steps, c.index_mut-frame.result.now.pending.ok.0) in
     let known : c.remove-group.result < length (layout c.args.code.now) = group_within c.args.code.now c.index_mut-frame.result.now _ (frame_at c.args.code.now c.args.stack.now.items _ c.index_mut-frame.result.now long c.index_mut-frame.ensures.value c.requires) some c.remove-group.ensures.value in
     in_at c.args.code.now c.args.stack.now.items _ c.index_mut-frame.result.now new c.remove-group.result _ long c.index_mut-frame.ensures.value c.remove-group.ensures.value some (p ∙ c.remove-group.ensures.items) b known c.group_step.ensures.first
 
 pub returns-else-is_empty-2-clause-rest : goal.returns-else-is_empty-2-clause-rest
-returns-else-is_empty-2-clause-rest c = (enters c _ refl refl).rest
+returns-else-is_empty-2-clause-rest c = (prepares_next c _ refl refl).rest
 
 pub returns-else-is_empty-2-clause-left : goal.returns-else-is_empty-2-clause-left
-returns-else-is_empty-2-clause-left c = (enters c _ refl refl).left
+returns-else-is_empty-2-clause-left c = (prepares_next c _ refl refl).left
 
 long_pop : (c : Joined-pop) → length c.args.stack.now.items ≡ (c.len-top.result - 1) + 1
 long_pop c = grind (arith, common_steps, c.args.stack.now.ok.0)

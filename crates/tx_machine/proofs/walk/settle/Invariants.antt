@@ -6,13 +6,13 @@ use Rattle.tx_machine.specs.Position.{rest_of, IsFrame, left_at, stack_left}
 use Rattle.tx_machine.proofs.walk.settle.Given as goal
 
 -- there is as much to do as at the start
-abbrev pub invariant-steps : goal.invariant-steps
-invariant-steps l = record {
+abbrev pub invariant-loop-stack : goal.invariant-loop-stack
+invariant-loop-stack l = record {
   within : l.step < length (stages l.code);
   frames : All (IsFrame l.code) l.stack.items;
   rest : settled l.aborting (rest_of l.code l.step l.stack.items) ≡ settled l.aborting (rest_of l.code l.from l.fn.stack.items);
 }
 
 -- the steps that can still be taken
-abbrev pub decreases-steps : goal.decreases-steps
-decreases-steps l = left_at l.code l.step + stack_left l.code l.stack.items
+abbrev pub decreases-loop-stack : goal.decreases-loop-stack
+decreases-loop-stack l = left_at l.code l.step + stack_left l.code l.stack.items

@@ -2,5 +2,5 @@ use Rattle.std.proofs.Common.{◌≡◌, drop}
 use Rattle.tx_trace.specs.Starts.{is_start}
 use Rattle.tx_trace.proofs.known.find_start.Given as goal
 
-abbrev pub invariant-groups : goal.invariant-groups
-invariant-groups l = is_start l.name (drop l.group-index l.groups) ≡ is_start l.name l.groups
+abbrev pub invariant-loop-group : goal.invariant-loop-group
+invariant-loop-group l = is_start l.name (drop l.group-index l.groups) ≡ is_start l.name l.groups

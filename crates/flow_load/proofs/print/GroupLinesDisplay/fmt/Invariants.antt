@@ -3,5 +3,5 @@ use Rattle.std.specs.Fmt.{IsPlainFormatter, HasWritten}
 use Rattle.flow_load.specs.Image.{lines_text, group_text}
 use Rattle.flow_load.proofs.print.GroupLinesDisplay.fmt.Given as goal
 
-abbrev pub invariant-groups : goal.invariant-groups
-invariant-groups g l = IsPlainFormatter l.initial.f → HasWritten g.W.Write.write_str_gives l.initial.f (lines_text group_text 0 (take l.number l.start-items)) l.f
+abbrev pub invariant-loop-number : goal.invariant-loop-number
+invariant-loop-number g l = IsPlainFormatter l.initial.f → HasWritten g.W.Write.write_str_gives l.initial.f (lines_text group_text 0 (take l.number l.start-items)) l.f

@@ -3,7 +3,7 @@ use Rattle.std.proofs.lemmas.List.{length-map}
 use Rattle.iso_msg.specs.Messages.{PlainMessage}
 use Rattle.iso_msg.specs.Values.{refusal}
 use Rattle.iso_msg.specs.Storage.{pair}
-use Rattle.iso_msg.proofs.Walks.{field_valid}
+use Rattle.iso_msg.proofs.FieldLists.{field_valid}
 use Rattle.iso_msg.proofs.message.Message.field_at.Goals as goal
 
 pub returns-clause-valid : goal.returns-clause-valid

@@ -1,7 +1,7 @@
 use Rattle.std.proofs.Common.{arith}
 use Rattle.std.proofs.lemmas.List.{length-map}
 use Rattle.iso_msg.specs.Storage.{pair, pairs}
-use Rattle.iso_msg.proofs.Walks.{few_fields}
+use Rattle.iso_msg.proofs.FieldLists.{few_fields}
 use Rattle.iso_msg.proofs.message.Message.field_count.Goals as goal
 
 pub returns-clause-small : goal.returns-clause-small

@@ -1,5 +1,5 @@
 use Rattle.iso_msg.specs.Storage.{pairs}
-use Rattle.iso_msg.proofs.Walks.{fewer_fields}
+use Rattle.iso_msg.proofs.FieldLists.{fewer_fields}
 use Rattle.iso_msg.proofs.message.Message.remove.Goals as goal
 
 pub invariant_of-self : goal.invariant_of-self

@@ -1,6 +1,6 @@
 use Rattle.std.proofs.Common.{◌≡◌, ◌∙◌, sym, subst, None, List, ℕ}
 use Rattle.iso_msg.specs.Values.{refusal}
-use Rattle.iso_msg.proofs.Walks.{put_keeps, taken_above, none_from}
+use Rattle.iso_msg.proofs.FieldLists.{put_keeps, taken_above, none_from}
 use Rattle.iso_msg.proofs.message.Message.set.Goals as goal
 
 pub invariant_of-self : goal.invariant_of-self

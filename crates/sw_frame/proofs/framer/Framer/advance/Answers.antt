@@ -1,5 +1,6 @@
 use Rattle.std.proofs.Common.{◌≡◌, ◌∙◌, ap, subst, List, ℕ, take, ◌++◌, Some, length, arith}
-use Rattle.sw_frame.specs.Stream.{State, number_of, IsPartial}
+use Rattle.sw_frame.specs.Stream.{State, IsPartial}
+use Rattle.sw_base.specs.Digits.{number_of}
 use Rattle.sw_frame.proofs.Frames.{first-framed, held-below, open-partial}
 use Rattle.sw_frame.proofs.framer.Framer.advance.Goals as goal
 

@@ -1,6 +1,6 @@
 use Rattle.std.proofs.Common.{◌∙◌, refl, ap, map}
 use Rattle.tx_machine.specs.declared.machine.Machine.{Machine}
-use Rattle.tx_machine.specs.Contract.{IsSound, standing}
+use Rattle.tx_machine.specs.Contract.{IsSound, tx_state}
 use Rattle.tx_machine.specs.Position.{shown}
 use Rattle.tx_machine.proofs.Copies.{IsSame, same_ready, same_state}
 use Rattle.tx_machine.proofs.machine.Machine.copy.Goals as goal
@@ -25,9 +25,9 @@ same c = record {
   saved = c.in_ok-saved.ensures.items ∙ c.as_slice-3.ensures.value;
 }
 
-pub returns-clause-standing : goal.returns-clause-standing
-unfolding standing
-returns-clause-standing c = λ f. same_state f c.args.self.now (made c.before) (same c.before)
+pub returns-clause-state : goal.returns-clause-state
+unfolding tx_state
+returns-clause-state c = λ f. same_state f c.args.self.now (made c.before) (same c.before)
 
 pub returns-clause-sound : goal.returns-clause-sound
 unfolding IsSound

@@ -1,0 +1,49 @@
+-- The errors that end a run, and the program's exit statuses.
+use Rattle.std.specs.Prelude.{ℕ}
+use Rattle.cli_decode.specs.declared.error.StreamError.{StreamError}
+use Rattle.cli_decode.specs.declared.error.StreamError.TheVariants as stream
+use Rattle.cli_flows.specs.declared.error.FlowsError.{FlowsError}
+use Rattle.cli_flows.specs.declared.error.FlowsError.TheVariants as flows
+use Rattle.cli_io.specs.declared.error.ReadError.{ReadError}
+use Rattle.cli_io.specs.declared.error.ReadError.TheVariants as read
+use Rattle.cli_io.specs.declared.error.WriteError.{WriteError}
+use Rattle.cli_io.specs.declared.error.WriteError.TheVariants as write
+use Rattle.cli_script.specs.declared.error.ScriptError.{ScriptError}
+use Rattle.cli_script.specs.declared.error.ScriptError.TheVariants as script
+use Rattle.tx_machine.specs.declared.error.MachineError.{MachineError}
+use Rattle.tx_machine.specs.declared.error.MachineError.TheVariants as machine
+use Rattle.cardswitch.specs.declared.error.RunError.{RunError}
+use Rattle.cardswitch.specs.declared.error.RunError.TheVariants.{Input, NotDue, OutOfMemory, Read, Script, Write}
+
+-- 4 for want of memory, 1 for a refused input, a failed read and a failed write
+abbrev pub run_status : RunError → ℕ
+run_status OutOfMemory = 4
+run_status _ = 1
+
+-- what the errors of the parts become: want of memory is told as such, and all else is carried
+abbrev pub error_of_machine : MachineError → RunError
+error_of_machine machine.NotDue = NotDue
+error_of_machine machine.OutOfMemory = OutOfMemory
+
+abbrev pub error_of_read : ReadError → RunError
+error_of_read read.OutOfMemory = OutOfMemory
+error_of_read e = Read e
+
+abbrev pub error_of_write : WriteError → RunError
+error_of_write write.OutOfMemory = OutOfMemory
+error_of_write e = Write e
+
+abbrev pub error_of_script : ScriptError → RunError
+error_of_script script.OutOfMemory = OutOfMemory
+error_of_script e = Script e
+
+abbrev pub error_of_stream : StreamError → RunError
+error_of_stream (stream.Read e) = Read e
+error_of_stream (stream.Write e) = Write e
+error_of_stream stream.OutOfMemory = OutOfMemory
+
+abbrev pub error_of_flows : FlowsError → RunError
+error_of_flows (flows.Read e) = Read e
+error_of_flows (flows.Write e) = Write e
+error_of_flows flows.OutOfMemory = OutOfMemory
+error_of_flows e = Input e

@@ -1,0 +1,141 @@
+//! Why a run of the program ends early, and with which exit status.
+ghost use Rattle.std.specs.Prelude.{◌≡◌};
+ghost use Rattle.cardswitch.specs.Errors.{error_of_flows, error_of_machine, error_of_read, error_of_script};
+ghost use Rattle.cardswitch.specs.Errors.{error_of_stream, error_of_write, run_status};
+ghost use Rattle.cardswitch.specs.declared.error.RunError.TheVariants.{OutOfMemory};
+
+use cli_decode::StreamError;
+use cli_flows::FlowsError;
+use cli_io::{ReadError, WriteError};
+use cli_script::ScriptError;
+use std::alloc::{AllocError, AllocFailed};
+use sw_participant::Text;
+use thiserror::Error;
+use tx_machine::MachineError;
+
+/// Why a run of the program ends early. Its text goes to standard error.
+#[derive(Debug, Drop, Error)]
+pub enum RunError {
+    /// The input could not be read to its end.
+    #[error("reading the input: {0}")]
+    Read(ReadError),
+    /// The output could not be written.
+    #[error("writing the output: {0}")]
+    Write(WriteError),
+    /// A line of the script or its flow is refused. The lines before it have run.
+    #[error("{0}")]
+    Script(ScriptError),
+    /// The flow file at the path is not taken.
+    #[error("{}: {cause}", .path.as_str())]
+    FlowFile { path: Text, cause: FlowsError },
+    /// The standard input is no flow file or no image.
+    #[error("standard input: {0}")]
+    Input(FlowsError),
+    /// A transaction was given a reply to a call that was not due.
+    #[error("the transaction was given a reply to a call that was not due")]
+    NotDue,
+    /// A message or a frame of a stream is refused; what it prints says which.
+    #[error("a message or a frame of the input is refused; expected frames of ISO 8583:1987 messages")]
+    Refused,
+    /// No memory was left.
+    #[error("out of memory")]
+    OutOfMemory,
+}
+
+impl RunError {
+    /// The exit status of a run that ends with this error: 1 for a refused input and for failed reads
+    /// and writes, 4 for want of memory.
+    pub fn status(&self) -> u8
+        ensures { result ≡ run_status self.now }
+    {
+        match self {
+            RunError::OutOfMemory => 4,
+            _ => 1,
+        }
+    }
+}
+
+impl From<AllocError> for RunError {
+    ghost from_gives = { λ _ f. f ≡ OutOfMemory };
+
+    fn from(_error: AllocError) -> RunError {
+        RunError::OutOfMemory
+    }
+}
+
+impl<T: Drop> From<AllocFailed<T>> for RunError {
+    ghost from_gives = { λ _ f. f ≡ OutOfMemory };
+
+    fn from(_error: AllocFailed<T>) -> RunError {
+        RunError::OutOfMemory
+    }
+}
+
+impl From<MachineError> for RunError {
+    ghost from_gives = { λ e f. f ≡ error_of_machine e };
+
+    fn from(error: MachineError) -> RunError {
+        match error {
+            MachineError::NotDue => RunError::NotDue,
+            MachineError::OutOfMemory => RunError::OutOfMemory,
+        }
+    }
+}
+
+impl From<ReadError> for RunError {
+    ghost from_gives = { λ e f. f ≡ error_of_read e };
+
+    fn from(error: ReadError) -> RunError {
+        match error {
+            ReadError::OutOfMemory => RunError::OutOfMemory,
+            other => RunError::Read(other),
+        }
+    }
+}
+
+impl From<WriteError> for RunError {
+    ghost from_gives = { λ e f. f ≡ error_of_write e };
+
+    fn from(error: WriteError) -> RunError {
+        match error {
+            WriteError::OutOfMemory => RunError::OutOfMemory,
+            other => RunError::Write(other),
+        }
+    }
+}
+
+impl From<ScriptError> for RunError {
+    ghost from_gives = { λ e f. f ≡ error_of_script e };
+
+    fn from(error: ScriptError) -> RunError {
+        match error {
+            ScriptError::OutOfMemory => RunError::OutOfMemory,
+            other => RunError::Script(other),
+        }
+    }
+}
+
+impl From<StreamError> for RunError {
+    ghost from_gives = { λ e f. f ≡ error_of_stream e };
+
+    fn from(error: StreamError) -> RunError {
+        match error {
+            StreamError::Read(error) => RunError::Read(error),
+            StreamError::Write(error) => RunError::Write(error),
+            StreamError::OutOfMemory => RunError::OutOfMemory,
+        }
+    }
+}
+
+impl From<FlowsError> for RunError {
+    ghost from_gives = { λ e f. f ≡ error_of_flows e };
+
+    fn from(error: FlowsError) -> RunError {
+        match error {
+            FlowsError::Read(error) => RunError::Read(error),
+            FlowsError::Write(error) => RunError::Write(error),
+            FlowsError::OutOfMemory => RunError::OutOfMemory,
+            other => RunError::Input(other),
+        }
+    }
+}

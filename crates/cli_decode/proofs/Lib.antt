@@ -1,0 +1,3 @@
+mod PieceText
+mod StreamText
+mod MessageText

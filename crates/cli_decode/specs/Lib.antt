@@ -1,0 +1,5 @@
+pub mod Decoded
+pub mod Progress
+pub mod Steps
+pub mod Errors
+pub mod Printing

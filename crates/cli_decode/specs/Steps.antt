@@ -1,0 +1,33 @@
+-- What a piece of a stream adds, and a read of it.
+use Rattle.std.specs.Prelude.{◌≡◌, ℕ, ◌+◌, ◌^◌, ◌<◌, ◌⊎◌, Bool, true, false, List, [], ◌++◌, length, Option}
+use Rattle.std.specs.Io.KnownBytes.{IsAtEnd, Appends}
+use Rattle.cli_decode.specs.declared.decoder.Decoder.{Decoder}
+use Rattle.cli_decode.specs.Decoded.{frames_text}
+use Rattle.cli_decode.specs.Progress.{IsDecoded, IsSoFar}
+
+-- After bytes that were these frames, a piece: frames more, and their text. Numbers stay below 2^64
+-- where the stream has fewer bytes.
+abbrev pub DecodesPiece : Decoder → List ℕ → Decoder → List ℕ → List ℕ → Type 0
+DecodesPiece d piece e old new =
+    (bytes : List ℕ) (fs : List (List ℕ)) → IsDecoded bytes fs d → length (bytes ++ piece) < 2 ^ 63
+    → (more : List (List ℕ)) × IsDecoded (bytes ++ piece) (fs ++ more) e
+    × (new ≡ old ++ frames_text (length fs + 1) more)
+
+-- a piece is decoded, and its text is written
+abbrev pub PrintsPiece : Decoder → List ℕ → Decoder → Option (List ℕ) → Option (List ℕ) → Type 0
+PrintsPiece d piece e written written_now =
+    (text : List ℕ) × DecodesPiece d piece e [] text × Appends written written_now text
+
+-- a reader, a writer, the reads that were made and what is decoded
+pub record Moment : Type 0 where
+  pub unread : Option (List ℕ)
+  pub written : Option (List ℕ)
+  pub reads : ℕ
+  pub decoder : Decoder
+
+-- What was decoded so far goes on; where no more comes, the reader is at its end or the stream has failed.
+abbrev pub DecodingGoesOn : Moment → Moment → Bool → Type 0
+DecodingGoesOn m n more =
+    ((first start : Option (List ℕ)) → IsSoFar first m.unread start m.written m.reads m.decoder
+    → IsSoFar first n.unread start n.written n.reads n.decoder)
+    × (more ≡ false → IsAtEnd n.unread ⊎ (n.decoder.framer.failed ≡ true))

@@ -1,0 +1,101 @@
+//! A whole stream, read piece by piece.
+
+ghost use Rattle.std.specs.Prelude.{◌≡◌, ◌<◌, ◌||◌, length, IfErr, IfOk, OnOk};
+ghost use Rattle.std.specs.Io.KnownBytes.{Appends};
+ghost use Rattle.cli_io.specs.Inputs.{reads_made, unread};
+ghost use Rattle.cli_decode.specs.Decoded.{IsDecodedStream, end_text, is_cut};
+ghost use Rattle.cli_decode.specs.Errors.{IsReadToSpent};
+ghost use Rattle.cli_decode.specs.Steps.{DecodingGoesOn, PrintsPiece};
+
+use crate::decoder::Decoder;
+use crate::error::StreamError;
+use cli_io::{Input, WriteError, write_out};
+use std::alloc::Global;
+use std::io::{Read, Write};
+
+/// How many bytes are read at once. Their text mostly takes less than half as much again.
+const PIECE: usize = 65_536;
+
+// Writes the texts of the messages that a piece makes whole.
+fn print_piece<W: Write>(
+    alloc: Global,
+    decoder: &mut Decoder,
+    piece: &[u8],
+    out: &mut W,
+) -> Result<(), WriteError>
+    ensures { OnOk result (PrintsPiece decoder.old piece.now decoder.new
+        (W.contents out.old) (W.contents out.new)) }
+{
+    let mut text = Vec::with_capacity(alloc, PIECE + PIECE / 2)?;
+    decoder.piece(alloc, piece, &mut text)?;
+    Ok(out.write_all(text.as_slice())?)
+}
+
+// Reads a piece, and writes the texts of the messages that it makes whole. Answers whether more may
+// come.
+fn decode_piece<R: Read, W: Write>(
+    alloc: Global,
+    input: &mut Input<R>,
+    decoder: &mut Decoder,
+    buf: &mut [u8],
+    out: &mut W,
+) -> Result<bool, StreamError>
+    requires { length buf.old ≡ 65536 }
+    ensures goes_on { IfOk result (DecodingGoesOn
+        (record {
+          unread = unread R.remaining input.old;
+          written = W.contents out.old;
+          reads = reads_made input.old;
+          decoder = decoder.old;
+        })
+        (record {
+          unread = unread R.remaining input.new;
+          written = W.contents out.new;
+          reads = reads_made input.new;
+          decoder = decoder.new;
+        })) }
+    ensures counted { IfOk result (λ more. reads_made input.old < reads_made input.new) }
+    ensures too_many { IfErr result (IsReadToSpent (reads_made input.new)) }
+{
+    let count = input.read_piece(buf)?;
+    if count == 0 {
+        return Ok(false);
+    }
+    print_piece(alloc, decoder, &buf[..count], out)?;
+    Ok(!decoder.failed())
+}
+
+fn finish<W: Write>(alloc: Global, decoder: &Decoder, out: &mut W) -> Result<bool, WriteError>
+    ensures text { OnOk result (Appends (W.contents out.old) (W.contents out.new)
+        (end_text decoder.now.framer)) }
+    ensures refused { IfOk result (λ b. b ≡ (decoder.now.refused || is_cut decoder.now.framer)) }
+{
+    let mut text = Vec::new(alloc);
+    let refused = decoder.finish(&mut text)?;
+    write_out(out, text.as_slice())?;
+    Ok(refused)
+}
+
+/// Writes the text of the stream that an input gives, flushes, and answers whether anything of it was
+/// refused. It keeps no more than a piece of 65,536 bytes, its text and an unfinished frame.
+///
+/// Too many reads are told only of an input that was read 1,048,576 times; what was written until an
+/// error stands.
+pub fn decode_stream<R: Read, W: Write>(
+    alloc: Global,
+    input: &mut Input<R>,
+    out: &mut W,
+) -> Result<bool, StreamError>
+    ensures text { IfOk result (IsDecodedStream (unread R.remaining input.old)
+        (W.contents out.old) (W.contents out.new)) }
+    ensures too_many { IfErr result (IsReadToSpent (reads_made input.new)) }
+{
+    let mut decoder = Decoder::new(alloc);
+    let mut buf = [0u8; PIECE];
+    loop {
+        let more = decode_piece(alloc, input, &mut decoder, &mut buf, out)?;
+        if !more {
+            return Ok(finish(alloc, &decoder, out)?);
+        }
+    }
+}

@@ -1,0 +1,185 @@
+//! The text of one message.
+
+ghost use Rattle.std.specs.Prelude.{◌≡◌, ◌++◌, Some, codes, OnOk, IfOk, Ok, Err};
+ghost use Rattle.std.specs.Fmt.{decimal};
+ghost use Rattle.iso_msg.specs.Table.{IsForm, form_of};
+ghost use Rattle.iso_codec.specs.Reads.{Gives};
+ghost use Rattle.cli_decode.specs.Decoded.{fault_name as name_of, frame_text, is_refused};
+ghost use Rattle.cli_decode.specs.Decoded.{line_of, refused_text, shown};
+ghost use Rattle.cli_decode.specs.Printing.{paragraph_of, with_field, with_fields};
+ghost use Rattle.cli_decode.specs.Printing.{with_form, with_message};
+
+use iso_codec::{
+    DecodeError, Numbers, check_content, push_hex, read_binary, read_front, read_variable, split,
+};
+use iso_msg::{Form, form_at};
+use itoa::Buffer;
+use std::alloc::AllocError;
+
+pub fn push_number(text: &mut Vec<u8>, number: u64) -> Result<(), AllocError>
+    ensures { OnOk result (text.new.items ≡ text.old.items ++ decimal number) }
+{
+    let mut buffer = Buffer::new();
+    text.extend_from_slice(buffer.format(number).as_bytes())
+}
+
+fn push_value(text: &mut Vec<u8>, form: Form, value: &[u8]) -> Result<(), AllocError>
+    ensures { OnOk result (text.new.items ≡ text.old.items ++ shown (Some form) value.now) }
+{
+    match form {
+        Form::Binary => push_hex(text, value),
+        _ => text.extend_from_slice(value),
+    }
+}
+
+fn push_line(text: &mut Vec<u8>, form: Form, number: u8, value: &[u8]) -> Result<(), AllocError>
+    ensures { OnOk result (text.new.items
+        ≡ text.old.items ++ line_of (Some form) number value.now) }
+{
+    push_number(text, u64::from(number))?;
+    text.extend_from_slice(b" ")?;
+    push_value(text, form, value)?;
+    text.extend_from_slice(b"\n")
+}
+
+// Adds the line of a field of this form, and answers the bytes after the field.
+fn push_form<'a>(
+    text: &mut Vec<u8>,
+    form: Form,
+    number: u8,
+    bytes: &'a [u8],
+) -> Result<&'a [u8], DecodeError>
+    requires { IsForm form }
+    ensures { Gives (λ rest. (text.new.items, rest.now)) result
+        (with_form form text.old.items number bytes.now) }
+{
+    match form {
+        Form::Fixed { length, .. } => {
+            let (value, rest) = split(bytes, length as usize)?;
+            check_content(form, number, value)?;
+            push_line(text, form, number, value)?;
+            Ok(rest)
+        }
+        Form::Variable {
+            length_digits,
+            max_length,
+            ..
+        } => {
+            let (value, rest) = read_variable(length_digits, max_length, number, bytes)?;
+            check_content(form, number, value)?;
+            push_line(text, form, number, value)?;
+            Ok(rest)
+        }
+        Form::Binary => {
+            let (value, rest) = read_binary(number, bytes)?;
+            check_content(form, number, &value)?;
+            push_line(text, form, number, &value)?;
+            Ok(rest)
+        }
+    }
+}
+
+// The same for the field of this number.
+fn push_field<'a>(text: &mut Vec<u8>, number: u8, bytes: &'a [u8]) -> Result<&'a [u8], DecodeError>
+    ensures { Gives (λ rest. (text.new.items, rest.now)) result
+        (with_field (form_of number) text.old.items number bytes.now) }
+{
+    match form_at(number) {
+        None => Err(DecodeError::FieldNotInProfile(number)),
+        Some(form) => push_form(text, form, number, bytes),
+    }
+}
+
+#[tactic(auto, unfolding(crate::specs::Printing::with_fields))]
+fn push_fields<'a>(
+    text: &mut Vec<u8>,
+    numbers: &[u8],
+    bytes: &'a [u8],
+) -> Result<&'a [u8], DecodeError>
+    ensures { Gives (λ rest. (text.new.items, rest.now)) result
+        (with_fields text.old.items numbers.now bytes.now) }
+{
+    let mut rest = bytes;
+    for number in numbers {
+        rest = push_field(text, *number, rest)?;
+    }
+    Ok(rest)
+}
+
+// Adds the type and the fields of the message that the bytes spell.
+#[tactic(auto, unfolding(crate::specs::Printing::with_message))]
+fn push_message(text: &mut Vec<u8>, bytes: &[u8]) -> Result<(), DecodeError>
+    ensures { Gives (λ _. text.new.items) result (with_message text.old.items bytes.now) }
+{
+    let mut numbers = Numbers::new();
+    let (digits, rest) = read_front(bytes, &mut numbers)?;
+    text.extend_from_slice(digits)?;
+    text.extend_from_slice(b"\n")?;
+    let rest = push_fields(text, numbers.fields(), rest)?;
+    if rest.is_empty() {
+        Ok(())
+    } else {
+        Err(DecodeError::Trailing)
+    }
+}
+
+fn fault_name(error: DecodeError) -> &'static str
+    ensures { result.now ≡ name_of error }
+{
+    match error {
+        DecodeError::Short => "Short",
+        DecodeError::BadMti => "BadMti",
+        DecodeError::BadBitmap => "BadBitmap",
+        DecodeError::FieldNotInProfile(_) => "FieldNotInProfile",
+        DecodeError::BadLength(_) => "BadLength",
+        DecodeError::BadContent(_) => "BadContent",
+        DecodeError::Trailing => "Trailing",
+        DecodeError::OutOfMemory => "OutOfMemory",
+    }
+}
+
+fn push_refusal(text: &mut Vec<u8>, number: u64, error: DecodeError) -> Result<(), AllocError>
+    ensures { OnOk result (text.new.items ≡ text.old.items ++ refused_text number error) }
+{
+    text.extend_from_slice(b"message ")?;
+    push_number(text, number)?;
+    text.extend_from_slice(b" refused ")?;
+    text.extend_from_slice(fault_name(error).as_bytes())?;
+    text.extend_from_slice(b"\n")
+}
+
+// Puts the text of the message of this number in place of the earlier one.
+fn write_paragraph(paragraph: &mut Vec<u8>, number: u64, bytes: &[u8]) -> Result<(), DecodeError>
+    ensures { Gives (λ _. paragraph.new.items) result (paragraph_of number bytes.now) }
+{
+    paragraph.clear();
+    paragraph.extend_from_slice(b"message ")?;
+    push_number(paragraph, number)?;
+    paragraph.extend_from_slice(b"\nmti ")?;
+    push_message(paragraph, bytes)
+}
+
+/// Adds the text of the frame of this number, and answers whether it is refused. `paragraph` is where
+/// that of a message is written first; what was there is lost.
+#[tactic(auto, unfolding(crate::specs::Decoded::frame_text, crate::specs::Decoded::is_refused))]
+pub fn push_frame(
+    paragraph: &mut Vec<u8>,
+    text: &mut Vec<u8>,
+    number: u64,
+    bytes: &[u8],
+) -> Result<bool, AllocError>
+    ensures text { OnOk result (text.new.items ≡ text.old.items ++ frame_text number bytes.now) }
+    ensures refused { IfOk result (λ b. b ≡ is_refused bytes.now) }
+{
+    match write_paragraph(paragraph, number, bytes) {
+        Ok(()) => {
+            text.extend_from_slice(paragraph)?;
+            Ok(false)
+        }
+        Err(DecodeError::OutOfMemory) => Err(AllocError),
+        Err(error) => {
+            push_refusal(text, number, error)?;
+            Ok(true)
+        }
+    }
+}

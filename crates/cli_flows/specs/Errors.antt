@@ -1,0 +1,68 @@
+-- What the errors of the parts become: want of memory is told as such, and all else is carried.
+use Rattle.std.specs.Prelude.{◌≡◌, ⊤, ℕ, List, Option, IfSome, Err}
+use Rattle.std.specs.Str.{IsUtf8}
+use Rattle.cli_io.specs.declared.error.ReadError.{ReadError}
+use Rattle.cli_io.specs.declared.error.ReadError.TheVariants as read
+use Rattle.cli_io.specs.declared.error.WriteError.{WriteError}
+use Rattle.cli_io.specs.declared.error.WriteError.TheVariants as write
+use Rattle.flow_toml.specs.declared.error.FlowTomlError.{FlowTomlError}
+use Rattle.flow_toml.specs.declared.error.FlowTomlError.TheVariants as file
+use Rattle.flow_toml.specs.FlowFile.{Refuses}
+use Rattle.flow_load.specs.declared.error.LoadError.{LoadError}
+use Rattle.flow_load.specs.declared.error.LoadError.TheVariants as image
+use Rattle.flow_load.specs.Load.{load_of}
+use Rattle.cli_flows.specs.declared.error.FlowsError.{FlowsError}
+use Rattle.cli_flows.specs.declared.error.FlowsError.TheVariants.{File, Image, NotText, Open, OutOfMemory, Read, Write}
+
+abbrev pub error_of_read : ReadError → FlowsError
+error_of_read read.OutOfMemory = OutOfMemory
+error_of_read e = Read e
+
+abbrev pub error_of_write : WriteError → FlowsError
+error_of_write write.OutOfMemory = OutOfMemory
+error_of_write e = Write e
+
+abbrev pub IsErrorOfFile : FlowTomlError → FlowsError → Type 0
+IsErrorOfFile file.OutOfMemory e = e ≡ OutOfMemory
+IsErrorOfFile f (File g found) = g ≡ f
+IsErrorOfFile f e = ⊥
+
+abbrev pub IsErrorOfImage : LoadError → FlowsError → Type 0
+IsErrorOfImage image.OutOfMemory e = e ≡ OutOfMemory
+IsErrorOfImage l (Image m found) = m ≡ l
+IsErrorOfImage l e = ⊥
+
+-- what a refusal says of the bytes of a flow file; nothing where memory ran out
+abbrev pub IsFileRefusal : List ℕ → FlowsError → Type 0
+IsFileRefusal bytes OutOfMemory = ⊤
+IsFileRefusal bytes (NotText e) = ¬ (IsUtf8 bytes)
+IsFileRefusal bytes (File e found) = Refuses bytes e
+IsFileRefusal bytes _ = ⊥
+
+-- what a refusal says of the bytes of an image
+abbrev pub IsImageRefusal : List ℕ → FlowsError → Type 0
+IsImageRefusal bytes OutOfMemory = ⊤
+IsImageRefusal bytes (Image e found) = load_of bytes ≡ Err e
+IsImageRefusal bytes _ = ⊥
+
+-- The same of bytes that are read, where they are known: a fault of them is told only where they have it,
+-- and else the reading, the writing or the memory failed.
+abbrev pub RefusesFile : Option (List ℕ) → FlowsError → Type 0
+RefusesFile unread (NotText e) = IfSome unread (λ bytes. IsFileRefusal bytes (NotText e))
+RefusesFile unread (File e found) = IfSome unread (λ bytes. IsFileRefusal bytes (File e found))
+RefusesFile unread (Image e found) = ⊥
+RefusesFile unread (Open e) = ⊥
+RefusesFile unread _ = ⊤
+
+abbrev pub RefusesImage : Option (List ℕ) → FlowsError → Type 0
+RefusesImage unread (Image e found) = IfSome unread (λ bytes. IsImageRefusal bytes (Image e found))
+RefusesImage unread (File e found) = ⊥
+RefusesImage unread (NotText e) = ⊥
+RefusesImage unread (Open e) = ⊥
+RefusesImage unread _ = ⊤
+
+-- nothing is written, unless writing failed or memory ran out
+abbrev pub IsUnwritten : Option (List ℕ) → Option (List ℕ) → FlowsError → Type 0
+IsUnwritten written written_now OutOfMemory = ⊤
+IsUnwritten written written_now (Write e) = ⊤
+IsUnwritten written written_now _ = written_now ≡ written

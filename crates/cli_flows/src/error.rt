@@ -1,0 +1,114 @@
+//! Why a flow file or an image is not taken.
+
+ghost use Rattle.std.specs.Prelude.{◌≡◌};
+ghost use Rattle.cli_flows.specs.Errors.{IsErrorOfFile, IsErrorOfImage, error_of_read, error_of_write};
+ghost use Rattle.cli_flows.specs.declared.error.FlowsError.TheVariants.{NotText, OutOfMemory};
+
+use crate::found::{found, line_at};
+use cli_io::{ReadError, WriteError};
+use cli_quote::Quoted;
+use flow_load::LoadError;
+use flow_toml::FlowTomlError;
+use std::alloc::{AllocError, AllocFailed};
+use std::io;
+use std::str::Utf8Error;
+use thiserror::Error;
+
+/// Why a flow file or an image is not taken. The text names the place in the file, what is expected
+/// there and what was found, and not the file.
+#[derive(Debug, Drop, Error)]
+pub enum FlowsError {
+    /// No memory was left.
+    #[error("out of memory")]
+    OutOfMemory,
+    /// There is no such file, or it may not be opened.
+    #[error("it cannot be opened: {0}")]
+    Open(io::Error),
+    /// It could not be read to its end.
+    #[error("it cannot be read: {0}")]
+    Read(ReadError),
+    /// A flow file is no text.
+    #[error("{0}; expected a flow file in UTF-8")]
+    NotText(Utf8Error),
+    /// A text is no flow file, or its flow is refused; with the key that is not known.
+    #[error("{}{}", .0, found(.1))]
+    File(FlowTomlError, Option<Quoted>),
+    /// Bytes are no image; with the line that is refused.
+    #[error("{}{}", .0, found(.1))]
+    Image(LoadError, Option<Quoted>),
+    /// The output could not be written.
+    #[error("writing the output: {0}")]
+    Write(WriteError),
+}
+
+impl FlowsError {
+    /// The error of a flow file that is refused.
+    pub fn of_file(error: FlowTomlError) -> FlowsError
+        ensures { IsErrorOfFile error result }
+    {
+        match error {
+            FlowTomlError::OutOfMemory => FlowsError::OutOfMemory,
+            FlowTomlError::Unknown(key, path) => {
+                let found = Quoted::of(key.as_str().as_bytes());
+                FlowsError::File(FlowTomlError::Unknown(key, path), Some(found))
+            }
+            other => FlowsError::File(other, None),
+        }
+    }
+
+    /// The error of bytes that are refused as an image.
+    pub fn of_image(error: LoadError, bytes: &[u8]) -> FlowsError
+        ensures { IsErrorOfImage error result }
+    {
+        match error {
+            LoadError::OutOfMemory => FlowsError::OutOfMemory,
+            other => FlowsError::Image(other, line_at(bytes, other)),
+        }
+    }
+}
+
+impl From<ReadError> for FlowsError {
+    ghost from_gives = { λ e f. f ≡ error_of_read e };
+
+    fn from(error: ReadError) -> FlowsError {
+        match error {
+            ReadError::OutOfMemory => FlowsError::OutOfMemory,
+            other => FlowsError::Read(other),
+        }
+    }
+}
+
+impl From<WriteError> for FlowsError {
+    ghost from_gives = { λ e f. f ≡ error_of_write e };
+
+    fn from(error: WriteError) -> FlowsError {
+        match error {
+            WriteError::OutOfMemory => FlowsError::OutOfMemory,
+            other => FlowsError::Write(other),
+        }
+    }
+}
+
+impl From<Utf8Error> for FlowsError {
+    ghost from_gives = { λ e f. f ≡ NotText e };
+
+    fn from(error: Utf8Error) -> FlowsError {
+        FlowsError::NotText(error)
+    }
+}
+
+impl From<AllocError> for FlowsError {
+    ghost from_gives = { λ _ f. f ≡ OutOfMemory };
+
+    fn from(_error: AllocError) -> FlowsError {
+        FlowsError::OutOfMemory
+    }
+}
+
+impl<T: Drop> From<AllocFailed<T>> for FlowsError {
+    ghost from_gives = { λ _ f. f ≡ OutOfMemory };
+
+    fn from(_error: AllocFailed<T>) -> FlowsError {
+        FlowsError::OutOfMemory
+    }
+}

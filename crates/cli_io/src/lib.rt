@@ -1,0 +1,20 @@
+//! Reading with a bounded number of reads, and writing.
+//!
+//! Promised here:
+//! - an [`Input`] counts every read of its reader and makes at most 1,048,576, and `TooManyReads`
+//!   comes only where it has made them all;
+//! - a piece is the next bytes of the reader, empty only at its end, and [`read_input`] gives all
+//!   bytes that the reader has still to give;
+//! - [`write_out`] adds its bytes to the writer's and flushes;
+//! - want of memory is told as such, whether it is a reader's, a writer's or our own.
+#![tactic(auto)]
+
+mod error;
+mod input;
+mod read;
+mod write;
+
+pub use error::{ReadError, WriteError};
+pub use input::{Input, MAX_READS};
+pub use read::read_input;
+pub use write::write_out;

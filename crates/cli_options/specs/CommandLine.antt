@@ -1,0 +1,70 @@
+-- The command line of `cardswitch`: its subcommands as a table, and what words mean by it. clap's
+-- contracts say what a parse by such a table gives.
+use Rattle.std.specs.Prelude.{◌≡◌, true, false, List, Option, Some, None, codes, option_map}
+use Rattle.std.specs.Borrow.{Bor}
+use Rattle.clap.specs.Words.{App, Row, Rule, Text, app_of, first_of, new_app, new_rule, subcommand_of, with_rule, with_subcommand}
+use Rattle.clap.specs.declared.builder.Command.{Command}
+use Rattle.clap.specs.declared.builder.Command.TheViews.{out-Command}
+use Rattle.cli_options.specs.declared.choice.Options.{Options}
+use Rattle.cli_options.specs.declared.choice.Options.TheVariants.{Asm, Decode, List as ListImage, Step}
+
+-- clap's command is of this shape
+abbrev pub HasShape : App → Command → Type 0
+HasShape app c = app_of c ≡ app
+
+-- no option of the command is one of its subcommands too
+abbrev pub IsLocal : Command → Type 0
+IsLocal c = (out-Command c).has_globals ≡ false
+
+-- `--NAME VALUE`, which may be left out
+abbrev pub option_rule : Text → Rule
+option_rule name = record (new_rule name) { long = Some name; value_names = 1 }
+
+-- `step [--flow PATH]`
+abbrev pub step_app : App
+step_app = with_rule (new_app (codes "step")) (option_rule (codes "flow"))
+
+-- `asm`, without options
+abbrev pub asm_app : App
+asm_app = new_app (codes "asm")
+
+-- `list`, without options
+abbrev pub list_app : App
+list_app = new_app (codes "list")
+
+-- `decode`, without options
+abbrev pub decode_app : App
+decode_app = new_app (codes "decode")
+
+-- the program itself: it has a version, and wants a subcommand
+abbrev pub program_app : App
+program_app = record (new_app (codes "cardswitch")) {
+  top = record (new_app (codes "cardswitch")).top { has_version = true; subcommand_required = true };
+}
+
+-- the program with its subcommands
+abbrev pub switch_app : App
+switch_app = with_subcommand (with_subcommand (with_subcommand (with_subcommand program_app step_app.top) asm_app.top) list_app.top) decode_app.top
+
+-- the text that a borrow shows
+abbrev pub text_of : Option (Bor Text) → Option Text
+text_of = option_map (λ s. s.now)
+
+-- the options are those of the subcommand `name`, whose own options are in the rows
+abbrev pub AreOptionsAt : Text → List Row → Options → Type 0
+AreOptionsAt name rows (Step flow) = (name ≡ codes "step") × (text_of flow ≡ first_of (codes "flow") rows)
+AreOptionsAt name rows Asm = name ≡ codes "asm"
+AreOptionsAt name rows ListImage = name ≡ codes "list"
+AreOptionsAt name rows Decode = name ≡ codes "decode"
+
+-- no options are those of the subcommand `name`
+abbrev pub IsNoSubcommand : Text → List Row → Type 0
+IsNoSubcommand name rows = (o : Options) → AreOptionsAt name rows o → ⊥
+
+abbrev pub AreOptionsFound : Option (Text × List Row) → Options → Type 0
+AreOptionsFound None o = ⊥
+AreOptionsFound (Some found) o = AreOptionsAt found.0 found.1 o
+
+-- the options are those of the words, the program's name first, by the table
+abbrev pub AreOptionsOf : List Text → Options → Type 0
+AreOptionsOf words o = AreOptionsFound (subcommand_of switch_app words) o

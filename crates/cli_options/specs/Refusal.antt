@@ -1,0 +1,31 @@
+-- Why words give no options, and the status with which a program tells it.
+use Rattle.std.specs.Prelude.{◌≡◌, ℕ, ⊤, List, []}
+use Rattle.clap.specs.Words.{IsAmong, Text, fault_of, kind_of}
+use Rattle.clap.specs.declared.error.kind.ErrorKind.{ErrorKind}
+use Rattle.clap.specs.declared.error.kind.ErrorKind.TheVariants as kind
+use Rattle.cli_options.specs.CommandLine.{AreOptionsOf, switch_app}
+use Rattle.cli_options.specs.declared.choice.Options.{Options}
+use Rattle.cli_options.specs.declared.error.OptionsError.{OptionsError}
+use Rattle.cli_options.specs.declared.error.OptionsError.TheVariants.{BadCommandLine, NoSubcommand}
+use Rattle.cli_options.specs.declared.error.OptionsError.TheVariants.{OutOfMemory}
+
+-- the table finds no fault in the words
+abbrev pub IsAccepted : List Text → Type 0
+IsAccepted words = fault_of switch_app words ≡ []
+
+-- the words are refused for memory, or as the table refuses them
+abbrev pub IsRefusalOf : List Text → OptionsError → Type 0
+IsRefusalOf words (BadCommandLine e) = IsAmong (kind_of e) (fault_of switch_app words)
+IsRefusalOf words NoSubcommand = (o : Options) → AreOptionsOf words o → ⊥
+IsRefusalOf words OutOfMemory = ⊤
+
+-- help and the version are shown; every other text tells a mistake
+abbrev pub kind_status : ErrorKind → ℕ
+kind_status kind.DisplayHelp = 0
+kind_status kind.DisplayVersion = 0
+kind_status _ = 2
+
+abbrev pub status_of : OptionsError → ℕ
+status_of (BadCommandLine e) = kind_status (kind_of e)
+status_of NoSubcommand = 2
+status_of OutOfMemory = 4

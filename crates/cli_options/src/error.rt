@@ -1,0 +1,66 @@
+//! Why a command line gives no options.
+ghost use Rattle.std.specs.Prelude.{◌≡◌, ◌==◌, not};
+ghost use Rattle.cli_options.specs.Conversion.{Carries};
+ghost use Rattle.cli_options.specs.Refusal.{status_of};
+ghost use Rattle.cli_options.specs.declared.error.OptionsError.TheVariants.{OutOfMemory};
+
+use clap::error::ErrorKind;
+use std::alloc::AllocError;
+use thiserror::Error;
+
+/// Why a command line gives no options. Each text ends in a line feed.
+#[derive(Debug, Drop, Error)]
+pub enum OptionsError {
+    /// Words that the table refuses, or a wish for help or the version. The text is clap's.
+    #[error("{0}")]
+    BadCommandLine(clap::Error),
+    /// Words that name no subcommand.
+    #[error("error: a subcommand was expected; try '--help'\n")]
+    NoSubcommand,
+    /// No memory was left to read the words.
+    #[error("error: out of memory\n")]
+    OutOfMemory,
+}
+
+impl OptionsError {
+    /// The program's exit status: 0 where the text is the help or the version, 2 for a bad command
+    /// line, 4 for want of memory.
+    pub fn status(&self) -> u8
+        ensures { result ≡ status_of self.now }
+    {
+        match self {
+            OptionsError::BadCommandLine(error) => match error.kind() {
+                ErrorKind::DisplayHelp | ErrorKind::DisplayVersion => 0,
+                _ => 2,
+            },
+            OptionsError::NoSubcommand => 2,
+            OptionsError::OutOfMemory => 4,
+        }
+    }
+
+    /// Whether the text goes to standard error. Help and the version go to standard output.
+    pub fn use_stderr(&self) -> bool
+        ensures { result ≡ not (status_of self.now == 0) }
+    {
+        self.status() != 0
+    }
+}
+
+impl From<AllocError> for OptionsError {
+    ghost from_gives = { λ _ r. r ≡ OutOfMemory };
+
+    fn from(_error: AllocError) -> OptionsError {
+        OptionsError::OutOfMemory
+    }
+}
+
+impl From<clap::Error> for OptionsError {
+    ghost from_gives = { Carries };
+
+    fn from(error: clap::Error) -> OptionsError {
+        match error.kind() {
+            ErrorKind::OutOfMemory => OptionsError::OutOfMemory,
+            _ => OptionsError::BadCommandLine(error),
+        }
+    }
+}

@@ -1,0 +1,12 @@
+-- What a quotation keeps of the bytes.
+use Rattle.std.specs.Prelude.{ℕ, ◌≤◌, List, take}
+use Rattle.std.specs.List.{All}
+use Rattle.cli_quote.specs.declared.quoted.Quoted.TheInside.{Inside}
+use Rattle.cli_quote.specs.Quoting.{IsPrintable, between_marks}
+
+abbrev pub printed : Inside → List ℕ
+printed q = between_marks (take q.len q.kept) q.is_cut
+
+pub record IsKept (q : Inside) : Type 0 where
+  pub few : q.len ≤ 40
+  pub printable : All IsPrintable (take q.len q.kept)

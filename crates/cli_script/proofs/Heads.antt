@@ -1,0 +1,109 @@
+-- The settings at the head of a script, one line after the other.
+-- for: script::read_head, script::next_setting, script::open_script, actions::Actions::next
+use Rattle.std.proofs.Common.{◌≡◌, ◌≢◌, ◌∙◌, ◌+◌, ◌<◌, ◌++◌, ◌∷◌, [], ℕ, Bool, false, List, length, Option, None, Some, Result, Ok, Err, is_some, refl, sym, ap, arith, length-append, length-drop, append-nil}
+use Rattle.std.proofs.lemmas.List.Concat.{flat_map-append}
+use Rattle.std.proofs.lemmas.List.Folds.{list_any-append}
+use Rattle.std.specs.List.{flat_map, list_any}
+use Rattle.sw_base.specs.Refusals.{or_else}
+use Rattle.flow_model.specs.declared.flow.Flow.{Flow}
+use Rattle.cli_script.specs.Grammar.{Answers}
+use Rattle.cli_script.specs.Scripts.{BeginsWith, IsBehind, IsHeadRead, IsActionRefusal, IsHeadRefused, IsLineRefusal, IsRefusedAt, IsRefusalBehind, IsScriptRefused, error_at, is_misplaced, others_of}
+use Rattle.cli_script.specs.Settings.{AddsSetting, IsKeptOf, answers_in, choices_in, groups_in, last_retries, retries_in}
+use Rattle.cli_script.specs.declared.error.LineError.{LineError}
+use Rattle.cli_script.specs.declared.error.LineError.TheVariants.{OutOfMemory}
+use Rattle.cli_script.specs.declared.error.ScriptError.{ScriptError}
+use Rattle.cli_script.specs.declared.error.ScriptError.TheVariants as error
+use Rattle.cli_script.specs.declared.line.ScriptLine.{ScriptLine}
+use Rattle.cli_script.specs.declared.line.Setting.{Setting}
+use Rattle.cli_script.specs.declared.settings.Settings.{Settings}
+
+pub fewer : (rest : List ℕ) → rest ≢ [] → length (others_of rest) < length rest
+fewer [] some = absurd (some refl)
+fewer (b ∷ bs) some = grind (arith, length-drop)
+
+one_more : (ss : List Setting) (s : Setting) (script rest : List ℕ) → IsBehind ss script rest → BeginsWith rest s
+    → IsBehind (ss ++ s ∷ []) script (others_of rest)
+one_more [] s script rest behind begins = (rw behind at begins, ap others_of behind)
+one_more (t ∷ ts) s script rest behind begins = (behind.0, one_more ts s (others_of script) rest behind.1 begins)
+
+or_none : (r : Option ℕ) → r ≡ or_else r None
+or_none None = refl
+or_none (Some n) = refl
+
+or_or : (r a b : Option ℕ) → or_else (or_else r a) b ≡ or_else r (or_else a b)
+or_or None a b = refl
+or_or (Some n) a b = refl
+
+retries_more : (ss : List Setting) (s : Setting) → last_retries (ss ++ s ∷ []) ≡ or_else (retries_in s) (last_retries ss)
+retries_more [] s = or_none (retries_in s)
+retries_more (t ∷ ts) s =
+    ap (λ r. or_else r (retries_in t)) (retries_more ts s) ∙ or_or (retries_in s) (last_retries ts) (retries_in t)
+
+flat_more : {A : Type 0} (f : Setting → List A) (ss : List Setting) (s : Setting)
+    → flat_map f (ss ++ s ∷ []) ≡ flat_map f ss ++ f s
+flat_more f ss s = flat_map-append f ss (s ∷ []) ∙ ap (λ x. flat_map f ss ++ x) (append-nil (f s))
+
+kept_more : (ss : List Setting) (s : Setting) (old new : Settings) → IsKeptOf ss old → AddsSetting old s new
+    → IsKeptOf (ss ++ s ∷ []) new
+kept_more ss s old new kept adds = record {
+  retries = adds.retries ∙ ap (or_else (retries_in s)) kept.retries ∙ sym (retries_more ss s);
+  groups = adds.groups ∙ ap (λ gs. gs ++ groups_in s) kept.groups ∙ sym (flat_more groups_in ss s);
+  replies = record {
+    answers = λ q. adds.answers q ∙ ap (λ bs. bs ++ answers_in q s) (kept.replies.answers q) ∙ sym (flat_more (answers_in q) ss s);
+    choices = λ q. adds.choices q ∙ ap (λ ts. ts ++ choices_in q s) (kept.replies.choices q) ∙ sym (flat_more (choices_in q) ss s);
+  };
+}
+
+none_more : (p : Setting → Bool) (ss : List Setting) (s : Setting) → list_any p ss ≡ false → p s ≡ false
+    → list_any p (ss ++ s ∷ []) ≡ false
+none_more p ss s none one = rw (list_any-append p ss (s ∷ []), none, one) refl
+
+pub head_more : (has_file : Bool) (script rest : List ℕ) (old new : Settings) (lines : ℕ) (s : Setting)
+    → IsHeadRead has_file script old rest lines → BeginsWith rest s → is_misplaced has_file s ≡ false
+    → AddsSetting old s new → IsHeadRead has_file script new (others_of rest) (lines + 1)
+head_more has_file script rest old new lines s head begins placed adds = record {
+  stated = head.stated ++ s ∷ [];
+  count = length-append head.stated (s ∷ []) ∙ ap (λ n. n + 1) head.count;
+  behind = one_more head.stated s script rest head.behind begins;
+  states = kept_more head.stated s old new head.states adds;
+  placed = none_more (is_misplaced has_file) head.stated s head.placed placed;
+}
+
+pub meant : (meaning : Result ScriptLine LineError) (x : ScriptLine) → Answers meaning (Ok x) → meaning ≡ Ok x
+meant (Ok y) x answers = ap Ok (sym answers)
+meant (Err e) x answers = cc
+
+-- what `read_line` refuses is refused at its line
+pub line_refused : (has_file : Bool) (number : ℕ) (text : List ℕ) (meaning : Result ScriptLine LineError)
+    (cause : LineError) → Answers meaning (Err cause)
+    → IsLineRefusal has_file number text meaning (error_at number text cause)
+line_refused has_file number text (Ok x) OutOfMemory answers = tt
+line_refused has_file number text (Err e) OutOfMemory answers = tt
+line_refused has_file number text (Ok x) cause answers = cc
+line_refused has_file number text (Err e) cause answers = ((refl, refl), sym answers)
+
+-- so it is behind the settings
+pub action_refused : (number : ℕ) (text : List ℕ) (meaning : Result ScriptLine LineError) (cause : LineError)
+    → Answers meaning (Err cause) → IsActionRefusal number text meaning (error_at number text cause)
+action_refused number text (Ok x) OutOfMemory answers = tt
+action_refused number text (Err e) OutOfMemory answers = tt
+action_refused number text (Ok x) cause answers = cc
+action_refused number text (Err e) cause answers = ((refl, refl), sym answers)
+
+-- a refusal at a script's head is one of the script
+pub head_refused : (file : Option Flow) (script : List ℕ) (e : ScriptError) → IsHeadRefused (is_some file) script e
+    → IsScriptRefused file script e
+head_refused file script e head = record {
+  stated = head.stated;
+  rest = head.rest;
+  behind = head.behind;
+  some = head.some;
+  refused = as_script e head.refused;
+} where
+  as_script : (d : ScriptError) → IsRefusedAt (is_some file) (length head.stated) head.rest d
+      → IsRefusalBehind file head.stated head.rest d
+  as_script (error.Line n cause found) refused = refused
+  as_script (error.FlowBesideFile n found) refused = refused
+  as_script (error.LateSetting n found) refused = refused
+  as_script (error.Flow n cause) refused = absurd refused
+  as_script error.OutOfMemory refused = tt

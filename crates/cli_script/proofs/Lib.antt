@@ -1,0 +1,5 @@
+mod Entries
+mod Heads
+mod LineEnds
+mod Numbers
+mod Texts

@@ -1,0 +1,25 @@
+-- Queues by name.
+use Rattle.std.specs.Prelude.{◌≡◌, ℕ, List, [], ◌∷◌, ◌++◌, drop, if◌then◌else◌}
+use Rattle.std.specs.Option.{option_map_or}
+use Rattle.std.specs.BTreeMap.{get_by_text}
+use Rattle.std.specs.Str.{bytes_eq}
+use Rattle.cli_script.specs.declared.queues.Queues.{Queues}
+
+-- what is queued for a name, the next first
+abbrev pub queue_at : {T : Type 0} → Queues T → List ℕ → List T
+queue_at q name = option_map_or (λ d. d.items) (get_by_text q.held name) []
+
+-- x for the name q, and else y
+abbrev pub at_name : {A : Type 0} → List ℕ → List ℕ → A → A → A
+at_name q name x y = if bytes_eq q name then x else y
+
+-- the item is put behind those of its name, and all other queues stay
+abbrev pub PutsBehind : {A : Type 0} → (List ℕ → List A) → (List ℕ → List A) → List ℕ → A → Type 0
+PutsBehind old new name item = (q : List ℕ) → new q ≡ old q ++ at_name q name (item ∷ []) []
+
+-- the first item of the name is taken, and all other queues stay
+abbrev pub TakesFirst : {A : Type 0} → (List ℕ → List A) → (List ℕ → List A) → List ℕ → Type 0
+TakesFirst old new name = (q : List ℕ) → new q ≡ at_name q name (drop 1 (old q)) (old q)
+
+abbrev pub AreSame : {A : Type 0} → (List ℕ → List A) → (List ℕ → List A) → Type 0
+AreSame old new = (q : List ℕ) → new q ≡ old q

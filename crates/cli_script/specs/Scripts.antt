@@ -1,0 +1,147 @@
+-- A script: the settings at its head, and the lines behind them.
+use Rattle.std.specs.Prelude.{◌≡◌, ◌≢◌, ⊤, ℕ, ◌+◌, ◌&&◌, Bool, true, false, List, [], ◌∷◌, length, Option, Some, None, Result, Ok, Err, is_some}
+use Rattle.std.specs.Borrow.{Bor}
+use Rattle.std.specs.List.{after_first, before_first, list_any}
+use Rattle.flow_model.specs.Check.{IsChecked, first_fault}
+use Rattle.flow_model.specs.declared.flow.Flow.{Flow}
+use Rattle.cli_quote.specs.Quoting.{quoted}
+use Rattle.cli_script.specs.Grammar.{meaning_of}
+use Rattle.cli_script.specs.Lines.{is_line_feed}
+use Rattle.cli_script.specs.Settings.{IsKeptOf, IsRepliesOf, stated_flow}
+use Rattle.cli_script.specs.declared.error.LineError.{LineError}
+use Rattle.cli_script.specs.declared.error.LineError.TheVariants as refusal
+use Rattle.cli_script.specs.declared.error.ScriptError.{ScriptError}
+use Rattle.cli_script.specs.declared.error.ScriptError.TheVariants as error
+use Rattle.cli_script.specs.declared.actions.Actions.{Actions}
+use Rattle.cli_script.specs.declared.line.Action.{Action}
+use Rattle.cli_script.specs.declared.line.ScriptLine.{ScriptLine}
+use Rattle.cli_script.specs.declared.line.ScriptLine.TheVariants as line
+use Rattle.cli_script.specs.declared.line.Setting.{Setting}
+use Rattle.cli_script.specs.declared.line.Setting.TheVariants as setting
+use Rattle.cli_script.specs.declared.script.Script.{Script}
+use Rattle.cli_script.specs.declared.settings.Settings.{Settings}
+
+abbrev pub line_of : List ℕ → List ℕ
+line_of script = before_first is_line_feed script
+
+-- what follows the first line
+abbrev pub others_of : List ℕ → List ℕ
+others_of script = after_first is_line_feed script
+
+-- the first line of the script means this setting
+abbrev pub BeginsWith : List ℕ → Setting → Type 0
+BeginsWith script s = (script ≢ []) × (meaning_of (line_of script) ≡ Ok (line.Setting s))
+
+-- the script begins with the lines of these settings, and this stands behind them
+abbrev pub IsBehind : List Setting → List ℕ → List ℕ → Type 0
+IsBehind [] script rest = rest ≡ script
+IsBehind (s ∷ ss) script rest = BeginsWith script s × IsBehind ss (others_of script) rest
+
+-- the script is at its end, or its first line is no setting
+abbrev pub HasNoSetting : List ℕ → Type 0
+HasNoSetting rest = (s : Setting) → BeginsWith rest s → ⊥
+
+abbrev pub gives_group : Setting → Bool
+gives_group (setting.Flow g) = true
+gives_group _ = false
+
+-- beside a flow file no line gives a group
+abbrev pub is_misplaced : Bool → Setting → Bool
+is_misplaced has_file s = has_file && gives_group s
+
+abbrev pub error_at : ℕ → List ℕ → LineError → ScriptError
+error_at n text refusal.OutOfMemory = error.OutOfMemory
+error_at n text cause = error.Line n cause (quoted text)
+
+-- the line of this number is told, and its text
+abbrev pub Tells : ℕ → List ℕ → ℕ → List ℕ → Type 0
+Tells number text n found = (n ≡ number) × (found ≡ quoted text)
+
+-- why the line of this number, text and meaning is refused
+abbrev pub IsLineRefusal : Bool → ℕ → List ℕ → Result ScriptLine LineError → ScriptError → Type 0
+IsLineRefusal has_file number text meaning (error.Line n cause found) =
+    Tells number text n found × (meaning ≡ Err cause)
+IsLineRefusal has_file number text meaning (error.FlowBesideFile n found) =
+    Tells number text n found
+    × ((s : Setting) × (meaning ≡ Ok (line.Setting s)) × (is_misplaced has_file s ≡ true))
+IsLineRefusal has_file number text meaning (error.LateSetting n found) = ⊥
+IsLineRefusal has_file number text meaning (error.Flow n cause) = ⊥
+IsLineRefusal has_file number text meaning error.OutOfMemory = ⊤
+
+-- the next line is refused, of which so many stand before
+abbrev pub IsRefusedAt : Bool → ℕ → List ℕ → ScriptError → Type 0
+IsRefusedAt has_file lines rest e =
+    IsLineRefusal has_file (lines + 1) (line_of rest) (meaning_of (line_of rest)) e
+
+-- the next setting with what follows its line, or none, or why its line is refused
+abbrev pub IsNextSetting : Bool → ℕ → List ℕ → Result (Option (Setting × Bor (List ℕ))) ScriptError → Type 0
+IsNextSetting has_file lines rest (Ok None) = HasNoSetting rest
+IsNextSetting has_file lines rest (Ok (Some p)) =
+    BeginsWith rest p.0 × (is_misplaced has_file p.0 ≡ false) × (p.1.now ≡ others_of rest)
+IsNextSetting has_file lines rest (Err e) =
+    (rest ≢ []) × IsRefusedAt has_file lines rest e
+
+-- what was kept of the lines of settings at the head of a script
+pub record IsHeadRead (has_file : Bool) (script : List ℕ) (kept : Settings) (rest : List ℕ) (lines : ℕ) : Type 0 where
+  pub stated : List Setting
+  pub count : length stated ≡ lines
+  pub behind : IsBehind stated script rest
+  pub states : IsKeptOf stated kept
+  pub placed : list_any (is_misplaced has_file) stated ≡ false
+
+-- why a script is refused at its head: a line behind lines of settings
+pub record IsHeadRefused (has_file : Bool) (script : List ℕ) (e : ScriptError) : Type 0 where
+  pub stated : List Setting
+  pub rest : List ℕ
+  pub behind : IsBehind stated script rest
+  pub some : rest ≢ []
+  pub refused : IsRefusedAt has_file (length stated) rest e
+
+-- why a script is refused behind these settings: a line, or the flow that they state
+abbrev pub IsRefusalBehind : Option Flow → List Setting → List ℕ → ScriptError → Type 0
+IsRefusalBehind file ss rest (error.Flow n cause) =
+    (n ≡ length ss + 1) × (first_fault (stated_flow file ss) ≡ Some cause)
+IsRefusalBehind file ss rest e = IsRefusedAt (is_some file) (length ss) rest e
+
+pub record IsScriptRefused (file : Option Flow) (script : List ℕ) (e : ScriptError) : Type 0 where
+  pub stated : List Setting
+  pub rest : List ℕ
+  pub behind : IsBehind stated script rest
+  pub some : rest ≢ []
+  pub refused : IsRefusalBehind file stated rest e
+
+-- the script's settings state the flow, which is checked, and the replies; the other lines are to come
+pub record IsOpened (file : Option Flow) (script : List ℕ) (s : Script) : Type 0 where
+  pub stated : List Setting
+  pub behind : IsBehind stated script s.actions.rest.now
+  pub count : length stated ≡ s.actions.lines
+  pub flow : s.flow ≡ stated_flow file stated
+  pub checked : IsChecked s.flow
+  pub replies : IsRepliesOf stated s.replies
+
+-- a script of settings alone has nothing to come
+abbrev pub IsOpenedAs : Option Flow → List ℕ → Option Script → Type 0
+IsOpenedAs file script None = (ss : List Setting) × IsBehind ss script []
+IsOpenedAs file script (Some s) = IsOpened file script s
+
+-- why the line of this number, text and meaning is refused behind the settings
+abbrev pub IsActionRefusal : ℕ → List ℕ → Result ScriptLine LineError → ScriptError → Type 0
+IsActionRefusal number text meaning (error.Line n cause found) =
+    Tells number text n found × (meaning ≡ Err cause)
+IsActionRefusal number text meaning (error.LateSetting n found) =
+    Tells number text n found × ((s : Setting) × (meaning ≡ Ok (line.Setting s)))
+IsActionRefusal number text meaning (error.FlowBesideFile n found) = ⊥
+IsActionRefusal number text meaning (error.Flow n cause) = ⊥
+IsActionRefusal number text meaning error.OutOfMemory = ⊤
+
+-- how many bytes are not read yet
+abbrev pub bytes_left : Actions → ℕ
+bytes_left a = length a.rest.now
+
+-- the next action and what follows its line, or the end, or why the next line is refused
+abbrev pub IsNextAction : Actions → Actions → Result (Option Action) ScriptError → Type 0
+IsNextAction old new (Ok None) = old.rest.now ≡ []
+IsNextAction old new (Ok (Some a)) = (old.rest.now ≢ []) × (new.rest.now ≡ others_of old.rest.now)
+    × (new.lines ≡ old.lines + 1) × (meaning_of (line_of old.rest.now) ≡ Ok (line.Action a))
+IsNextAction old new (Err e) = let text = line_of old.rest.now in
+    (old.rest.now ≢ []) × IsActionRefusal (old.lines + 1) text (meaning_of text) e

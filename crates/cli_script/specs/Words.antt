@@ -1,0 +1,53 @@
+-- The words of a line of a script, and what a word spells. A line and a word are lists of bytes.
+use Rattle.std.specs.Prelude.{◌^◌, ◌==◌, ◌&&◌, ◌||◌, ℕ, Bool, List, [], ◌∷◌, length, nat_lt}
+use Rattle.std.specs.Prelude.{Option, Some, None, option_map, unwrap_or, if◌then◌else◌}
+use Rattle.std.specs.Borrow.{Bor}
+use Rattle.std.specs.Char.{is_ascii_digit}
+use Rattle.std.specs.List.{after_first, before_first, list_all, list_any, position_or_len, slice_split}
+use Rattle.std.specs.Str.Parse.{digits_value}
+
+-- the two parts around the first byte c
+abbrev pub cut_at : ℕ → List ℕ → Option (List ℕ × List ℕ)
+cut_at c text = if nat_lt (position_or_len (λ b. b == c) text) (length text)
+    then Some (before_first (λ b. b == c) text, after_first (λ b. b == c) text) else None
+
+-- the parts that two borrows show
+abbrev pub parts_shown : Option (Bor (List ℕ) × Bor (List ℕ)) → Option (List ℕ × List ℕ)
+parts_shown = option_map (λ p. (p.0.now, p.1.now))
+
+-- what stands before the first space, and what behind it: nothing where there is none
+abbrev pub first_and_rest : List ℕ → List ℕ × List ℕ
+first_and_rest text = unwrap_or (cut_at 32 text) (text, [])
+
+abbrev pub first_word : List ℕ → List ℕ
+first_word text = (first_and_rest text).0
+
+abbrev pub rest_of : List ℕ → List ℕ
+rest_of text = (first_and_rest text).1
+
+-- what stands between the spaces of a text
+abbrev pub words_of : List ℕ → List (List ℕ)
+words_of text = slice_split (λ b. b == 32) text
+
+-- the words of a text that may be empty
+abbrev pub further_words : List ℕ → List (List ℕ)
+further_words [] = []
+further_words (b ∷ bs) = words_of (b ∷ bs)
+
+-- a tab or a carriage return
+abbrev pub is_control : ℕ → Bool
+is_control b = b == 9 || b == 13
+
+abbrev pub has_control : List ℕ → Bool
+has_control line = list_any is_control line
+
+-- the line is empty, or a space leads, ends or is doubled
+abbrev pub has_empty_word : List ℕ → Bool
+has_empty_word line = list_any (λ w. length w == 0) (words_of line)
+
+-- a decimal number below 2^64: digits alone, of which leading zeros count for nothing
+abbrev pub is_number : List ℕ → Bool
+is_number word = list_all is_ascii_digit word && nat_lt 0 (length word) && nat_lt (digits_value 10 word) (2 ^ 64)
+
+abbrev pub number_spelled : List ℕ → Option ℕ
+number_spelled word = if is_number word then Some (digits_value 10 word) else None

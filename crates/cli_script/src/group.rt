@@ -1,0 +1,103 @@
+//! The line `flow GROUP ENTRY ..`.
+ghost use Rattle.std.specs.Prelude.{◌≡◌, IfOk, map, option_map};
+ghost use Rattle.cli_script.specs.Grammar.{Answers, entries_spelled, entry, entry_spelled};
+ghost use Rattle.cli_script.specs.Grammar.{entries_refusal, flow_line, group_line, has_bad_entry, kind_marked};
+ghost use Rattle.cli_script.specs.Words.{further_words};
+
+use crate::error::LineError;
+use crate::line::{ScriptLine, Setting};
+use crate::words::{cut_at, first_and_rest, further_words};
+use flow_model::{Entry, Group};
+use std::alloc::Global;
+use sw_participant::{Kind, Sequence, Text};
+
+/// The marks of an entry: `s` a selector, `a` abort-aware, `r` recovering.
+fn kind_of(marks: &str) -> Option<Kind>
+    ensures { result ≡ kind_marked marks.now }
+{
+    match marks {
+        "s" => Some(Kind::SELECTOR),
+        "a" => Some(Kind::ABORT_AWARE),
+        "sa" => Some(Kind::SELECTOR_ABORT_AWARE),
+        "r" => Some(Kind::RECOVERING),
+        "sr" => Some(Kind::SELECTOR_RECOVERING),
+        "ar" => Some(Kind::ABORT_AWARE_RECOVERING),
+        "sar" => Some(Kind::SELECTOR_ABORT_AWARE_RECOVERING),
+        _ => None,
+    }
+}
+
+/// The name and the kind of `NAME` or `NAME:MARKS`.
+fn entry_parts(word: &str) -> Option<(&str, Kind)>
+    ensures { option_map (λ p. entry p.0.now p.1) result ≡ entry_spelled word.entry.now }
+{
+    match cut_at(word, ':') {
+        None => Some((word, Kind::PLAIN)),
+        Some((name, marks)) => Some((name, kind_of(marks)?)),
+    }
+}
+
+/// The entries that words spell.
+fn read_entries(alloc: Global, words: &[&str]) -> Result<Vec<Entry>, LineError>
+    ensures { IfOk result (λ v. entries_spelled (map (λ w. w.now) words.now) ≡ Some v.items) }
+{
+    let mut entries = Vec::new(alloc);
+    for word in words {
+        let Some((name, kind)) = entry_parts(word) else {
+            return Err(LineError::Marks);
+        };
+        let participant = Text::from_str(alloc, name)?;
+        entries.push(Entry { participant, kind })?;
+    }
+    Ok(entries)
+}
+
+/// The entries of a text that may be empty.
+fn further_entries(alloc: Global, text: &str) -> Result<Vec<Entry>, LineError>
+    ensures { IfOk result (λ v. entries_spelled (further_words text.now) ≡ Some v.items) }
+{
+    let words = further_words(alloc, text)?;
+    read_entries(alloc, words.as_slice())
+}
+
+/// Whether a word of the text spells no entry.
+fn has_bad_entry(text: &str) -> bool
+    ensures { result ≡ has_bad_entry (further_words text.now) }
+{
+    !text.is_empty() && text.split(' ').any(|word| entry_parts(word).is_none())
+}
+
+fn group_line(alloc: Global, name: &str, entries: Vec<Entry>) -> Result<ScriptLine, LineError>
+    ensures { Answers (group_line name.now (Some entries.items)) result }
+{
+    Ok(ScriptLine::Setting(Setting::Flow(Group {
+        name: Text::from_str(alloc, name)?,
+        entries: Sequence::new(entries),
+    })))
+}
+
+/// Why the entries of a text are not read. Marks that there are not are told before want of memory.
+fn entries_error(text: &str) -> LineError
+    ensures { result ≡ entries_refusal (has_bad_entry (further_words text.now)) }
+{
+    if has_bad_entry(text) {
+        LineError::Marks
+    } else {
+        LineError::OutOfMemory
+    }
+}
+
+/// `GROUP ENTRY ..`, behind the first word. The entries are read once, and looked over again
+/// where that fails.
+pub fn read_flow(alloc: Global, rest: &str) -> Result<ScriptLine, LineError>
+    ensures { Answers (flow_line rest.now) result }
+{
+    if rest.is_empty() {
+        return Err(LineError::Flow);
+    }
+    let (name, text) = first_and_rest(rest);
+    let Ok(entries) = further_entries(alloc, text) else {
+        return Err(entries_error(text));
+    };
+    group_line(alloc, name, entries)
+}

@@ -1,0 +1,20 @@
+//! The script of `step`: what each of its lines means, and what its settings state.
+#![tactic(auto)]
+
+mod actions;
+mod error;
+mod group;
+mod line;
+mod queues;
+mod read;
+mod replies;
+mod script;
+mod settings;
+mod words;
+
+pub use actions::Actions;
+pub use error::{LineError, ScriptError};
+pub use line::{Action, ScriptLine, Setting};
+pub use read::read_line;
+pub use replies::Replies;
+pub use script::{Script, open_script};

@@ -1,0 +1,41 @@
+//! Queues by name.
+ghost use Rattle.std.specs.Prelude.{◌≡◌, ℕ, List, [], OnOk, slice_get, string_bytes};
+ghost use Rattle.cli_script.specs.Queues.{PutsBehind, TakesFirst, queue_at};
+
+use std::alloc::{AllocError, Global};
+use std::collections::{BTreeMap, VecDeque};
+
+/// A queue for each name; a name that was never used has an empty one.
+#[derive(Drop)]
+pub struct Queues<T> {
+    held: BTreeMap<String, VecDeque<T>>,
+}
+
+impl<T: Drop> Queues<T> {
+    pub fn new(alloc: Global) -> Queues<T>
+        ensures { (name : List ℕ) → queue_at result name ≡ [] }
+    {
+        Queues {
+            held: BTreeMap::new(alloc),
+        }
+    }
+
+    /// Puts an item behind those of its name.
+    pub fn push(&mut self, name: String, item: T) -> Result<(), AllocError>
+        ensures { OnOk result (PutsBehind (queue_at self.old) (queue_at self.new) (string_bytes name) item) }
+    {
+        self.held.entry(name)?.or_default().push_back(item)?;
+        Ok(())
+    }
+
+    /// Takes the first item of a name; `None` where none is queued.
+    pub fn pop(&mut self, name: &str) -> Option<T>
+        ensures first { result ≡ slice_get (queue_at self.old name.now) 0 }
+        ensures rest { TakesFirst (queue_at self.old) (queue_at self.new) name.now }
+    {
+        match self.held.get_mut(name) {
+            Some(queue) => queue.pop_front(),
+            None => None,
+        }
+    }
+}

@@ -1,0 +1,131 @@
+//! A script: the settings at its head, and the lines behind them.
+ghost use Rattle.std.specs.Prelude.{◌≡◌, ◌+◌, ◌<◌, ◌≤◌, ◌^◌, IfErr, IfOk, length};
+ghost use Rattle.cli_script.specs.Scripts.{HasNoSetting, IsHeadRead, IsHeadRefused, IsNextSetting, IsOpenedAs};
+ghost use Rattle.cli_script.specs.Scripts.{IsScriptRefused, is_misplaced};
+
+use crate::actions::Actions;
+use crate::error::{ScriptError, error_at};
+use crate::line::{ScriptLine, Setting};
+use crate::read::read_line;
+use crate::replies::Replies;
+use crate::settings::Settings;
+use crate::words::split_line;
+use cli_quote::Quoted;
+use flow_model::Flow;
+use std::alloc::Global;
+
+/// Whether the line gives a group beside a flow file.
+fn is_misplaced(has_file: bool, setting: &Setting) -> bool
+    ensures { result ≡ is_misplaced has_file setting.now }
+{
+    has_file && matches!(setting, Setting::Flow(_))
+}
+
+/// The next setting and what follows its line; `None` at the end of the script or where the line is
+/// none. So many lines stand before it.
+fn next_setting(
+    alloc: Global,
+    has_file: bool,
+    lines: usize,
+    rest: &[u8],
+) -> Result<Option<(Setting, &[u8])>, ScriptError>
+    requires { lines + length rest.now < 2 ^ 64 }
+    ensures { IsNextSetting has_file lines rest.entry.now result }
+{
+    let Some((text, others)) = split_line(rest) else {
+        return Ok(None);
+    };
+    let line = lines + 1;
+    let meaning = match read_line(alloc, text) {
+        Ok(meaning) => meaning,
+        Err(cause) => return Err(error_at(line, text, cause)),
+    };
+    match meaning {
+        ScriptLine::Setting(setting) => {
+            if is_misplaced(has_file, &setting) {
+                let found = Quoted::of(text);
+                return Err(ScriptError::FlowBesideFile { line, found });
+            }
+            Ok(Some((setting, others)))
+        }
+        ScriptLine::Action(_) => Ok(None),
+    }
+}
+
+/// What stands behind the settings at the head of a script.
+#[derive(Drop)]
+struct Head<'a> {
+    settings: Settings,
+    rest: &'a [u8],
+    /// How many lines are settings.
+    lines: usize,
+}
+
+/// Keeps the settings at the head of a script, up to the first line that is none.
+fn read_head(alloc: Global, has_file: bool, script: &[u8]) -> Result<Head<'_>, ScriptError>
+    ensures head { IfOk result (λ h. IsHeadRead has_file script.entry.now h.settings h.rest.now h.lines) }
+    ensures all { IfOk result (λ h. HasNoSetting h.rest.now) }
+    ensures few { IfOk result (λ h. h.lines + length h.rest.now ≤ length script.entry.now) }
+    ensures refused { IfErr result (IsHeadRefused has_file script.entry.now) }
+{
+    let mut settings = Settings::new(alloc);
+    let mut rest = script;
+    let mut lines = 0;
+    while let Some((setting, others)) = next_setting(alloc, has_file, lines, rest)? {
+        settings.add(setting)?;
+        rest = others;
+        lines += 1;
+    }
+    Ok(Head {
+        settings,
+        rest,
+        lines,
+    })
+}
+
+/// A script from its first line on that is no setting.
+#[derive(Drop)]
+pub struct Script<'a> {
+    /// The flow that the settings state. It is checked.
+    pub flow: Flow,
+    /// The replies that the settings queue.
+    pub replies: Replies,
+    /// The lines that are still to come.
+    pub actions: Actions<'a>,
+}
+
+/// Opens a script over the flow of a flow file, if there is one: reads its settings and checks the flow
+/// that they state. `None` where it has nothing but settings, whose flow is then not looked at.
+///
+/// Refused are the first line that is not of its form or stands where it may not, up to the first that is
+/// no setting, and at that one a flow that is refused.
+pub fn open_script(
+    alloc: Global,
+    file: Option<Flow>,
+    script: &[u8],
+) -> Result<Option<Script<'_>>, ScriptError>
+    ensures opened { IfOk result (IsOpenedAs file script.entry.now) }
+    ensures refused { IfErr result (IsScriptRefused file script.entry.now) }
+{
+    let Head {
+        settings,
+        rest,
+        lines,
+    } = read_head(alloc, file.is_some(), script)?;
+    if rest.is_empty() {
+        return Ok(None);
+    }
+    let (flow, replies) = settings.into_parts(file);
+    if let Err(cause) = flow.check_by_map(alloc)? {
+        return Err(ScriptError::Flow {
+            line: lines + 1,
+            cause,
+        });
+    }
+    let actions = Actions::new(rest, lines);
+    Ok(Some(Script {
+        flow,
+        replies,
+        actions,
+    }))
+}

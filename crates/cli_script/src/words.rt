@@ -1,0 +1,119 @@
+//! The lines of a script, the words of a line, and what a word spells.
+ghost use Rattle.std.specs.Prelude.{◌≡◌, ◌<◌, ◌≤◌, [], IfOk, MatchOption, length, map};
+ghost use Rattle.std.specs.Char.{is_ascii_digit};
+ghost use Rattle.std.specs.List.{list_all, position_or_len};
+ghost use Rattle.cli_script.specs.Bytes.{byte_spelled, pair_value};
+ghost use Rattle.cli_script.specs.Lines.{IsFirstLine, is_line_feed};
+ghost use Rattle.cli_script.specs.Words.{cut_at, first_word, further_words, has_control};
+ghost use Rattle.cli_script.specs.Words.{has_empty_word, number_spelled, parts_shown, rest_of, words_of};
+
+use std::alloc::{AllocError, Global};
+
+/// Where the first line feed stands, or the length where there is none.
+fn line_end(script: &[u8]) -> usize
+    ensures place { result ≡ position_or_len is_line_feed script.now }
+    ensures within { result ≤ length script.now }
+{
+    script
+        .iter()
+        .position(|byte| *byte == b'\n')
+        .unwrap_or(script.len())
+}
+
+/// The first line of a script and what follows it, `None` where the script is empty. A line ends in
+/// a line feed, which is part of neither and which the last line may lack.
+pub fn split_line(script: &[u8]) -> Option<(&[u8], &[u8])>
+    ensures { MatchOption result (script.entry.now ≡ []) (IsFirstLine script.entry.now) }
+{
+    if script.is_empty() {
+        return None;
+    }
+    let end = line_end(script);
+    if end == script.len() {
+        return Some((script, &[]));
+    }
+    Some((&script[..end], &script[end + 1..]))
+}
+
+/// Whether a tab or a carriage return stands in the line.
+pub fn has_control(line: &[u8]) -> bool
+    ensures { result ≡ has_control line.now }
+{
+    line.iter().any(|byte| *byte == b'\t' || *byte == b'\r')
+}
+
+/// Whether the line is empty, or a space leads, ends or is doubled.
+pub fn has_empty_word(line: &str) -> bool
+    ensures { result ≡ has_empty_word line.now }
+{
+    line.split(' ').any(|word| word.is_empty())
+}
+
+/// What stands around the first `mark`; `None` where there is none.
+pub fn cut_at(text: &str, mark: char) -> Option<(&str, &str)>
+    requires { mark < 128 }
+    ensures { parts_shown result ≡ cut_at mark text.entry.now }
+{
+    text.split_once(mark)
+}
+
+/// What stands before the first space, and what behind it: nothing where there is none.
+pub fn first_and_rest(text: &str) -> (&str, &str)
+    ensures word { result.0.now ≡ first_word text.entry.now }
+    ensures rest { result.1.now ≡ rest_of text.entry.now }
+{
+    cut_at(text, ' ').unwrap_or((text, ""))
+}
+
+/// What stands between the spaces of a text.
+fn split_words(alloc: Global, text: &str) -> Result<Vec<&str>, AllocError>
+    ensures { IfOk result (λ v. map (λ w. w.now) v.items ≡ words_of text.entry.now) }
+{
+    text.split(' ').collect(alloc)
+}
+
+/// The words of a text that may be empty, which then has none.
+pub fn further_words(alloc: Global, text: &str) -> Result<Vec<&str>, AllocError>
+    ensures { IfOk result (λ v. map (λ w. w.now) v.items ≡ further_words text.entry.now) }
+{
+    if text.is_empty() {
+        return Ok(Vec::new(alloc));
+    }
+    split_words(alloc, text)
+}
+
+/// The byte of two hexadecimal digits, each in either case.
+fn read_pair(high: u8, low: u8) -> Option<u8>
+    ensures { result ≡ pair_value high low }
+{
+    let high = (high as char).to_digit(16)?;
+    let low = (low as char).to_digit(16)?;
+    Some((high * 16 + low) as u8)
+}
+
+/// `HH`: a byte as just two hexadecimal digits, each in either case.
+pub fn read_byte(word: &str) -> Option<u8>
+    ensures { result ≡ byte_spelled word.now }
+{
+    match word.as_bytes() {
+        [high, low] => read_pair(*high, *low),
+        _ => None,
+    }
+}
+
+fn is_digits(word: &str) -> bool
+    ensures { result ≡ list_all is_ascii_digit word.now }
+{
+    word.as_bytes().iter().all(|byte| byte.is_ascii_digit())
+}
+
+/// A decimal number below 2^64: digits alone, of which leading zeros count for nothing.
+pub fn read_number(word: &str) -> Option<u64>
+    ensures { result ≡ number_spelled word.now }
+{
+    if is_digits(word) {
+        word.parse().ok()
+    } else {
+        None
+    }
+}

@@ -1,0 +1,59 @@
+-- Reading lines one after the other, as a loop does.
+-- for: forms::read_items, words::name_of
+use Rattle.std.proofs.Common.{◌≡◌, ℕ, suc, ◌-◌, ◌+◌, ◌≤◌, ◌<◌, List, [], ◌∷◌, ◌++◌, Result, Ok, Err, refl, sym, ap, ◌∙◌, append_assoc, arith}
+use Rattle.std.proofs.lemmas.List.{append-nil}
+use Rattle.flow_load.specs.declared.error.LoadError.{LoadError}
+use Rattle.flow_load.specs.declared.error.LoadError.TheVariants.{OutOfMemory, BadHeader, BadLine, BadNumber, BadTarget, NoReturn, Flow}
+use Rattle.flow_load.specs.Reads.{◌>>=◌, Fails}
+use Rattle.flow_load.specs.Forms.{line_at, items_at}
+
+pub fails_same : (Y : Type 0) (e : LoadError) → Fails {Y = Y} e (Err e)
+fails_same Y OutOfMemory = tt
+fails_same Y BadHeader = refl
+fails_same Y (BadLine n) = refl
+fails_same Y (BadNumber n) = refl
+fails_same Y (BadTarget n) = refl
+fails_same Y (NoReturn n) = refl
+fails_same Y (Flow f) = refl
+
+-- what was read before, and what is still read
+abbrev pub with_front : {A : Type 0} → List A → Result (List A × List ℕ) LoadError → Result (List A × List ℕ) LoadError
+with_front front read = read >>= λ x. Ok (front ++ x.0, x.1)
+
+regroup : {A : Type 0} (front : List A) (n : A) (read : Result (List A × List ℕ) LoadError) → with_front front (read >>= λ x. Ok (n ∷ x.0, x.1)) ≡ with_front (front ++ n ∷ []) read
+regroup front n (Ok x) = ap (λ ns. Ok (ns, x.1)) (simp append_assoc)
+regroup front n (Err f) = refl
+
+pub goes_on : {A : Type 0} (form : LoadError → List ℕ → Result (ℕ × A) LoadError) (front : List A) (count k at : ℕ) (bytes : List ℕ) (x : A) (after : List ℕ) (total : Result (List A × List ℕ) LoadError) → k < count → line_at form k (at + k) bytes ≡ Ok (x, after)
+    → with_front front (items_at form (count - k) k (at + k) bytes) ≡ total → with_front (front ++ x ∷ []) (items_at form (count - (k + 1)) (k + 1) (at + (k + 1)) after) ≡ total
+unfolding items_at
+goes_on form front count k at bytes x after total lt h so_far =
+    let n : count - k ≡ suc (count - (k + 1)) = omega arith in
+    let m : at + k + 1 ≡ at + (k + 1) = omega arith in
+    let one : with_front front (items_at form (count - k) k (at + k) bytes) ≡ with_front (front ++ x ∷ []) (items_at form (count - (k + 1)) (k + 1) (at + (k + 1)) after) = rw (n, h, m) (regroup front x (items_at form (count - (k + 1)) (k + 1) (at + (k + 1)) after)) in
+    sym one ∙ so_far
+
+stops : {A : Type 0} (form : LoadError → List ℕ → Result (ℕ × A) LoadError) (e : LoadError) (front : List A) (count k at : ℕ) (bytes : List ℕ) (total : Result (List A × List ℕ) LoadError) → k < count → line_at form k (at + k) bytes ≡ Err e
+    → with_front front (items_at form (count - k) k (at + k) bytes) ≡ total → total ≡ Err e
+unfolding items_at
+stops form e front count k at bytes total lt h so_far =
+    let n : count - k ≡ suc (count - (k + 1)) = omega arith in
+    let one : with_front front (items_at form (count - k) k (at + k) bytes) ≡ Err e = rw (n, h) refl in
+    sym so_far ∙ one
+
+pub ends : {A : Type 0} (form : LoadError → List ℕ → Result (ℕ × A) LoadError) (e : LoadError) (front : List A) (count k at : ℕ) (bytes : List ℕ) (total : Result (List A × List ℕ) LoadError) → k < count → Fails e (line_at form k (at + k) bytes)
+    → with_front front (items_at form (count - k) k (at + k) bytes) ≡ total → Fails e total
+ends form OutOfMemory front count k at bytes total lt h so_far = tt
+ends form BadHeader front count k at bytes total lt h so_far = stops form _ front count k at bytes total lt h so_far
+ends form (BadLine n) front count k at bytes total lt h so_far = stops form _ front count k at bytes total lt h so_far
+ends form (BadNumber n) front count k at bytes total lt h so_far = stops form _ front count k at bytes total lt h so_far
+ends form (BadTarget n) front count k at bytes total lt h so_far = stops form _ front count k at bytes total lt h so_far
+ends form (NoReturn n) front count k at bytes total lt h so_far = stops form _ front count k at bytes total lt h so_far
+ends form (Flow n) front count k at bytes total lt h so_far = stops form _ front count k at bytes total lt h so_far
+
+pub is_done : {A : Type 0} (form : LoadError → List ℕ → Result (ℕ × A) LoadError) (front : List A) (count k at : ℕ) (bytes : List ℕ) (total : Result (List A × List ℕ) LoadError) → count ≤ k → with_front front (items_at form (count - k) k (at + k) bytes) ≡ total → total ≡ Ok (front, bytes)
+unfolding items_at
+is_done form front count k at bytes total le so_far =
+    let n : count - k ≡ 0 = omega arith in
+    let one : with_front front (items_at form (count - k) k (at + k) bytes) ≡ Ok (front, bytes) = rw n (ap (λ ns. Ok (ns, bytes)) (append-nil front)) in
+    sym so_far ∙ one

@@ -1,9 +1,0 @@
-use Rattle.std.proofs.Common.{◌∙◌, ◌++◌, ap, sym}
-use Rattle.std.proofs.lemmas.List.{append-nil}
-use Rattle.std.proofs.lemmas.Option.{slice_get_past}
-use Rattle.flow_asm.specs.Listing.{entry_of}
-use Rattle.flow_load.proofs.groups.add_entry.Goals as goal
-
-pub returns-in_default : goal.returns-in_default
-returns-in_default c =
-    sym (ap (λ o. c.args.entries.now.items ++ entry_of o) (slice_get_past c.args.parts.now c.args.number c.in_default.ensures.lookup.3) ∙ append-nil c.args.entries.now.items)

@@ -1,0 +1,23 @@
+-- Reading that stops at the first fault.
+use Rattle.std.specs.Prelude.{◌≡◌, Option, Some, None, Result, Ok, Err}
+use Rattle.flow_load.specs.declared.error.LoadError.{LoadError}
+use Rattle.flow_load.specs.declared.error.LoadError.TheVariants.{OutOfMemory}
+
+infixl 10 ◌>>=◌
+abbrev pub ◌>>=◌ : {A B : Type 0} → Result A LoadError → (A → Result B LoadError) → Result B LoadError
+(Ok x) >>= f = f x
+(Err e) >>= f = Err e
+
+-- the value, or the fault where there is none
+abbrev pub found : {A : Type 0} → LoadError → Option A → Result A LoadError
+found e None = Err e
+found e (Some x) = Ok x
+
+-- What a function answered, seen by view, is what the reading gives, unless memory ran out.
+abbrev pub Fails : {Y : Type 0} → LoadError → Result Y LoadError → Type 0
+Fails OutOfMemory read = Unit {0}
+Fails e read = read ≡ Err e
+
+abbrev pub Gives : {X Y : Type 0} → (X → Y) → Result X LoadError → Result Y LoadError → Type 0
+Gives view (Ok x) read = read ≡ Ok (view x)
+Gives view (Err e) read = Fails e read

@@ -1,0 +1,87 @@
+-- How long the bytes of a message can be: the type, two bitmaps and the longest text of each field.
+-- for: write::encode
+use Rattle.std.proofs.Common.{◌≡◌, inl, inr, ℕ, zero, suc, ◌<◌, ◌≤◌, ◌+◌, ◌/◌, ◌%◌, Bool, true, false, cond, eqb, ltb, List, [], ◌∷◌, ◌++◌, length, Option, Some, None, Result, Ok, Err, refl, sym, subst, length-append, arith}
+use Rattle.std.specs.Prelude.{IfOk}
+use Rattle.std.specs.Global.{Vec}
+use Rattle.std.specs.List.{flat_map, list_any}
+use Rattle.std.proofs.lemmas.Bool.{cases_eq, eqb-true, ltb-true, leb-true}
+use Rattle.iso_msg.specs.declared.table.Form.{Form}
+use Rattle.iso_msg.specs.declared.table.Form.TheVariants.{Fixed, Variable, Binary}
+use Rattle.iso_msg.specs.Table.{form_of, definition_of, rows}
+use Rattle.iso_msg.specs.Values.{refusal_by, has_length, has_content}
+use Rattle.iso_msg.specs.Messages.{Fields, PlainMessage, IsMessage, AreFields, numbers_of}
+use Rattle.iso_msg.proofs.FieldLists.{taken_below}
+use Rattle.iso_codec.specs.Spelling.{decimal, text_of, field_text}
+use Rattle.iso_codec.specs.RisingBitmaps.{bits_of, bitmaps_of, merged}
+use Rattle.iso_codec.proofs.Encoding.{picked, hex_length, bits_length}
+
+-- no text of a field of this form is longer
+abbrev most_text : Option Form → ℕ
+most_text None = 0
+most_text (Some (Fixed content exact)) = exact
+most_text (Some (Variable content places most)) = 3 + most
+most_text (Some Binary) = 16
+
+-- nor are those of so many numbers from n on
+abbrev most_texts : ℕ → ℕ → ℕ
+most_texts zero n = 0
+most_texts (suc count) n = most_text (form_of n) + most_texts count (suc n)
+
+all_below : ltb (most_texts 127 2) 9900 ≡ true
+unfolding form_of definition_of rows
+all_below = refl
+
+all_texts : most_texts 127 2 < 9900
+all_texts = ltb-true (most_texts 127 2) 9900 all_below
+
+decimal_short : (places n : ℕ) → length (decimal places n) ≤ 3
+decimal_short places n = by (eqb places 3)
+  where
+    by : (b : Bool) → length (cond b ((48 + n / 100) ∷ []) [] ++ ((48 + n / 10 % 10) ∷ (48 + n % 10) ∷ [])) ≤ 3
+    by true = omega arith
+    by false = omega arith
+
+text_short : (o : Option Form) (n : ℕ) (v : List ℕ) → refusal_by o n v ≡ None → length (text_of o v) ≤ most_text o
+text_short None n v e = absurd cc
+text_short (Some (Fixed c l)) n v e =
+    let p = picked (has_length (Fixed c l) (length v)) (has_content (Fixed c l) v) _ _ e in
+    omega (arith, eqb-true (length v) l p.0)
+text_short (Some (Variable c places most)) n v e =
+    let p = picked (has_length (Variable c places most) (length v)) (has_content (Variable c places most) v) _ _ e in
+    omega (arith, leb-true (length v) most p.0, decimal_short places (length v), length-append (decimal places (length v)) v)
+text_short (Some Binary) n v e =
+    let p = picked (has_length Binary (length v)) (has_content Binary v) _ _ e in
+    omega (arith, eqb-true (length v) 8 p.0, hex_length v)
+
+texts_short : (count low : ℕ) (fs : Fields) → low + count ≡ 128 → AreFields low fs → length (flat_map field_text fs) ≤ most_texts count (suc low)
+texts_short count low [] h a = omega arith
+texts_short zero low (f ∷ fs) h a = absurd (let below : f.0 < 129 = taken_below f.0 f.1 (form_of f.0) refl a.1 in let over : low < f.0 = a.0 in omega arith)
+texts_short (suc count) low (f ∷ fs) h a =
+    elim (cases_eq f.0 (suc low)) [
+      | inl e ↦
+          let here : length (field_text f) ≤ most_text (form_of (suc low)) = subst (λ n. length (field_text f) ≤ most_text (form_of n)) e (text_short (form_of f.0) f.0 f.1 a.1) in
+          let more : length (flat_map field_text fs) ≤ most_texts count (suc (suc low)) = subst (λ n. length (flat_map field_text fs) ≤ most_texts count (suc n)) e (texts_short count f.0 fs (omega arith) a.2) in
+          omega (arith, here, more, length-append (field_text f) (flat_map field_text fs))
+      | inr e ↦
+          let over : low < f.0 = a.0 in
+          let later : length (flat_map field_text (f ∷ fs)) ≤ most_texts count (suc (suc low)) = texts_short count (suc low) (f ∷ fs) (omega arith) (omega arith, a.1, a.2) in
+          omega (arith, later)
+    ]
+
+bitmaps_short : (ns : List ℕ) → length (bitmaps_of ns) ≤ 32
+bitmaps_short ns = by (list_any (λ n. ltb 64 n) ns)
+  where
+    by : (b : Bool) → length (cond b (bits_of 1 32 (1 ∷ ns)) (bits_of 1 16 ns)) ≤ 32
+    by true = omega (arith, bits_length 32 1 (1 ∷ ns))
+    by false = omega (arith, bits_length 16 1 ns)
+
+merged_short : (m : PlainMessage) → IsMessage m → length (merged m) ≤ 9999
+merged_short m v =
+    let bitmaps = bitmaps_of (numbers_of m.fields) in
+    let texts = flat_map field_text m.fields in
+    let four : length m.mti ≡ 4 = v.0.0 in
+    omega (arith, length-append m.mti (bitmaps ++ texts), length-append bitmaps texts, four, bitmaps_short (numbers_of m.fields), texts_short 127 1 m.fields refl v.1, all_texts)
+
+pub short_by : {E : Type 0} (r : Result (Vec ℕ) E) (m : PlainMessage) → IsMessage m → IfOk r (λ v. v.items ≡ merged m) → IfOk r (λ v. length v.items ≤ 9999)
+short_by (Ok v) m h e = subst (λ (x : List ℕ). length x ≤ 9999) (sym e) (merged_short m h)
+short_by (Err x) m h e = tt

@@ -1,0 +1,12 @@
+use Rattle.std.proofs.Common.{◌∙◌, sym, subst, Result}
+use Rattle.iso_msg.specs.Messages.{PlainMessage}
+use Rattle.iso_codec.specs.declared.error.DecodeError.{DecodeError}
+use Rattle.iso_codec.specs.Reads.{Fails}
+use Rattle.iso_codec.proofs.MessageReads.{read_grown_is}
+use Rattle.iso_codec.proofs.read.answer.Goals as goal
+
+pub settled-requires : goal.settled-requires
+settled-requires c = subst (λ (r : Result PlainMessage DecodeError). Fails c.in-Err.e r) (read_grown_is c.args.bytes.now) c.in-Err.ensures
+
+pub returns-in-Ok : goal.returns-in-Ok
+returns-in-Ok c = sym (read_grown_is c.args.bytes.now) ∙ c.in-Ok.ensures

@@ -1,6 +1,0 @@
-use Rattle.std.proofs.Common.{◌≡◌, drop}
-use Rattle.iso_codec.proofs.reading.read_fields.Given as goal
-use Rattle.iso_codec.specs.Growing.{added}
-
-abbrev pub invariant-loop-number : goal.invariant-loop-number
-invariant-loop-number l = added l.message (drop l.number-index l.numbers) l.rest ≡ added l.fn.message l.numbers l.bytes

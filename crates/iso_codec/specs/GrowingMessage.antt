@@ -1,0 +1,44 @@
+-- Reading over a message that grows by each field, for the contracts of the reader's own steps.
+use Rattle.std.specs.Prelude.{ℕ, ◌==◌, List, [], ◌∷◌, length, Option, Some, None, Result, Ok, Err, if◌then◌else◌}
+use Rattle.iso_msg.specs.declared.table.Form.{Form}
+use Rattle.iso_msg.specs.Table.{form_of}
+use Rattle.iso_msg.specs.Values.{has_content}
+use Rattle.iso_msg.specs.Messages.{PlainMessage, with_value}
+use Rattle.iso_msg.specs.declared.error.MessageError.{MessageError}
+use Rattle.iso_msg.specs.declared.error.MessageError.TheVariants as message
+use Rattle.iso_codec.specs.declared.error.DecodeError.{DecodeError}
+use Rattle.iso_codec.specs.declared.error.DecodeError.TheVariants.{OutOfMemory, BadMti, FieldNotInProfile, BadLength, BadContent, Trailing}
+use Rattle.iso_codec.specs.Reads.{◌>>=◌, part, mti_is, bitmaps_at, known, field_numbers, text_at}
+
+abbrev pub with_field : PlainMessage → ℕ → List ℕ → PlainMessage
+with_field m n value = record { mti = m.mti; fields = with_value n value m.fields }
+
+abbrev pub error_of : MessageError → DecodeError
+error_of message.OutOfMemory = OutOfMemory
+error_of (message.FieldNotInProfile n) = FieldNotInProfile n
+error_of (message.BadLength n) = BadLength n
+error_of (message.BadContent n) = BadContent n
+error_of message.BadMti = BadMti
+
+abbrev pub placed : Form → PlainMessage → ℕ → List ℕ → Result PlainMessage DecodeError
+placed form m n value = if has_content form value then Ok (with_field m n value) else Err (BadContent n)
+
+abbrev pub grown : Form → PlainMessage → ℕ → List ℕ → Result (PlainMessage × List ℕ) DecodeError
+grown form m n bytes = text_at form n bytes >>= λ value. placed form m n value.0 >>= λ more. Ok (more, value.1)
+
+abbrev pub grown_at : Option Form → PlainMessage → ℕ → List ℕ → Result (PlainMessage × List ℕ) DecodeError
+grown_at None m n bytes = Err (FieldNotInProfile n)
+grown_at (Some form) m n bytes = grown form m n bytes
+
+unfoldable pub added : PlainMessage → List ℕ → List ℕ → Result (PlainMessage × List ℕ) DecodeError
+added m [] bytes = Ok (m, bytes)
+added m (n ∷ ns) bytes = grown_at (form_of n) m n bytes >>= λ x. added x.0 ns x.1
+
+unfoldable pub read_grown : List ℕ → Result PlainMessage DecodeError
+read_grown bytes = do
+  front ← part 4 bytes
+  mti ← mti_is front.0
+  ns ← bitmaps_at front.1
+  ok ← known (field_numbers ns.0)
+  x ← added (record { mti = mti; fields = [] }) (field_numbers ns.0) ns.1
+  if length x.1 == 0 then Ok x.0 else Err Trailing

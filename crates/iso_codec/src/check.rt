@@ -1,0 +1,79 @@
+//! Looking bytes over without memory: which fault they have, if they have one.
+
+ghost use Rattle.std.specs.Prelude.{◌≡◌};
+ghost use Rattle.iso_msg.specs.Table.{form_of, IsForm};
+ghost use Rattle.iso_codec.specs.Reads.{Exactly, form_over, field_over, fields_over, read_over};
+
+use crate::bitmap::{check_known, fields_of, read_bitmaps};
+use crate::error::DecodeError;
+use crate::in_place::check_content;
+use crate::numbers::Numbers;
+use crate::parts::{mti_of, read_binary, read_variable, split};
+use iso_msg::{Form, form_at};
+
+/// Passes over a field of this form.
+fn check_form(form: Form, number: u8, bytes: &[u8]) -> Result<&[u8], DecodeError>
+    requires { IsForm form }
+    ensures { Exactly (λ rest. rest.now) result (form_over form number bytes.now) }
+{
+    match form {
+        Form::Fixed { length, .. } => {
+            let (value, rest) = split(bytes, length as usize)?;
+            check_content(form, number, value)?;
+            Ok(rest)
+        }
+        Form::Variable {
+            length_digits,
+            max_length,
+            ..
+        } => {
+            let (value, rest) = read_variable(length_digits, max_length, number, bytes)?;
+            check_content(form, number, value)?;
+            Ok(rest)
+        }
+        Form::Binary => {
+            let (value, rest) = read_binary(number, bytes)?;
+            check_content(form, number, &value)?;
+            Ok(rest)
+        }
+    }
+}
+
+/// Passes over the field of this number.
+fn check_field(number: u8, bytes: &[u8]) -> Result<&[u8], DecodeError>
+    ensures { Exactly (λ rest. rest.now) result (field_over (form_of number) number bytes.now) }
+{
+    match form_at(number) {
+        None => Err(DecodeError::FieldNotInProfile(number)),
+        Some(form) => check_form(form, number, bytes),
+    }
+}
+
+#[tactic(auto, unfolding(crate::specs::Reads::fields_over))]
+fn check_fields<'a>(numbers: &[u8], bytes: &'a [u8]) -> Result<&'a [u8], DecodeError>
+    ensures { Exactly (λ rest. rest.now) result (fields_over numbers.now bytes.now) }
+{
+    let mut rest = bytes;
+    for number in numbers {
+        rest = check_field(*number, rest)?;
+    }
+    Ok(rest)
+}
+
+/// Refuses bytes that are no message.
+#[tactic(auto, unfolding(crate::specs::Reads::read_over))]
+pub fn check(bytes: &[u8]) -> Result<(), DecodeError>
+    ensures { Exactly (λ _. tt) result (read_over bytes.now) }
+{
+    let (digits, rest) = split(bytes, 4)?;
+    let _ = mti_of(digits)?;
+    let mut all = Numbers::new();
+    let rest = read_bitmaps(rest, &mut all)?;
+    let numbers = fields_of(all.as_slice());
+    check_known(numbers)?;
+    let rest = check_fields(numbers, rest)?;
+    if !rest.is_empty() {
+        return Err(DecodeError::Trailing);
+    }
+    Ok(())
+}

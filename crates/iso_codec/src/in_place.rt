@@ -1,0 +1,39 @@
+//! A message read where it lies: its type and the numbers of its fields, and then field by field,
+//! without memory.
+
+ghost use Rattle.std.specs.Prelude.{◌≡◌, []};
+ghost use Rattle.iso_codec.specs.Reads.{Exactly, content_is, field_numbers, front_at};
+
+use crate::bitmap::{check_known, read_bitmaps};
+use crate::error::DecodeError;
+use crate::numbers::Numbers;
+use crate::parts::{mti_of, split};
+use iso_msg::{Form, fits_content};
+
+/// The digits of the type, and the bytes of the fields whose numbers are added.
+#[tactic(auto, unfolding(crate::specs::Reads::front_at))]
+pub fn read_front<'a>(
+    bytes: &'a [u8],
+    numbers: &mut Numbers,
+) -> Result<(&'a [u8], &'a [u8]), DecodeError>
+    requires { numbers.old ≡ [] }
+    ensures { Exactly (λ x. (x.0.now, field_numbers numbers.new, x.1.now)) result
+        (front_at bytes.now) }
+{
+    let (digits, rest) = split(bytes, 4)?;
+    let _ = mti_of(digits)?;
+    let rest = read_bitmaps(rest, numbers)?;
+    check_known(numbers.fields())?;
+    Ok((digits, rest))
+}
+
+/// Refuses a value with a byte that the field does not take.
+pub fn check_content(form: Form, number: u8, value: &[u8]) -> Result<(), DecodeError>
+    ensures { Exactly (λ _. tt) result (content_is form number value.now) }
+{
+    if fits_content(form, value) {
+        Ok(())
+    } else {
+        Err(DecodeError::BadContent(number))
+    }
+}

@@ -1,0 +1,207 @@
+//! Reading a message.
+
+ghost use Rattle.std.specs.Prelude.{◌≡◌, ◌≤◌, length, Some, Err, true, IfOk, IsErrOf, MatchResult};
+ghost use Rattle.iso_msg.specs.Table.{form_of};
+ghost use Rattle.iso_msg.specs.Values.{has_length};
+ghost use Rattle.iso_msg.specs.Messages.{PlainMessage};
+ghost use Rattle.iso_codec.specs.Grammar.{Spells};
+ghost use Rattle.iso_codec.specs.Reads.{Fails, Gives, Answers, read};
+ghost use Rattle.iso_codec.specs.GrowingMessage.{placed, grown, grown_at, added, read_grown};
+ghost use Rattle.iso_codec.specs.declared.error.DecodeError.TheVariants.{OutOfMemory};
+
+use crate::bitmap::{check_known, fields_of, read_bitmaps};
+use crate::check::check;
+use crate::error::DecodeError;
+use crate::numbers::Numbers;
+use crate::parts::{mti_of, read_binary, read_variable, split};
+use iso_msg::{Content, Form, Message, form_at};
+use std::alloc::Global;
+
+/// Puts a value of the right length, which is copied here and nowhere else.
+fn put(
+    alloc: Global,
+    form: Form,
+    number: u8,
+    value: &[u8],
+    message: &mut Message,
+) -> Result<(), DecodeError>
+    requires form { form_of number ≡ Some form }
+    requires len { has_length form (length value.now) ≡ true }
+    ensures { Gives (λ _. message.new) result (placed form message.old number value.now) }
+{
+    Ok(message.set(alloc, number, value)?)
+}
+
+fn read_fixed<'a>(
+    alloc: Global,
+    content: Content,
+    length: u16,
+    number: u8,
+    bytes: &'a [u8],
+    message: &mut Message,
+) -> Result<&'a [u8], DecodeError>
+    requires { form_of number ≡ Some (Form.Fixed content length) }
+    ensures { Gives (λ rest. (message.new, rest.now)) result
+        (grown (Form.Fixed content length) message.old number bytes.now) }
+{
+    let (value, rest) = split(bytes, length as usize)?;
+    put(
+        alloc,
+        Form::Fixed { content, length },
+        number,
+        value,
+        message,
+    )?;
+    Ok(rest)
+}
+
+fn read_behind_length<'a>(
+    alloc: Global,
+    content: Content,
+    length_digits: u16,
+    max_length: u16,
+    number: u8,
+    bytes: &'a [u8],
+    message: &mut Message,
+) -> Result<&'a [u8], DecodeError>
+    requires form { form_of number ≡ Some (Form.Variable content length_digits max_length) }
+    requires digits { length_digits ≤ 3 }
+    ensures { Gives (λ rest. (message.new, rest.now)) result
+        (grown (Form.Variable content length_digits max_length) message.old number bytes.now) }
+{
+    let (value, rest) = read_variable(length_digits, max_length, number, bytes)?;
+    let form = Form::Variable {
+        content,
+        length_digits,
+        max_length,
+    };
+    put(alloc, form, number, value, message)?;
+    Ok(rest)
+}
+
+fn read_hex<'a>(
+    alloc: Global,
+    number: u8,
+    bytes: &'a [u8],
+    message: &mut Message,
+) -> Result<&'a [u8], DecodeError>
+    requires { form_of number ≡ Some Form.Binary }
+    ensures { Gives (λ rest. (message.new, rest.now)) result
+        (grown Form.Binary message.old number bytes.now) }
+{
+    let (value, rest) = read_binary(number, bytes)?;
+    put(alloc, Form::Binary, number, &value, message)?;
+    Ok(rest)
+}
+
+/// Reads the field of this number.
+fn read_field<'a>(
+    alloc: Global,
+    number: u8,
+    bytes: &'a [u8],
+    message: &mut Message,
+) -> Result<&'a [u8], DecodeError>
+    ensures { Gives (λ rest. (message.new, rest.now)) result
+        (grown_at (form_of number) message.old number bytes.now) }
+{
+    match form_at(number) {
+        None => Err(DecodeError::FieldNotInProfile(number)),
+        Some(Form::Fixed { content, length }) => {
+            read_fixed(alloc, content, length, number, bytes, message)
+        }
+        Some(
+            Form::Variable {
+                content,
+                length_digits,
+                max_length,
+            },
+        ) => {
+            read_behind_length(
+                alloc,
+                content,
+                length_digits,
+                max_length,
+                number,
+                bytes,
+                message,
+            )
+        }
+        Some(Form::Binary) => read_hex(alloc, number, bytes, message),
+    }
+}
+
+#[tactic(auto, unfolding(crate::specs::GrowingMessage::added))]
+fn read_fields<'a>(
+    alloc: Global,
+    numbers: &[u8],
+    bytes: &'a [u8],
+    message: &mut Message,
+) -> Result<&'a [u8], DecodeError>
+    ensures { Gives (λ rest. (message.new, rest.now)) result
+        (added message.old numbers.now bytes.now) }
+{
+    let mut rest = bytes;
+    for number in numbers {
+        rest = read_field(alloc, *number, rest, message)?;
+    }
+    Ok(rest)
+}
+
+/// Reads a message, all of the bytes, or stops where memory is refused.
+#[tactic(auto, unfolding(crate::specs::GrowingMessage::read_grown))]
+fn read_message(alloc: Global, bytes: &[u8]) -> Result<Message, DecodeError>
+    ensures { Gives (λ m. m) result (read_grown bytes.now) }
+{
+    let (digits, rest) = split(bytes, 4)?;
+    let mti = mti_of(digits)?;
+    let mut all = Numbers::new();
+    let rest = read_bitmaps(rest, &mut all)?;
+    let numbers = fields_of(all.as_slice());
+    check_known(numbers)?;
+    let mut message = Message::new(alloc, mti);
+    message.reserve(numbers.len())?;
+    let rest = read_fields(alloc, numbers, rest, &mut message)?;
+    if !rest.is_empty() {
+        return Err(DecodeError::Trailing);
+    }
+    Ok(message)
+}
+
+/// The refusal to tell where reading stopped with this one. Where that was want of memory, the
+/// bytes are looked over for a fault, which would come first.
+fn settled(e: DecodeError, bytes: &[u8]) -> DecodeError
+    requires { Fails e (read bytes.now) }
+    ensures { Answers (Err result) (read bytes.now) }
+{
+    match e {
+        DecodeError::OutOfMemory => match check(bytes) {
+            Ok(()) => DecodeError::OutOfMemory,
+            Err(fault) => fault,
+        },
+        fault => fault,
+    }
+}
+
+fn answer(alloc: Global, bytes: &[u8]) -> Result<Message, DecodeError>
+    ensures { Answers result (read bytes.now) }
+{
+    match read_message(alloc, bytes) {
+        Ok(message) => Ok(message),
+        Err(e) => Err(settled(e, bytes)),
+    }
+}
+
+/// The message that the bytes spell, all of them. A refusal is the first fault from the left, in
+/// the order of reading: each part is taken whole (`Short`), and then looked at. The numbers are
+/// looked at after the bitmaps, and before the fields.
+///
+/// Want of memory is told only where the bytes are those of a message.
+pub fn decode(alloc: Global, bytes: &[u8]) -> Result<Message, DecodeError>
+    ensures found { IfOk result (λ m. Spells bytes.now m) }
+    ensures only { (m : PlainMessage) → Spells bytes.now m
+        → MatchResult result (λ x. x ≡ m) (λ e. e ≡ OutOfMemory) }
+    ensures first_fault { Answers result (read bytes.now) }
+    ensures memory_last { IsErrOf result OutOfMemory → (m : PlainMessage) × Spells bytes.now m }
+{
+    answer(alloc, bytes)
+}

@@ -1,0 +1,102 @@
+//! Messages as bytes: worked messages, and the largest that the table allows.
+
+use crate::messages::{largest, message_of};
+use iso_codec::{DecodeError, decode, encode};
+use std::alloc::Global;
+use std::test::Fail;
+use sw_frame::{Framer, frame};
+
+/// A network management request: 0800 with field 11, and 70 behind the second bitmap.
+const NETWORK: &[u8] = b"080080200000000000000400000000000000000001301";
+
+const PIN: [u8; 8] = [0xA1, 0xB2, 0xC3, 0xD4, 0xE5, 0xF6, 0x07, 0x18];
+
+const CODE: [u8; 8] = [0x00, 0x11, 0x22, 0x33, 0x44, 0x55, 0x66, 0xFF];
+
+#[test]
+fn worked_messages_are_encoded(rt: HostRuntime) -> Result<(), Fail> {
+    let rows: [(&[u8], &[(u8, &[u8])], &[u8]); 3] = [
+        (b"0800", &[(70, b"301"), (11, b"000001")], NETWORK),
+        (
+            b"0100",
+            &[(11, b"000042"), (41, b"TERM0001")],
+            b"01000020000000800000000042TERM0001",
+        ),
+        (
+            b"0100",
+            &[(128, &CODE), (3, b"000000"), (52, &PIN)],
+            b"0100A0000000000010000000000000000001000000A1B2C3D4E5F6071800112233445566FF",
+        ),
+    ];
+    for (mti, fields, wanted) in rows {
+        let message = message_of(rt.alloc(), mti, fields)?;
+        let copy = message.copy(rt.alloc())?;
+        assert_eq!(rt; encode(rt.alloc(), &message)?.as_slice(), wanted);
+        assert_eq!(rt; encode(rt.alloc(), &copy)?.as_slice(), wanted);
+    }
+    Ok(())
+}
+
+#[test]
+fn other_spellings_are_not_kept(rt: HostRuntime) -> Result<(), Fail> {
+    let rows: [(&[u8], &[u8]); 2] = [
+        // An empty second bitmap.
+        (
+            b"080080200000000000000000000000000000000001",
+            b"08000020000000000000000001",
+        ),
+        // Digits in lower case.
+        (
+            b"0100a0000000000010000000000000000001000000a1b2c3d4e5f6071800112233445566ff",
+            b"0100A0000000000010000000000000000001000000A1B2C3D4E5F6071800112233445566FF",
+        ),
+    ];
+    for (spelled, wanted) in rows {
+        let message = decode(rt.alloc(), spelled)?;
+        assert_eq!(rt; encode(rt.alloc(), &message)?.as_slice(), wanted);
+    }
+    Ok(())
+}
+
+/// Type, two bitmaps and 53 fields: 4 + 32 + 6,762 bytes.
+#[test]
+fn the_largest_message_goes_round(rt: HostRuntime) -> Result<(), Fail> {
+    let alloc = rt.alloc();
+    let bytes = encode(alloc, &largest(alloc)?)?;
+    assert_eq!(rt; bytes.len(), 6_798);
+    let framed = frame(alloc, &bytes)?;
+    assert!(rt; framed.starts_with(b"67980100"));
+    let messages = Framer::new(alloc).feed(&framed)?;
+    let [only] = messages.as_slice() else {
+        return Err("one message".into());
+    };
+    assert_eq!(rt; only.as_slice(), bytes.as_slice());
+    let again = decode(alloc, only)?;
+    assert_eq!(rt; again.field_count(), 53);
+    assert_eq!(rt; encode(alloc, &again)?.as_slice(), bytes.as_slice());
+    Ok(())
+}
+
+fn is_told(alloc: Global, bytes: &[u8], wanted: DecodeError) -> bool {
+    matches!(decode(alloc, bytes), Err(error) if error == wanted)
+}
+
+/// Passes whichever allocation is refused (`rt try --test --fail-alloc N`): a fault is told before want
+/// of memory, and want of memory only in the place of a message.
+#[test]
+fn want_of_memory_is_told_last(rt: HostRuntime) {
+    for _ in 0..3 {
+        assert!(rt;
+            is_told(
+                rt.alloc(),
+                b"0800802000000000000004000000000000000000013011",
+                DecodeError::Trailing
+            )
+        );
+        let is_fine = match decode(rt.alloc(), NETWORK) {
+            Ok(message) => message.field_count() == 2,
+            Err(error) => error == DecodeError::OutOfMemory,
+        };
+        assert!(rt; is_fine);
+    }
+}

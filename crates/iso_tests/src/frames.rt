@@ -1,0 +1,90 @@
+//! Frames of a stream that comes in pieces, and frames of messages.
+
+use std::alloc::Global;
+use std::test::Fail;
+use sw_frame::{FrameError, Framer, frame, read_pieces};
+
+fn are(found: &[Vec<u8>], wanted: &[&[u8]]) -> bool {
+    found.len() == wanted.len() && found.iter().zip(wanted).all(|(f, w)| f.as_slice() == *w)
+}
+
+fn gives(framer: &mut Framer, piece: &[u8], wanted: &[&[u8]]) -> bool {
+    match framer.feed(piece) {
+        Ok(messages) => are(&messages, wanted),
+        Err(_) => false,
+    }
+}
+
+fn is_refused(framer: &mut Framer, piece: &[u8]) -> bool {
+    matches!(framer.feed(piece), Err(FrameError::BadLength))
+}
+
+fn is_at(framer: &Framer, pending: &[u8], failed: bool) -> bool {
+    framer.pending() == pending && framer.failed() == failed
+}
+
+#[test]
+fn frames_of_three_pieces(rt: HostRuntime) {
+    let mut framer = Framer::new(rt.alloc());
+    assert!(rt; gives(&mut framer, b"0003ab", &[]));
+    assert!(rt; is_at(&framer, b"0003ab", false));
+    assert!(rt; gives(&mut framer, b"c0000", &[b"abc", b""]));
+    assert!(rt; is_at(&framer, b"", false));
+    assert!(rt; gives(&mut framer, b"0001a00x1", &[b"a"]));
+    assert!(rt; is_at(&framer, b"", true));
+    assert!(rt; is_refused(&mut framer, b"") && is_refused(&mut framer, b"0001b"));
+}
+
+#[test]
+fn a_fault_at_once(rt: HostRuntime) {
+    let mut framer = Framer::new(rt.alloc());
+    assert!(rt; gives(&mut framer, b"00x", &[]));
+    assert!(rt; is_refused(&mut framer, b"1"));
+    assert!(rt; is_at(&framer, b"", true));
+}
+
+#[test]
+fn a_list_of_pieces(rt: HostRuntime) -> Result<(), Fail> {
+    let mut pieces = Vec::new(rt.alloc());
+    pieces.push(Vec::from_slice(rt.alloc(), b"0003abc00000")?)?;
+    pieces.push(Vec::from_slice(rt.alloc(), b"001a00x1")?)?;
+    let reading = read_pieces(rt.alloc(), &pieces)?;
+    assert!(rt; are(&reading.messages, &[b"abc", b"", b"a"]) && reading.framer.failed());
+    Ok(())
+}
+
+fn comes_back(alloc: Global, message: &[u8]) -> Result<bool, FrameError> {
+    let text = frame(alloc, message)?;
+    Ok(text.len() == 4 + message.len() && gives(&mut Framer::new(alloc), &text, &[message]))
+}
+
+#[test]
+fn frames_of_messages(rt: HostRuntime) -> Result<(), Fail> {
+    let alloc = rt.alloc();
+    assert_eq!(rt; frame(alloc, b"abc")?.as_slice(), b"0003abc".as_slice());
+    assert_eq!(rt; frame(alloc, b"")?.as_slice(), b"0000".as_slice());
+    let longest = vec![in alloc; b'7'; 9_999]?;
+    assert!(rt; comes_back(alloc, &longest)?);
+    let longer = vec![in alloc; b'7'; 10_000]?;
+    assert!(rt; matches!(frame(alloc, &longer), Err(FrameError::TooLong)));
+    Ok(())
+}
+
+fn wants_memory_or_goes_on(framer: &mut Framer, piece: &[u8]) -> bool {
+    let before = framer.pending().len();
+    match framer.feed(piece) {
+        Ok(_) => true,
+        Err(FrameError::OutOfMemory) => framer.pending().len() == before && !framer.failed(),
+        Err(_) => false,
+    }
+}
+
+// It holds with each allocation refused in its turn too, as by `rt try --test --fail-alloc 3`: a feed that wants
+// memory leaves what is pending, and the next finds no fault that isn't there.
+#[test]
+fn a_feed_that_wants_memory_changes_nothing(rt: HostRuntime) {
+    let mut framer = Framer::new(rt.alloc());
+    assert!(rt; wants_memory_or_goes_on(&mut framer, b"0003abc"));
+    assert!(rt; wants_memory_or_goes_on(&mut framer, b"0002de0001"));
+    assert!(rt; wants_memory_or_goes_on(&mut framer, b"00000000"));
+}

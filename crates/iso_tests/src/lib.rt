@@ -1,0 +1,12 @@
+//! Tests of messages, their bytes, frames and streams: what no clause says, and no case under `tests/` shows.
+//! The helpers have no contract, so that the proof of a test carries no values.
+#![tactic(auto)]
+
+#[cfg(test)]
+mod codec;
+#[cfg(test)]
+mod frames;
+#[cfg(test)]
+mod messages;
+#[cfg(test)]
+mod streams;

@@ -1,0 +1,156 @@
+//! Messages as maps of values, and the texts of refusals.
+
+use iso_codec::DecodeError;
+use iso_msg::{Form, Message, MessageError, Mti, form_at};
+use std::alloc::Global;
+use std::test::Fail;
+
+/// A message of this type with these fields, put in the order in which they stand.
+pub fn message_of(alloc: Global, mti: &[u8], fields: &[(u8, &[u8])]) -> Result<Message, Fail> {
+    let mut message = Message::new(alloc, Mti::new(mti)?);
+    for (number, value) in fields {
+        message.set(alloc, *number, *value)?;
+    }
+    Ok(message)
+}
+
+/// A value of the greatest length that a field takes.
+fn longest(alloc: Global, form: Form) -> Result<Vec<u8>, Fail> {
+    let length = match form {
+        Form::Fixed { length, .. } => length,
+        Form::Variable { max_length, .. } => max_length,
+        Form::Binary => 8,
+    };
+    Ok(vec![in alloc; b'7'; length as usize]?)
+}
+
+/// The message with every field of the table, each as long as it can be.
+pub fn largest(alloc: Global) -> Result<Message, Fail> {
+    let mut message = message_of(alloc, b"0100", &[])?;
+    for number in 0..=255u8 {
+        if let Some(form) = form_at(number) {
+            message.set(alloc, number, &longest(alloc, form)?)?;
+        }
+    }
+    Ok(message)
+}
+
+fn has_numbers(message: &Message, wanted: &[u8]) -> bool {
+    message.field_count() == wanted.len()
+        && message
+            .fields()
+            .zip(wanted)
+            .all(|(number, want)| number == *want)
+}
+
+#[test]
+fn a_message_is_a_map(rt: HostRuntime) -> Result<(), Fail> {
+    let alloc = rt.alloc();
+    let mut message = message_of(alloc, b"0800", &[(70, b"301"), (11, b"000001")])?;
+    message.reserve(2)?;
+    message.set(alloc, 52, &[0, 255, 1, 2, 3, 4, 5, 6])?;
+    message.set(alloc, 11, b"000002")?;
+    assert_eq!(rt; message.mti().digits(), b"0800".as_slice());
+    assert!(rt; has_numbers(&message, &[11, 52, 70]));
+    assert_eq!(rt; message.get(11), Some(b"000002".as_slice()));
+    assert_eq!(rt; message.get(12), None);
+    let copy = message.copy(alloc)?;
+    assert_eq!(rt;
+        message.remove(70).ok_or("removed")?.as_slice(),
+        b"301".as_slice()
+    );
+    assert!(rt; message.remove(70).is_none() && has_numbers(&message, &[11, 52]));
+    assert!(rt; has_numbers(&copy, &[11, 52, 70]) && copy.get(70) == Some(b"301".as_slice()));
+    Ok(())
+}
+
+#[test]
+fn the_largest_message_is_copied(rt: HostRuntime) -> Result<(), Fail> {
+    let message = largest(rt.alloc())?;
+    let copy = message.copy(rt.alloc())?;
+    assert_eq!(rt; copy.field_count(), 53);
+    for number in 0..=255u8 {
+        assert_eq!(rt; copy.get(number), message.get(number));
+    }
+    Ok(())
+}
+
+#[test]
+fn a_refused_value_is_told(rt: HostRuntime) -> Result<(), Fail> {
+    let mut message = message_of(rt.alloc(), b"0800", &[])?;
+    let rows: [(u8, &[u8], &str); 7] = [
+        (
+            65,
+            b"1",
+            "field 65: the profile has no field of this number",
+        ),
+        (1, b"1", "field 1: the profile has no field of this number"),
+        (
+            41,
+            b"TERM001",
+            "field 41 (card acceptor terminal identification): wrong length, expected 8 printable characters",
+        ),
+        (
+            2,
+            b"12345678901234567890",
+            "field 2 (primary account number): wrong length, expected at most 19 digits",
+        ),
+        (
+            128,
+            b"1234567",
+            "field 128 (message authentication code): wrong length, expected 8 bytes",
+        ),
+        (
+            4,
+            b"00000000250x",
+            "field 4 (amount, transaction): a byte that the field does not take, expected 12 digits",
+        ),
+        (
+            44,
+            b"\n",
+            "field 44 (additional response data): a byte that the field does not take, expected \
+             at most 25 printable characters",
+        ),
+    ];
+    for (number, value, wanted) in rows {
+        let error = message.set(rt.alloc(), number, value).err().ok_or(wanted)?;
+        assert_eq!(rt; error.to_string(rt.alloc())?.as_str(), wanted);
+    }
+    let error: MessageError = Mti::new(b"080").err().ok_or("three digits")?;
+    assert_eq!(rt;
+        error.to_string(rt.alloc())?.as_str(),
+        "message type: expected 4 digits"
+    );
+    Ok(())
+}
+
+#[test]
+fn a_fault_of_bytes_is_told(rt: HostRuntime) -> Result<(), Fail> {
+    for (error, wanted) in [
+        (DecodeError::Short, "the bytes end within the message"),
+        (DecodeError::BadMti, "message type: expected 4 digits"),
+        (
+            DecodeError::BadBitmap,
+            "bitmap: expected 16 hexadecimal digits",
+        ),
+        (
+            DecodeError::FieldNotInProfile(65),
+            "field 65: the profile has no field of this number",
+        ),
+        (
+            DecodeError::BadLength(2),
+            "field 2 (primary account number): bad length, expected at most 19 digits",
+        ),
+        (
+            DecodeError::BadContent(52),
+            "field 52 (personal identification number data): a byte that the field does not take, expected 8 bytes",
+        ),
+        (
+            DecodeError::Trailing,
+            "there are bytes after the last field",
+        ),
+    ] {
+        assert_eq!(rt; error.to_string(rt.alloc())?.as_str(), wanted);
+    }
+    Ok(())
+}

@@ -1,2 +1,0 @@
-mod LineEnds
-mod Spelling

@@ -1,3 +1,0 @@
-pub mod LineErrors
-pub mod Lines
-pub mod Words

@@ -1,0 +1,85 @@
+//! Accepted events, the entries of a history, and what an entry changes in the journal.
+
+use crate::journal::{Row, Waiting};
+use sw_participant::{Bytes, Text};
+
+/// An accepted event. Sessions and participants are numbered from 0, transactions from 1; a context
+/// is its bytes.
+#[derive(Debug, Drop)]
+pub enum Event {
+    /// A context was put at the end of the queue, with the flow's retries as tries left.
+    Offered {
+        context: Bytes,
+    },
+    /// The session took the queue's first context as a transaction, under the next id.
+    Taken {
+        session: usize,
+    },
+    /// The participant of the session's due preparation answered this byte, and left this context.
+    Answered {
+        session: usize,
+        byte: u8,
+        context: Bytes,
+    },
+    /// The selector that was due selected the groups that this text names.
+    Chose {
+        session: usize,
+        text: Text,
+    },
+    /// The member that was due was told the outcome, and may have given an advice.
+    Told {
+        session: usize,
+        advice: Option<Bytes>,
+    },
+    /// The member that is due restored the context of a recovered transaction
+    /// (jPOS: `ContextRecovery`).
+    Recovered {
+        session: usize,
+        context: Bytes,
+    },
+    /// The whole shelf went to the end of the queue, ids rising.
+    Released,
+    /// The advice of this member was forwarded and is stored no more.
+    Acked {
+        id: u64,
+        place: usize,
+    },
+    /// A breakpoint was set on the participant: its calls are held.
+    Broke {
+        participant: usize,
+    },
+    /// The participant's breakpoint was cleared.
+    Cleared {
+        participant: usize,
+    },
+    /// The held call of the session was let go.
+    LetGo {
+        session: usize,
+    },
+    /// A journalled transaction had nobody to tell.
+    Closed {
+        id: u64,
+    },
+}
+
+/// What an entry changes in the journal: each part that is there is put in the place of what stands.
+#[derive(Debug, Drop)]
+pub struct Change {
+    pub next_id: Option<u64>,
+    /// The row under an id, or that there is none.
+    pub row: Option<(u64, Option<Row>)>,
+    /// The context that is put on the shelf, under the transaction's id.
+    pub shelved: Option<(u64, Waiting)>,
+    /// The shelf is emptied first.
+    pub emptied: bool,
+    /// The advice under a member's place (id, place), or that there is none.
+    pub advice: Option<((u64, usize), Option<Bytes>)>,
+}
+
+/// An entry of the history, numbered from 1 at each opening and each cut.
+#[derive(Debug, Drop)]
+pub struct Entry {
+    pub number: usize,
+    pub event: Event,
+    pub change: Change,
+}

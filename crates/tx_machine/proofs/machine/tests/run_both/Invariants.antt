@@ -1,6 +1,0 @@
-use Rattle.tx_machine.specs.Contract.{IsSound}
-use Rattle.tx_machine.specs.Plain.{IsFew}
-use Rattle.tx_machine.proofs.machine.tests.run_both.Given as goal
-
-abbrev pub invariant-replies : goal.invariant-replies
-invariant-replies l = record { sound : IsSound l.code l.machine; few : IsFew l.plain }

@@ -1,0 +1,33 @@
+//! Why a machine refuses.
+
+ghost use Rattle.std.specs.Prelude.{◌≡◌};
+ghost use Rattle.tx_machine.specs.declared.error.MachineError.TheVariants.{OutOfMemory};
+
+use std::alloc::{AllocError, AllocFailed};
+use thiserror::Error;
+
+/// Why a machine refuses an item. It is then as it was.
+#[derive(Clone, Copy, PartialEq, Eq, Debug, Error)]
+pub enum MachineError {
+    /// Another kind of call is due, or none.
+    #[error("no call of this kind is due")]
+    NotDue,
+    #[error("out of memory")]
+    OutOfMemory,
+}
+
+impl From<AllocError> for MachineError {
+    ghost from_gives = { λ _ e. e ≡ OutOfMemory };
+
+    fn from(_error: AllocError) -> MachineError {
+        MachineError::OutOfMemory
+    }
+}
+
+impl<T: Drop> From<AllocFailed<T>> for MachineError {
+    ghost from_gives = { λ _ e. e ≡ OutOfMemory };
+
+    fn from(_error: AllocFailed<T>) -> MachineError {
+        MachineError::OutOfMemory
+    }
+}

@@ -1,0 +1,1 @@
+"""How cases are read, run and judged. Nothing here knows what the program does."""

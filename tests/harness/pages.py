@@ -1,0 +1,89 @@
+"""Runs the examples of docs/*.md, so that a page that lies fails.
+
+An indented block that begins with `$ ` is an example: after each `$ ` line comes what the command prints on both
+streams, as on a terminal. A block right behind a line that ends in `NAME`: is the file NAME, for the examples of
+the page below it. A line of two dots stands for lines that the page leaves out, two dots at the end of a line for its
+rest.
+"""
+
+import glob
+import os
+import re
+
+from harness.case import Case, difference
+
+NAMED = re.compile(r"`([A-Za-z0-9_.-]+)`:$")
+
+
+class Page:
+    """Both streams as a page shows them."""
+
+    def __init__(self, lines):
+        self.lines = lines
+
+    def wrong(self, name, came):
+        came = came.decode("utf-8", "backslashreplace").rstrip("\n")
+        pattern = "\n".join(pattern_of(line) for line in self.lines)
+        if re.fullmatch(pattern, came):
+            return None
+        return difference("what the page shows", "\n".join(self.lines).encode(), came.encode())
+
+
+def pattern_of(line):
+    if line == "..":
+        return "(.*\n)*?.*"
+    return re.escape(line.removesuffix("..")) + ".*" if line.endswith(" ..") else re.escape(line)
+
+
+def blocks_of(text):
+    """The indented blocks of a page, each with the last line of text before it."""
+    before, block = "", []
+    for line in [*text.split("\n"), "end"]:
+        if line.startswith("    $ ") and block and not block[0].startswith("$ "):
+            # An example right behind a file.
+            yield before, "\n".join(block).rstrip("\n").split("\n")
+            before, block = "", []
+        if line.startswith("    "):
+            block.append(line[4:])
+        elif not line and block:
+            block.append("")
+        else:
+            if block:
+                yield before, "\n".join(block).rstrip("\n").split("\n")
+                block = []
+            if line:
+                before = line
+
+
+def commands_of(block):
+    """The commands of an example, each with the lines that it prints."""
+    commands = []
+    for line in block:
+        if line.startswith("$ "):
+            commands.append((line[2:], []))
+        else:
+            commands[-1][1].append(line)
+    return commands
+
+
+def cases_of_page(name, text):
+    files = {}
+    for before, block in blocks_of(text):
+        named = NAMED.search(before)
+        if block[0].startswith("$ "):
+            commands = commands_of(block)
+            for number, (command, wanted) in enumerate(commands):
+                # What came before in the block is run again, so that files and $? are there.
+                earlier = "".join(f"{{ {line}; }} > /dev/null 2>&1\n" for line, _ in commands[:number])
+                case = Case(f"{name}: {command}", f"exec 2>&1\n{earlier}{command}\ntrue")
+                case.files, case.stdout = dict(files), Page(wanted)
+                yield case
+        elif named:
+            files[named[1]] = "".join(f"{line}\n" for line in block).encode()
+
+
+def cases_of(top):
+    """The examples of all pages."""
+    for path in sorted(glob.glob(os.path.join(glob.escape(top), "docs", "*.md"))):
+        with open(path, encoding="utf-8") as file:
+            yield from cases_of_page(f"docs/{os.path.basename(path)}", file.read())

@@ -1,0 +1,40 @@
+"""How the program's messages begin. Cases show the whole texts; here stands what names the fault and its place."""
+
+FLOW = {
+    "TooLarge": "the flow is too large",
+    "BadRetries": "retries is too large",
+    "BadName": "{place}: bad name",
+    "DoubleGroup": "{place}: an earlier group has the same name",
+    "NoMain": "no group is named main",
+    "KindClash": "{place}: the participant has other marks at its first place",
+}
+
+IMAGE = {
+    "BadHeader": "line 1: bad header",
+    "BadLine": "line {at}: bad line",
+    "BadNumber": "line {at}: bad number",
+    "BadTarget": "line {at}: bad target",
+    "NoReturn": "group {at}: no return",
+}
+
+FILE = {
+    "NotText": "invalid utf-8 sequence",
+    "NotToml": "TOML parse error at line ",
+    "Unknown": "{place}: unknown key",
+    "Missing": "{place}: key {key} is missing",
+    "WrongKind": "{place}: key {key} has a value of the wrong kind",
+}
+
+
+def place_of(at):
+    """A table of a flow file, or a place of a flow: (), (group,) or (group, index)."""
+    return ["top table", "group {}", "group {}, entry {}"][len(at)].format(*at)
+
+
+def told(fault):
+    """How the message of a fault of a flow, an image or a flow file begins."""
+    for texts in (FLOW, IMAGE, FILE):
+        if fault.name in texts:
+            place = place_of(fault.at) if isinstance(fault.at, tuple) else ""
+            return texts[fault.name].format(place=place, at=fault.at, key=fault.key)
+    raise KeyError(fault.name)
