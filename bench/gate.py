@@ -27,7 +27,7 @@ def look(pid):
         words = it.read().decode(errors="replace").split("\0")
     if not words[0].endswith("/bin/rattle") or "--crate-name" not in words:
         return None
-    crate = words[words.index("--crate-name") + 1].removesuffix("_tests")
+    crate = words[words.index("--crate-name") + 1]
     folder = os.readlink(f"/proc/{pid}/cwd")
     kind = "edits" if "/rt-edit-" in folder else "tests" if "--test" in words else "proof"
     with open(f"/proc/{pid}/stat") as it:

@@ -1,3 +1,4 @@
 pub mod Check
 pub mod Kinds
 pub mod Places
+pub mod Groups

@@ -1,5 +1,9 @@
 //! What a flow is made of (jPOS: the groups of a transaction manager's configuration).
 
+ghost use Rattle.std.specs.Prelude.{◌≡◌, IfOk, map};
+ghost use Rattle.flow_model.specs.Groups.{entry_of};
+
+use std::alloc::{AllocError, Global};
 use sw_participant::{Kind, Sequence, Text};
 
 /// One entry of a group: a participant that is prepared there.
@@ -16,6 +20,28 @@ pub struct Entry {
 pub struct Group {
     pub name: Text,
     pub entries: Sequence<Entry>,
+}
+
+impl Group {
+    /// The group of this name with these entries, each a participant's name and marks. The only
+    /// refusal is want of memory.
+    pub fn of(alloc: Global, name: &str, entries: &[(&str, Kind)]) -> Result<Group, AllocError>
+        ensures name { IfOk result (λ g. g.name ≡ name.now) }
+        ensures entries { IfOk result (λ g.
+            g.entries ≡ map (λ e. entry_of e.0.now e.1) entries.now) }
+    {
+        let mut made = Vec::new(alloc);
+        for (participant, kind) in entries {
+            made.push(Entry {
+                participant: Text::from_str(alloc, participant)?,
+                kind: *kind,
+            })?;
+        }
+        Ok(Group {
+            name: Text::from_str(alloc, name)?,
+            entries: Sequence::new(made),
+        })
+    }
 }
 
 /// A flow. A transaction starts with the entries of the group `main`; a selector names further

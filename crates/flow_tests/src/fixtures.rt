@@ -4,28 +4,14 @@ use flow_model::{Entry, Flow, Group};
 use std::alloc::{AllocError, Global};
 use sw_participant::{Kind, Sequence, Text};
 
-pub fn group(alloc: Global, name: &str, entries: &[(&str, Kind)]) -> Result<Group, AllocError> {
-    let mut made = Vec::new(alloc);
-    for (participant, kind) in entries {
-        made.push(Entry {
-            participant: Text::from_str(alloc, participant)?,
-            kind: *kind,
-        })?;
-    }
-    Ok(Group {
-        name: Text::from_str(alloc, name)?,
-        entries: Sequence::new(made),
-    })
-}
-
 /// `main`: the selector pick, then last; `a`: pa; `b`: pb and once more last.
 pub fn picking(alloc: Global) -> Result<Flow, AllocError> {
     let mut groups = Vec::new(alloc);
     let main = [("pick", Kind::SELECTOR), ("last", Kind::PLAIN)];
-    groups.push(group(alloc, "main", main.as_slice())?)?;
-    groups.push(group(alloc, "a", [("pa", Kind::PLAIN)].as_slice())?)?;
+    groups.push(Group::of(alloc, "main", main.as_slice())?)?;
+    groups.push(Group::of(alloc, "a", [("pa", Kind::PLAIN)].as_slice())?)?;
     let again = [("pb", Kind::PLAIN), ("last", Kind::PLAIN)];
-    groups.push(group(alloc, "b", again.as_slice())?)?;
+    groups.push(Group::of(alloc, "b", again.as_slice())?)?;
     Ok(Flow {
         retries: 7,
         groups: Sequence::new(groups),

@@ -201,11 +201,11 @@ look_none : {A : Type 0} (id : ℕ) (xs : List (ℕ × A)) (o : Option A) → lo
 look_none id xs None e h = e
 look_none id xs (Some x) e h = absurd (h x e)
 
-record Unshelved (f : Flow) (v : Start) (past : List Event) (e : Event) (id : ℕ) : Type 0 where
-  before : shelved_at f v (arrivals f v past) past id ≡ None
-  after : shelved f (state_of f v (e ∷ past) id) true ≡ shelved_at f v (arrivals f v (e ∷ past)) (e ∷ past) id
+pub record Unshelved (f : Flow) (v : Start) (past : List Event) (e : Event) (id : ℕ) : Type 0 where
+  pub before : shelved_at f v (arrivals f v past) past id ≡ None
+  pub after : shelved f (state_of f v (e ∷ past) id) true ≡ shelved_at f v (arrivals f v (e ∷ past)) (e ∷ past) id
 
-unshelved_if : (f : Flow) (v : Start) (past : List Event) (e : Event) (id s : ℕ) (x : Item) → IsOrdered v.view → Gave f v past e id x → serves f v past s ≡ Some id → is_ended f (state_of f v past id) ≡ false
+pub unshelved_if : (f : Flow) (v : Start) (past : List Event) (e : Event) (id s : ℕ) (x : Item) → IsOrdered v.view → Gave f v past e id x → serves f v past s ≡ Some id → is_ended f (state_of f v past id) ≡ false
     → (b : Bool) → nat_lt id v.view.next_id ≡ b → Unshelved f v past e id
 unshelved_if f v past e id s x o g h u false lt =
     let no : shelved f (state_of f v past id) (is_fresh f v past id) ≡ None = not_shelved_in (due_of f (state_of f v past id)) (is_fresh f v past id) (state_of f v past id) (not_over f (state_of f v past id) u) in

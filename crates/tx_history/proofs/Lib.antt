@@ -8,8 +8,10 @@ pub mod Rows
 pub mod SoundJournals
 pub mod AdvicePlaces
 pub mod RowCounts
-mod NextStarts
+pub mod NextStarts
 pub mod RecoveryOrder
-mod CheckedFlows
+pub mod CheckedFlows
 pub mod SessionStates
+pub mod RecoveredSessions
+pub mod MapKeys
 mod Examples

@@ -42,7 +42,7 @@ step_if f r rows a b n m k id rise same ih false e h false d i =
     let there : r.0 ≡ id = grind (arith) in
     omega arith
 
-step_on : (f : Flow) (rows : List (ℕ × Row)) (a b : ℕ → List Item) (n m k id : ℕ) → Rising n m rows → ((j : ℕ) → j ≢ k → b j ≡ a j) → first_unfinished f rows a ≡ Some k → first_unfinished f rows b ≡ Some id → k ≤ id
+pub step_on : (f : Flow) (rows : List (ℕ × Row)) (a b : ℕ → List Item) (n m k id : ℕ) → Rising n m rows → ((j : ℕ) → j ≢ k → b j ≡ a j) → first_unfinished f rows a ≡ Some k → first_unfinished f rows b ≡ Some id → k ≤ id
 step_on f [] a b n m k id rise same h i = absurd (cc)
 step_on f (r ∷ rows) a b n m k id rise same h i =
     step_if f r rows a b n m k id rise same (step_on f rows a b (r.0 + 1) m k id rise.2 same) (is_ended f (after_newest f (reopened f r.1) (a r.0))) refl h (is_ended f (after_newest f (reopened f r.1) (b r.0))) refl i
@@ -84,7 +84,7 @@ later_none f v (LetGo t ∷ past) id j o law h lt le = later_none f v past id j 
 later_none f v (Closed i ∷ past) id j o law h lt le = later_none f v past id j o law.2 h lt le
 
 -- who comes next
-filter_above : {A : Type 0} (k n m : ℕ) (rows : List (ℕ × A)) → k < n → Rising n m rows → filter (λ (p : ℕ × A). nat_lt k p.0) rows ≡ rows
+pub filter_above : {A : Type 0} (k n m : ℕ) (rows : List (ℕ × A)) → k < n → Rising n m rows → filter (λ (p : ℕ × A). nat_lt k p.0) rows ≡ rows
 filter_above k n m [] lt rise = refl
 filter_above k n m (r ∷ rows) lt rise =
     let lo = rise.0 in

@@ -3,7 +3,7 @@
 ghost use Rattle.std.specs.Prelude.{◌≡◌, IfOk};
 
 use crate::event::{Change, Entry, Event};
-use crate::journal::{Row, Waiting};
+use crate::journal::{JournalView, Row, Waiting};
 use std::alloc::{AllocError, Global};
 use sw_participant::{Bytes, Sequence, Text};
 
@@ -153,4 +153,53 @@ impl Entry {
             change: self.change.copy(alloc)?,
         })
     }
+}
+
+impl JournalView {
+    pub fn copy(&self, alloc: Global) -> Result<JournalView, AllocError>
+        ensures { IfOk result (λ copy. copy ≡ self.now) }
+    {
+        Ok(JournalView {
+            next_id: self.next_id,
+            rows: copy_rows(alloc, self.rows.as_slice())?,
+            shelf: copy_shelf(alloc, self.shelf.as_slice())?,
+            advices: copy_advices(alloc, self.advices.as_slice())?,
+        })
+    }
+}
+
+fn copy_rows(alloc: Global, rows: &[(u64, Row)]) -> Result<Sequence<(u64, Row)>, AllocError>
+    ensures { IfOk result (λ copies. copies ≡ rows.now) }
+{
+    let mut copies = Vec::new(alloc);
+    for (id, row) in rows {
+        copies.push((*id, row.copy(alloc)?))?;
+    }
+    Ok(Sequence::new(copies))
+}
+
+fn copy_shelf(
+    alloc: Global,
+    shelf: &[(u64, Waiting)],
+) -> Result<Sequence<(u64, Waiting)>, AllocError>
+    ensures { IfOk result (λ copies. copies ≡ shelf.now) }
+{
+    let mut copies = Vec::new(alloc);
+    for (id, waiting) in shelf {
+        copies.push((*id, waiting.copy()?))?;
+    }
+    Ok(Sequence::new(copies))
+}
+
+fn copy_advices(
+    alloc: Global,
+    advices: &[((u64, usize), Bytes)],
+) -> Result<Sequence<((u64, usize), Bytes)>, AllocError>
+    ensures { IfOk result (λ copies. copies ≡ advices.now) }
+{
+    let mut copies = Vec::new(alloc);
+    for (place, advice) in advices {
+        copies.push((*place, advice.copy()?))?;
+    }
+    Ok(Sequence::new(copies))
 }

@@ -2,7 +2,7 @@ mod NameRuns
 -- what crates over transactions cite
 pub mod BoundLaws
 pub mod ListLaws
-mod Dues
+pub mod Dues
 mod StepsAhead
 mod Frames
 mod RestPlaces

@@ -4,25 +4,11 @@ ghost use Rattle.std.specs.Prelude.{IfOk, IfSome};
 ghost use Rattle.tx_machine.specs.Contract.{IsSound};
 
 use flow_asm::{Code, assemble};
-use flow_model::{Entry, Flow, Group};
+use flow_model::{Flow, Group};
 use std::alloc::{AllocError, Global};
 use std::test::Fail;
 use sw_participant::{Bytes, Kind, Sequence, Text};
 use tx_machine::{Due, Item, Machine, MachineError, Phase, Spot};
-
-fn group(alloc: Global, name: &str, entries: &[(&str, Kind)]) -> Result<Group, AllocError> {
-    let mut made = Vec::new(alloc);
-    for (participant, kind) in entries {
-        made.push(Entry {
-            participant: Text::from_str(alloc, participant)?,
-            kind: *kind,
-        })?;
-    }
-    Ok(Group {
-        name: Text::from_str(alloc, name)?,
-        entries: Sequence::new(made),
-    })
-}
 
 /// The code of a flow that is checked first, as a caller does.
 fn code_of(alloc: Global, groups: Vec<Group>) -> Result<Code, Fail> {
@@ -37,13 +23,13 @@ fn code_of(alloc: Global, groups: Vec<Group>) -> Result<Code, Fail> {
 /// `main`: the selector pick, then last; `a`: pa; `b`: pb.
 fn picking(alloc: Global) -> Result<Code, Fail> {
     let mut groups = Vec::new(alloc);
-    groups.push(group(
+    groups.push(Group::of(
         alloc,
         "main",
         &[("pick", Kind::SELECTOR), ("last", Kind::PLAIN)],
     )?)?;
-    groups.push(group(alloc, "a", &[("pa", Kind::PLAIN)])?)?;
-    groups.push(group(alloc, "b", &[("pb", Kind::PLAIN)])?)?;
+    groups.push(Group::of(alloc, "a", &[("pa", Kind::PLAIN)])?)?;
+    groups.push(Group::of(alloc, "b", &[("pb", Kind::PLAIN)])?)?;
     code_of(alloc, groups)
 }
 
@@ -250,7 +236,7 @@ fn looped(alloc: Global, code: &Code, machine: &mut Machine, times: usize) -> Re
 
 fn looping(alloc: Global) -> Result<Code, Fail> {
     let mut groups = Vec::new(alloc);
-    groups.push(group(alloc, "main", &[("loop", Kind::SELECTOR)])?)?;
+    groups.push(Group::of(alloc, "main", &[("loop", Kind::SELECTOR)])?)?;
     code_of(alloc, groups)
 }
 

@@ -1,0 +1,6 @@
+pub mod KeyedLemmas
+pub mod SortedLemmas
+pub mod PlacedLemmas
+pub mod LeadLemmas
+pub mod Views
+mod FirstBad

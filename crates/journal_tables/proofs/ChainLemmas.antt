@@ -1,0 +1,32 @@
+-- Statements after one another.
+use Rattle.std.proofs.Common.{◌≡◌, ℕ, zero, suc, ◌+◌, ◌<◌, pos, List, [], ◌∷◌, length, take, get_or, arith, refl, sym, ap, ◌∙◌, IsTrue}
+use Rattle.sqlite.specs.State.{State, Survives}
+use Rattle.sqlite.proofs.StateLemmas.{survives_then}
+use Rattle.journal_rows.specs.Tables.{Tables, with_member, with_members, made, all_made}
+use Rattle.tx_history.specs.declared.event.Change.{Change}
+use Rattle.journal_tables.specs.Steps.{IsReady, Steps}
+
+pub steps_then : (f g : Tables → Tables) (a b c : State) → Steps f a b → Steps g b c → Steps (λ t. g (f t)) a c
+steps_then f g a b c one two = record { ready = two.ready; tables = two.tables ∙ ap g one.tables; committed = two.committed ∙ one.committed; is_open = two.is_open }
+
+pub stays : (a : State) → IsReady a → IsTrue a.is_open → Steps (λ t. t) a a
+stays a ready live = record { ready = ready; tables = refl; committed = refl; is_open = live }
+
+pub members_more : (id place p : ℕ) (names : List (List ℕ)) (i : ℕ) (name : List ℕ) → i < length names → name ≡ get_or names i name → p ≡ place + i
+    → with_members id place (take (i + 1) names) ≡ λ t. with_member (pos id) (pos p) name (with_members id place (take i names) t)
+members_more id place p [] i name low is at = absurd (omega (arith, low))
+members_more id place p (n ∷ names) zero name low is at = let same : p ≡ place = omega (arith, at) in λ i t. with_member (pos id) (pos (sym same i)) (sym is i) t
+members_more id place p (n ∷ names) (suc i) name low is at =
+    let longer : suc i + 1 ≡ suc (i + 1) = omega arith in
+    ap (λ k. λ t. with_members id place (take k (n ∷ names)) t) longer
+    ∙ ap (λ f. λ t. f (with_member (pos id) (pos place) n t)) (members_more id (place + 1) p names i name (omega (arith, low)) is (omega (arith, at)))
+
+pub survives_nothing : (a b c : State) → Survives a b (λ _. ⊥) → Survives b c (λ _. ⊥) → Survives a c (λ _. ⊥)
+survives_nothing a b c = survives_then a b c _ _ _ (λ _ db none. none) (λ _ db none. none)
+
+pub all_made_more : (cs : List Change) (i : ℕ) (c : Change) → i < length cs → c ≡ get_or cs i c → all_made (take (i + 1) cs) ≡ λ t. made c (all_made (take i cs) t)
+all_made_more [] i c low is = absurd (omega (arith, low))
+all_made_more (x ∷ cs) zero c low is = ap (λ (y : Change). λ t. made y t) (sym is)
+all_made_more (x ∷ cs) (suc i) c low is =
+    let longer : suc i + 1 ≡ suc (i + 1) = omega arith in
+    ap (λ k. λ t. all_made (take k (x ∷ cs)) t) longer ∙ ap (λ f. λ t. f (made x t)) (all_made_more cs i c (omega (arith, low)) is)

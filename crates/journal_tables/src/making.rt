@@ -1,0 +1,227 @@
+//! The parts of a change, each as a few statements.
+
+ghost use Rattle.std.specs.Prelude.{pos, if◌then◌else◌, ◌≡◌, ◌≤◌, All, length};
+ghost use Rattle.sqlite.specs.Held.{state};
+ghost use Rattle.journal_rows.specs.Tables.{all_made, advice_made, code, made, next_made, no_shelf, row_made};
+ghost use Rattle.journal_rows.specs.Tables.{shelf_made, text_of, with_member, with_members};
+ghost use Rattle.journal_tables.specs.Small.{IsAdviceSmall, IsChangeSmall, IsNextSmall, IsRowChangeSmall, IsRowSmall};
+ghost use Rattle.journal_tables.specs.Small.{IsShelfSmall, IsSmall};
+ghost use Rattle.journal_tables.specs.Steps.{Goes, LeavesNothing, Runs, with_row};
+
+use crate::statements::{
+    add_advice, add_member, add_meta, add_row, add_shelved, clear_shelf, drop_advice, drop_meta,
+    drop_row, drop_shelved,
+};
+use sqlite::{Alter, Error, Transaction};
+use sw_participant::{Bytes, Text};
+use tx_history::{Change, Row, Waiting};
+use tx_machine::Phase;
+
+// The next id.
+fn make_next<S: Alter>(tx: &mut Transaction<'_, S>, next: &Option<u64>) -> Result<(), Error>
+    requires small { IsNextSmall next.now }
+    ensures same_reference { tx.new.conn.ghost_name ≡ tx.old.conn.ghost_name }
+    ensures steps { Goes (next_made next.now)
+        (state S.Store tx.old.conn.now) (state S.Store tx.new.conn.now) result }
+    ensures survives { LeavesNothing
+        (state S.Store tx.old.conn.now) (state S.Store tx.new.conn.now) }
+{
+    let Some(next) = next else {
+        return Ok(());
+    };
+    drop_meta(tx, 2)?;
+    add_meta(tx, 2, *next as i64)?;
+    Ok(())
+}
+
+// A context on the shelf.
+fn make_shelved<S: Alter>(
+    tx: &mut Transaction<'_, S>,
+    item: &Option<(u64, Waiting)>,
+) -> Result<(), Error>
+    requires small { IsShelfSmall item.now }
+    ensures same_reference { tx.new.conn.ghost_name ≡ tx.old.conn.ghost_name }
+    ensures steps { Goes (shelf_made item.now)
+        (state S.Store tx.old.conn.now) (state S.Store tx.new.conn.now) result }
+    ensures survives { LeavesNothing
+        (state S.Store tx.old.conn.now) (state S.Store tx.new.conn.now) }
+{
+    let Some((id, waiting)) = item else {
+        return Ok(());
+    };
+    drop_shelved(tx, *id as i64)?;
+    add_shelved(
+        tx,
+        *id as i64,
+        i64::from(waiting.tries),
+        waiting.context.as_slice(),
+    )?;
+    Ok(())
+}
+
+// An advice, which takes the place of another.
+fn make_advice<S: Alter>(
+    tx: &mut Transaction<'_, S>,
+    change: &Option<((u64, usize), Option<Bytes>)>,
+) -> Result<(), Error>
+    requires small { IsAdviceSmall change.now }
+    ensures same_reference { tx.new.conn.ghost_name ≡ tx.old.conn.ghost_name }
+    ensures steps { Goes (advice_made change.now)
+        (state S.Store tx.old.conn.now) (state S.Store tx.new.conn.now) result }
+    ensures survives { LeavesNothing
+        (state S.Store tx.old.conn.now) (state S.Store tx.new.conn.now) }
+{
+    let Some(((id, place), put)) = change else {
+        return Ok(());
+    };
+    drop_advice(tx, *id as i64, *place as i64)?;
+    let Some(body) = put else {
+        return Ok(());
+    };
+    add_advice(tx, *id as i64, *place as i64, body.as_slice())?;
+    Ok(())
+}
+
+fn empty_shelf<S: Alter>(tx: &mut Transaction<'_, S>, is_due: bool) -> Result<(), Error>
+    ensures same_reference { tx.new.conn.ghost_name ≡ tx.old.conn.ghost_name }
+    ensures steps { Goes (if is_due then no_shelf else (λ t. t))
+        (state S.Store tx.old.conn.now) (state S.Store tx.new.conn.now) result }
+    ensures survives { LeavesNothing
+        (state S.Store tx.old.conn.now) (state S.Store tx.new.conn.now) }
+{
+    if is_due {
+        clear_shelf(tx)?;
+    }
+    Ok(())
+}
+
+fn code(phase: Phase) -> i64
+    ensures { result ≡ pos (code phase) }
+{
+    match phase {
+        Phase::Preparing => 0,
+        Phase::Aborting => 1,
+        Phase::Committing => 2,
+        Phase::Undoing => 3,
+    }
+}
+
+// The empty text where nobody is doing.
+fn text_of(name: &Option<Text>) -> &[u8]
+    ensures { result.now ≡ text_of name.now }
+{
+    match name {
+        Some(name) => name.as_str().as_bytes(),
+        None => &[],
+    }
+}
+
+fn put_member<S: Alter>(
+    tx: &mut Transaction<'_, S>,
+    id: u64,
+    place: u64,
+    name: &Text,
+) -> Result<usize, Error>
+    requires small { IsSmall id }
+    requires near { IsSmall place }
+    ensures same_reference { tx.new.conn.ghost_name ≡ tx.old.conn.ghost_name }
+    ensures steps { Runs (with_member (pos id) (pos place) name.now)
+        (state S.Store tx.old.conn.now) (state S.Store tx.new.conn.now) result }
+    ensures survives { LeavesNothing
+        (state S.Store tx.old.conn.now) (state S.Store tx.new.conn.now) }
+{
+    add_member(tx, id as i64, place as i64, name.as_str().as_bytes())
+}
+
+fn put_members<S: Alter>(tx: &mut Transaction<'_, S>, id: u64, names: &[Text]) -> Result<(), Error>
+    requires small { IsSmall id }
+    requires few { length names.now ≤ 1001 }
+    ensures same_reference { tx.new.conn.ghost_name ≡ tx.old.conn.ghost_name }
+    ensures steps { Goes (with_members id 0 names.now)
+        (state S.Store tx.old.conn.now) (state S.Store tx.new.conn.now) result }
+    ensures survives { LeavesNothing
+        (state S.Store tx.old.conn.now) (state S.Store tx.new.conn.now) }
+{
+    let mut place: u64 = 0;
+    for name in names {
+        put_member(tx, id, place, name)?;
+        place += 1;
+    }
+    Ok(())
+}
+
+fn put_row<S: Alter>(tx: &mut Transaction<'_, S>, id: u64, row: &Row) -> Result<(), Error>
+    requires small { IsSmall id }
+    requires fits { IsRowSmall row.now }
+    ensures same_reference { tx.new.conn.ghost_name ≡ tx.old.conn.ghost_name }
+    ensures steps { Goes (with_row id row.now)
+        (state S.Store tx.old.conn.now) (state S.Store tx.new.conn.now) result }
+    ensures survives { LeavesNothing
+        (state S.Store tx.old.conn.now) (state S.Store tx.new.conn.now) }
+{
+    add_row(
+        tx,
+        id as i64,
+        code(row.phase),
+        row.told as i64,
+        text_of(&row.doing),
+        i64::from(row.tries),
+        row.context.as_slice(),
+    )?;
+    put_members(tx, id, row.joined.as_slice())
+}
+
+// The row of a transaction, with its members.
+fn make_row<S: Alter>(
+    tx: &mut Transaction<'_, S>,
+    change: &Option<(u64, Option<Row>)>,
+) -> Result<(), Error>
+    requires small { IsRowChangeSmall change.now }
+    ensures same_reference { tx.new.conn.ghost_name ≡ tx.old.conn.ghost_name }
+    ensures steps { Goes (row_made change.now)
+        (state S.Store tx.old.conn.now) (state S.Store tx.new.conn.now) result }
+    ensures survives { LeavesNothing
+        (state S.Store tx.old.conn.now) (state S.Store tx.new.conn.now) }
+{
+    let Some((id, put)) = change else {
+        return Ok(());
+    };
+    drop_row(tx, *id as i64)?;
+    let Some(row) = put else {
+        return Ok(());
+    };
+    put_row(tx, *id, row)
+}
+
+/// Makes all parts of a change: the next id, the row, the emptying of the shelf, what is put there, the
+/// advice. A refusal of the store leaves some of them made, inside the transaction.
+pub fn make<S: Alter>(tx: &mut Transaction<'_, S>, change: &Change) -> Result<(), Error>
+    requires small { IsChangeSmall change.now }
+    ensures same_reference { tx.new.conn.ghost_name ≡ tx.old.conn.ghost_name }
+    ensures steps { Goes (made change.now)
+        (state S.Store tx.old.conn.now) (state S.Store tx.new.conn.now) result }
+    ensures survives { LeavesNothing
+        (state S.Store tx.old.conn.now) (state S.Store tx.new.conn.now) }
+{
+    make_next(tx, &change.next_id)?;
+    make_row(tx, &change.row)?;
+    empty_shelf(tx, change.emptied)?;
+    make_shelved(tx, &change.shelved)?;
+    make_advice(tx, &change.advice)
+}
+
+/// Makes all changes of a list, in order. A refusal of the store leaves some of them made, inside the
+/// transaction.
+pub fn make_all<S: Alter>(tx: &mut Transaction<'_, S>, changes: &[Change]) -> Result<(), Error>
+    requires small { All IsChangeSmall changes.now }
+    ensures same_reference { tx.new.conn.ghost_name ≡ tx.old.conn.ghost_name }
+    ensures steps { Goes (all_made changes.now)
+        (state S.Store tx.old.conn.now) (state S.Store tx.new.conn.now) result }
+    ensures survives { LeavesNothing
+        (state S.Store tx.old.conn.now) (state S.Store tx.new.conn.now) }
+{
+    for change in changes {
+        make(tx, change)?;
+    }
+    Ok(())
+}

@@ -1,0 +1,23 @@
+//! Why an amount was not reserved.
+
+use thiserror::Error;
+
+/// A refusal; nothing has changed.
+#[derive(Clone, Copy, Debug, PartialEq, Eq, Drop, Error)]
+pub enum BookError {
+    /// Memory was refused. All else about the call was right.
+    #[error("out of memory")]
+    OutOfMemory = 0,
+    /// The card would have more used and reserved than the limit.
+    #[error("the card has no room under its limit for this amount")]
+    OverLimit = 1,
+    /// The amount has more than the twelve digits of field 4.
+    #[error("the amount is too large: expected at most 999999999999")]
+    AmountTooLarge = 2,
+    /// The id or the key is in the book.
+    #[error("the book has this id or this key already")]
+    Duplicate = 3,
+    /// The limit of a new book is too large.
+    #[error("the limit is too large: expected at most 999999999999999")]
+    BadLimit = 4,
+}

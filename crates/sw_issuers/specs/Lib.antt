@@ -1,0 +1,3 @@
+pub mod Issuing
+pub mod Delivery
+pub mod Sending

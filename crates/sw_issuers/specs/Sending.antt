@@ -1,0 +1,59 @@
+-- Which link an advice goes over.
+use Rattle.std.specs.Prelude.{◌≡◌, ℕ, Bool, true, false, List, [], ◌∷◌, map, Option, Some, None}
+use Rattle.std.specs.Str.{bytes_eq}
+use Rattle.iso_msg.specs.Messages.{PlainMessage}
+use Rattle.sw_mux.specs.Keys.{key}
+use Rattle.sw_parts.specs.declared.route.Routing.{Routing}
+use Rattle.sw_parts.specs.Queries.{Sending, Receiving}
+use Rattle.sw_parts.specs.Requests.{message_of}
+use Rattle.sw_parts.specs.Routes.{route_of}
+use Rattle.sw_issuers.specs.declared.sender.GroupLink.{GroupLink}
+use Rattle.sw_issuers.specs.Delivery.{Delivers}
+
+-- groups with the states of their links
+abbrev pub LinkStates : Type 0
+LinkStates = List (List ℕ × List ℕ)
+
+abbrev pub link_state : {X : Type 0} → (X → List ℕ) → GroupLink X → List ℕ × List ℕ
+link_state state g = (g.group, state g.link)
+
+abbrev pub link_states : {X : Type 0} → (X → List ℕ) → List (GroupLink X) → LinkStates
+link_states state gs = map (link_state state) gs
+
+-- a sender without where it lies in memory
+pub record PlainSender : Type 0 where
+  pub routes : List Routing
+  pub links : LinkStates
+
+-- the last digit of a repeat's type is 1
+abbrev pub repeated : Bool → List ℕ → List ℕ
+repeated true (a ∷ b ∷ c ∷ last ∷ rest) = a ∷ b ∷ c ∷ 49 ∷ rest
+repeated _ advice = advice
+
+-- what a link may do, by its state before, what it answers, its state after
+abbrev pub Delivering : Type 1
+Delivering = List ℕ → Bool → List ℕ → Type 0
+
+abbrev pub DeliversAt : Delivering → Bool → List ℕ × List ℕ → LinkStates → Bool → LinkStates → (LinkStates → Type 0) → Type 0
+DeliversAt D true l ls accepted ts later = (t : List ℕ) × D l.1 accepted t × (ts ≡ (l.0, t) ∷ ls)
+DeliversAt D false l ls accepted ts later = (us : LinkStates) × later us × (ts ≡ l ∷ us)
+
+-- the first link of the group delivers, and the others stay as they are; without one nothing is sent
+abbrev pub DeliversTo : Delivering → List ℕ → LinkStates → Bool → LinkStates → Type 0
+DeliversTo D group [] accepted ts = (accepted ≡ false) × (ts ≡ [])
+DeliversTo D group (l ∷ ls) accepted ts = DeliversAt D (bytes_eq l.0 group) l ls accepted ts (λ us. DeliversTo D group ls accepted us)
+
+abbrev pub SendsBy : Option Routing → Sending → Receiving → List ℕ → PlainMessage → PlainSender → Bool → PlainSender → Type 0
+SendsBy None sends receives bytes m s accepted t = (accepted ≡ false) × (t ≡ s)
+SendsBy (Some r) sends receives bytes m s accepted t =
+    DeliversTo (Delivers sends receives bytes (key m)) r.group s.links accepted t.links × (t.routes ≡ s.routes)
+
+abbrev pub SendsMessage : Option PlainMessage → Sending → Receiving → List ℕ → PlainSender → Bool → PlainSender → Type 0
+SendsMessage None sends receives bytes s accepted t = (accepted ≡ false) × (t ≡ s)
+SendsMessage (Some m) sends receives bytes s accepted t = SendsBy (route_of m s.routes) sends receives bytes m s accepted t
+
+-- an advice goes over the link of its card number's route: the advice, whether it is a repeat, the sender before, the
+-- answer, the sender after
+abbrev pub SendsAdvice : Sending → Receiving → List ℕ → Bool → PlainSender → Bool → PlainSender → Type 0
+SendsAdvice sends receives advice repeat s accepted t =
+    SendsMessage (message_of (Some advice)) sends receives (repeated repeat advice) s accepted t

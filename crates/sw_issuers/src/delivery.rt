@@ -1,0 +1,50 @@
+//! Sending an advice.
+
+ghost use Rattle.std.specs.Prelude.{◌≡◌, IfOk, OnErr};
+ghost use Rattle.sw_mux.specs.Keys.{key};
+ghost use Rattle.sw_issuers.specs.Delivery.{is_accepted, Delivers};
+
+use iso_msg::Message;
+use std::alloc::Global;
+use sw_mux::{Mux, MuxError};
+use sw_participant::NoMemory;
+use sw_parts::{Link, hear};
+
+fn is_accepted(response: &Option<Message>) -> bool
+    ensures { result ≡ is_accepted response.now }
+{
+    let Some(message) = response else {
+        return false;
+    };
+    match message.get(39) {
+        Some(code) => code == b"00".as_slice(),
+        None => false,
+    }
+}
+
+/// Sends an advice, which these are the bytes of, over a link, and tells whether a response with its key and response
+/// code 00 came within eight messages. Want of memory before the message is sent is the only refusal, and changes
+/// nothing; after it want of memory counts as no response.
+pub fn deliver<L: Link>(
+    alloc: Global,
+    link: &mut L,
+    bytes: &[u8],
+    advice: &Message,
+) -> Result<bool, NoMemory>
+    ensures delivered { IfOk result (λ accepted. Delivers L.sends L.receives bytes.now
+        (key advice.now) (L.state link.old) accepted (L.state link.new)) }
+    ensures kept { OnErr result (L.state link.new ≡ L.state link.old) }
+{
+    let mut mux = Mux::new(alloc);
+    let key = match mux.request(advice, 0) {
+        Ok(key) => key,
+        Err(MuxError::OutOfMemory) => return Err(NoMemory),
+        Err(_) => {
+            link.send(bytes)?;
+            return Ok(false);
+        }
+    };
+    link.send(bytes)?;
+    let heard = hear(alloc, &mut mux, link, key, 0);
+    Ok(is_accepted(&heard))
+}

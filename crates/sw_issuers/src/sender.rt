@@ -1,0 +1,117 @@
+//! The sending of stored advices, each to the issuer of its card.
+
+ghost use Rattle.std.specs.Prelude.{◌≡◌, ◌<◌, List, map, length, IfOk, OnErr};
+ghost use Rattle.sw_mux.specs.Keys.{key};
+ghost use Rattle.sw_parts.specs.declared.route.Routing.{Routing};
+ghost use Rattle.sw_issuers.specs.Delivery.{Delivers};
+ghost use Rattle.sw_issuers.specs.Sending.{DeliversTo, link_states, repeated, SendsAdvice};
+
+use crate::delivery::deliver;
+use iso_codec::{DecodeError, decode};
+use iso_msg::Message;
+use std::alloc::{AllocError, Global};
+use std::marker::Model;
+use sw_participant::{NoMemory, Sequence, Text};
+use sw_parts::{Link, Routing, route_of};
+
+/// The link to the issuers that a group of the flow asks.
+#[derive(Drop)]
+pub struct GroupLink<L: Link> {
+    /// The name of the group.
+    pub group: Text,
+    /// The link.
+    pub link: L,
+}
+
+/// Sends advices, each over the link of the group that the route of its card number names. Contracts see the routes,
+/// and each group with the state of its link.
+#[derive(Drop)]
+pub struct Sender<L: Link> {
+    alloc: Global,
+    routes: Sequence<Routing>,
+    links: Vec<GroupLink<L>>,
+}
+
+impl<L: Link> Model for Sender<L> {
+    ghost use Rattle.sw_issuers.specs.Sending.{PlainSender, link_states};
+
+    ghost Value = { PlainSender };
+
+    ghost view = { λ s. record {
+      routes = s.routes;
+      links = link_states L.state s.links.items;
+    } };
+}
+
+impl<L: Link> Sender<L> {
+    /// By these routes, over these links. It takes no memory: `alloc` is for the messages that it reads.
+    pub fn new(alloc: Global, routes: Sequence<Routing>, links: Vec<GroupLink<L>>) -> Sender<L>
+        ensures { result ≡ record {
+          routes = routes;
+          links = link_states L.state links.items;
+        } }
+    {
+        Sender {
+            alloc,
+            routes,
+            links,
+        }
+    }
+
+    /// Sends an advice once, as a repeat where `repeat` says so (the last digit of its type is then 1), and tells
+    /// whether a response with its key and response code 00 came within eight messages. Bytes that are no message, a
+    /// card number without a route and a group without a link answer no, and nothing is sent. Want of memory before the
+    /// message is sent is the only refusal, and changes nothing; after it want of memory counts as no response.
+    pub fn send(&mut self, advice: &[u8], repeat: bool) -> Result<bool, NoMemory>
+        ensures sent { IfOk result (λ accepted.
+            SendsAdvice L.sends L.receives advice.now repeat self.old accepted self.new) }
+        ensures kept { OnErr result (self.new ≡ self.old) }
+    {
+        let message = match decode(self.alloc, advice) {
+            Ok(message) => message,
+            Err(DecodeError::OutOfMemory) => return Err(NoMemory),
+            Err(_) => return Ok(false),
+        };
+        let Some(routing) = route_of(&message, self.routes.as_slice()) else {
+            return Ok(false);
+        };
+        let bytes = repeated(self.alloc, advice, repeat)?;
+        let group = routing.group.as_str();
+        deliver_to(self.alloc, &mut self.links, group, &bytes, &message)
+    }
+}
+
+// The bytes of an advice, under the type of a repeat where it is one.
+fn repeated(alloc: Global, advice: &[u8], repeat: bool) -> Result<Vec<u8>, AllocError>
+    ensures { IfOk result (λ v. v.items ≡ repeated repeat advice.now) }
+{
+    let mut bytes = Vec::from_slice(alloc, advice)?;
+    if repeat && bytes.len() > 3 {
+        bytes[3] = b'1';
+    }
+    Ok(bytes)
+}
+
+// Over the first link of the group, where there is one.
+fn deliver_to<L: Link>(
+    alloc: Global,
+    links: &mut Vec<GroupLink<L>>,
+    group: &str,
+    bytes: &[u8],
+    advice: &Message,
+) -> Result<bool, NoMemory>
+    ensures delivered { IfOk result (λ accepted.
+        DeliversTo (Delivers L.sends L.receives bytes.now (key advice.now)) group.now
+        (link_states L.state links.old.items) accepted
+        (link_states L.state links.new.items)) }
+    ensures kept { OnErr result (link_states L.state links.new.items ≡ link_states L.state links.old.items) }
+{
+    let mut index = 0;
+    while index < links.len() {
+        if links[index].group.as_str() == group {
+            return deliver(alloc, &mut links[index].link, bytes, advice);
+        }
+        index += 1;
+    }
+    Ok(false)
+}

@@ -1,0 +1,5 @@
+mod KeyPlaces
+pub mod FieldLengths
+mod Numbers
+mod Due
+mod Refusing

@@ -1,0 +1,84 @@
+use Rattle.std.proofs.Common.{◌≡◌, ℕ, ◌+◌, ◌++◌, ◌∷◌, [], false, cond, is_some, Option, Some, None, refl, sym, ap, subst, ◌∙◌}
+use Rattle.std.specs.HashMap.{get}
+use Rattle.std.specs.Map.{values_of}
+use Rattle.sw_mux.specs.declared.key.Key.{Key}
+use Rattle.sw_mux.specs.Waiting.{waits}
+use Rattle.sw_mux.specs.Numbered.{Numbered, IsNumbered, Rise, key_eq, number_of}
+use Rattle.sw_mux.proofs.Numbers.{put_last, rise_last, own_last, number_last, values_last, waits_numbered}
+use Rattle.sw_mux.proofs.Refusing.{free, taken}
+use Rattle.sw_mux.proofs.mux.Mux.request.Goals as goal
+
+none_from : {X : Type 0} (o : Option X) → false ≡ is_some o → o ≡ None
+none_from None h = refl
+none_from (Some x) h = absurd cc
+
+pub returns-then-contains_key-clause-refused : goal.returns-then-contains_key-clause-refused
+returns-then-contains_key-clause-refused c =
+    let k = c.in-Some.key in
+    let es = c.self.inside.requests.entries in
+    taken c.args.message.now k.bytes c.args.self.now c.in-Some.ensures
+    (sym (ap (waits k.bytes) c.self.view_is) ∙ sym (waits_numbered k es) ∙ ap is_some (sym (c.self.invariant.found k)) ∙ sym c.if-contains_key.ensures)
+
+pub returns-in_default-checked_add-clause-refused : goal.returns-in_default-checked_add-clause-refused
+returns-in_default-checked_add-clause-refused c =
+    let k = c.in-Some.key in
+    let es = c.self.inside.requests.entries in
+    free c.args.message.now k.bytes c.args.self.now c.in-Some.ensures
+    (sym (ap (waits k.bytes) c.self.view_is) ∙ sym (waits_numbered k es) ∙ ap is_some (sym (c.self.invariant.found k)) ∙ sym c.if-contains_key.ensures)
+
+pub returns-then-is_err-clause-refused : goal.returns-then-is_err-clause-refused
+returns-then-is_err-clause-refused c =
+    let k = c.in-Some.key in
+    let es = c.self.inside.requests.entries in
+    free c.args.message.now k.bytes c.args.self.now c.in-Some.ensures
+    (sym (ap (waits k.bytes) c.self.view_is) ∙ sym (waits_numbered k es) ∙ ap is_some (sym (c.self.invariant.found k)) ∙ sym c.if-contains_key.ensures)
+
+pub invariant_of-self-in_default-insert : goal.invariant_of-self-in_default-insert
+invariant_of-self-in_default-insert c =
+    subst (λ (z : Numbered). IsNumbered z (get key_eq c.room.new.numbers) c.self.inside.next) (sym c.in_default-insert.ensures.err)
+    (record {
+      rising = c.self.invariant.rising;
+      own = c.self.invariant.own;
+      found = λ q. c.room.ensures.same q ∙ c.self.invariant.found q;
+    })
+
+pub returns-in_default-insert-clause-refused : goal.returns-in_default-insert-clause-refused
+returns-in_default-insert-clause-refused c =
+    let k = c.in-Some.key in
+    let es = c.self.inside.requests.entries in
+    free c.args.message.now k.bytes c.args.self.now c.in-Some.ensures
+    (sym (ap (waits k.bytes) c.self.view_is) ∙ sym (waits_numbered k es) ∙ ap is_some (sym (c.self.invariant.found k)) ∙ sym c.if-contains_key.ensures)
+
+pub invariant_of-self-2 : goal.invariant_of-self-2
+invariant_of-self-2 c =
+    let k = c.in-Some.key in
+    let n = c.self.inside.next in
+    let v : Key × ℕ = (k, c.args.deadline) in
+    let es = c.self.inside.requests.entries in
+    let none : number_of k es ≡ None = none_from _ (c.if-contains_key.ensures ∙ ap is_some (c.self.invariant.found k)) in
+    let next : c.in-Some-checked_add.next ≡ n + 1 = c.in-Some-checked_add.ensures.1 in
+    subst (λ (z : Numbered). IsNumbered z (get key_eq c.insert-2.new.self) c.in-Some-checked_add.next)
+    (sym (c.in-Ok.ensures.entries ∙ put_last 0 n v es c.self.invariant.rising))
+    (record {
+      rising = subst (λ z. Rise 0 (es ++ (n, v) ∷ []) z) (sym next) (rise_last 0 n v es c.self.invariant.rising);
+      own = own_last n v es none c.self.invariant.own;
+      found = λ q. c.in-Ok-insert.ensures.updates.0 q
+          ∙ ap (λ z. cond (key_eq k q) (Some n) z) (c.room.ensures.same q ∙ c.self.invariant.found q)
+          ∙ sym (number_last q n v es none);
+    })
+
+pub returns-clause-waits : goal.returns-clause-waits
+returns-clause-waits c =
+    let k = c.in-Some.key in
+    let n = c.self.inside.next in
+    let v : Key × ℕ = (k, c.args.deadline) in
+    let es = c.self.inside.requests.entries in
+    ap values_of (c.in-Ok.ensures.entries ∙ put_last 0 n v es c.self.invariant.rising) ∙ values_last n v es
+    ∙ ap (λ z. z ++ v ∷ []) c.self.view_is
+
+pub returns-clause-taken : goal.returns-clause-taken
+returns-clause-taken c =
+    let k = c.in-Some.key in
+    let es = c.self.inside.requests.entries in
+    free c.args.message.now k.bytes c.args.self.now c.in-Some.ensures
+    (sym (ap (waits k.bytes) c.self.view_is) ∙ sym (waits_numbered k es) ∙ ap is_some (sym (c.self.invariant.found k)) ∙ sym c.if-contains_key.ensures)

@@ -1,0 +1,4 @@
+pub mod Keys
+pub mod Waiting
+pub mod Outcomes
+pub mod Numbered

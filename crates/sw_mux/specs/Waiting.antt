@@ -1,0 +1,56 @@
+-- The requests that wait.
+use Rattle.std.specs.Prelude.{◌≡◌, ℕ, Bool, false, not, nat_le, List, [], ◌∷◌, map, filter, Option, Some, None, is_some}
+use Rattle.std.specs.Map.{lookup, remove_entry}
+use Rattle.std.specs.Str.{bytes_eq}
+use Rattle.sw_base.specs.Refusals.{refused_if}
+use Rattle.iso_msg.specs.Messages.{PlainMessage}
+use Rattle.sw_mux.specs.declared.key.Key.{Key}
+use Rattle.sw_mux.specs.declared.error.MuxError.{MuxError}
+use Rattle.sw_mux.specs.declared.error.MuxError.TheVariants.{OutOfMemory, NoKey, DuplicateKey}
+use Rattle.sw_mux.specs.Keys.{key}
+
+-- keys with their deadlines, in order of request
+abbrev pub Waiting : Type 0
+Waiting = List (Key × ℕ)
+
+-- whether a key waits
+abbrev pub waits : List ℕ → Waiting → Bool
+waits k es = is_some (lookup (λ q. bytes_eq q.bytes k) es)
+
+-- without it; the others keep their order
+abbrev pub without : List ℕ → Waiting → Waiting
+without k es = remove_entry (λ q. bytes_eq q.bytes k) es
+
+-- without these, one after the other
+abbrev pub without_all : List Key → Waiting → Waiting
+without_all [] es = es
+without_all (k ∷ ks) es = without_all ks (without k.bytes es)
+
+-- whose deadline is at most the tick
+abbrev pub is_due : ℕ → Key × ℕ → Bool
+is_due tick e = nat_le e.1 tick
+
+-- the keys that are due, and what waits on without them
+abbrev pub due : ℕ → Waiting → List Key
+due tick es = map (λ e. e.0) (filter (is_due tick) es)
+
+abbrev pub later : ℕ → Waiting → Waiting
+later tick es = filter (λ e. not (is_due tick e)) es
+
+-- why a request is not taken, memory aside
+abbrev pub refusal_of : Option (List ℕ) → Waiting → Option MuxError
+refusal_of None es = Some NoKey
+refusal_of (Some k) es = refused_if (waits k es) DuplicateKey
+
+abbrev pub refusal : PlainMessage → Waiting → Option MuxError
+refusal m es = refusal_of (key m) es
+
+-- the error is that refusal; memory is wanting only where there is none
+abbrev pub IsRefusal : MuxError → Option MuxError → Type 0
+IsRefusal OutOfMemory r = r ≡ None
+IsRefusal e r = r ≡ Some e
+
+-- whether a message's key waits
+abbrev pub answers : Option (List ℕ) → Waiting → Bool
+answers None es = false
+answers (Some k) es = waits k es

@@ -1,0 +1,175 @@
+//! The requests that wait for a response.
+
+ghost use Rattle.std.specs.Prelude.{◌≡◌, ◌<◌, ◌++◌, ◌∷◌, [], Some, None, false, length, IfOk, OnOk, OnErr, IfErr};
+ghost use Rattle.std.specs.HashMap.{get, spare};
+ghost use Rattle.sw_mux.specs.declared.key.Key.{Key};
+ghost use Rattle.sw_mux.specs.Keys.{key};
+ghost use Rattle.sw_mux.specs.Numbered.{key_eq};
+ghost use Rattle.sw_mux.specs.Waiting.{waits, without, without_all, due, later, refusal, IsRefusal};
+ghost use Rattle.sw_mux.specs.Outcomes.{Answers};
+
+use crate::error::MuxError;
+use crate::key::{Key, key_of};
+use iso_msg::Message;
+use std::alloc::{AllocError, Global};
+use std::collections::{BTreeMap, HashMap};
+use std::marker::Model;
+
+/// What a message from the other side is.
+#[derive(Drop)]
+pub enum Outcome {
+    /// The response to the request with this key, which waits no more.
+    Matched(Key, Message),
+    /// The response to nothing that waits.
+    Unhandled(Message),
+}
+
+/// Requests that wait, with their deadlines. Contracts see them as a list in order of request.
+///
+/// A deadline is a number that the caller chooses, as a tick of a clock or the number of a
+/// transaction; `expire` compares it and nothing else reads it.
+#[derive(Drop)]
+pub struct Mux {
+    // The requests by number, the oldest first, and the number of each key: neither a response nor a
+    // withdrawal moves what stands behind.
+    requests: BTreeMap<u64, (Key, u64)>,
+    numbers: HashMap<Key, u64>,
+    next: u64,
+}
+
+impl Model for Mux {
+    ghost use Rattle.std.specs.Prelude.{ℕ, List};
+    ghost use Rattle.std.specs.Map.{values_of};
+    ghost use Rattle.std.specs.HashMap.{get};
+    ghost use Rattle.sw_mux.specs.Waiting.{Waiting};
+    ghost use Rattle.sw_mux.specs.Numbered.{IsNumbered, key_eq};
+
+    ghost Value = { Waiting };
+
+    ghost view = { λ m. values_of m.requests.entries };
+
+    ghost invariant = { λ m. IsNumbered m.requests.entries (get key_eq m.numbers) m.next };
+}
+
+impl Mux {
+    /// With nothing that waits. It takes no memory: `alloc` is where later requests go.
+    pub fn new(alloc: Global) -> Mux
+        ensures { result ≡ [] }
+    {
+        Mux {
+            requests: BTreeMap::new(alloc),
+            numbers: HashMap::new(alloc),
+            next: 0,
+        }
+    }
+
+    /// How many wait.
+    pub fn waiting(&self) -> usize
+        ensures { result ≡ length self.now }
+    {
+        self.requests.len()
+    }
+
+    /// Lets a request wait, last of all, and answers its key. The refusals, in this order: `NoKey` of
+    /// a message without field 41 or field 11, `DuplicateKey` where the key waits, `OutOfMemory`.
+    pub fn request(&mut self, message: &Message, deadline: u64) -> Result<Key, MuxError>
+        ensures key { IfOk result (λ k. Some k.bytes ≡ key message.now) }
+        ensures waits { IfOk result (λ k. self.new ≡ self.old ++ (k, deadline) ∷ []) }
+        ensures taken { OnOk result (refusal message.now self.old ≡ None) }
+        ensures refused { IfErr result (λ e. IsRefusal e (refusal message.now self.old)) }
+        ensures kept { OnErr result (self.new ≡ self.old) }
+    {
+        let Some(key) = key_of(message) else {
+            return Err(MuxError::NoKey);
+        };
+        if self.numbers.contains_key(&key) {
+            return Err(MuxError::DuplicateKey);
+        }
+        // After 2^64 - 1 requests the numbers are spent, as memory would be.
+        let Some(next) = self.next.checked_add(1) else {
+            return Err(MuxError::OutOfMemory);
+        };
+        if room(&mut self.numbers).is_err() {
+            return Err(MuxError::OutOfMemory);
+        }
+        let Ok(_none) = self.requests.insert(self.next, (key, deadline)) else {
+            return Err(MuxError::OutOfMemory);
+        };
+        let Ok(_none) = self.numbers.insert(key, self.next) else {
+            unreachable!()
+        };
+        self.next = next;
+        Ok(key)
+    }
+
+    // Whether the key waited; it waits no more.
+    fn take(&mut self, key: &Key) -> bool
+        ensures waited { result ≡ waits key.now.bytes self.old }
+        ensures left { self.new ≡ without key.now.bytes self.old }
+        ensures kept { result ≡ false → self.new ≡ self.old }
+    {
+        let Some(number) = self.numbers.remove(key) else {
+            return false;
+        };
+        let _ = self.requests.remove(&number);
+        true
+    }
+
+    /// Takes a message from the other side: `Matched` exactly where its key waits, which then waits no
+    /// more; a second response with the key is `Unhandled`. It takes no memory. A message of a
+    /// request's type has the request's own key, and is matched too.
+    pub fn response(&mut self, message: Message) -> Outcome
+        ensures { Answers message self.old result self.new }
+    {
+        let Some(key) = key_of(&message) else {
+            return Outcome::Unhandled(message);
+        };
+        if !self.take(&key) {
+            return Outcome::Unhandled(message);
+        }
+        Outcome::Matched(key, message)
+    }
+
+    /// Takes one key out, and changes nothing where it does not wait. It takes no memory.
+    pub fn withdraw(&mut self, key: &Key)
+        ensures { self.new ≡ without key.now.bytes self.old }
+    {
+        let _ = self.take(key);
+    }
+
+    /// Takes out the keys with a deadline of at most `tick`, and answers them in order of request. The
+    /// only refusal is want of memory, after which all wait as before.
+    pub fn expire(&mut self, alloc: Global, tick: u64) -> Result<Vec<Key>, AllocError>
+        ensures due { IfOk result (λ ks. ks.items ≡ due tick self.old) }
+        ensures later { OnOk result (self.new ≡ later tick self.old) }
+        ensures kept { OnErr result (self.new ≡ self.old) }
+    {
+        let keys = self.due(alloc, tick)?;
+        for key in &keys {
+            self.withdraw(key);
+        }
+        Ok(keys)
+    }
+
+    // The keys with a deadline of at most `tick`, in order of request. No key waits twice, so taking
+    // these out leaves the others.
+    fn due(&self, alloc: Global, tick: u64) -> Result<Vec<Key>, AllocError>
+        ensures due { IfOk result (λ ks. ks.items ≡ due tick self.now) }
+        ensures others { without_all (due tick self.now) self.now ≡ later tick self.now }
+    {
+        self.requests
+            .values()
+            .filter(|(_, deadline)| *deadline <= tick)
+            .map(|(key, _)| *key)
+            .collect(alloc)
+    }
+}
+
+// Room for one more key, so that putting it cannot be refused.
+fn room(numbers: &mut HashMap<Key, u64>) -> Result<(), AllocError>
+    ensures same { (k : Key) → get key_eq numbers.new k ≡ get key_eq numbers.old k }
+    ensures room { OnOk result (0 < spare numbers.new) }
+{
+    numbers.reserve(1)?;
+    Ok(())
+}

@@ -1,0 +1,4 @@
+pub mod FieldLengths
+mod KeyParts
+mod Hearing
+mod LongestPrefix

@@ -1,0 +1,10 @@
+pub mod Requests
+pub mod Quiet
+pub mod Checks
+pub mod Holding
+pub mod Responses
+pub mod Queries
+pub mod Reversals
+pub mod Forwards
+pub mod StandIns
+pub mod Routes

@@ -1,0 +1,45 @@
+-- What the switch decides by itself where the issuer's answer is late.
+use Rattle.std.specs.Prelude.{◌≡◌, ℕ, Bool, false, true, ◌&&◌, nat_le, List, drop, ◌++◌, Option, Some, None, is_some, is_none, codes}
+use Rattle.iso_msg.specs.Messages.{PlainMessage, value_at}
+use Rattle.sw_base.specs.Digits.{number_of}
+use Rattle.sw_context.specs.Pairs.{Pairs, find}
+use Rattle.sw_parts.specs.declared.response_code.ResponseCode.TheVariants.{Approved, IssuerInoperative}
+use Rattle.sw_parts.specs.Quiet.{passes, refuses, leaves_notes}
+use Rattle.sw_parts.specs.Requests.{request_in, noted, coded}
+
+-- the issuer's answer is late, and nobody has decided yet
+abbrev pub is_open : Pairs → Bool
+is_open x = is_some (find (codes "late") x) && is_none (find (codes "rc") x)
+
+-- an amount of at most 1,000 is approved
+abbrev pub is_small : Option ℕ → Bool
+is_small None = false
+is_small (Some amount) = nat_le amount 1000
+
+-- the approval code: SI and the last four digits of the STAN
+abbrev pub stand_in_code : List ℕ → List ℕ
+stand_in_code stan = codes "SI" ++ drop 2 stan
+
+abbrev pub stood_in : List ℕ → Pairs → Pairs
+stood_in stan x = noted (noted (coded Approved x) (codes "auth") (stand_in_code stan)) (codes "standin") (codes "1")
+
+abbrev pub Judged : Bool → List ℕ → Pairs → ℕ → Pairs → Type 0
+Judged true stan x byte y = (byte ≡ leaves_notes) × (y ≡ stood_in stan x)
+Judged false stan x byte y = (byte ≡ refuses) × (y ≡ coded IssuerInoperative x)
+
+-- a request without amount (4) or STAN (11) is passed over
+abbrev pub StandsInWith : Option (List ℕ) → Option (List ℕ) → Pairs → ℕ → Pairs → Type 0
+StandsInWith (Some amount) (Some stan) x byte y = Judged (is_small (number_of amount)) stan x byte y
+StandsInWith _ _ x byte y = (byte ≡ passes) × (y ≡ x)
+
+abbrev pub StandsInBy : Option PlainMessage → Pairs → ℕ → Pairs → Type 0
+StandsInBy None x byte y = (byte ≡ passes) × (y ≡ x)
+StandsInBy (Some m) x byte y = StandsInWith (value_at 4 m.fields) (value_at 11 m.fields) x byte y
+
+abbrev pub StandsInWhere : Bool → Pairs → ℕ → Pairs → Type 0
+StandsInWhere true x byte y = StandsInBy (request_in x) x byte y
+StandsInWhere false x byte y = (byte ≡ passes) × (y ≡ x)
+
+-- stand-in, as it prepares: context, answer byte, context after
+abbrev pub StandsIn : Pairs → ℕ → Pairs → Type 0
+StandsIn x byte y = StandsInWhere (is_open x) x byte y

@@ -1,0 +1,129 @@
+//! What is stored to be forwarded.
+
+ghost use Rattle.std.specs.Prelude.{◌≡◌, [], length, IfOk, codes};
+ghost use Rattle.iso_codec.specs.Spelling.{spelling};
+ghost use Rattle.sw_parts.specs.Quiet.{PassesOver, SelectsNone, StaysQuiet, RestoresNothing};
+ghost use Rattle.sw_parts.specs.Requests.{request_in};
+ghost use Rattle.sw_parts.specs.Forwards.{forward_byte, authorization_advice, reversal_advice, forwarded, forwarded_by};
+
+use crate::build::{encode_as, place};
+use crate::class::{Class, class_of};
+use crate::notes::{APPROVAL, CODE, JOINS, PASSES, STAND_IN, request_in};
+use iso_msg::Message;
+use std::alloc::Global;
+use sw_context::Context;
+use sw_participant::{Bytes, NoMemory, Participant, Text};
+
+/// Stores what issuers have to be told later: at commit an authorization advice (0120) of what the switch approved by
+/// itself, with the approval code and the response code, and a reversal advice (0420) of each reversal.
+#[derive(Drop)]
+pub struct Forward {
+    alloc: Global,
+}
+
+fn answer(request: &Option<Message>) -> u8
+    ensures { result ≡ forward_byte request.now }
+{
+    let Some(message) = request else {
+        return PASSES;
+    };
+    match class_of(message.mti().digits()) {
+        Some(Class::Authorization) => JOINS,
+        Some(Class::Reversal) => JOINS,
+        _ => PASSES,
+    }
+}
+
+fn authorization_advice(
+    alloc: Global,
+    request: &Message,
+    context: &Context,
+) -> Result<Bytes, NoMemory>
+    ensures { IfOk result (λ bytes. bytes ≡ spelling (authorization_advice request.now context.now)) }
+{
+    let mut advice = request.copy(alloc)?;
+    place(alloc, &mut advice, 38, context.get(APPROVAL))?;
+    place(alloc, &mut advice, 39, context.get(CODE))?;
+    Ok(Bytes::new(encode_as(alloc, b"0120", &advice)?))
+}
+
+fn forwarded(
+    alloc: Global,
+    request: &Option<Message>,
+    context: &Context,
+) -> Result<Option<Bytes>, NoMemory>
+    ensures { IfOk result (λ advice. advice ≡ forwarded_by request.now context.now) }
+{
+    let Some(message) = request else {
+        return Ok(None);
+    };
+    match class_of(message.mti().digits()) {
+        Some(Class::Authorization) => {
+            if context.get(STAND_IN).is_none() {
+                return Ok(None);
+            }
+            Ok(Some(authorization_advice(alloc, message, context)?))
+        }
+        Some(Class::Reversal) => Ok(Some(Bytes::new(encode_as(alloc, b"0420", message)?))),
+        _ => Ok(None),
+    }
+}
+
+impl Forward {
+    /// It keeps nothing, and takes no memory: `alloc` is for the messages that it reads and writes.
+    pub fn new(alloc: Global) -> Forward {
+        Forward { alloc }
+    }
+}
+
+impl Participant for Forward {
+    ghost object = { λ _. [] };
+
+    ghost prepares = { λ id o x byte p y. (p ≡ o) × (byte ≡ forward_byte (request_in x)) × (y ≡ x) };
+
+    ghost prepares_for_abort = { λ id o x byte p y. PassesOver o x byte p y };
+
+    ghost selects = { λ id o x text p. SelectsNone o text p };
+
+    ghost commits = { λ id recovering o x advice p y. (p ≡ o) × (advice ≡ forwarded x) × (y ≡ x) };
+
+    ghost aborts = { λ id recovering o x advice p y. StaysQuiet o x advice p y };
+
+    ghost recovers = { λ id commit o x p y. RestoresNothing o x p y };
+
+    fn prepare(&mut self, id: u64, context: &mut Context) -> Result<u8, NoMemory> {
+        let request = request_in(self.alloc, context)?;
+        Ok(answer(&request))
+    }
+
+    fn prepare_for_abort(&mut self, id: u64, context: &mut Context) -> Result<u8, NoMemory> {
+        Ok(PASSES)
+    }
+
+    fn select(&mut self, id: u64, context: &Context) -> Result<Text, NoMemory> {
+        Ok(Text::from_str(self.alloc, "")?)
+    }
+
+    fn commit(
+        &mut self,
+        id: u64,
+        context: &mut Context,
+        recovering: bool,
+    ) -> Result<Option<Bytes>, NoMemory> {
+        let request = request_in(self.alloc, context)?;
+        forwarded(self.alloc, &request, context)
+    }
+
+    fn abort(
+        &mut self,
+        id: u64,
+        context: &mut Context,
+        recovering: bool,
+    ) -> Result<Option<Bytes>, NoMemory> {
+        Ok(None)
+    }
+
+    fn recover(&mut self, id: u64, context: &mut Context, commit: bool) -> Result<(), NoMemory> {
+        Ok(())
+    }
+}

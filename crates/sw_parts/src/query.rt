@@ -1,0 +1,272 @@
+//! Asking an issuer.
+
+ghost use Rattle.std.specs.Prelude.{◌≡◌, [], ◌∷◌, None, MatchOption, IfOk, OnErr, codes};
+ghost use Rattle.sw_mux.specs.Waiting.{without};
+ghost use Rattle.sw_parts.specs.Queries.{Hears, Ends, Asks, Queries, answer_in, asking, answered, approves, or_code, bytes_in};
+ghost use Rattle.sw_context.specs.Pairs.{find};
+ghost use Rattle.sw_parts.specs.Quiet.{PassesOver, SelectsNone, StaysQuiet, RestoresNothing};
+ghost use Rattle.iso_msg.specs.Messages.{value_at};
+
+use crate::class::{Class, class_of};
+use crate::link::Link;
+use crate::notes::{
+    APPROVAL, CODE, LATE, LEAVES_NOTES, PASSES, REFUSES, REQUEST, SENT, note, note_code, request_in,
+};
+use crate::response_code::ResponseCode;
+use iso_codec::{DecodeError, decode};
+use iso_msg::Message;
+use std::alloc::Global;
+use sw_context::Context;
+use sw_mux::{Key, Mux, MuxError, Outcome};
+use sw_participant::{Bytes, NoMemory, Participant, Text};
+
+/// The message of these bytes, where it has the key that waits.
+#[tactic(auto, using(crate::proofs::Hearing::matched, crate::proofs::Hearing::unmatched, crate::proofs::Hearing::unread))]
+fn answer_in(
+    alloc: Global,
+    mux: &mut Mux,
+    bytes: &[u8],
+    key: Key,
+    deadline: u64,
+) -> Result<Option<Message>, NoMemory>
+    requires { mux.old ≡ (key, deadline) ∷ [] }
+    ensures answer { IfOk result (λ r. r ≡ answer_in key.bytes bytes.now) }
+    ensures waits { IfOk result (λ r. MatchOption r (mux.new ≡ (key, deadline) ∷ []) (λ _. mux.new ≡ [])) }
+    ensures kept { OnErr result (mux.new ≡ mux.old) }
+{
+    match decode(alloc, bytes) {
+        Ok(message) => match mux.response(message) {
+            Outcome::Matched(_, answer) => Ok(Some(answer)),
+            Outcome::Unhandled(_) => Ok(None),
+        },
+        Err(DecodeError::OutOfMemory) => Err(NoMemory),
+        Err(_) => Ok(None),
+    }
+}
+
+/// Waits for the answer with the one key that waits, at most 8 messages long. Other messages are dropped, and want of
+/// memory counts as no answer.
+pub fn hear<L: Link>(
+    alloc: Global,
+    mux: &mut Mux,
+    link: &mut L,
+    key: Key,
+    deadline: u64,
+) -> Option<Message>
+    requires { mux.old ≡ (key, deadline) ∷ [] }
+    ensures heard { Hears L.receives 8 key.bytes (L.state link.old) result (L.state link.new) }
+    ensures left { without key.bytes mux.new ≡ [] }
+{
+    for round in 0..8u8 {
+        let Ok(received) = link.receive() else {
+            return None;
+        };
+        let Some(bytes) = received else {
+            return None;
+        };
+        match answer_in(alloc, mux, &bytes, key, deadline) {
+            Ok(None) => {}
+            Ok(Some(answer)) => return Some(answer),
+            Err(NoMemory) => return None,
+        }
+    }
+    None
+}
+
+/// Notes that the request is sent and its answer is late.
+fn asking(context: &Context) -> Result<Context, NoMemory>
+    ensures { IfOk result (λ x. x ≡ asking context.now) }
+{
+    let mut next = context.copy()?;
+    note(&mut next, SENT, b"1")?;
+    note(&mut next, LATE, b"1")?;
+    Ok(next)
+}
+
+/// The response code of an answer.
+fn code_of(answer: &Message) -> &[u8]
+    ensures { result.now ≡ or_code (value_at 39 answer.now.fields) }
+{
+    match answer.get(39) {
+        Some(code) => code,
+        None => ResponseCode::SystemMalfunction.digits(),
+    }
+}
+
+/// Notes what an answer says; its answer is late no more.
+fn answered(context: &Context, answer: &Message) -> Result<Context, NoMemory>
+    ensures { IfOk result (λ x. x ≡ answered answer.now context.now) }
+{
+    let mut next = context.copy()?;
+    note(&mut next, CODE, code_of(answer))?;
+    if let Some(approval) = answer.get(38) {
+        note(&mut next, APPROVAL, approval)?;
+    }
+    let _ = next.take(LATE);
+    Ok(next)
+}
+
+fn approves(answer: &Message) -> bool
+    ensures { result ≡ approves answer.now }
+{
+    code_of(answer) == b"00".as_slice()
+}
+
+/// The byte and the context after what was heard; an answer without memory for it is none.
+fn conclude(asked: Context, heard: Option<Message>) -> (u8, Context)
+    ensures { Ends heard asked result.0 result.1 }
+{
+    let Some(answer) = heard else {
+        return (LEAVES_NOTES, asked);
+    };
+    match answered(&asked, &answer) {
+        Ok(next) => (
+            if approves(&answer) {
+                LEAVES_NOTES
+            } else {
+                REFUSES
+            },
+            next,
+        ),
+        Err(NoMemory) => (LEAVES_NOTES, asked),
+    }
+}
+
+/// Sends a request whose key waits, and waits for its answer.
+fn ask<L: Link>(
+    alloc: Global,
+    mux: &mut Mux,
+    link: &mut L,
+    key: Key,
+    deadline: u64,
+    bytes: &[u8],
+    context: &mut Context,
+) -> Result<u8, NoMemory>
+    requires { mux.old ≡ (key, deadline) ∷ [] }
+    ensures asked { IfOk result (λ byte. Asks L.sends L.receives bytes.now key.bytes (L.state link.old) context.old byte (L.state link.new) context.new) }
+    ensures waits { without key.bytes mux.new ≡ [] }
+    ensures link_kept { OnErr result (L.state link.new ≡ L.state link.old) }
+    ensures context_kept { OnErr result (context.new ≡ context.old) }
+{
+    let asked = asking(context)?;
+    link.send(bytes)?;
+    let heard = hear(alloc, mux, link, key, deadline);
+    let (byte, next) = conclude(asked, heard);
+    *context = next;
+    Ok(byte)
+}
+
+/// Asks for a request, if it is an authorization.
+fn query<L: Link>(
+    alloc: Global,
+    id: u64,
+    mux: &mut Mux,
+    link: &mut L,
+    context: &mut Context,
+) -> Result<u8, NoMemory>
+    requires { mux.old ≡ [] }
+    ensures queried { IfOk result (λ byte. Queries L.sends L.receives (L.state link.old) context.old byte (L.state link.new) context.new) }
+    ensures idle { mux.new ≡ [] }
+    ensures link_kept { OnErr result (L.state link.new ≡ L.state link.old) }
+    ensures context_kept { OnErr result (context.new ≡ context.old) }
+{
+    let Some(request) = request_in(alloc, context)? else {
+        return Ok(PASSES);
+    };
+    let Some(Class::Authorization) = class_of(request.mti().digits()) else {
+        return Ok(PASSES);
+    };
+    let bytes = bytes_in(alloc, context)?;
+    match mux.request(&request, id) {
+        Ok(key) => {
+            let asked = ask(alloc, mux, link, key, id, &bytes, context);
+            mux.withdraw(&key);
+            asked
+        }
+        Err(MuxError::OutOfMemory) => Err(NoMemory),
+        Err(_) => {
+            note_code(context, ResponseCode::SystemMalfunction)?;
+            Ok(REFUSES)
+        }
+    }
+}
+
+fn bytes_in(alloc: Global, context: &Context) -> Result<Vec<u8>, NoMemory>
+    ensures { IfOk result (λ v. v.items ≡ bytes_in (find (codes "request") context.now)) }
+{
+    match context.get(REQUEST) {
+        Some(bytes) => Ok(Vec::from_slice(alloc, bytes)?),
+        None => Ok(Vec::new(alloc)),
+    }
+}
+
+/// Asks an issuer over a link.
+#[derive(Drop)]
+pub struct QueryIssuer<L: Link> {
+    alloc: Global,
+    mux: Mux,
+    link: L,
+    // between calls nothing waits
+    ghost idle: { mux ≡ [] },
+}
+
+impl<L: Link> QueryIssuer<L> {
+    /// Over this link.
+    pub fn new(alloc: Global, link: L) -> QueryIssuer<L> {
+        QueryIssuer {
+            alloc,
+            mux: Mux::new(alloc),
+            link,
+        }
+    }
+}
+
+impl<L: Link> Participant for QueryIssuer<L> {
+    ghost object = { λ query. L.state query.link };
+
+    ghost prepares = { λ id o x byte p y. Queries L.sends L.receives o x byte p y };
+
+    ghost prepares_for_abort = { λ id o x byte p y. PassesOver o x byte p y };
+
+    ghost selects = { λ id o x text p. SelectsNone o text p };
+
+    ghost commits = { λ id recovering o x advice p y. StaysQuiet o x advice p y };
+
+    ghost aborts = { λ id recovering o x advice p y. StaysQuiet o x advice p y };
+
+    ghost recovers = { λ id commit o x p y. RestoresNothing o x p y };
+
+    fn prepare(&mut self, id: u64, context: &mut Context) -> Result<u8, NoMemory> {
+        query(self.alloc, id, &mut self.mux, &mut self.link, context)
+    }
+
+    fn prepare_for_abort(&mut self, id: u64, context: &mut Context) -> Result<u8, NoMemory> {
+        Ok(PASSES)
+    }
+
+    fn select(&mut self, id: u64, context: &Context) -> Result<Text, NoMemory> {
+        Ok(Text::from_str(self.alloc, "")?)
+    }
+
+    fn commit(
+        &mut self,
+        id: u64,
+        context: &mut Context,
+        recovering: bool,
+    ) -> Result<Option<Bytes>, NoMemory> {
+        Ok(None)
+    }
+
+    fn abort(
+        &mut self,
+        id: u64,
+        context: &mut Context,
+        recovering: bool,
+    ) -> Result<Option<Bytes>, NoMemory> {
+        Ok(None)
+    }
+
+    fn recover(&mut self, id: u64, context: &mut Context, commit: bool) -> Result<(), NoMemory> {
+        Ok(())
+    }
+}

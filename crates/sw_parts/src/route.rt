@@ -1,0 +1,178 @@
+//! Which group of the flow asks the issuer of a card.
+
+ghost use Rattle.std.specs.Prelude.{◌≡◌, List, [], IfOk, OnErr, option_map};
+ghost use Rattle.sw_parts.specs.declared.route.Routing.{Routing};
+ghost use Rattle.sw_parts.specs.Quiet.{PassesOver, StaysQuiet, RestoresNothing};
+ghost use Rattle.sw_parts.specs.Requests.{request_in};
+ghost use Rattle.sw_parts.specs.Routes.{longer, if_prefix, route_for, route_of, route_fault, ChecksRoute, group_by, chosen_group, shown_routes};
+
+use crate::class::{Class, class_of};
+use crate::notes::{CODE, PASSES, REFUSES, note_code, request_in};
+use crate::response_code::ResponseCode;
+use iso_msg::Message;
+use std::alloc::Global;
+use sw_context::Context;
+use sw_participant::{Bytes, NoMemory, Participant, Sequence, Text};
+
+/// The cards whose numbers begin with a prefix are asked for by a group of the flow.
+#[derive(Drop)]
+pub struct Routing {
+    /// The first digits of the card numbers.
+    pub prefix: Text,
+    /// The name of the group.
+    pub group: Text,
+}
+
+/// Chooses the group that asks the issuer of a card: that of the longest prefix of the card number. An authorization
+/// whose card has none of the prefixes is refused with 91, issuer inoperative.
+#[derive(Drop)]
+pub struct Route {
+    alloc: Global,
+    routes: Sequence<Routing>,
+}
+
+/// The one of two with the longer prefix, the first where they are equally long.
+fn longer<'a>(first: Option<&'a Routing>, second: Option<&'a Routing>) -> Option<&'a Routing>
+    ensures { option_map (λ r. r.now) result
+        ≡ longer (option_map (λ r. r.now) first.entry) (option_map (λ r. r.now) second.entry) }
+{
+    let Some(one) = first else {
+        return second;
+    };
+    let Some(other) = second else {
+        return first;
+    };
+    if one.prefix.as_str().len() < other.prefix.as_str().len() {
+        Some(other)
+    } else {
+        Some(one)
+    }
+}
+
+fn if_prefix<'a>(card: &[u8], routing: &'a Routing) -> Option<&'a Routing>
+    ensures { option_map (λ r. r.now) result ≡ if_prefix card.now routing.now }
+{
+    if card.starts_with(routing.prefix.as_str().as_bytes()) {
+        Some(routing)
+    } else {
+        None
+    }
+}
+
+/// The route of a card number.
+fn route_for<'a>(card: &[u8], routes: &'a [Routing]) -> Option<&'a Routing>
+    ensures { option_map (λ r. r.now) result ≡ route_for card.now routes.now }
+{
+    let mut best = None;
+    for routing in routes {
+        best = longer(best, if_prefix(card, routing));
+    }
+    best
+}
+
+/// The route of a message, by its card number.
+pub fn route_of<'a>(message: &Message, routes: &'a [Routing]) -> Option<&'a Routing>
+    ensures { option_map (λ r. r.now) result ≡ route_of message.now routes.now }
+{
+    let card = message.get(2)?;
+    route_for(card, routes)
+}
+
+fn route_fault(request: &Option<Message>, routes: &[Routing]) -> Option<ResponseCode>
+    ensures { result ≡ route_fault request.now routes.now }
+{
+    let Some(message) = request else {
+        return None;
+    };
+    let Some(Class::Authorization) = class_of(message.mti().digits()) else {
+        return None;
+    };
+    match route_of(message, routes) {
+        Some(_) => None,
+        None => Some(ResponseCode::IssuerInoperative),
+    }
+}
+
+fn chosen<'a>(request: &Option<Message>, routes: &'a [Routing]) -> &'a str
+    ensures { result.now ≡ group_by request.now routes.now }
+{
+    let Some(message) = request else {
+        return "";
+    };
+    let Some(Class::Authorization) = class_of(message.mti().digits()) else {
+        return "";
+    };
+    match route_of(message, routes) {
+        Some(routing) => routing.group.as_str(),
+        None => "",
+    }
+}
+
+impl Route {
+    /// By these routes. It takes no memory: `alloc` is for the messages that it reads.
+    pub fn new(alloc: Global, routes: Sequence<Routing>) -> Route {
+        Route { alloc, routes }
+    }
+}
+
+impl Participant for Route {
+    ghost object = { λ route. shown_routes route.routes };
+
+    ghost prepares = { λ id o x byte p y. (rs : List Routing) × (o ≡ shown_routes rs) × (p ≡ o) × ChecksRoute rs x byte y };
+
+    ghost prepares_for_abort = { λ id o x byte p y. PassesOver o x byte p y };
+
+    ghost selects = { λ id o x text p. (rs : List Routing) × (o ≡ shown_routes rs) × (p ≡ o) × (text ≡ chosen_group rs x) };
+
+    ghost commits = { λ id recovering o x advice p y. StaysQuiet o x advice p y };
+
+    ghost aborts = { λ id recovering o x advice p y. StaysQuiet o x advice p y };
+
+    ghost recovers = { λ id commit o x p y. RestoresNothing o x p y };
+
+    fn prepare(&mut self, id: u64, context: &mut Context) -> Result<u8, NoMemory> {
+        let request = request_in(self.alloc, context)?;
+        match route_fault(&request, self.routes.as_slice()) {
+            None => Ok(PASSES),
+            Some(code) => {
+                note_code(context, code)?;
+                Ok(REFUSES)
+            }
+        }
+    }
+
+    fn prepare_for_abort(&mut self, id: u64, context: &mut Context) -> Result<u8, NoMemory> {
+        Ok(PASSES)
+    }
+
+    fn select(&mut self, id: u64, context: &Context) -> Result<Text, NoMemory> {
+        if context.get(CODE).is_some() {
+            return Ok(Text::from_str(self.alloc, "")?);
+        }
+        let request = request_in(self.alloc, context)?;
+        let group = chosen(&request, self.routes.as_slice());
+        Ok(Text::from_str(self.alloc, group)?)
+    }
+
+    fn commit(
+        &mut self,
+        id: u64,
+        context: &mut Context,
+        recovering: bool,
+    ) -> Result<Option<Bytes>, NoMemory> {
+        Ok(None)
+    }
+
+    fn abort(
+        &mut self,
+        id: u64,
+        context: &mut Context,
+        recovering: bool,
+    ) -> Result<Option<Bytes>, NoMemory> {
+        Ok(None)
+    }
+
+    fn recover(&mut self, id: u64, context: &mut Context, commit: bool) -> Result<(), NoMemory> {
+        Ok(())
+    }
+}

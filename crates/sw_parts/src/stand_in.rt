@@ -1,0 +1,158 @@
+//! What the switch decides where the issuer's answer is late.
+
+ghost use Rattle.std.specs.Prelude.{◌≡◌, ◌≤◌, [], length, IfOk, OnOk, OnErr};
+ghost use Rattle.sw_base.specs.Digits.{number_of};
+ghost use Rattle.sw_parts.specs.Quiet.{PassesOver, SelectsNone, StaysQuiet, RestoresNothing};
+ghost use Rattle.sw_parts.specs.StandIns.{is_open, is_small, stand_in_code, stood_in, Judged, StandsInBy, StandsIn};
+
+use crate::amount::amount_of;
+use crate::build::put_part;
+use crate::notes::{
+    APPROVAL, CODE, LATE, LEAVES_NOTES, PASSES, REFUSES, STAND_IN, note, note_code, request_in,
+};
+use crate::response_code::ResponseCode;
+use iso_msg::Message;
+use std::alloc::Global;
+use sw_context::Context;
+use sw_participant::{Bytes, NoMemory, Participant, Text};
+
+/// The greatest amount that the switch approves by itself.
+const MOST_AMOUNT: u64 = 1_000;
+
+/// Decides in the place of an issuer whose answer is late: an amount of at most 1,000 is approved, with an approval code
+/// of `SI` and the last four digits of the STAN, and any other one refused with 91, issuer inoperative.
+#[derive(Drop)]
+pub struct StandIn {
+    alloc: Global,
+}
+
+fn is_open(context: &Context) -> bool
+    ensures { result ≡ is_open context.now }
+{
+    context.get(LATE).is_some() && context.get(CODE).is_none()
+}
+
+fn is_small(amount: &[u8]) -> bool
+    requires { length amount.now ≤ 12 }
+    ensures { result ≡ is_small (number_of amount.now) }
+{
+    match amount_of(amount) {
+        Some(amount) => amount <= MOST_AMOUNT,
+        None => false,
+    }
+}
+
+fn stand_in_code(stan: &[u8]) -> [u8; 6]
+    requires { length stan.now ≡ 6 }
+    ensures { result ≡ stand_in_code stan.now }
+{
+    let mut code = *b"SI0000";
+    put_part(&mut code, 2, &stan[2..]);
+    code
+}
+
+fn approve(stan: &[u8], context: &mut Context) -> Result<(), NoMemory>
+    requires { length stan.now ≡ 6 }
+    ensures approved { OnOk result (context.new ≡ stood_in stan.now context.old) }
+    ensures kept { OnErr result (context.new ≡ context.old) }
+{
+    let mut next = context.copy()?;
+    note_code(&mut next, ResponseCode::Approved)?;
+    let code = stand_in_code(stan);
+    note(&mut next, APPROVAL, &code)?;
+    note(&mut next, STAND_IN, b"1")?;
+    *context = next;
+    Ok(())
+}
+
+fn decide(amount: &[u8], stan: &[u8], context: &mut Context) -> Result<u8, NoMemory>
+    requires amount { length amount.now ≤ 12 }
+    requires stan { length stan.now ≡ 6 }
+    ensures decided { IfOk result (λ byte.
+        Judged (is_small (number_of amount.now)) stan.now context.old byte context.new) }
+    ensures kept { OnErr result (context.new ≡ context.old) }
+{
+    if is_small(amount) {
+        approve(stan, context)?;
+        return Ok(LEAVES_NOTES);
+    }
+    note_code(context, ResponseCode::IssuerInoperative)?;
+    Ok(REFUSES)
+}
+
+fn stand_in(request: &Option<Message>, context: &mut Context) -> Result<u8, NoMemory>
+    ensures stood_in { IfOk result (λ byte. StandsInBy request.now context.old byte context.new) }
+    ensures kept { OnErr result (context.new ≡ context.old) }
+{
+    let Some(message) = request else {
+        return Ok(PASSES);
+    };
+    let Some(amount) = message.get(4) else {
+        return Ok(PASSES);
+    };
+    let Some(stan) = message.get(11) else {
+        return Ok(PASSES);
+    };
+    decide(amount, stan, context)
+}
+
+impl StandIn {
+    /// It keeps nothing, and takes no memory: `alloc` is for the messages that it reads.
+    pub fn new(alloc: Global) -> StandIn {
+        StandIn { alloc }
+    }
+}
+
+impl Participant for StandIn {
+    ghost object = { λ _. [] };
+
+    ghost prepares = { λ id o x byte p y. (p ≡ o) × StandsIn x byte y };
+
+    ghost prepares_for_abort = { λ id o x byte p y. PassesOver o x byte p y };
+
+    ghost selects = { λ id o x text p. SelectsNone o text p };
+
+    ghost commits = { λ id recovering o x advice p y. StaysQuiet o x advice p y };
+
+    ghost aborts = { λ id recovering o x advice p y. StaysQuiet o x advice p y };
+
+    ghost recovers = { λ id commit o x p y. RestoresNothing o x p y };
+
+    fn prepare(&mut self, id: u64, context: &mut Context) -> Result<u8, NoMemory> {
+        if !is_open(context) {
+            return Ok(PASSES);
+        }
+        let request = request_in(self.alloc, context)?;
+        stand_in(&request, context)
+    }
+
+    fn prepare_for_abort(&mut self, id: u64, context: &mut Context) -> Result<u8, NoMemory> {
+        Ok(PASSES)
+    }
+
+    fn select(&mut self, id: u64, context: &Context) -> Result<Text, NoMemory> {
+        Ok(Text::from_str(self.alloc, "")?)
+    }
+
+    fn commit(
+        &mut self,
+        id: u64,
+        context: &mut Context,
+        recovering: bool,
+    ) -> Result<Option<Bytes>, NoMemory> {
+        Ok(None)
+    }
+
+    fn abort(
+        &mut self,
+        id: u64,
+        context: &mut Context,
+        recovering: bool,
+    ) -> Result<Option<Bytes>, NoMemory> {
+        Ok(None)
+    }
+
+    fn recover(&mut self, id: u64, context: &mut Context, commit: bool) -> Result<(), NoMemory> {
+        Ok(())
+    }
+}

@@ -1,0 +1,5 @@
+pub mod World
+pub mod Calls
+pub mod Kept
+pub mod Opening
+pub mod Items

@@ -1,0 +1,79 @@
+//! The engine, and what it is seen as.
+
+mod acks;
+mod breaks;
+mod opening;
+mod queries;
+mod queue;
+mod replies;
+mod restores;
+
+use crate::error::EngineError;
+use crate::slot::Slot;
+use flow_asm::Code;
+pub use queue::TakenTx;
+use queue::spelled;
+use std::collections::{BTreeMap, VecDeque};
+use std::marker::Model;
+use sw_participant::{Bytes, Sequence};
+use tx_history::{Entry, JournalView, Waiting};
+
+/// A transaction engine: sessions that take transactions from one queue. Contracts see its flow, its
+/// number of sessions, what its history began from, the history and the written mark; all that it
+/// keeps beside them is a function of these.
+#[derive(Debug, Drop)]
+pub struct Engine {
+    code: Code,
+    // What the history began from.
+    first: JournalView,
+    first_queue: Sequence<Waiting>,
+    first_breaks: Sequence<usize>,
+    entries: Vec<Entry>,
+    mark: usize,
+    slots: Vec<Slot>,
+    queue: VecDeque<Waiting>,
+    shelf: BTreeMap<u64, Waiting>,
+    advices: BTreeMap<(u64, usize), Bytes>,
+    // Whether the participant of the number has a breakpoint.
+    breaks: Vec<bool>,
+    next_id: u64,
+    // Whether the context was restored since the last outcome.
+    restored: bool,
+    // Whether a transaction of the journal is not finished.
+    recovering: bool,
+}
+
+impl Model for Engine {
+    ghost use Rattle.std.specs.Prelude.{length};
+    ghost use Rattle.tx_engine.specs.World.{World};
+
+    ghost Value = { World };
+
+    ghost use Rattle.tx_engine.specs.Kept.{Kept, world};
+
+    ghost view = { λ e. world e.code (length e.slots.items)
+        (record { view = e.first; queue = e.first_queue; breaks = e.first_breaks })
+        e.entries.items e.mark };
+
+    ghost invariant = { λ e. Kept
+        (world e.code (length e.slots.items)
+        (record { view = e.first; queue = e.first_queue; breaks = e.first_breaks })
+        e.entries.items e.mark)
+        e.entries.items
+        (record {
+          slots = e.slots.items;
+          queue = e.queue.items;
+          shelf = e.shelf.entries;
+          advices = e.advices.entries;
+          breaks = e.breaks.items;
+          next_id = e.next_id;
+          restored = e.restored;
+          recovering = e.recovering;
+        }) };
+}
+
+/// The number of entries that a history may have.
+const MOST_ENTRIES: usize = 1_048_576;
+
+/// The id after which none is left: 2^63 - 1.
+const LAST_ID: u64 = 9_223_372_036_854_775_807;

@@ -1,0 +1,102 @@
+//! Breakpoints: a due call of a participant that has one is held until its session is let go.
+
+ghost use Rattle.std.specs.Prelude.{◌≡◌, ◌<◌, length, MatchResult, None, Some};
+ghost use Rattle.sw_base.specs.Refusals.{Accepts};
+ghost use Rattle.tx_history.specs.History.{number_of};
+ghost use Rattle.tx_engine.specs.World.{Recorded};
+ghost use Rattle.tx_engine.specs.Calls.{MayBreak, break_refusal, let_go_refusal};
+
+use super::Engine;
+use crate::error::EngineError;
+use crate::rows::no_change;
+use crate::slot::{is_held_by, let_slot_go};
+use flow_model::number_of;
+use tx_history::{Entry, Event};
+
+impl Engine {
+    // The number of the participant of this name, where a breakpoint may be set on it or cleared.
+    fn allow_break(&self, name: &str) -> Result<usize, EngineError>
+        ensures { MatchResult result
+            (MayBreak self.now name.now)
+            (λ e. break_refusal self.now name.now ≡ Some e) }
+    {
+        let participants = self.code.participants();
+        let participant = number_of(participants, name);
+        if participant >= participants.len() {
+            return Err(EngineError::NoParticipant);
+        }
+        self.allow_entry()?;
+        Ok(participant)
+    }
+
+    /// Holds the calls of the participant of this name from now on, and answers the entry's number.
+    /// Setting a breakpoint twice is accepted. Refuses, in this order, `NoParticipant` and
+    /// `HistoryFull`.
+    pub fn set_break(&mut self, name: &str) -> Result<usize, EngineError>
+        ensures { Accepts EngineError.OutOfMemory (break_refusal self.old name.now) result
+            (λ n. Recorded self.old (Event.Broke (number_of self.old.flow name.now)) n self.new)
+            (self.new ≡ self.old) }
+    {
+        let participant = self.allow_break(name)?;
+        let number = self.entries.len() + 1;
+        self.entries.push(Entry {
+            number,
+            event: Event::Broke { participant },
+            change: no_change(),
+        })?;
+        self.breaks[participant] = true;
+        Ok(number)
+    }
+
+    /// Holds the calls of the participant of this name no more, and answers the entry's number.
+    /// Clearing what is not set is accepted. Refuses, in this order, `NoParticipant` and
+    /// `HistoryFull`.
+    pub fn clear_break(&mut self, name: &str) -> Result<usize, EngineError>
+        ensures { Accepts EngineError.OutOfMemory (break_refusal self.old name.now) result
+            (λ n. Recorded self.old (Event.Cleared (number_of self.old.flow name.now)) n self.new)
+            (self.new ≡ self.old) }
+    {
+        let participant = self.allow_break(name)?;
+        let number = self.entries.len() + 1;
+        self.entries.push(Entry {
+            number,
+            event: Event::Cleared { participant },
+            change: no_change(),
+        })?;
+        self.breaks[participant] = false;
+        Ok(number)
+    }
+
+    // Whether a held call of the session may be let go.
+    fn allow_let_go(&self, s: usize) -> Result<(), EngineError>
+        ensures { MatchResult result
+            (λ _. let_go_refusal self.now s ≡ None)
+            (λ e. let_go_refusal self.now s ≡ Some e) }
+    {
+        if s >= self.slots.len() {
+            return Err(EngineError::NoSession);
+        }
+        if !is_held_by(&self.code, self.breaks.as_slice(), &self.slots[s]) {
+            return Err(EngineError::NotHeld);
+        }
+        self.allow_entry()
+    }
+
+    /// Lets the session's held call go, whatever breakpoints do until its reply, and answers the
+    /// entry's number. Refuses, in this order, `NoSession`, `NotHeld` and `HistoryFull`.
+    pub fn let_go(&mut self, s: usize) -> Result<usize, EngineError>
+        ensures { Accepts EngineError.OutOfMemory (let_go_refusal self.old s) result
+            (λ n. Recorded self.old (Event.LetGo s) n self.new)
+            (self.new ≡ self.old) }
+    {
+        self.allow_let_go(s)?;
+        let number = self.entries.len() + 1;
+        self.entries.push(Entry {
+            number,
+            event: Event::LetGo { session: s },
+            change: no_change(),
+        })?;
+        let_slot_go(&mut self.slots[s]);
+        Ok(number)
+    }
+}

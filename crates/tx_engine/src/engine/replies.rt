@@ -1,0 +1,362 @@
+//! Replies to due calls.
+
+ghost use Rattle.std.specs.Prelude.{◌≡◌, ◌&&◌, ◌==◌, not, option_map, ◌∷◌, [], None, Some, IfOk, MatchResult, if◌then◌else◌, true, false};
+ghost use Rattle.sw_base.specs.Refusals.{Accepts};
+ghost use Rattle.sw_context.specs.Spelling.{bytes_of};
+ghost use Rattle.tx_machine.specs.Contract.{IsSound, tx_state};
+ghost use Rattle.tx_machine.specs.Table.{is_due, next};
+ghost use Rattle.tx_machine.specs.declared.values.Item.TheVariants.{Answer, Choice, Told as ToldOne};
+ghost use Rattle.tx_history.specs.History.{put_advice, shelved};
+ghost use Rattle.tx_history.specs.Journal.{shelved_change};
+ghost use Rattle.tx_engine.specs.World.{Recorded};
+ghost use Rattle.tx_engine.specs.Calls.{is_full, reply_refusal};
+ghost use Rattle.tx_engine.specs.Items.{Allows, Gives, item_change};
+ghost use Rattle.tx_engine.specs.Kept.{AreKnown, IsSlotAfter, is_holding};
+
+use super::{Engine, spelled};
+use crate::error::EngineError;
+use crate::maps::put_both;
+use crate::next::{ReplyKind, is_asked};
+use crate::recovery::{Step, slot_after};
+use crate::rows::change_of;
+use crate::slot::{Hold, Slot, is_holding, next_at};
+use flow_asm::Code;
+use std::alloc::{AllocError, Global};
+use sw_context::Context;
+use sw_participant::{Bytes, Text};
+use tx_history::{Change, Entry, Event, Row, Waiting};
+use tx_machine::Machine;
+
+// A reply as it is recorded: the machine stands where it leads.
+#[derive(Debug, Drop)]
+struct Given {
+    session: usize,
+    id: u64,
+    machine: Machine,
+    event: Event,
+    advice: Option<((u64, usize), Option<Bytes>)>,
+    // Whether the context counts as restored afterwards.
+    restored: bool,
+}
+
+// What goes on the shelf, once more.
+fn shelved_by(change: &Change) -> Result<Option<(u64, Waiting)>, AllocError>
+    ensures { IfOk result (λ copy. copy ≡ change.now.shelved) }
+{
+    match &change.shelved {
+        Some((id, waiting)) => Ok(Some((*id, waiting.copy()?))),
+        None => Ok(None),
+    }
+}
+
+fn copy_advice(advice: &Option<Bytes>) -> Result<Option<Bytes>, AllocError>
+    ensures { IfOk result (λ copy. copy ≡ advice.now) }
+{
+    match advice {
+        Some(advice) => Ok(Some(advice.copy()?)),
+        None => Ok(None),
+    }
+}
+
+// The change of the advices, once more.
+fn advice_by(change: &Change) -> Result<Option<((u64, usize), Option<Bytes>)>, AllocError>
+    ensures { IfOk result (λ copy. copy ≡ change.now.advice) }
+{
+    match &change.advice {
+        Some((place, advice)) => Ok(Some((*place, copy_advice(advice)?))),
+        None => Ok(None),
+    }
+}
+
+// Whether a transaction of the journal is recovered still, by the slot of the session after a reply.
+fn goes_on(recovering: bool, slot: &Slot) -> bool
+    ensures { result ≡ (recovering && is_holding slot.now) }
+{
+    recovering && is_holding(slot)
+}
+
+// All that a reply adds to the engine.
+#[derive(Debug, Drop)]
+struct Ready {
+    entry: Entry,
+    shelved: Option<(u64, Waiting)>,
+    advice: Option<((u64, usize), Option<Bytes>)>,
+    slot: Slot,
+}
+
+fn make_ready(
+    alloc: Global,
+    code: &Code,
+    rows: &[(u64, Row)],
+    recovering: bool,
+    number: usize,
+    given: Given,
+) -> Result<Ready, AllocError>
+    requires sound { IsSound code.now given.machine }
+    requires known { AreKnown code.now rows.now }
+    ensures number { IfOk result (λ r. r.entry.number ≡ number) }
+    ensures event { IfOk result (λ r. r.entry.event ≡ given.event) }
+    ensures change { IfOk result (λ r. r.entry.change
+        ≡ item_change code.now given.id given.machine given.advice) }
+    ensures shelved { IfOk result (λ r. r.shelved
+        ≡ shelved_change given.id (shelved code.now (tx_state code.now given.machine) true)) }
+    ensures advice { IfOk result (λ r. r.advice ≡ given.advice) }
+    ensures slot { IfOk result (λ r.
+        IsSlotAfter recovering code.now rows.now given.id given.machine number r.slot) }
+{
+    let Given {
+        id,
+        machine,
+        event,
+        advice,
+        ..
+    } = given;
+    let change = change_of(alloc, code, id, &machine, advice)?;
+    let shelved = shelved_by(&change)?;
+    let advice = advice_by(&change)?;
+    let step = Step {
+        id,
+        machine,
+        number,
+    };
+    let slot = slot_after(alloc, code, rows, recovering, step)?;
+    Ok(Ready {
+        entry: Entry {
+            number,
+            event,
+            change,
+        },
+        shelved,
+        advice,
+        slot,
+    })
+}
+
+// A machine that stands where this one does after its due preparation is answered.
+fn after_answer(
+    code: &Code,
+    machine: &Machine,
+    byte: u8,
+    context: Bytes,
+) -> Result<Machine, AllocError>
+    requires sound { IsSound code.now machine.now }
+    requires due { is_due (tx_state code.now machine.now) (Answer byte context) ≡ true }
+    ensures sound { IfOk result (IsSound code.now) }
+    ensures after { IfOk result (λ m. tx_state code.now m
+        ≡ next code.now (tx_state code.now machine.now) (Answer byte context)) }
+{
+    let mut copy = machine.copy()?;
+    match copy.answered(code, byte, context.into_vec()) {
+        Ok(()) => Ok(copy),
+        Err(_) => Err(AllocError),
+    }
+}
+
+// A machine that stands where this one does after its due selection.
+fn after_choice(
+    alloc: Global,
+    code: &Code,
+    machine: &Machine,
+    text: &str,
+) -> Result<Machine, AllocError>
+    requires sound { IsSound code.now machine.now }
+    requires due { is_due (tx_state code.now machine.now) (Choice text.now) ≡ true }
+    ensures sound { IfOk result (IsSound code.now) }
+    ensures after { IfOk result (λ m. tx_state code.now m
+        ≡ next code.now (tx_state code.now machine.now) (Choice text.now)) }
+{
+    let mut copy = machine.copy()?;
+    match copy.chose(alloc, code, text) {
+        Ok(()) => Ok(copy),
+        Err(_) => Err(AllocError),
+    }
+}
+
+// A machine that stands where this one does after its due member is told.
+fn after_told(code: &Code, machine: &Machine) -> Result<Machine, AllocError>
+    requires sound { IsSound code.now machine.now }
+    requires due { is_due (tx_state code.now machine.now) (ToldOne None) ≡ true }
+    ensures sound { IfOk result (IsSound code.now) }
+    ensures after { IfOk result (λ m. tx_state code.now m
+        ≡ next code.now (tx_state code.now machine.now) (ToldOne None)) }
+{
+    let mut copy = machine.copy()?;
+    match copy.told(code) {
+        Ok(()) => Ok(copy),
+        Err(_) => Err(AllocError),
+    }
+}
+
+impl Engine {
+    /// The transaction that the session may give a reply of this kind for.
+    pub(super) fn allow_reply(&self, s: usize, kind: ReplyKind) -> Result<&Hold, EngineError>
+        ensures { MatchResult result
+            (λ h. Allows self.now s kind h.now)
+            (λ e. reply_refusal kind self.now s ≡ Some e) }
+    {
+        if s >= self.slots.len() {
+            return Err(EngineError::NoSession);
+        }
+        let Slot::Holding(hold) = &self.slots[s] else {
+            return Err(EngineError::NotDue);
+        };
+        let next = next_at(
+            &self.code,
+            self.first.next_id,
+            self.restored,
+            self.breaks.as_slice(),
+            self.mark,
+            &self.slots[s],
+        );
+        if !is_asked(kind, next) {
+            return Err(EngineError::NotDue);
+        }
+        if self.is_full() {
+            return Err(EngineError::HistoryFull);
+        }
+        Ok(hold)
+    }
+
+    // Records a reply that is due.
+    fn give(&mut self, alloc: Global, given: Given) -> Result<usize, EngineError>
+        requires { Gives self.old given.session given.id given.machine given.event given.advice
+            given.restored }
+        ensures { MatchResult result
+            (λ n. Recorded self.old given.event n self.new)
+            (λ e. (e ≡ EngineError.OutOfMemory) × (self.new ≡ self.old)) }
+    {
+        let session = given.session;
+        let restored = given.restored;
+        let number = self.entries.len() + 1;
+        let rows = self.first.rows.as_slice();
+        let ready = make_ready(alloc, &self.code, rows, self.recovering, number, given)?;
+        self.entries.try_reserve(1)?;
+        put_both(
+            &mut self.shelf,
+            &mut self.advices,
+            ready.shelved,
+            ready.advice,
+        )?;
+        self.entries.push_reserved(ready.entry);
+        self.recovering = goes_on(self.recovering, &ready.slot);
+        self.restored = restored;
+        self.slots[session] = ready.slot;
+        Ok(number)
+    }
+
+    /// The participant of the session's due preparation answered this byte and left this context.
+    /// Answers the entry's number; refuses `NoSession`, `NotDue` and `HistoryFull`.
+    pub fn answered(
+        &mut self,
+        alloc: Global,
+        s: usize,
+        byte: u8,
+        context: &Context,
+    ) -> Result<usize, EngineError>
+        ensures { Accepts EngineError.OutOfMemory (reply_refusal ReplyKind.Answer self.old s) result
+            (λ n. Recorded self.old (Event.Answered s byte (bytes_of context.now)) n self.new)
+            (self.new ≡ self.old) }
+    {
+        let hold = self.allow_reply(s, ReplyKind::Answer)?;
+        let id = hold.id;
+        let machine = after_answer(&self.code, &hold.machine, byte, spelled(context)?)?;
+        let given = Given {
+            session: s,
+            id,
+            machine,
+            event: Event::Answered {
+                session: s,
+                byte,
+                context: spelled(context)?,
+            },
+            advice: None,
+            restored: self.restored,
+        };
+        self.give(alloc, given)
+    }
+
+    /// The selector that was due selected the groups that this text names. Answers the entry's
+    /// number; refuses `NoSession`, `NotDue` and `HistoryFull`.
+    pub fn chose(&mut self, alloc: Global, s: usize, text: &str) -> Result<usize, EngineError>
+        ensures { Accepts EngineError.OutOfMemory (reply_refusal ReplyKind.Choice self.old s) result
+            (λ n. Recorded self.old (Event.Chose s text.now) n self.new)
+            (self.new ≡ self.old) }
+    {
+        let hold = self.allow_reply(s, ReplyKind::Choice)?;
+        let id = hold.id;
+        let machine = after_choice(alloc, &self.code, &hold.machine, text)?;
+        let given = Given {
+            session: s,
+            id,
+            machine,
+            event: Event::Chose {
+                session: s,
+                text: Text::from_str(alloc, text)?,
+            },
+            advice: None,
+            restored: self.restored,
+        };
+        self.give(alloc, given)
+    }
+
+    /// The session's due member was told the outcome, and may have given an advice. Answers the
+    /// entry's number; refuses `NoSession`, `NotDue` and `HistoryFull`.
+    pub fn told(
+        &mut self,
+        alloc: Global,
+        s: usize,
+        advice: Option<&[u8]>,
+    ) -> Result<usize, EngineError>
+        ensures { Accepts EngineError.OutOfMemory (reply_refusal ReplyKind.Told self.old s) result
+            (λ n. Recorded self.old (Event.Told s (option_map (λ a. a.now) advice.entry)) n self.new)
+            (self.new ≡ self.old) }
+    {
+        let hold = self.allow_reply(s, ReplyKind::Told)?;
+        let id = hold.id;
+        let place = (id, hold.machine.told_count());
+        let machine = after_told(&self.code, &hold.machine)?;
+        let given = Given {
+            session: s,
+            id,
+            machine,
+            event: Event::Told {
+                session: s,
+                advice: advice_bytes(alloc, advice)?,
+            },
+            advice: advice_at(alloc, place, advice)?,
+            restored: restored_after(self.restored, s),
+        };
+        self.give(alloc, given)
+    }
+}
+
+fn advice_bytes(alloc: Global, advice: Option<&[u8]>) -> Result<Option<Bytes>, AllocError>
+    ensures { IfOk result (λ bytes. bytes ≡ option_map (λ a. a.now) advice.entry) }
+{
+    match advice {
+        Some(advice) => Ok(Some(Bytes::new(Vec::from_slice(alloc, advice)?))),
+        None => Ok(None),
+    }
+}
+
+// The change of the advices: an advice is put at the place of the member that gave it.
+fn advice_at(
+    alloc: Global,
+    place: (u64, usize),
+    advice: Option<&[u8]>,
+) -> Result<Option<((u64, usize), Option<Bytes>)>, AllocError>
+    ensures { IfOk result (λ change.
+        change ≡ put_advice (Some place) (option_map (λ a. a.now) advice.entry)) }
+{
+    match advice {
+        Some(advice) => Ok(Some((place, Some(Bytes::new(Vec::from_slice(alloc, advice)?))))),
+        None => Ok(None),
+    }
+}
+
+// Before each outcome of session 0's journalled transactions the context is restored anew.
+fn restored_after(restored: bool, session: usize) -> bool
+    ensures { result ≡ (not (session == 0) && restored) }
+{
+    session != 0 && restored
+}

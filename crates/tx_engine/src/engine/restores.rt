@@ -1,0 +1,52 @@
+//! Contexts of recovered transactions, restored by their members.
+
+ghost use Rattle.std.specs.Prelude.{◌≡◌};
+ghost use Rattle.sw_base.specs.Refusals.{Accepts};
+ghost use Rattle.sw_context.specs.Spelling.{bytes_of};
+ghost use Rattle.tx_engine.specs.World.{Recorded};
+ghost use Rattle.tx_engine.specs.Calls.{reply_refusal};
+ghost use Rattle.tx_engine.specs.Kept.{touched};
+
+use super::{Engine, spelled};
+use crate::error::EngineError;
+use crate::next::ReplyKind;
+use crate::rows::no_change;
+use crate::slot::Slot;
+use sw_context::Context;
+use tx_history::{Entry, Event};
+
+// The slot after an entry that leaves its transaction where it stands.
+fn touch(slot: &mut Slot, number: usize)
+    ensures { slot.new ≡ touched slot.old number }
+{
+    if let Slot::Holding(hold) = slot {
+        hold.last = number;
+        hold.let_go = false;
+    }
+}
+
+impl Engine {
+    /// The member that is due restored the context of the session's recovered transaction, which is
+    /// left as given here; the journal keeps the saved one. Answers the entry's number; refuses
+    /// `NoSession`, `NotDue` and `HistoryFull`.
+    pub fn recovered(&mut self, s: usize, context: &Context) -> Result<usize, EngineError>
+        ensures { Accepts EngineError.OutOfMemory (reply_refusal ReplyKind.Recovered self.old s) result
+            (λ n. Recorded self.old (Event.Recovered s (bytes_of context.now)) n self.new)
+            (self.new ≡ self.old) }
+    {
+        let _hold = self.allow_reply(s, ReplyKind::Recovered)?;
+        let number = self.entries.len() + 1;
+        let event = Event::Recovered {
+            session: s,
+            context: spelled(context)?,
+        };
+        self.entries.push(Entry {
+            number,
+            event,
+            change: no_change(),
+        })?;
+        touch(&mut self.slots[s], number);
+        self.restored = true;
+        Ok(number)
+    }
+}

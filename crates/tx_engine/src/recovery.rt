@@ -1,0 +1,134 @@
+//! Transactions of the journal.
+
+ghost use Rattle.std.specs.Prelude.{◌≡◌, ◌<◌, ◌++◌, IfOk, OnOk, length, map};
+ghost use Rattle.std.specs.List.{All};
+ghost use Rattle.flow_model.specs.Places.{number_in, parts_of};
+ghost use Rattle.tx_machine.specs.Contract.{IsSound, tx_state};
+ghost use Rattle.tx_history.specs.History.{is_committing, number_of, reopened, to_tell};
+ghost use Rattle.tx_engine.specs.Kept.{AreKnown, IsNextSlot, IsSlotAfter};
+
+use crate::slot::{Slot, is_holding, slot_for};
+use flow_asm::Code;
+use flow_model::Part;
+use std::alloc::{AllocError, Global};
+use sw_participant::Text;
+use tx_history::Row;
+use tx_machine::{Machine, Phase};
+
+/// The number of the participant of this name, or how many participants there are.
+pub(crate) fn number_of(parts: &[Part], name: &str) -> usize
+    ensures { result ≡ number_in parts.now name.now }
+{
+    let mut number = 0;
+    for part in parts {
+        if part.name.as_str() == name {
+            return number;
+        }
+        number += 1;
+    }
+    number
+}
+
+// Adds the numbers of these participants.
+fn add_numbers(numbers: &mut Vec<usize>, code: &Code, names: &[Text]) -> Result<(), AllocError>
+    ensures { OnOk result (numbers.new.items ≡ numbers.old.items ++ map (number_of code.now) names.now) }
+{
+    for name in names {
+        numbers.push(number_of(code.participants(), name.as_str()))?;
+    }
+    Ok(())
+}
+
+// The numbers of those who are to be told: all that may have been prepared.
+fn members_of(alloc: Global, code: &Code, row: &Row) -> Result<Vec<usize>, AllocError>
+    ensures { IfOk result (λ members. members.items
+        ≡ map (number_of code.now) (to_tell row.now row.now.doing)) }
+{
+    let mut members = Vec::new(alloc);
+    add_numbers(&mut members, code, row.joined.as_slice())?;
+    match &row.doing {
+        Some(name) => {
+            members.push(number_of(code.participants(), name.as_str()))?;
+            Ok(members)
+        }
+        None => Ok(members),
+    }
+}
+
+fn is_committing(phase: Phase) -> bool
+    ensures { result ≡ is_committing phase }
+{
+    matches!(phase, Phase::Committing)
+}
+
+// The machine of a transaction of the journal.
+fn reopened(alloc: Global, code: &Code, row: &Row) -> Result<Machine, AllocError>
+    requires { All (λ n. number_of code.now n < length (parts_of code.now))
+        (to_tell row.now row.now.doing) }
+    ensures sound { IfOk result (λ m. IsSound code.now m) }
+    ensures state { IfOk result (λ m. tx_state code.now m ≡ reopened code.now row.now) }
+{
+    let members = members_of(alloc, code, row)?;
+    let saved = row.context.copy()?;
+    Ok(Machine::reopened(
+        alloc,
+        code,
+        is_committing(row.phase),
+        members,
+        row.told,
+        row.tries,
+        saved.into_vec(),
+    ))
+}
+
+/// The slot of session 0 when the transactions up to this id are over: the first behind it with
+/// somebody to tell. There are at most 16 rows.
+pub(crate) fn next_slot(
+    alloc: Global,
+    code: &Code,
+    rows: &[(u64, Row)],
+    id: u64,
+) -> Result<Slot, AllocError>
+    requires { AreKnown code.now rows.now }
+    ensures { IfOk result (λ x. IsNextSlot code.now rows.now id x) }
+{
+    for (next, row) in rows {
+        if id < *next {
+            let slot = slot_for(code, *next, reopened(alloc, code, row)?, 0);
+            if is_holding(&slot) {
+                return Ok(slot);
+            }
+        }
+    }
+    Ok(Slot::Free)
+}
+
+/// The slot of the session after an entry of its transaction.
+pub(crate) fn slot_after(
+    alloc: Global,
+    code: &Code,
+    rows: &[(u64, Row)],
+    recovering: bool,
+    step: Step,
+) -> Result<Slot, AllocError>
+    requires sound { IsSound code.now step.machine }
+    requires known { AreKnown code.now rows.now }
+    ensures { IfOk result (λ x.
+        IsSlotAfter recovering code.now rows.now step.id step.machine step.number x) }
+{
+    let id = step.id;
+    let slot = slot_for(code, id, step.machine, step.number);
+    if !recovering || is_holding(&slot) {
+        return Ok(slot);
+    }
+    next_slot(alloc, code, rows, id)
+}
+
+/// Where an entry leads its transaction.
+#[derive(Debug, Drop)]
+pub(crate) struct Step {
+    pub(crate) id: u64,
+    pub(crate) machine: Machine,
+    /// The entry's number.
+    pub(crate) number: usize,
+}

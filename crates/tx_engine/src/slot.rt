@@ -1,0 +1,126 @@
+//! What sessions hold.
+
+ghost use Rattle.std.specs.Prelude.{◌≡◌};
+ghost use Rattle.tx_machine.specs.Contract.{IsSound};
+ghost use Rattle.tx_history.specs.History.{participant_of};
+ghost use Rattle.tx_engine.specs.Kept.{flag, flag_of, is_holding, restoring, slot_held, slot_let_go, slot_next, slot_of};
+ghost use Rattle.tx_engine.specs.Kept.{IsSoundSlot};
+
+use crate::next::{Next, call_of, restored_by};
+use flow_asm::Code;
+use tx_machine::{Due, Machine};
+
+/// What a session holds.
+#[derive(Debug, Drop)]
+pub(crate) enum Slot {
+    Free,
+    Holding(Hold),
+}
+
+/// The transaction that a session holds.
+#[derive(Debug, Drop)]
+pub(crate) struct Hold {
+    pub(crate) id: u64,
+    pub(crate) machine: Machine,
+    // The number of its last entry, or 0.
+    pub(crate) last: usize,
+    // Whether the session was let go since the call became due.
+    pub(crate) let_go: bool,
+}
+
+/// The slot of a transaction after its entry of this number.
+pub(crate) fn slot_for(code: &Code, id: u64, machine: Machine, last: usize) -> Slot
+    requires { IsSound code.now machine }
+    ensures { result ≡ slot_of code.now machine id last }
+{
+    match machine.due(code) {
+        Due::Shelve | Due::Done => Slot::Free,
+        _ => Slot::Holding(Hold {
+            id,
+            machine,
+            last,
+            let_go: false,
+        }),
+    }
+}
+
+/// Whether the flag of this number is there and set.
+pub(crate) fn is_set(flags: &[bool], p: usize) -> bool
+    ensures { result ≡ flag flags.now p }
+{
+    match flags.get(p) {
+        Some(set) => *set,
+        None => false,
+    }
+}
+
+// Whether a breakpoint holds the call.
+fn is_stopped(breaks: &[bool], due: Due) -> bool
+    ensures { result ≡ flag_of breaks.now (participant_of due) }
+{
+    match due {
+        Due::Prepare(spot) | Due::PrepareForAbort(spot) | Due::Select(spot) => is_set(
+            breaks,
+            spot.participant,
+        ),
+        Due::Commit(p) | Due::Abort(p) => is_set(breaks, p),
+        Due::Shelve | Due::Done => false,
+    }
+}
+
+/// Whether a breakpoint holds the call that is due to a session with this slot.
+pub(crate) fn is_held_by(code: &Code, breaks: &[bool], slot: &Slot) -> bool
+    requires { IsSoundSlot code.now slot.now }
+    ensures { result ≡ slot_held code.now breaks.now slot.now }
+{
+    match slot {
+        Slot::Free => false,
+        Slot::Holding(hold) => is_stopped(breaks, hold.machine.due(code)) && !hold.let_go,
+    }
+}
+
+/// The slot's due call goes on, whatever breakpoint holds it.
+pub(crate) fn let_slot_go(slot: &mut Slot)
+    ensures { slot.new ≡ slot_let_go slot.old }
+{
+    if let Slot::Holding(hold) = slot {
+        hold.let_go = true;
+    }
+}
+
+/// What a session with this slot is to do. Ids below `first` are those of transactions of the journal;
+/// `restored` says whether the context was restored since the last outcome.
+pub(crate) fn next_at(
+    code: &Code,
+    first: u64,
+    restored: bool,
+    breaks: &[bool],
+    mark: usize,
+    slot: &Slot,
+) -> Next
+    requires { IsSoundSlot code.now slot.now }
+    ensures { result ≡ slot_next code.now first restored breaks.now mark slot.now }
+{
+    let Slot::Holding(hold) = slot else {
+        return Next::Idle;
+    };
+    let due = hold.machine.due(code);
+    let recovering = hold.id < first;
+    let restores = if recovering && !restored {
+        restored_by(code, due)
+    } else {
+        None
+    };
+    match call_of(hold.id, recovering, due, restores) {
+        None => Next::Idle,
+        Some(_) if mark < hold.last => Next::Unwritten,
+        Some(call) if is_stopped(breaks, due) && !hold.let_go => Next::Held(call),
+        Some(call) => Next::Due(call),
+    }
+}
+
+pub(crate) fn is_holding(slot: &Slot) -> bool
+    ensures { result ≡ is_holding slot.now }
+{
+    matches!(slot, Slot::Holding(_))
+}

@@ -1,0 +1,5 @@
+mod KeyNames
+mod TextFacts
+mod MakeLemmas
+mod ReadLemmas
+mod RestLemmas

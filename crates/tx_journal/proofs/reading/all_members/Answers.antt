@@ -1,0 +1,14 @@
+use Rattle.sqlite.specs.Held.{state}
+use Rattle.tx_journal.specs.Texts.{all_members_text}
+use Rattle.tx_journal.proofs.TextFacts.{all_members_plain}
+use Rattle.tx_journal.proofs.ReadLemmas.{reads_members, same_if, only_reads}
+use Rattle.tx_journal.proofs.reading.all_members.Goals as goal
+
+pub returns-clause-rows : goal.returns-clause-rows
+returns-clause-rows g c clean ready = reads_members (state g.S.Store c.args.conn.now) (state g.S.Store c.query_all.new.self) c.query_all.result ready (c.query_all.ensures.ok clean)
+
+pub returns-clause-same : goal.returns-clause-same
+returns-clause-same g c clean ready = same_if all_members_text all_members_plain (state g.S.Store c.args.conn.now) (state g.S.Store c.query_all.new.self) c.query_all.result ready (c.query_all.ensures.ok clean)
+
+pub returns-clause-survives : goal.returns-clause-survives
+returns-clause-survives g c = only_reads all_members_text all_members_plain (state g.S.Store c.args.conn.now) (state g.S.Store c.query_all.new.self) c.query_all.ensures.survives

@@ -1,0 +1,10 @@
+pub mod Trails
+pub mod TableStates
+pub mod OwnStates
+pub mod CoreMoves
+pub mod Cuts
+pub mod PlantMoves
+pub mod Turns
+pub mod StationCalls
+pub mod Examples
+pub mod Words

@@ -1,0 +1,10 @@
+pub mod Trail
+pub mod One
+pub mod States
+pub mod Core
+pub mod Plant
+pub mod Drive
+pub mod Stations
+pub mod Owning
+pub mod Words
+pub mod Example
