@@ -4,12 +4,12 @@ ghost use Rattle.std.specs.Prelude.{◌≡◌};
 ghost use Rattle.cli_flows.specs.Errors.{IsErrorOfFile, IsErrorOfImage, error_of_read, error_of_write};
 ghost use Rattle.cli_flows.specs.declared.error.FlowsError.TheVariants.{NotText, OutOfMemory};
 
-use crate::found::{found, line_at};
+use crate::found::{found, line_at, refused_in};
 use cli_io::{ReadError, WriteError};
 use cli_quote::Quoted;
 use flow_load::LoadError;
 use flow_toml::FlowTomlError;
-use std::alloc::{AllocError, AllocFailed};
+use std::alloc::{AllocError, AllocFailed, Global};
 use std::io;
 use std::str::Utf8Error;
 use thiserror::Error;
@@ -30,7 +30,7 @@ pub enum FlowsError {
     /// A flow file is no text.
     #[error("{0}; expected a flow file in UTF-8")]
     NotText(Utf8Error),
-    /// A text is no flow file, or its flow is refused; with the key that is not known.
+    /// A text is no flow file, or its flow is refused; with the key or the value that is refused.
     #[error("{}{}", .0, found(.1))]
     File(FlowTomlError, Option<Quoted>),
     /// Bytes are no image; with the line that is refused.
@@ -42,18 +42,15 @@ pub enum FlowsError {
 }
 
 impl FlowsError {
-    /// The error of a flow file that is refused.
-    pub fn of_file(error: FlowTomlError) -> FlowsError
+    /// The error of a text that is refused as a flow file.
+    pub fn of_file(alloc: Global, error: FlowTomlError, text: &str) -> FlowsError
         ensures { IsErrorOfFile error result }
     {
-        match error {
-            FlowTomlError::OutOfMemory => FlowsError::OutOfMemory,
-            FlowTomlError::Unknown(key, path) => {
-                let found = Quoted::of(key.as_str().as_bytes());
-                FlowsError::File(FlowTomlError::Unknown(key, path), Some(found))
-            }
-            other => FlowsError::File(other, None),
+        if let FlowTomlError::OutOfMemory = error {
+            return FlowsError::OutOfMemory;
         }
+        let found = refused_in(alloc, &error, text);
+        FlowsError::File(error, found)
     }
 
     /// The error of bytes that are refused as an image.

@@ -23,7 +23,7 @@ pub fn read_flow_bytes(alloc: Global, bytes: &[u8]) -> Result<Flow, FlowsError>
     let text = str::from_utf8(bytes)?;
     match read_flow(alloc, text) {
         Ok(flow) => Ok(flow),
-        Err(error) => Err(FlowsError::of_file(error)),
+        Err(error) => Err(FlowsError::of_file(alloc, error, text)),
     }
 }
 

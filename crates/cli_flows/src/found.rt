@@ -2,6 +2,9 @@
 
 use cli_quote::Quoted;
 use flow_load::LoadError;
+use flow_model::FlowError;
+use flow_toml::{FlowTomlError, Key, TablePath, value_at};
+use std::alloc::Global;
 use std::fmt;
 
 /// What a refusal quotes of the bytes, behind the text of the fault; nothing where it quotes nothing.
@@ -18,6 +21,37 @@ impl fmt::Display for Finding<'_> {
             Some(quoted) => write!(f, "; found {quoted}"),
             None => Ok(()),
         }
+    }
+}
+
+// Where the value of a flow file stands that its flow is refused for.
+fn key_of(error: FlowError) -> Option<(TablePath, Key)> {
+    match error {
+        FlowError::BadRetries => Some((TablePath::Top, Key::Retries)),
+        FlowError::DoubleGroup(group) | FlowError::BadName(group, None) => {
+            Some((TablePath::Group(group), Key::Name))
+        }
+        FlowError::KindClash(group, index) | FlowError::BadName(group, Some(index)) => {
+            Some((TablePath::Entry(group, index), Key::Participant))
+        }
+        FlowError::NoMain | FlowError::TooLarge => None,
+    }
+}
+
+fn value_in(alloc: Global, text: &str, at: Option<(TablePath, Key)>) -> Option<Quoted> {
+    let (path, key) = at?;
+    let value = value_at(alloc, text, path, key)?;
+    Some(Quoted::of(value.as_bytes()))
+}
+
+/// The key or the value of a flow file that is refused; nothing where the error names neither, and
+/// where memory is refused.
+pub(crate) fn refused_in(alloc: Global, error: &FlowTomlError, text: &str) -> Option<Quoted> {
+    match error {
+        FlowTomlError::Unknown(key, _path) => Some(Quoted::of(key.as_str().as_bytes())),
+        FlowTomlError::WrongKind(key, path) => value_in(alloc, text, Some((*path, *key))),
+        FlowTomlError::Flow(error) => value_in(alloc, text, key_of(*error)),
+        _ => None,
     }
 }
 

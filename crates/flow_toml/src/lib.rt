@@ -20,14 +20,18 @@
 //! - [`read_flow`] answers exactly the checked flow of a text, or its first fault in one written
 //!   order, with the key and the table that it stands in.
 //! - [`print_flow`] writes a text that reads back as the same flow.
+//!
+//! Of [`value_at`], which finds what a message quotes, nothing is promised; tests show it.
 #![tactic(auto)]
 
 mod error;
+mod find;
 mod keys;
 mod print;
 mod read;
 
 pub use error::FlowTomlError;
+pub use find::value_at;
 pub use keys::{Key, TablePath};
 pub use print::print_flow;
 pub use read::read_flow;

@@ -37,7 +37,7 @@ below_apart Less e = refl
 below_apart Equal e = absurd (true≢false (sym e))
 below_apart Greater e = refl
 
-next_read : (n : ℕ) (rows : List Row) → IsShaped Table rows → value_of (pos 2) (map shown_meta (put_row (meta_row (pos 2) (pos n)) (without_rowid (pos 2) rows))) ≡ pos n
+pub next_read : (n : ℕ) (rows : List Row) → IsShaped Table rows → value_of (pos 2) (map shown_meta (put_row (meta_row (pos 2) (pos n)) (without_rowid (pos 2) rows))) ≡ pos n
 next_read n rows h =
     let new = meta_row (pos 2) (pos n) in
     let passed = all_pass (low (Int (pos 2))) rows in
@@ -154,11 +154,11 @@ advice_leads (Some change) t v s = go change.1
 
 -- the rows
 
-members_only : (id place : ℕ) (names : List (List ℕ)) (t : Tables) → with_members id place names t ≡ record t { member = add_members id place names t.member }
+pub members_only : (id place : ℕ) (names : List (List ℕ)) (t : Tables) → with_members id place names t ≡ record t { member = add_members id place names t.member }
 members_only id place [] t = refl
 members_only id place (name ∷ names) t = members_only id (place + 1) names (with_member (pos id) (pos place) name t)
 
-phase_back : (p : Phase) → phase_of (code p) ≡ p
+pub phase_back : (p : Phase) → phase_of (code p) ≡ p
 phase_back Preparing = refl
 phase_back Aborting = refl
 phase_back Committing = refl
@@ -170,7 +170,7 @@ name_back (Some []) h = absurd h
 name_back (Some (b ∷ bs)) h = refl
 
 -- the row of another id has another number
-apart_ids : (id : ℕ) (r : Row) → IsNat (column r 0) → has_rowid (pos id) r ≡ false → int_in (column r 0) ≡ pos id → ⊥
+pub apart_ids : (id : ℕ) (r : Row) → IsNat (column r 0) → has_rowid (pos id) r ≡ false → int_in (column r 0) ≡ pos id → ⊥
 apart_ids id r nat apart same =
     let here : column r 0 ≡ Int (pos id) = nat ∙ ap (λ n. Int (pos (nat_of n))) same in
     true≢false (sym (ap (λ v. is_eq (value_cmp v (Int (pos id)))) here ∙ ap is_eq (Rattle.std.proofs.lemmas.Cmp.tied_itself Rattle.sqlite_value.proofs.OrderLemmas.value_cmp_total (Int (pos id)))) ∙ apart)

@@ -3,4 +3,7 @@ pub mod SortedLemmas
 pub mod PlacedLemmas
 pub mod LeadLemmas
 pub mod Views
+mod ExactTables
+mod ExactFaults
+pub mod SoundTables
 mod FirstBad

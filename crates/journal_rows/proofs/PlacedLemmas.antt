@@ -89,7 +89,7 @@ added id place (name ∷ names) rows h =
     let rest = added id (place + 1) names (put_row new rows) (IsShaped-put_row new rows refl h) in
     rest ∙ ap (λ l. l ++ news (next_rowid l) id (place + 1) names) more ∙ ap (λ k. (rows ++ new ∷ []) ++ news k id (place + 1) names) (next_after rows new) ∙ append_assoc rows (new ∷ []) (news (next_rowid rows +ℤ pos 1) id (place + 1) names)
 
-abbrev of_id : ℤ → Row → Bool
+abbrev pub of_id : ℤ → Row → Bool
 of_id i r = int_eq (int_in (column r 1)) i
 
 abbrev pub names_in : ℤ → List Row → List (List ℕ)
@@ -110,7 +110,7 @@ filter_twice p q (x ∷ xs) =
     elim (q x) as (λ b. filter p (cond b (x ∷ filter q xs) (filter q xs)) ≡ cond (b && p x) (x ∷ filter (λ x. q x && p x) xs) (filter (λ x. q x && p x) xs))
     [ true ↦ ap (λ l. cond (p x) (x ∷ l) l) (filter_twice p q xs) | false ↦ filter_twice p q xs ]
 
-of_is : (id : ℕ) (r : Row) → IsInt (column r 1) → is_of (pos id) r ≡ of_id (pos id) r
+pub of_is : (id : ℕ) (r : Row) → IsInt (column r 1) → is_of (pos id) r ≡ of_id (pos id) r
 of_is id r int = ap (λ v. is_eq (value_cmp v (Int (pos id)))) int ∙ ap is_eq (value_cmp-Int (int_in (column r 1)) (pos id))
 
 equal_itself : (i : ℤ) → int_eq i i ≡ true
@@ -138,7 +138,7 @@ news_above : (k l : ℤ) (id p q : ℕ) (name : List ℕ) (names : List (List �
 news_above k l id p q name [] less = tt
 news_above k l id p q name (n ∷ names) less = (place_less k l id p q name n less, news_above k (l +ℤ pos 1) id p (q + 1) name names (omega (arith, ints)))
 
-news_rise : (k : ℤ) (id place : ℕ) (names : List (List ℕ)) → Rises place_cmp place_total (news k id place names)
+pub news_rise : (k : ℤ) (id place : ℕ) (names : List (List ℕ)) → Rises place_cmp place_total (news k id place names)
 news_rise k id place [] = tt
 news_rise k id place (name ∷ names) = (news_above k (k +ℤ pos 1) id place (place + 1) name names (omega (arith, ints)), news_rise (k +ℤ pos 1) id (place + 1) names)
 
@@ -156,6 +156,14 @@ members_ints id place [] rows h = h
 members_ints id place (name ∷ names) rows h =
     let new = member_row (next_rowid rows) (pos id) (pos place) name in
     members_ints id (place + 1) names (put_row new rows) (all-put_row (λ r. IsInt (column r 1)) new rows refl h)
+
+unset : (b : Bool) → not b ≡ true → b ≡ false
+unset true e = absurd (true≢false (sym e))
+unset false e = refl
+
+-- the members of one id as they are read
+pub members_are : (i : ℤ) (rows : List Row) → IsTable rows → members_of i (map shown_member (sort_by place_cmp rows)) ≡ map shown_member (sort_by place_cmp (filter (of_id i) rows))
+members_are i rows up = filter-map (λ r. int_eq (int_at r 0) i) shown_member (sort_by place_cmp rows) ∙ ap (map shown_member) (filter_sorted place_cmp place_total (of_id i) rows (no_ties rows up))
 
 module _ (id : ℕ) (names : List (List ℕ)) (rows : List Row) (h : IsShaped Table rows) (ints : AllByRecursion (λ r. IsInt (column r 1)) rows) where
   others : List Row
@@ -203,6 +211,19 @@ module _ (id : ℕ) (names : List (List ℕ)) (rows : List Row) (h : IsShaped Ta
   others_left i apart =
       ap (filter (of_id i)) others_are
       ∙ filter-filter (of_id i) (λ r. not (of_id (pos id) r)) (λ r e. let same = same_int (int_in (column r 1)) i e in ap not (int_eq_apart (int_in (column r 1)) (pos id) (λ k. apart (sym same ∙ k)))) rows
+
+  -- the stored rows of one id after the members of this one are replaced
+  pub rows_same : (i : ℤ) → (i ≡ pos id → ⊥) → filter (of_id i) (add_members id 0 names (filter (λ r. not (is_of (pos id) r)) rows)) ≡ filter (of_id i) rows
+  unfolding others all
+  rows_same i apart =
+      ap (filter (of_id i)) all_is ∙ out i
+      ∙ ap₂ ◌++◌ (others_left i apart) (news_none i (next_rowid others) id 0 names (int_eq_apart (pos id) i (λ e. apart (sym e)))) ∙ Rattle.std.proofs.Common.append-nil (filter (of_id i) rows)
+
+  pub rows_new : filter (of_id (pos id)) (add_members id 0 names (filter (λ r. not (is_of (pos id) r)) rows)) ≡ news (next_rowid (filter (λ r. not (is_of (pos id) r)) rows)) id 0 names
+  unfolding others all
+  rows_new =
+      let none : filter (of_id (pos id)) others ≡ [] = ap (filter (of_id (pos id))) others_are ∙ filter_none (of_id (pos id)) _ (all_weaker _ (λ r. of_id (pos id) r ≡ false) (λ r e. unset (of_id (pos id) r) e) _ (all_pass (λ r. not (of_id (pos id) r)) rows)) in
+      ap (filter (of_id (pos id))) all_is ∙ out (pos id) ∙ ap₂ ◌++◌ none (news_all (next_rowid others) id 0 names)
 
   pub joined_same : (i : ℤ) → (i ≡ pos id → ⊥) → names_in i (add_members id 0 names (filter (λ r. not (is_of (pos id) r)) rows)) ≡ names_in i rows
   unfolding others all

@@ -40,7 +40,7 @@ nat_from v next int given = int_is' v int ∙ ap Int (low (int_in v) (and_parts 
     low (pos n) e = refl
     low (negsuc n) e = absurd (true≢false (sym e))
 
-none_bad : (good : Row → Bool) (rows : List Row) → first_bad good rows ≡ None → AllByRecursion (λ r. good r ≡ true) rows
+pub none_bad : (good : Row → Bool) (rows : List Row) → first_bad good rows ≡ None → AllByRecursion (λ r. good r ≡ true) rows
 none_bad good [] e = tt
 none_bad good (r ∷ rows) e = go (good r) refl e (none_bad good rows)
   where
@@ -48,12 +48,12 @@ none_bad good (r ∷ rows) e = go (good r) refl e (none_bad good rows)
     go true g e more = (g, more e)
     go false g e more = absurd (let k = e in cc)
 
-none_first : (Fits : ℕ → Row → Type 0) (n : ℕ) (rows : List Row) → IsFirstBad Fits n rows None → AllByRecursion (λ r. (k : ℕ) × Fits k r) rows
+pub none_first : (Fits : ℕ → Row → Type 0) (n : ℕ) (rows : List Row) → IsFirstBad Fits n rows None → AllByRecursion (λ r. (k : ℕ) × Fits k r) rows
 none_first Fits n [] e = tt
 none_first Fits n (r ∷ rows) (inl h) = ((n, h.0), none_first Fits (n + 1) rows h.1)
 none_first Fits n (r ∷ rows) (inr h) = absurd (let k = h.1 in cc)
 
-all_from_map : {A B : Type 0} (P : B → Type 0) (f : A → B) (xs : List A) → AllByRecursion P (map f xs) → AllByRecursion (λ x. P (f x)) xs
+pub all_from_map : {A B : Type 0} (P : B → Type 0) (f : A → B) (xs : List A) → AllByRecursion P (map f xs) → AllByRecursion (λ x. P (f x)) xs
 all_from_map P f [] h = tt
 all_from_map P f (x ∷ xs) h = (h.0, all_from_map P f xs h.1)
 
@@ -64,7 +64,7 @@ pub record NoFault (a b c d e : Option ℤ) : Type 0 where
   pub shelf : d ≡ None
   pub advice : e ≡ None
 
-all_passed : (a b c d e : Option ℤ) → first_of (bad_in table.Meta a ∷ bad_in table.Tx b ∷ bad_in table.Member c ∷ bad_in table.Shelf d ∷ bad_in table.Advice e ∷ []) ≡ None → NoFault a b c d e
+pub all_passed : (a b c d e : Option ℤ) → first_of (bad_in table.Meta a ∷ bad_in table.Tx b ∷ bad_in table.Member c ∷ bad_in table.Shelf d ∷ bad_in table.Advice e ∷ []) ≡ None → NoFault a b c d e
 all_passed a b c d e h =
     let five : Option BadRow = or_else (bad_in table.Advice e) None in
     let four : Option BadRow = or_else (bad_in table.Shelf d) five in
@@ -77,7 +77,7 @@ all_passed a b c d e h =
     let at_advice = passed e table.Advice None at_shelf.1 in
     record { meta = at_meta.0; tx = at_tx.0; member = at_member.0; shelf = at_shelf.0; advice = at_advice.0 }
 
-abbrev next_of : Tables → ℤ
+abbrev pub next_of : Tables → ℤ
 next_of t = value_of (pos 2) (map shown_meta t.meta)
 
 -- the parts of tables without a fault

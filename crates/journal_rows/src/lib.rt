@@ -15,4 +15,4 @@ mod reading;
 
 pub use error::{BadRow, JournalTable, RowsError};
 pub use faults::view_of;
-pub use laws::rows_lead_on;
+pub use laws::{rows_lead_on, sound_tables_stay};

@@ -4,6 +4,8 @@ use Rattle.sqlite.specs.State.{State, Survives}
 use Rattle.sqlite.proofs.StateLemmas.{survives_then}
 use Rattle.journal_rows.specs.Tables.{Tables, with_member, with_members, made, all_made}
 use Rattle.tx_history.specs.declared.event.Change.{Change}
+use Rattle.tx_history.specs.declared.event.Entry.{Entry}
+use Rattle.journal_rows.specs.Law.{changes_of}
 use Rattle.journal_tables.specs.Steps.{IsReady, Steps}
 
 pub steps_then : (f g : Tables → Tables) (a b c : State) → Steps f a b → Steps g b c → Steps (λ t. g (f t)) a c
@@ -24,9 +26,11 @@ members_more id place p (n ∷ names) (suc i) name low is at =
 pub survives_nothing : (a b c : State) → Survives a b (λ _. ⊥) → Survives b c (λ _. ⊥) → Survives a c (λ _. ⊥)
 survives_nothing a b c = survives_then a b c _ _ _ (λ _ db none. none) (λ _ db none. none)
 
-pub all_made_more : (cs : List Change) (i : ℕ) (c : Change) → i < length cs → c ≡ get_or cs i c → all_made (take (i + 1) cs) ≡ λ t. made c (all_made (take i cs) t)
-all_made_more [] i c low is = absurd (omega (arith, low))
-all_made_more (x ∷ cs) zero c low is = ap (λ (y : Change). λ t. made y t) (sym is)
-all_made_more (x ∷ cs) (suc i) c low is =
+pub all_made_more : (es : List Entry) (i : ℕ) (e : Entry) → i < length es → e ≡ get_or es i e
+    → all_made (changes_of (take (i + 1) es)) ≡ λ t. made e.change (all_made (changes_of (take i es)) t)
+all_made_more [] i e low is = absurd (omega (arith, low))
+all_made_more (x ∷ es) zero e low is = ap (λ (y : Entry). λ t. made y.change t) (sym is)
+all_made_more (x ∷ es) (suc i) e low is =
     let longer : suc i + 1 ≡ suc (i + 1) = omega arith in
-    ap (λ k. λ t. all_made (take k (x ∷ cs)) t) longer ∙ ap (λ f. λ t. f (made x t)) (all_made_more cs i c (omega (arith, low)) is)
+    ap (λ k. λ t. all_made (changes_of (take k (x ∷ es))) t) longer
+    ∙ ap (λ f. λ t. f (made x.change t)) (all_made_more es i e (omega (arith, low)) is)

@@ -4,8 +4,9 @@ ghost use Rattle.std.specs.Prelude.{pos, if◌then◌else◌, ◌≡◌, ◌≤�
 ghost use Rattle.sqlite.specs.Held.{state};
 ghost use Rattle.journal_rows.specs.Tables.{all_made, advice_made, code, made, next_made, no_shelf, row_made};
 ghost use Rattle.journal_rows.specs.Tables.{shelf_made, text_of, with_member, with_members};
-ghost use Rattle.journal_tables.specs.Small.{IsAdviceSmall, IsChangeSmall, IsNextSmall, IsRowChangeSmall, IsRowSmall};
-ghost use Rattle.journal_tables.specs.Small.{IsShelfSmall, IsSmall};
+ghost use Rattle.journal_tables.specs.Small.{IsAdviceSmall, IsChangeSmall, IsEntrySmall, IsNextSmall};
+ghost use Rattle.journal_tables.specs.Small.{IsRowChangeSmall, IsRowSmall, IsShelfSmall, IsSmall};
+ghost use Rattle.journal_rows.specs.Law.{changes_of};
 ghost use Rattle.journal_tables.specs.Steps.{Goes, LeavesNothing, Runs, with_row};
 
 use crate::statements::{
@@ -14,7 +15,7 @@ use crate::statements::{
 };
 use sqlite::{Alter, Error, Transaction};
 use sw_participant::{Bytes, Text};
-use tx_history::{Change, Row, Waiting};
+use tx_history::{Change, Entry, Row, Waiting};
 use tx_machine::Phase;
 
 // The next id.
@@ -210,18 +211,18 @@ pub fn make<S: Alter>(tx: &mut Transaction<'_, S>, change: &Change) -> Result<()
     make_advice(tx, &change.advice)
 }
 
-/// Makes all changes of a list, in order. A refusal of the store leaves some of them made, inside the
-/// transaction.
-pub fn make_all<S: Alter>(tx: &mut Transaction<'_, S>, changes: &[Change]) -> Result<(), Error>
-    requires small { All IsChangeSmall changes.now }
+/// Makes the changes of all entries, in order. A refusal of the store leaves some of them made, inside
+/// the transaction.
+pub fn make_all<S: Alter>(tx: &mut Transaction<'_, S>, entries: &[Entry]) -> Result<(), Error>
+    requires small { All IsEntrySmall entries.now }
     ensures same_reference { tx.new.conn.ghost_name ≡ tx.old.conn.ghost_name }
-    ensures steps { Goes (all_made changes.now)
+    ensures steps { Goes (all_made (changes_of entries.now))
         (state S.Store tx.old.conn.now) (state S.Store tx.new.conn.now) result }
     ensures survives { LeavesNothing
         (state S.Store tx.old.conn.now) (state S.Store tx.new.conn.now) }
 {
-    for change in changes {
-        make(tx, change)?;
+    for entry in entries {
+        make(tx, &entry.change)?;
     }
     Ok(())
 }

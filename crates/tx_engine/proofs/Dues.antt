@@ -4,9 +4,9 @@ use Rattle.std.proofs.Common.{◌≡◌, ℕ, ◌<◌, Bool, false, List, Option
 use Rattle.std.specs.Prelude.{nat_le}
 use Rattle.std.proofs.lemmas.Bool.Decides.{nat_tests}
 use Rattle.tx_machine.specs.Contract.{tx_state}
-use Rattle.tx_machine.specs.Due.{due_of}
+use Rattle.tx_machine.specs.Due.{due_of, participant_of}
 use Rattle.tx_history.specs.declared.event.Event.{Event}
-use Rattle.tx_history.specs.History.{Start, serves, state_of, holds, has_break, on_break, participant_of, is_restored}
+use Rattle.tx_history.specs.History.{Start, serves, state_of, holds, has_break, on_break, is_restored}
 use Rattle.tx_engine.specs.declared.next.Next.{Next}
 use Rattle.tx_engine.specs.declared.slot.Slot.{Slot}
 use Rattle.tx_engine.specs.declared.slot.Slot.TheVariants.{Free, Holding}

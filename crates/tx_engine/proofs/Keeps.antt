@@ -63,6 +63,7 @@ kept_step f n m v es mark r e number ch to k few is same t =
     let law : IsLawful f v (e ∷ past) = in_turn f v past e t.accepted t.usual cl (omega arith) k.past.lawful in
     let led = leads f v past e k.start.view.ordered law in
     rw (same, past_snoc es (record { number = number; event = e; change = ch })) (record {
+      seats = k.seats;
       flow = k.flow;
       start = k.start;
       past = record { few = k.past.few; sessions = t.takers k.past.sessions; spelled = t.spelled k.past.spelled; lawful = law };
@@ -180,6 +181,7 @@ pub kept_mark : (f : Flow) (n : ℕ) (v : Start) (es : List Entry) (mark to : �
 kept_mark f n v es mark to r k le =
     let len : length (past_of es) ≡ length es = length_past es in
     record {
+      seats = k.seats;
       flow = k.flow;
       start = k.start;
       past = k.past;

@@ -6,11 +6,11 @@ use Rattle.std.proofs.lemmas.Bool.Decides.{nat_tests}
 use Rattle.sw_base.specs.Refusals.{or_else, refused_if}
 use Rattle.flow_model.specs.declared.flow.Flow.{Flow}
 use Rattle.tx_machine.specs.Contract.{tx_state}
-use Rattle.tx_machine.specs.Due.{due_of}
+use Rattle.tx_machine.specs.Due.{due_of, participant_of}
 use Rattle.tx_history.specs.declared.event.Event.{Event}
 use Rattle.tx_history.specs.declared.event.Event.TheVariants.{LetGo}
 use Rattle.tx_history.specs.declared.event.Entry.{Entry}
-use Rattle.tx_history.specs.History.{Start, serves, state_of, holds, is_held, participant_of}
+use Rattle.tx_history.specs.History.{Start, serves, state_of, holds, is_held}
 use Rattle.tx_history.specs.Journal.{no_change}
 use Rattle.tx_engine.specs.declared.slot.Slot.{Slot}
 use Rattle.tx_engine.specs.declared.slot.Slot.TheVariants.{Free, Holding}

@@ -9,8 +9,11 @@ mod FilledMaps
 mod Closings
 mod Lists
 mod Undone
-mod Turns
-mod Gives
+pub mod Turns
+pub mod Gives
 mod Opens
 mod Restores
 mod Unknown
+mod Cuts
+mod Unfinished
+mod Held

@@ -76,6 +76,8 @@ told_first None b error.NotHeld h = absurd (cc)
 told_first None b error.BadMark h = absurd (cc)
 told_first None b error.NoSession h = absurd (cc)
 told_first None b error.HistoryFull h = absurd (cc)
+told_first None b error.InUse h = absurd (cc)
+told_first None b error.NotWritten h = absurd (cc)
 
 -- a member that is unknown comes before who is doing
 pub member_told : (f : Flow) (id : ℕ) (r : Row) (d : Option (List ℕ)) (e : EngineError) → IsOpenRefusal (unknown_in f id r.joined) e → IsOpenRefusal (unknown_in f id (to_tell r d)) e

@@ -10,16 +10,20 @@ use Rattle.sw_participant.specs.declared.call.Call.{Call}
 use Rattle.flow_model.specs.declared.flow.Flow.{Flow}
 use Rattle.flow_model.specs.Places.{parts_of}
 use Rattle.tx_machine.specs.declared.values.Due.{Due}
+use Rattle.tx_machine.specs.declared.values.Due.TheVariants as due
+use Rattle.tx_machine.specs.declared.values.Phase.{Phase}
+use Rattle.tx_machine.specs.declared.values.Spot.{Spot}
 use Rattle.tx_machine.specs.Due.{call_of, due_of, places_of}
 use Rattle.tx_machine.specs.declared.values.Item.{Item}
 use Rattle.tx_machine.specs.Bounds.{after_newest}
 use Rattle.tx_history.specs.declared.journal.Row.{Row}
 use Rattle.tx_history.specs.declared.journal.Waiting.{Waiting}
-use Rattle.tx_history.specs.History.{next_id, queue, state_of, holds, last_of, is_held_at, recovering, restores, marked, outcome_of, is_ended, reopened, number_of, is_held}
+use Rattle.tx_history.specs.History.{next_id, queue, state_of, holds, last_of, is_held_at, recovering, restores, marked, outcome_of, own_items, is_ended, reopened, number_of, is_held}
 use Rattle.tx_history.specs.Keys.{same_place}
 use Rattle.tx_history.specs.Journal.{advices}
 use Rattle.tx_engine.specs.declared.error.EngineError.{EngineError}
 use Rattle.tx_engine.specs.declared.error.EngineError.TheVariants as error
+use Rattle.tx_engine.specs.declared.next.At.{At}
 use Rattle.tx_engine.specs.declared.next.Next.{Next}
 use Rattle.tx_engine.specs.declared.next.Next.TheVariants as next
 use Rattle.tx_engine.specs.declared.next.ReplyKind.{ReplyKind}
@@ -175,7 +179,7 @@ answers (Some e) x = Err e
 abbrev pub next_refusal : World → ℕ → Option EngineError
 next_refusal w s = refused_if (no_session w s) error.NoSession
 
--- how many journalled transactions are not finished
+-- the journalled transactions that are not finished
 abbrev pub unfinished_in : Flow → (ℕ → List Item) → List (ℕ × Row) → List (ℕ × Row)
 unfinished_in f items rows = filter (λ (r : ℕ × Row). not (is_ended f (after_newest f (reopened f r.1) (items r.0)))) rows
 
@@ -186,3 +190,37 @@ rest_in w (Some id) = places_of (state_of w.flow w.start w.past id).rest
 -- the places of the entries to come of the transaction that the session holds
 abbrev pub rest_of : World → ℕ → List (ℕ × ℕ)
 rest_of w s = if no_session w s then [] else rest_in w (held_id w s)
+
+-- how many journalled transactions are not finished
+abbrev pub unfinished : World → ℕ
+unfinished w = length (unfinished_in w.flow (own_items w.flow w.start w.past) w.start.view.rows)
+
+abbrev pub saved_in : World → Option ℕ → Option (ℕ × List ℕ)
+saved_in w None = None
+saved_in w (Some id) = Some (id, (state_of w.flow w.start w.past id).saved)
+
+-- the transaction that the session holds, and its saved context
+abbrev pub saved_of : World → ℕ → Option (ℕ × List ℕ)
+saved_of w s = saved_in w (held_id w s)
+
+-- the entry whose call is due; none while members are told
+abbrev pub spot_of : Due → Option Spot
+spot_of (due.Prepare s) = Some s
+spot_of (due.PrepareForAbort s) = Some s
+spot_of (due.Select s) = Some s
+spot_of (due.Commit p) = None
+spot_of (due.Abort p) = None
+spot_of due.Shelve = None
+spot_of due.Done = None
+
+abbrev pub at_call : Option Call → Phase → Option Spot → ℕ → Option At
+at_call None phase spot id = None
+at_call (Some call) phase spot id = Some (record { id = id; phase = phase; call = call; spot = spot })
+
+abbrev pub at_in : World → Option ℕ → Option At
+at_in w None = None
+at_in w (Some id) = at_call (due_call w id) (state_of w.flow w.start w.past id).phase (spot_of (due_of w.flow (state_of w.flow w.start w.past id))) id
+
+-- where the transaction stands that the session holds, and its due call
+abbrev pub at_of : World → ℕ → Option At
+at_of w s = if no_session w s then None else at_in w (held_id w s)

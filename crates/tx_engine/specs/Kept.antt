@@ -1,28 +1,30 @@
 -- What the running parts of an engine are, from its history.
-use Rattle.std.specs.Prelude.{◌≡◌, ℕ, ◌≤◌, ◌<◌, Bool, true, false, List, [], ◌∷◌, reverse, map, slice_get, Option, Some, None, is_some, nat_lt, not, ◌&&◌, if◌then◌else◌, length}
+use Rattle.std.specs.Prelude.{◌≡◌, ℕ, ◌≤◌, ◌<◌, Bool, true, false, List, [], ◌∷◌, reverse, map, slice_get, Option, Some, None, is_some, nat_lt, not, ◌&&◌, if◌then◌else◌, length, filter}
 use Rattle.std.specs.List.{All}
+use Rattle.sw_participant.specs.declared.call.Call.{Call}
 use Rattle.flow_model.specs.declared.flow.Flow.{Flow}
 use Rattle.flow_model.specs.Places.{parts_of}
 use Rattle.tx_machine.specs.declared.values.Due.{Due}
 use Rattle.tx_machine.specs.declared.machine.Machine.{Machine}
 use Rattle.tx_machine.specs.Contract.{IsSound, tx_state}
 use Rattle.tx_machine.specs.Table.{TxState}
-use Rattle.tx_machine.specs.Due.{due_of}
+use Rattle.tx_machine.specs.Due.{due_of, participant_of}
 use Rattle.tx_history.specs.declared.event.Event.{Event}
 use Rattle.tx_history.specs.declared.event.Entry.{Entry}
 use Rattle.tx_history.specs.declared.journal.Row.{Row}
 use Rattle.tx_history.specs.declared.journal.Waiting.{Waiting}
-use Rattle.tx_history.specs.History.{Start, is_ended, next_id, queue, shelf, unless_ended, last_of, is_let_go, has_break, participant_of, is_restored, recovering, number_of, reopened, to_tell}
+use Rattle.tx_history.specs.History.{Start, is_ended, next_id, queue, shelf, unless_ended, last_of, is_let_go, has_break, is_restored, recovering, number_of, reopened, to_tell}
 use Rattle.tx_history.specs.Journal.{entries, advices, to_close}
 use Rattle.tx_history.specs.Views.{FlowFits, StartFits, IsHistory}
 use Rattle.tx_history.specs.Held.{session_state}
 use Rattle.tx_engine.specs.declared.next.Next.{Next}
 use Rattle.tx_engine.specs.declared.next.Next.TheVariants as next
+use Rattle.tx_engine.specs.declared.next.At.{At}
 use Rattle.tx_engine.specs.declared.slot.Slot.{Slot}
 use Rattle.tx_engine.specs.declared.slot.Slot.TheVariants.{Free, Holding}
 use Rattle.tx_engine.specs.declared.slot.Hold.{Hold}
 use Rattle.tx_engine.specs.World.{World}
-use Rattle.tx_engine.specs.Calls.{restored_by, call_with, next_by}
+use Rattle.tx_engine.specs.Calls.{restored_by, call_with, next_by, at_call, spot_of}
 
 abbrev pub is_holding : Slot → Bool
 is_holding Free = false
@@ -52,12 +54,21 @@ flag_of flags (Some p) = flag flags p
 abbrev pub restoring : Flow → ℕ → Bool → ℕ → Due → Option (ℕ × Bool)
 restoring f first restored id due = if nat_lt id first && not restored then restored_by f due else None
 
+-- the call that is due to a session that holds this
+abbrev pub hold_call : Flow → ℕ → Bool → Hold → Option Call
+hold_call f first restored h =
+    call_with h.id (nat_lt h.id first) (due_of f (tx_state f h.machine)) (restoring f first restored h.id (due_of f (tx_state f h.machine)))
+
 -- what a session with this slot is to do
 abbrev pub slot_next : Flow → ℕ → Bool → List Bool → ℕ → Slot → Next
 slot_next f first restored breaks mark Free = next.Idle
 slot_next f first restored breaks mark (Holding h) =
-    next_by (nat_lt mark h.last) (flag_of breaks (participant_of (due_of f (tx_state f h.machine))) && not h.let_go)
-    (call_with h.id (nat_lt h.id first) (due_of f (tx_state f h.machine)) (restoring f first restored h.id (due_of f (tx_state f h.machine))))
+    next_by (nat_lt mark h.last) (flag_of breaks (participant_of (due_of f (tx_state f h.machine))) && not h.let_go) (hold_call f first restored h)
+
+-- where the transaction of this slot stands
+abbrev pub slot_at : Flow → ℕ → Bool → Slot → Option At
+slot_at f first restored Free = None
+slot_at f first restored (Holding h) = at_call (hold_call f first restored h) (tx_state f h.machine).phase (spot_of (due_of f (tx_state f h.machine))) h.id
 
 -- whether a breakpoint holds the call that is due to a session with this slot
 abbrev pub slot_held : Flow → List Bool → Slot → Bool
@@ -93,6 +104,10 @@ AreKnown f rows = (k : ℕ) (r : ℕ × Row) → slice_get rows k ≡ Some r →
 abbrev pub next_row : Flow → List (ℕ × Row) → ℕ → Option (ℕ × Row)
 next_row f [] id = None
 next_row f (r ∷ rows) id = if nat_lt id r.0 && not (is_ended f (reopened f r.1)) then Some r else next_row f rows id
+
+-- those of these transactions behind an id with somebody to tell
+abbrev pub behind : Flow → List (ℕ × Row) → ℕ → List (ℕ × Row)
+behind f rows id = filter (λ (r : ℕ × Row). nat_lt id r.0 && not (is_ended f (reopened f r.1))) rows
 
 -- a transaction of the journal before its first item
 pub record IsReopened (f : Flow) (r : ℕ × Row) (h : Hold) : Type 0 where
@@ -148,6 +163,7 @@ pub record Running : Type 0 where
 
 -- each running part is its function of the history
 pub record Kept (w : World) (es : List Entry) (r : Running) : Type 0 where
+  pub seats : 1 ≤ w.sessions
   pub flow : FlowFits w.flow
   pub start : StartFits w.flow w.start
   pub past : IsHistory w.flow w.start w.sessions w.past

@@ -3,3 +3,5 @@ pub mod Calls
 pub mod Kept
 pub mod Opening
 pub mod Items
+pub mod Cuts
+pub mod Replies

@@ -2,6 +2,7 @@
 
 mod acks;
 mod breaks;
+mod cuts;
 mod opening;
 mod queries;
 mod queue;

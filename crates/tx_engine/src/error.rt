@@ -7,7 +7,10 @@ use std::alloc::{AllocError, AllocFailed};
 use sw_participant::Text;
 use thiserror::Error;
 
-/// Why a call is refused. It has then changed nothing.
+/// Why a call is refused. It has then changed nothing. The numbers of the refusals are: 1
+/// `UnknownParticipant`, 2 `BadSessions`, 3 `Busy`, 4 `Empty`, 5 `Recovering`, 6 `IdsSpent`, 7 `NotDue`,
+/// 8 `NoAdvice`, 9 `NoParticipant`, 10 `NotHeld`, 11 `BadMark`, 12 `NoSession`, 13 `HistoryFull`,
+/// 14 `OutOfMemory`, 15 `InUse`, 16 `NotWritten`.
 #[derive(Debug, Drop, Error)]
 pub enum EngineError {
     /// The row of this transaction names a participant that the flow does not have.
@@ -46,6 +49,12 @@ pub enum EngineError {
     HistoryFull,
     #[error("out of memory")]
     OutOfMemory,
+    /// A session holds a transaction that is not finished, a recovered one too.
+    #[error("a session holds a transaction")]
+    InUse,
+    /// The mark is below the number of entries.
+    #[error("entries of the history are not written")]
+    NotWritten,
 }
 
 impl From<AllocError> for EngineError {

@@ -12,4 +12,5 @@ mod slot;
 
 pub use engine::{Engine, TakenTx};
 pub use error::EngineError;
-pub use next::Next;
+pub use next::{At, Next, restored_by};
+pub use recovery::reopened;

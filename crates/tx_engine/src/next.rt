@@ -3,11 +3,11 @@
 ghost use Rattle.std.specs.Prelude.{◌≡◌, ◌<◌, IfSome, Some};
 ghost use Rattle.tx_machine.specs.Due.{participant_of};
 ghost use Rattle.tx_history.specs.History.{outcome_of, recovers};
-ghost use Rattle.tx_engine.specs.Calls.{asks_for, asked, call_with, restored_by};
+ghost use Rattle.tx_engine.specs.Calls.{asks_for, asked, call_with, restored_by, spot_of};
 
 use flow_asm::Code;
 use sw_participant::{Act, Call};
-use tx_machine::Due;
+use tx_machine::{Due, Phase, Spot};
 
 /// What a session is to do.
 #[derive(Clone, Copy, Debug, PartialEq, Eq)]
@@ -20,6 +20,16 @@ pub enum Next {
     Held(Call),
     /// The call is due.
     Due(Call),
+}
+
+/// Where a session's transaction stands: its due call, and the entry that is called.
+#[derive(Clone, Copy, Debug, PartialEq, Eq)]
+pub struct At {
+    pub id: u64,
+    pub phase: Phase,
+    pub call: Call,
+    /// None while members are told the outcome.
+    pub spot: Option<Spot>,
 }
 
 /// A kind of reply.
@@ -74,8 +84,9 @@ fn recovers(code: &Code, participant: usize) -> bool
     }
 }
 
-// The `recover` call that goes before this outcome: whom it goes to, and whether to commit.
-pub(crate) fn restored_by(code: &Code, due: Due) -> Option<(usize, bool)>
+/// The `recover` call that goes before this outcome of a journalled transaction: the number of the
+/// participant that it goes to, and whether to commit.
+pub fn restored_by(code: &Code, due: Due) -> Option<(usize, bool)>
     ensures { result ≡ restored_by code.now due }
 {
     match due {
@@ -106,5 +117,15 @@ pub(crate) fn call_of(
         Due::Commit(p) => Some(call(id, p, Act::Commit { recovering })),
         Due::Abort(p) => Some(call(id, p, Act::Abort { recovering })),
         Due::Shelve | Due::Done => None,
+    }
+}
+
+/// The entry whose call is due.
+pub(crate) fn spot_of(due: Due) -> Option<Spot>
+    ensures { result ≡ spot_of due }
+{
+    match due {
+        Due::Prepare(spot) | Due::PrepareForAbort(spot) | Due::Select(spot) => Some(spot),
+        Due::Commit(_) | Due::Abort(_) | Due::Shelve | Due::Done => None,
     }
 }

@@ -1,33 +1,20 @@
 //! Transactions of the journal.
 
-ghost use Rattle.std.specs.Prelude.{◌≡◌, ◌<◌, ◌++◌, IfOk, OnOk, length, map};
+ghost use Rattle.std.specs.Prelude.{◌≡◌, ◌<◌, ◌≤◌, ◌++◌, ◌&&◌, IfOk, OnOk, length, map, nat_lt, not};
 ghost use Rattle.std.specs.List.{All};
-ghost use Rattle.flow_model.specs.Places.{number_in, parts_of};
+ghost use Rattle.flow_model.specs.declared.flow.Flow.{Flow};
+ghost use Rattle.flow_model.specs.Places.{parts_of};
 ghost use Rattle.tx_machine.specs.Contract.{IsSound, tx_state};
-ghost use Rattle.tx_history.specs.History.{is_committing, number_of, reopened, to_tell};
-ghost use Rattle.tx_engine.specs.Kept.{AreKnown, IsNextSlot, IsSlotAfter};
+ghost use Rattle.tx_history.specs.History.{is_committing, is_ended, number_of, reopened, to_tell};
+ghost use Rattle.tx_engine.specs.Kept.{AreKnown, IsNextSlot, IsSlotAfter, behind};
 
 use crate::slot::{Slot, is_holding, slot_for};
 use flow_asm::Code;
-use flow_model::Part;
+use flow_model::number_of;
 use std::alloc::{AllocError, Global};
 use sw_participant::Text;
 use tx_history::Row;
 use tx_machine::{Machine, Phase};
-
-/// The number of the participant of this name, or how many participants there are.
-pub(crate) fn number_of(parts: &[Part], name: &str) -> usize
-    ensures { result ≡ number_in parts.now name.now }
-{
-    let mut number = 0;
-    for part in parts {
-        if part.name.as_str() == name {
-            return number;
-        }
-        number += 1;
-    }
-    number
-}
 
 // Adds the numbers of these participants.
 fn add_numbers(numbers: &mut Vec<usize>, code: &Code, names: &[Text]) -> Result<(), AllocError>
@@ -61,8 +48,41 @@ fn is_committing(phase: Phase) -> bool
     matches!(phase, Phase::Committing)
 }
 
-// The machine of a transaction of the journal.
-fn reopened(alloc: Global, code: &Code, row: &Row) -> Result<Machine, AllocError>
+/// Whether nobody is to be told of a transaction of the journal. That is so in every flow.
+pub(crate) fn is_over(row: &Row) -> bool
+    ensures { (f : Flow) → result ≡ is_ended f (reopened f row.now) }
+{
+    let joined = row.joined.as_slice().len();
+    match row.doing {
+        Some(_) => row.told > joined,
+        None => row.told >= joined,
+    }
+}
+
+// Whether the transaction of this id and row is behind another one and has somebody to tell.
+fn is_behind(id: u64, next: u64, row: &Row) -> bool
+    ensures { (f : Flow) → result ≡ (nat_lt id next && not (is_ended f (reopened f row.now))) }
+{
+    id < next && !is_over(row)
+}
+
+/// How many of these transactions behind an id have somebody to tell. There are at most 16 rows.
+pub(crate) fn open_behind(rows: &[(u64, Row)], id: u64) -> usize
+    ensures counted { (f : Flow) → result ≡ length (behind f rows.now id) }
+    ensures few { result ≤ length rows.now }
+{
+    let mut count = 0;
+    for (next, row) in rows {
+        if is_behind(id, *next, row) {
+            count += 1;
+        }
+    }
+    count
+}
+
+/// The machine of a transaction of the journal before its first outcome is told: its members are told
+/// on, or, where it was not committing, from its first one. The only refusal is want of memory.
+pub fn reopened(alloc: Global, code: &Code, row: &Row) -> Result<Machine, AllocError>
     requires { All (λ n. number_of code.now n < length (parts_of code.now))
         (to_tell row.now row.now.doing) }
     ensures sound { IfOk result (λ m. IsSound code.now m) }

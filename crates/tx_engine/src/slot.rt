@@ -2,12 +2,14 @@
 
 ghost use Rattle.std.specs.Prelude.{◌≡◌};
 ghost use Rattle.tx_machine.specs.Contract.{IsSound};
-ghost use Rattle.tx_history.specs.History.{participant_of};
-ghost use Rattle.tx_engine.specs.Kept.{flag, flag_of, is_holding, restoring, slot_held, slot_let_go, slot_next, slot_of};
+ghost use Rattle.tx_machine.specs.Due.{participant_of};
+ghost use Rattle.tx_engine.specs.Kept.{flag, flag_of, hold_call, is_holding, slot_at, slot_held};
+ghost use Rattle.tx_engine.specs.Kept.{slot_let_go, slot_next, slot_of};
 ghost use Rattle.tx_engine.specs.Kept.{IsSoundSlot};
 
-use crate::next::{Next, call_of, restored_by};
+use crate::next::{At, Next, call_of, restored_by, spot_of};
 use flow_asm::Code;
+use sw_participant::Call;
 use tx_machine::{Due, Machine};
 
 /// What a session holds.
@@ -88,6 +90,39 @@ pub(crate) fn let_slot_go(slot: &mut Slot)
     }
 }
 
+// The call that is due to a session that holds this.
+fn hold_call(code: &Code, first: u64, restored: bool, hold: &Hold) -> Option<Call>
+    requires { IsSound code.now hold.now.machine }
+    ensures { result ≡ hold_call code.now first restored hold.now }
+{
+    let due = hold.machine.due(code);
+    let recovering = hold.id < first;
+    let restores = if recovering && !restored {
+        restored_by(code, due)
+    } else {
+        None
+    };
+    call_of(hold.id, recovering, due, restores)
+}
+
+/// Where the transaction of this slot stands. Ids below `first` are those of transactions of the
+/// journal; `restored` says whether the context was restored since the last outcome.
+pub(crate) fn at_slot(code: &Code, first: u64, restored: bool, slot: &Slot) -> Option<At>
+    requires { IsSoundSlot code.now slot.now }
+    ensures { result ≡ slot_at code.now first restored slot.now }
+{
+    let Slot::Holding(hold) = slot else {
+        return None;
+    };
+    let call = hold_call(code, first, restored, hold)?;
+    Some(At {
+        id: hold.id,
+        phase: hold.machine.phase(),
+        call,
+        spot: spot_of(hold.machine.due(code)),
+    })
+}
+
 /// What a session with this slot is to do. Ids below `first` are those of transactions of the journal;
 /// `restored` says whether the context was restored since the last outcome.
 pub(crate) fn next_at(
@@ -104,17 +139,12 @@ pub(crate) fn next_at(
     let Slot::Holding(hold) = slot else {
         return Next::Idle;
     };
-    let due = hold.machine.due(code);
-    let recovering = hold.id < first;
-    let restores = if recovering && !restored {
-        restored_by(code, due)
-    } else {
-        None
-    };
-    match call_of(hold.id, recovering, due, restores) {
+    match hold_call(code, first, restored, hold) {
         None => Next::Idle,
         Some(_) if mark < hold.last => Next::Unwritten,
-        Some(call) if is_stopped(breaks, due) && !hold.let_go => Next::Held(call),
+        Some(call) if is_stopped(breaks, hold.machine.due(code)) && !hold.let_go => {
+            Next::Held(call)
+        }
         Some(call) => Next::Due(call),
     }
 }

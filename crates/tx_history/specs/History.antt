@@ -7,11 +7,11 @@ use Rattle.flow_model.specs.Places.{parts_of, number_in}
 use Rattle.tx_machine.specs.declared.values.Phase.{Phase}
 use Rattle.tx_machine.specs.declared.values.Phase.TheVariants.{Committing}
 use Rattle.tx_machine.specs.declared.values.Due.{Due}
-use Rattle.tx_machine.specs.declared.values.Due.TheVariants.{Prepare, PrepareForAbort, Select, Commit, Abort, Shelve, Done}
+use Rattle.tx_machine.specs.declared.values.Due.TheVariants.{Commit, Abort, Shelve, Done}
 use Rattle.tx_machine.specs.declared.values.Item.{Item}
 use Rattle.tx_machine.specs.declared.values.Item.TheVariants.{Answer, Choice, Told as ToldOne}
 use Rattle.tx_machine.specs.Table.{TxState, opening, reopening}
-use Rattle.tx_machine.specs.Due.{due_of}
+use Rattle.tx_machine.specs.Due.{due_of, participant_of}
 use Rattle.tx_machine.specs.Bounds.{after_newest}
 use Rattle.tx_history.specs.declared.event.Event.{Event}
 use Rattle.tx_history.specs.declared.event.Event.TheVariants.{Offered, Taken, Answered, Chose, Told, Recovered, Released, Broke, Cleared, LetGo}
@@ -243,15 +243,6 @@ is_let_go (Chose t x ∷ past) s = not (t == s) && is_let_go past s
 is_let_go (Told t a ∷ past) s = not (t == s) && is_let_go past s
 is_let_go (Recovered t c ∷ past) s = not (t == s) && is_let_go past s
 is_let_go (_ ∷ past) s = is_let_go past s
-
-abbrev pub participant_of : Due → Option ℕ
-participant_of (Prepare s) = Some s.participant
-participant_of (PrepareForAbort s) = Some s.participant
-participant_of (Select s) = Some s.participant
-participant_of (Commit p) = Some p
-participant_of (Abort p) = Some p
-participant_of Shelve = None
-participant_of Done = None
 
 abbrev pub on_break : Start → List Event → Option ℕ → Bool
 on_break v past None = false

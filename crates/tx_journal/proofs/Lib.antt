@@ -3,3 +3,4 @@ mod TextFacts
 mod MakeLemmas
 mod ReadLemmas
 mod RestLemmas
+pub mod HistoryChanges

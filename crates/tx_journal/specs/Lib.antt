@@ -5,3 +5,4 @@ pub mod Rest
 pub mod Kept
 pub mod Left
 pub mod Means
+pub mod Histories

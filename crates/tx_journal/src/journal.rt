@@ -3,8 +3,9 @@
 ghost use Rattle.std.specs.Prelude.{◌≡◌, ◌≤◌, ◌⊎◌, All, Err, IfErr, IfOk, IsTrue, OnErr, OnOk, false, true};
 ghost use Rattle.sqlite.specs.Held.{state};
 ghost use Rattle.sqlite_trees.specs.View.{doubt};
+ghost use Rattle.journal_rows.specs.Law.{changes_of};
 ghost use Rattle.journal_rows.specs.Tables.{Tables, all_made};
-ghost use Rattle.journal_tables.specs.Small.{IsChangeSmall};
+ghost use Rattle.journal_tables.specs.Small.{IsEntrySmall};
 ghost use Rattle.tx_journal.specs.Kept.{IsCleanJournal, OpensAs, kept};
 ghost use Rattle.tx_journal.specs.Left.{IsBeforeOrMade};
 ghost use Rattle.tx_journal.specs.Means.{IsStore, Means};
@@ -19,7 +20,7 @@ use journal_tables::write_all;
 use sqlite::{Alter, Connection, Error, ErrorCode};
 use std::alloc::Global;
 use std::marker::Model;
-use tx_history::{Change, JournalView};
+use tx_history::{Entry, JournalView};
 
 fn cause_of(error: &Error) -> JournalError
     ensures { IsStore result }
@@ -63,28 +64,28 @@ impl<S: Alter + Drop> Drop for Journal<S> {
 }
 
 impl<S: Alter> Journal<S> {
-    /// Makes all changes in one transaction, or none. `Failed` comes of a failed journal alone and does
+    /// Makes the changes of all entries in one transaction, or none. `Failed` comes of a failed journal alone and does
     /// nothing; where the store refuses, the journal is failed, and a stop leaves all changes made or
     /// none.
-    pub fn write(&mut self, changes: &[Change]) -> Result<(), JournalError>
-        requires small { All IsChangeSmall changes.now }
+    pub fn write(&mut self, entries: &[Entry]) -> Result<(), JournalError>
+        requires small { All IsEntrySmall entries.now }
         ensures failed { IsTrue self.old.failed → (result ≡ Err JournalError.Failed) × (self.new ≡ self.old) }
         ensures clean { doubt (kept S.Store self.old).is_clean ≤ doubt (kept S.Store self.new).is_clean }
         ensures ok { OnOk result (self.new.failed ≡ false) }
         ensures err { OnErr result (self.new.failed ≡ true) }
         ensures wrote { IsCleanJournal (kept S.Store self.new) → OnOk result
-            ((kept S.Store self.new).tables ≡ all_made changes.now (kept S.Store self.old).tables) }
+            ((kept S.Store self.new).tables ≡ all_made (changes_of entries.now) (kept S.Store self.old).tables) }
         ensures kept { IsCleanJournal (kept S.Store self.new) → OnOk result ((t : Tables)
             → (kept S.Store self.new).may_leave t → t ≡ (kept S.Store self.new).tables) }
         ensures stop { IsCleanJournal (kept S.Store self.new) → self.old.failed ≡ false
             → (t : Tables) → (kept S.Store self.new).may_leave t
             → (t ≡ (kept S.Store self.old).tables)
-            ⊎ (t ≡ all_made changes.now (kept S.Store self.old).tables) }
+            ⊎ (t ≡ all_made (changes_of entries.now) (kept S.Store self.old).tables) }
     {
         if self.failed {
             return Err(JournalError::Failed);
         }
-        match write_all(&mut self.conn, changes) {
+        match write_all(&mut self.conn, entries) {
             Ok(()) => Ok(()),
             Err(error) => {
                 self.failed = true;

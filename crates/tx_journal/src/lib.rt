@@ -13,6 +13,7 @@
 
 mod error;
 mod journal;
+mod laws;
 mod layout;
 mod making;
 mod reading;
@@ -20,3 +21,4 @@ mod settle;
 
 pub use error::{Cause, JournalError};
 pub use journal::{Journal, Left};
+pub use laws::{entries_fit, histories_are_kept};

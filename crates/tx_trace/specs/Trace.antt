@@ -1,5 +1,5 @@
 -- The text of the trace.
-use Rattle.std.specs.Prelude.{ℕ, Bool, List, [], ◌∷◌, ◌++◌, codes, if◌then◌else◌, ◌/◌, ◌%◌, ◌+◌, nat_lt, slice_get, take, map, filter, is_some}
+use Rattle.std.specs.Prelude.{ℕ, Bool, List, [], ◌∷◌, ◌++◌, codes, if◌then◌else◌, ◌/◌, ◌%◌, ◌+◌, nat_lt, slice_get, take, map, filter, is_some, Option, Some, None, false}
 use Rattle.std.specs.Borrow.{Bor}
 use Rattle.std.specs.List.{flat_map}
 use Rattle.std.specs.Option.{option_map_or}
@@ -18,6 +18,8 @@ use Rattle.tx_machine.specs.declared.values.Due.TheVariants as due
 use Rattle.tx_machine.specs.Names.{names_of}
 use Rattle.tx_machine.specs.Table.{TxState}
 use Rattle.tx_machine.specs.Due.{due_of}
+use Rattle.tx_machine.specs.declared.machine.Machine.{Machine}
+use Rattle.tx_machine.specs.Contract.{tx_state}
 use Rattle.tx_history.specs.declared.event.Event.{Event}
 use Rattle.tx_history.specs.declared.event.Event.TheVariants.{Answered, Chose, Told}
 
@@ -104,10 +106,41 @@ event_text f (Chose s text) place bound = choice_text f text ++ bound_text bound
 event_text f (Told s advice) place bound = told_text (is_some advice) place
 event_text f _ place bound = []
 
--- `ID PHASE CALL `
-abbrev pub head_text : ℕ → Flow → Phase → Due → Text
-head_text id f phase call = decimal id ++ codes " " ++ phase_text phase ++ codes " " ++ due_text f call ++ codes " "
+-- the call that is due, or the end; a `recover` call goes first, where one is there
+abbrev pub call_text : Flow → Option (ℕ × Bool) → Due → Text
+call_text f None d = due_text f d
+call_text f (Some call) d = codes "recover " ++ part_name f call.0
 
--- `ID PHASE CALL .. -> NEXT`: an event that leads from one state to the next
+-- where a transaction stands, with the `recover` call that goes before its outcome: whom it goes to, and whether to
+-- commit
+pub record Point : Type 0 where
+  pub state : TxState
+  pub restores : Option (ℕ × Bool)
+
+abbrev pub point_of : Flow → Machine → Option (ℕ × Bool) → Point
+point_of f m call = record { state = tx_state f m; restores = call }
+
+abbrev pub point_text : Flow → Point → Text
+point_text f s = call_text f s.restores (due_of f s.state)
+
+-- `ID PHASE CALL `
+abbrev pub head_text : ℕ → Phase → Text → Text
+head_text id phase call = decimal id ++ codes " " ++ phase_text phase ++ codes " " ++ call ++ codes " "
+
+-- what an event on a transaction adds behind its call; `recovering` says that the transaction comes from the journal
+abbrev pub detail_text : Flow → Bool → Event → ℕ → Bool → Text
+detail_text f recovering event place bound = word_if recovering (codes "recovering ") ++ event_text f event place bound
+
+-- `ID PHASE CALL .. -> NEXT`: an event that leads a transaction from where it stood to where it stands
+abbrev pub moved_text : ℕ → Flow → Bool → Point → Event → Point → Text
+moved_text id f recovering before event after =
+    head_text id before.state.phase (point_text f before)
+    ++ (detail_text f recovering event before.state.told after.state.bound ++ codes "-> " ++ point_text f after)
+
+-- where no `recover` call goes before the outcome
+abbrev pub plain_point : TxState → Point
+plain_point s = record { state = s; restores = None }
+
+-- the same of a transaction that does not come from the journal
 abbrev pub step_text : ℕ → Flow → TxState → Event → TxState → Text
-step_text id f before event after = head_text id f before.phase (due_of f before) ++ (event_text f event before.told after.bound ++ codes "-> " ++ due_text f (due_of f after))
+step_text id f before event after = moved_text id f false (plain_point before) event (plain_point after)

@@ -1,13 +1,25 @@
-//! The trace: one line of text for each thing that happens to a transaction.
+//! The trace: one line of text for each entry of an engine's history.
 //!
-//! Promised here: [`step_line`] is, byte by byte, the line that `specs/Trace.antt` writes down, for
-//! an answer, a choice or a told that leads from one state of a transaction to the next.
+//! Promised here, byte by byte, by the definitions in `specs/Trace.antt` and `specs/Lines.antt`:
+//! - [`Tracer::next`] is the line of the next entry, for every kind of event, at the cost of that entry;
+//! - [`line`] is the line of the entry of a number, and there is none where there is no such entry;
+//! - [`whereis`] and [`rest`] are where the transaction of a session stands, and what is still to come;
+//! - [`step_line`] is the line of an answer, a choice or a told that leads from one state of a
+//!   transaction to the next.
 #![tactic(auto)]
 
+mod entries;
 mod known;
-mod line;
+mod laws;
+mod moves;
 mod names;
+mod places;
 mod text;
+mod tracer;
 
-pub use line::step_line;
+pub use entries::{line, rest};
+pub use laws::tracers_go_on;
+pub use moves::step_line;
+pub use places::{Place, whereis};
 pub use text::NextText;
+pub use tracer::Tracer;

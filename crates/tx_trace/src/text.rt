@@ -2,7 +2,7 @@
 
 ghost use Rattle.std.specs.Prelude.{◌≡◌, ◌<◌, Some, ◌++◌, codes, if◌then◌else◌, map};
 ghost use Rattle.sw_participant.specs.Answers.{is_bad, is_readonly, stays_out};
-ghost use Rattle.tx_trace.specs.Trace.{answer_text, bound_text, comma_list, due_text, head_text, hex_digit};
+ghost use Rattle.tx_trace.specs.Trace.{answer_text, bound_text, call_text, comma_list, due_text, head_text, hex_digit};
 ghost use Rattle.tx_trace.specs.Trace.{hex_text, phase_text, spot_text, told_text, word_if};
 
 use crate::names::Names;
@@ -84,16 +84,42 @@ impl fmt::Display for NextText<'_> {
     }
 }
 
+/// The call that is due, or the end; a `recover` call goes first, where one is there.
+#[derive(Drop)]
+pub struct CallText<'a> {
+    pub next: NextText<'a>,
+    /// The participant that the `recover` call goes to, and whether to commit.
+    pub restores: Option<(usize, bool)>,
+}
+
+impl fmt::Display for CallText<'_> {
+    ghost output = { λ c. Some (call_text c.next.names.code.now c.restores c.next.due) };
+
+    fn fmt<W: fmt::Write>(&self, f: &mut fmt::Formatter<W>) -> fmt::Result {
+        match self.restores {
+            Some((member, _)) => {
+                let name = self.next.names.participant(member);
+                write!(f, "recover {name}")
+            }
+            None => {
+                let next = &self.next;
+                write!(f, "{next}")
+            }
+        }
+    }
+}
+
 /// `ID PHASE CALL `, the call being the one that was due.
 #[derive(Drop)]
 pub struct Head<'a> {
     pub id: u64,
     pub phase: Phase,
-    pub call: NextText<'a>,
+    pub call: CallText<'a>,
 }
 
 impl fmt::Display for Head<'_> {
-    ghost output = { λ h. Some (head_text h.id h.call.names.code.now h.phase h.call.due) };
+    ghost output = { λ h. Some (head_text h.id h.phase
+        (call_text h.call.next.names.code.now h.call.restores h.call.next.due)) };
 
     fn fmt<W: fmt::Write>(&self, f: &mut fmt::Formatter<W>) -> fmt::Result {
         let id = self.id;
@@ -158,6 +184,13 @@ pub fn bound_word(bound: bool) -> &'static str
     ensures { result.now ≡ bound_text bound }
 {
     if bound { "bound " } else { "" }
+}
+
+/// `recovering ` where the transaction comes from the journal.
+pub fn recovering_word(recovering: bool) -> &'static str
+    ensures { result.now ≡ word_if recovering (codes "recovering ") }
+{
+    if recovering { "recovering " } else { "" }
 }
 
 /// An answer byte as `HH [bad ]JOIN CTX `.

@@ -4,7 +4,7 @@
 ghost use Rattle.std.specs.Prelude.{◌≡◌, ◌∷◌, [], IfErr, IfOk, None, OnOk, false, replicate};
 ghost use Rattle.flow_model.specs.declared.flow.Flow.{Flow};
 ghost use Rattle.tx_history.specs.Keys.{Rising};
-ghost use Rattle.tx_history.specs.History.{Start, is_ended, reopened, to_tell};
+ghost use Rattle.tx_history.specs.History.{Start, to_tell};
 ghost use Rattle.tx_history.specs.Journal.{entries, to_close};
 ghost use Rattle.tx_history.specs.Lives.{closes_of};
 ghost use Rattle.tx_history.specs.Views.{IsOk, PlacesRise};
@@ -14,9 +14,10 @@ ghost use Rattle.tx_engine.specs.declared.slot.Slot.TheVariants.{Free};
 
 use super::Engine;
 use crate::error::EngineError;
-use crate::recovery::{next_slot, number_of};
+use crate::recovery::{is_over, next_slot};
 use crate::slot::{Slot, is_holding};
 use flow_asm::Code;
+use flow_model::number_of;
 use std::alloc::{AllocError, Global};
 use std::collections::{BTreeMap, VecDeque};
 use sw_participant::{Bytes, Sequence, Text};
@@ -171,17 +172,6 @@ fn test_rows(code: &Code, rows: &[(u64, Row)]) -> Result<(), EngineError>
         test_row(code, *id, row)?;
     }
     Ok(())
-}
-
-// Whether nobody is to be told of a transaction of the journal. That is so in every flow.
-fn is_over(row: &Row) -> bool
-    ensures { (f : Flow) → result ≡ is_ended f (reopened f row.now) }
-{
-    let joined = row.joined.as_slice().len();
-    match row.doing {
-        Some(_) => row.told > joined,
-        None => row.told >= joined,
-    }
 }
 
 fn closing(number: usize, id: u64) -> Entry

@@ -1,19 +1,23 @@
 //! What an engine tells of itself, without memory; and the written mark.
 
-ghost use Rattle.std.specs.Prelude.{◌≡◌, ◌≤◌, drop, length, map, is_some, IfOk};
-ghost use Rattle.sw_base.specs.Refusals.{refused};
+ghost use Rattle.std.specs.Prelude.{◌≡◌, ◌≤◌, ⊤, drop, length, map, is_some, option_map, IfOk};
+ghost use Rattle.sw_base.specs.Refusals.{Accepts, refused};
+ghost use Rattle.sw_context.specs.Spelling.{bytes_of};
 ghost use Rattle.tx_history.specs.History.{queue, recovering, shelf};
 ghost use Rattle.tx_history.specs.Journal.{advices, entries};
 ghost use Rattle.tx_history.specs.Views.{FlowFits, IsHistory, StartFits};
-ghost use Rattle.tx_engine.specs.Calls.{answers, after_mark, mark_refusal, next_of, next_refusal, rest_of};
+ghost use Rattle.tx_engine.specs.Calls.{after_mark, answers, at_of, mark_refusal, next_of};
+ghost use Rattle.tx_engine.specs.Calls.{next_refusal, rest_of, saved_of, unfinished};
 
 use super::Engine;
 use crate::error::EngineError;
-use crate::next::Next;
-use crate::slot::{Slot, next_at};
+use crate::next::{At, Next};
+use crate::recovery::open_behind;
+use crate::slot::{Slot, at_slot, next_at};
 use flow_asm::Code;
 use std::alloc::{AllocError, Global};
 use std::collections::BTreeMap;
+use sw_context::Context;
 use sw_participant::Bytes;
 use tx_history::{Entry, JournalView};
 
@@ -122,6 +126,54 @@ impl Engine {
         ensures { result ≡ is_some (recovering self.now.flow self.now.start self.now.past) }
     {
         self.recovering
+    }
+
+    /// How many transactions of the journal are not finished.
+    pub fn recovering(&self) -> usize
+        ensures { result ≡ unfinished self.now }
+    {
+        if !self.recovering {
+            return 0;
+        }
+        match &self.slots[0] {
+            Slot::Free => 0,
+            Slot::Holding(hold) => 1 + open_behind(self.first.rows.as_slice(), hold.id),
+        }
+    }
+
+    /// The id and the saved context of the transaction that the session holds: the context of its last
+    /// answer that was not read-only. Refuses `NoSession`.
+    pub fn saved(&self, alloc: Global, s: usize) -> Result<Option<(u64, Context)>, EngineError>
+        ensures { Accepts EngineError.OutOfMemory (next_refusal self.now s) result
+            (λ saved. option_map (λ held. (held.0, bytes_of held.1)) saved ≡ saved_of self.now s)
+            ⊤ }
+    {
+        if s >= self.slots.len() {
+            return Err(EngineError::NoSession);
+        }
+        let Slot::Holding(hold) = &self.slots[s] else {
+            return Ok(None);
+        };
+        match Context::from_bytes(alloc, hold.machine.saved()) {
+            Ok(context) => Ok(Some((hold.id, context))),
+            Err(_) => Err(EngineError::OutOfMemory),
+        }
+    }
+
+    /// Where the transaction stands that the session holds, and its due call; none for an idle or
+    /// unknown session.
+    pub fn at(&self, s: usize) -> Option<At>
+        ensures { result ≡ at_of self.now s }
+    {
+        if s >= self.slots.len() {
+            return None;
+        }
+        at_slot(
+            &self.code,
+            self.first.next_id,
+            self.restored,
+            &self.slots[s],
+        )
     }
 
     /// The places (group, index) of the entries to come of the transaction that the session holds, the

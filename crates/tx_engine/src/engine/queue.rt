@@ -1,6 +1,7 @@
 //! The queue and the shelf: offers, takes and releases.
 
-ghost use Rattle.std.specs.Prelude.{◌≡◌, ◌+◌, ◌++◌, ◌∷◌, ◌≤◌, [], ℕ, true, false, ◌<◌, Some, None, IfOk, MatchResult, length, map, slice_get};
+ghost use Rattle.std.specs.Prelude.{◌≡◌, ◌+◌, ◌++◌, ◌∷◌, ◌≤◌, [], ℕ, true, false, ◌<◌, Some, None};
+ghost use Rattle.std.specs.Prelude.{IfOk, MatchResult, length, map, slice_get};
 ghost use Rattle.std.specs.VecDeque.{deque_len, deque_capacity};
 ghost use Rattle.std.specs.BTreeMap.{btree_map_len};
 ghost use Rattle.sw_base.specs.Refusals.{Accepts};

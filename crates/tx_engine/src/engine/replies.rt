@@ -1,6 +1,7 @@
 //! Replies to due calls.
 
-ghost use Rattle.std.specs.Prelude.{◌≡◌, ◌&&◌, ◌==◌, not, option_map, ◌∷◌, [], None, Some, IfOk, MatchResult, if◌then◌else◌, true, false};
+ghost use Rattle.std.specs.Prelude.{◌≡◌, ◌&&◌, ◌==◌, not, option_map, ◌∷◌, [], None, Some, IfOk};
+ghost use Rattle.std.specs.Prelude.{MatchResult, if◌then◌else◌, true, false};
 ghost use Rattle.sw_base.specs.Refusals.{Accepts};
 ghost use Rattle.sw_context.specs.Spelling.{bytes_of};
 ghost use Rattle.tx_machine.specs.Contract.{IsSound, tx_state};

@@ -5,17 +5,17 @@ use Rattle.journal_tables.specs.Steps.{Steps}
 use Rattle.journal_tables.proofs.ChainLemmas.{steps_then, survives_nothing, all_made_more}
 use Rattle.journal_tables.proofs.making.make_all.Goals as goal
 
-pub loop-change-preserved : goal.loop-change-preserved
-loop-change-preserved g c =
+pub loop-entry-preserved : goal.loop-entry-preserved
+loop-entry-preserved g c =
     let old = state g.S.Store c.args.tx.now.conn.now in
-    let mid = state g.S.Store c.loop-change.tx.conn.now in
+    let mid = state g.S.Store c.loop-entry.tx.conn.now in
     let new = state g.S.Store c.make.new.tx.conn.now in
-    let before = c.loop-change.invariant in (
+    let before = c.loop-entry.invariant in (
       search rules,
       survives_nothing old mid new before.1 c.make.ensures.survives,
       λ clean ready live.
           let early : HasCleanDisk mid = omega (arith, c.make.ensures.survives.clean) in
           let one = before.2 early ready live in
           let two = c.in_ok-make.ensures.steps clean one.ready one.is_open in
-          subst (λ f. Steps f old new) (sym (all_made_more c.args.changes.now c.loop-change.change-index c.change-item.result c.loop-change-test.true c.change-item.is)) (steps_then _ _ old mid new one two),
+          subst (λ f. Steps f old new) (sym (all_made_more c.args.entries.now c.loop-entry.entry-index c.entry-item.result c.loop-entry-test.true c.entry-item.is)) (steps_then _ _ old mid new one two),
     )

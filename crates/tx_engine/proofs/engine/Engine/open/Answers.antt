@@ -17,12 +17,13 @@ invariant_of-result c =
     let known = rows_known c.args.code.now c.args.view.now.rows (rw c.as_slice-rows.ensures at (c.in_ok-test_rows.ensures)) in
     let st = start_fits c.args.code.now c.args.view.now c.requires known in
     let fits = checked_fits c.args.code.now c.retries-retries.ensures.checked in
+    let some : 1 ≤ c.args.sessions = omega arith in
     let few : c.args.sessions ≤ 16 = omega arith in
     let is = rw c.as_slice-rows.ensures at (c.in_ok-closings.ensures c.args.code.now (first_start c.args.view.now)) in
     let next = rw c.as_slice-rows.ensures at (c.in_ok-first_slot.ensures) in
     let slots : slice_set c.in_ok-slots.slots.items 0 c.in_ok-first_slot.first_slot ≡ slice_set (replicate c.args.sessions Free) 0 c.in_ok-first_slot.first_slot = ap (λ (l : List Slot). slice_set l 0 c.in_ok-first_slot.first_slot) (c.in_ok-slots.ensures) in
     let many : length (slice_set c.in_ok-slots.slots.items 0 c.in_ok-first_slot.first_slot) ≡ c.args.sessions = ap (λ (l : List Slot). length l) slots ∙ sessions_are c.args.sessions c.in_ok-first_slot.first_slot in
-    kept_made c.args.code.now _ c.args.view.now _ c.args.sessions _ _ c.in_ok-first_slot.first_slot _ _ _ _ _ _ _ _ fits st few is next
+    kept_made c.args.code.now _ c.args.view.now _ c.args.sessions _ _ c.in_ok-first_slot.first_slot _ _ _ _ _ _ _ _ fits st some few is next
     (c.in_ok-copy.ensures) (c.in_ok-copy-2.ensures) many (c.new-2.ensures ∙ c.new.ensures.items) (c.new-4.ensures ∙ c.new-3.ensures.items) slots c.new-5.ensures.items
     (c.in_ok-shelf_of.ensures ∙ c.as_slice.ensures) (c.in_ok-advices_of.ensures ∙ c.as_slice-2.ensures) (c.in_ok-no_breaks.ensures ∙ ap (λ (ps : List Part). replicate (length ps) false) c.participants.ensures.participants) c.is_holding-recovering.ensures
 

@@ -1,0 +1,10 @@
+pub mod LookedRows
+pub mod OpeningClosings
+pub mod FullStates
+pub mod ServedSessions
+pub mod StatesAgree
+pub mod LastEntries
+pub mod StandingStates
+pub mod RestoredAgree
+pub mod CallsAgree
+pub mod AdvicesByPlace

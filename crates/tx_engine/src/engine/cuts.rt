@@ -1,0 +1,128 @@
+//! Cuts: a history begins anew from what is written, without a stop.
+
+ghost use Rattle.std.specs.Prelude.{◌≡◌, [], IfOk, MatchResult, None, OnOk, Some, filter, length};
+ghost use Rattle.std.specs.List.{list_any, range_with_len};
+ghost use Rattle.sw_base.specs.Refusals.{Accepts};
+ghost use Rattle.tx_engine.specs.Cuts.{cut_refusal, cut_world, is_in_use};
+ghost use Rattle.tx_engine.specs.Kept.{flag, is_holding};
+
+use super::Engine;
+use crate::error::EngineError;
+use crate::slot::{Slot, is_holding};
+use std::alloc::{AllocError, Global};
+use std::collections::{BTreeMap, VecDeque};
+use sw_participant::{Bytes, Sequence};
+use tx_history::{JournalView, Waiting};
+
+impl Engine {
+    // Whether a session holds a transaction.
+    fn is_in_use(&self) -> bool
+        ensures { result ≡ is_in_use self.now }
+    {
+        any_holding(self.slots.as_slice())
+    }
+
+    // Whether the history may be cut.
+    fn allow_cut(&self) -> Result<(), EngineError>
+        ensures { MatchResult result
+            (λ _. cut_refusal self.now ≡ None)
+            (λ e. cut_refusal self.now ≡ Some e) }
+    {
+        if self.is_in_use() {
+            return Err(EngineError::InUse);
+        }
+        if self.mark < self.entries.len() {
+            return Err(EngineError::NotWritten);
+        }
+        Ok(())
+    }
+
+    /// The history begins anew, with no entry, from the journal as it is now: that is what `opened`
+    /// gives from then on, and it has no unfinished transaction. Queue, shelf, advices, breakpoints and
+    /// next id stay. Refuses, in this order, `InUse` while a session holds a transaction, and
+    /// `NotWritten` while an entry is above the mark.
+    pub fn cut(&mut self, alloc: Global) -> Result<(), EngineError>
+        ensures cut { Accepts EngineError.OutOfMemory (cut_refusal self.old) result
+            (λ _. self.new ≡ cut_world self.old)
+            (self.new ≡ self.old) }
+        ensures finished { OnOk result (self.new.start.view.rows ≡ []) }
+    {
+        self.allow_cut()?;
+        let view = JournalView {
+            next_id: self.next_id,
+            rows: Sequence::new(Vec::new(alloc)),
+            shelf: Sequence::new(shelf_items(alloc, &self.shelf)?),
+            advices: Sequence::new(advice_items(alloc, &self.advices)?),
+        };
+        let queue = queue_items(alloc, &self.queue)?;
+        let breaks = set_numbers(alloc, self.breaks.as_slice())?;
+        self.first = view;
+        self.first_queue = Sequence::new(queue);
+        self.first_breaks = Sequence::new(breaks);
+        self.entries = Vec::new(alloc);
+        self.mark = 0;
+        self.restored = false;
+        self.recovering = false;
+        Ok(())
+    }
+}
+
+// Whether a session holds a transaction, by its slot.
+fn any_holding(slots: &[Slot]) -> bool
+    ensures { result ≡ list_any is_holding slots.now }
+{
+    slots.iter().any(|slot| is_holding(slot))
+}
+
+// The contexts on the shelf under their ids, once more.
+fn shelf_items(
+    alloc: Global,
+    shelf: &BTreeMap<u64, Waiting>,
+) -> Result<Vec<(u64, Waiting)>, AllocError>
+    ensures { IfOk result (λ items. items.items ≡ shelf.now.entries) }
+{
+    let mut items = Vec::new(alloc);
+    for (id, waiting) in shelf {
+        items.push((*id, waiting.copy()?))?;
+    }
+    Ok(items)
+}
+
+// The advices under their places, once more.
+fn advice_items(
+    alloc: Global,
+    advices: &BTreeMap<(u64, usize), Bytes>,
+) -> Result<Vec<((u64, usize), Bytes)>, AllocError>
+    ensures { IfOk result (λ items. items.items ≡ advices.now.entries) }
+{
+    let mut items = Vec::new(alloc);
+    for (place, advice) in advices {
+        items.push((*place, advice.copy()?))?;
+    }
+    Ok(items)
+}
+
+// The contexts that wait, once more.
+fn queue_items(alloc: Global, queue: &VecDeque<Waiting>) -> Result<Vec<Waiting>, AllocError>
+    ensures { IfOk result (λ items. items.items ≡ queue.now.items) }
+{
+    let mut items = Vec::new(alloc);
+    for waiting in queue {
+        items.push(waiting.copy()?)?;
+    }
+    Ok(items)
+}
+
+// The numbers whose flag is set, rising.
+fn set_numbers(alloc: Global, flags: &[bool]) -> Result<Vec<usize>, AllocError>
+    ensures { IfOk result (λ numbers. numbers.items
+        ≡ filter (flag flags.now) (range_with_len 0 (length flags.now))) }
+{
+    let mut numbers = Vec::new(alloc);
+    for (number, set) in flags.iter().enumerate() {
+        if *set {
+            numbers.push(number)?;
+        }
+    }
+    Ok(numbers)
+}

@@ -1,0 +1,9 @@
+mod Serving
+mod Maps
+mod Leads
+mod Stepping
+mod Turning
+mod SmallEntries
+mod Restarting
+mod Driving
+mod Looping
