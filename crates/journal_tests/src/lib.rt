@@ -1,4 +1,5 @@
-//! Tests of the journal that no subcommand of the program shows: what was written is read, and rows spoilt by SQL are named.
+//! Tests of the journal that no subcommand of the program shows: what was written is read, and rows
+//! spoilt by SQL are named.
 #![tactic(auto)]
 
 #[cfg(test)]

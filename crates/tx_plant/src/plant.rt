@@ -11,6 +11,8 @@ ghost use Rattle.tx_plant.specs.Core.{core};
 ghost use Rattle.tx_plant.specs.Led.{Led};
 ghost use Rattle.tx_plant.specs.Plant.{Drives, DrivesTo, Reopens, Turned, seen, whole};
 ghost use Rattle.tx_plant.specs.Turns.{event_for};
+ghost use Rattle.flow_model.specs.Places.{parts_of};
+ghost use Rattle.sw_seating.specs.Seating.{AreSeated, names_of};
 
 use crate::restart::reopen;
 use crate::running::Running;
@@ -163,6 +165,8 @@ impl<S: Alter> Plant<S> {
         ensures opened { IfOk result (λ p. Reopens code.now sessions (seen (kept S.Store journal))
             p.running.engine p.running.seats (seen (kept S.Store p.journal))) }
         ensures stations { IfOk result (λ p. IsPermutation stations.items p.stations.items) }
+        ensures seated { IfOk result (λ p.
+            AreSeated (names_of p.stations.items) (parts_of code.now)) }
         ensures handed_back { IfErr result (λ e. IsPermutation stations.items e.2.items) }
     {
         let mut journal = journal;
