@@ -9,7 +9,10 @@ import tempfile
 import threading
 from dataclasses import dataclass, field
 
-SECONDS = 30
+# Long enough for a transaction with a thousand members on a busy machine: each of its entries writes them all.
+SECONDS = 300
+# Prints the tables of a journal's file.
+TABLES = os.path.join(os.path.dirname(os.path.abspath(__file__)), "tables.py")
 
 
 class Exactly:
@@ -163,6 +166,7 @@ class Program:
         os.makedirs(f"{self.room}/bin")
         os.makedirs(f"{self.room}/empty")
         os.symlink(self.path, f"{self.room}/bin/cardswitch")
+        os.symlink(TABLES, f"{self.room}/bin/tables")
         self.environment = {"PATH": f"{self.room}/bin:/usr/local/bin:/usr/bin:/bin", "LANG": "C.UTF-8"}
         resource.setrlimit(resource.RLIMIT_CORE, (0, 0))
         return self

@@ -66,8 +66,8 @@ def commands_of(block):
     return commands
 
 
-def cases_of_page(name, text):
-    files = {}
+def cases_of_page(name, text, examples):
+    files = dict(examples)
     for before, block in blocks_of(text):
         named = NAMED.search(before)
         if block[0].startswith("$ "):
@@ -83,7 +83,11 @@ def cases_of_page(name, text):
 
 
 def cases_of(top):
-    """The examples of all pages."""
+    """The examples of all pages, run beside the files of examples/."""
+    examples = {}
+    for path in glob.glob(os.path.join(glob.escape(top), "examples", "*")):
+        with open(path, "rb") as file:
+            examples[os.path.basename(path)] = file.read()
     for path in sorted(glob.glob(os.path.join(glob.escape(top), "docs", "*.md"))):
         with open(path, encoding="utf-8") as file:
-            yield from cases_of_page(f"docs/{os.path.basename(path)}", file.read())
+            yield from cases_of_page(f"docs/{os.path.basename(path)}", file.read(), examples)

@@ -1,7 +1,7 @@
 """Random inputs of the program, right ones and slightly spoilt ones, each with what the model answers."""
 
 from harness.case import Begins, Case, Exactly
-from model import flows, messages, script, texts
+from model import flows, messages, requests, script, texts
 from model.flows import Entry, Flow, Group, Kind
 
 NAMES = ["main", "g", "h", "alpha", "beta", "a.b-c_D9", "x" * 32]
@@ -386,6 +386,8 @@ def looping(random, made):
     for name in names[:2]:
         text = ", ".join(random.sample([group.name for group in made.groups], 1) + [choice(random, made)])
         yield from [f"choose {name} {text}"] * random.randint(300, 1000)
+        # Members would be written with each of their entries.
+        yield from [f"answer {name} 41"] * random.randint(480, 510)
 
 
 def step_case(random, name):
@@ -436,6 +438,11 @@ def queues(random, made):
         yield f"restore {random.choice(names)}{context(random)}"
 
 
+SPOILT_ACTIONS = ["take", "take x", "release 1", "ack 1", "break p!", "clear", "go 0 0", "call", "write x", "stop 1"]
+SPOILT_ACTIONS += ["cut now", "where", "rest -1", "saved", "calls", "offer v", "offer v=4", "offer v=4g", "offer =41"]
+SPOILT_ACTIONS += ["sessions", "sessions 0", "advice p", "advice p 4", "restore", "restore p v", "answer p 01 v"]
+
+
 def event(random, names, sessions):
     """A line of the script that is no setting."""
     at, name = random.randrange(sessions), random.choice(names)
@@ -445,6 +452,10 @@ def event(random, names, sessions):
     return random.choice([*lines, f"calls {name}", "auto", f"take {sessions}", "break nobody", "write 0"])
 
 
+def whole_case(random, name):
+    return stepped(name, whole_script(random), None)
+
+
 def whole_script(random):
     """A script of all lines over a checked flow."""
     made, sessions = flow(random), random.choice([1, 2, 2, 3, 16])
@@ -452,6 +463,8 @@ def whole_script(random):
     lines = [f"retries {made.retries}", f"sessions {sessions}", *map(group_line, made.groups)]
     lines += queues(random, made)
     lines += [event(random, names, sessions) for _ in range(random.choice([5, 20, 60, 200]))]
+    if random.random() < 0.05:
+        lines.insert(random.randint(0, len(lines)), random.choice(SPOILT + SPOILT_ACTIONS))
     return "".join(f"{line}\n" for line in lines).encode()
 
 
@@ -574,7 +587,9 @@ def cases(random, count, is_every=False):
     yield from limits()
     yield from spoilt_messages()
     yield from spoilt_images(random, is_every)
-    kinds = [("step", step_case)] * 5 + [("asm", asm_case)] * 2 + [("list", list_case)] * 2 + [("decode", decode_case)]
+    kinds = [("step", step_case)] * 4 + [("whole", whole_case)] * 4
+    kinds += [("asm", asm_case)] * 2 + [("list", list_case)] * 2 + [("decode", decode_case)]
+    kinds += [("run", requests.run_case)] * 2
     for number in range(count):
         word, made = kinds[number % len(kinds)]
         yield made(random, f"random/{word} {number}")

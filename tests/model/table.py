@@ -129,27 +129,3 @@ def answer_text(transaction, due, byte):
 def choice_text(transaction, due, text):
     known = ",".join(name for name in names_of(text) if name in transaction.groups)
     return f"{transaction.phase} select {due[1].place} [{known}]"
-
-
-def trace(flow, number, next_answer, next_choice):
-    """The lines of a transaction from its start to its end, by what its participants reply."""
-    transaction = Transaction(flow, flow.retries)
-    while True:
-        due = transaction.due()
-        was_bound = transaction.bound
-        call, entry = due
-        if call in ("shelve", "done"):
-            return
-        if call in ("prepare", "prepare_for_abort"):
-            byte = next_answer(entry.name)
-            line = answer_text(transaction, due, byte)
-            transaction.answered(byte)
-        elif call == "select":
-            text = next_choice(entry.name)
-            line = choice_text(transaction, due, text)
-            transaction.chose(text)
-        else:
-            line = f"{transaction.phase} {call} {entry.name}"
-            transaction.was_told()
-        bound = " bound" if transaction.bound and not was_bound else ""
-        yield f"{number} {line}{bound} -> {next_text(transaction.due())}\n"

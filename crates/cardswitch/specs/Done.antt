@@ -4,14 +4,16 @@ use Rattle.cli_decode.specs.Decoded.{IsDecodedStream}
 use Rattle.cli_flows.specs.Errors.{IsUnwritten, RefusesFile, RefusesImage}
 use Rattle.cli_flows.specs.Subcommands.{IsAssembled, IsListed}
 use Rattle.cli_options.specs.declared.choice.Options.{Options}
-use Rattle.cli_options.specs.declared.choice.Options.TheVariants.{Asm, Decode, List as ListImage, Step}
+use Rattle.cli_options.specs.declared.choice.Options.TheVariants.{Asm, Decode, List as ListImage, Recover, Run, Step}
 use Rattle.cardswitch.specs.Errors.{run_status}
 use Rattle.cardswitch.specs.declared.error.RunError.{RunError}
 use Rattle.cardswitch.specs.declared.error.RunError.TheVariants as error
 
--- what is said of the bytes that were to be read and those that are written; of a script nothing
+-- what is said of the bytes that were to be read and those that are written; of a script, a run and a recovery nothing
 abbrev pub IsDone : Options → Option (List ℕ) → Option (List ℕ) → Option (List ℕ) → Type 0
 IsDone (Step flow) unread written written_now = ⊤
+IsDone (Recover flow journal) unread written written_now = ⊤
+IsDone (Run o) unread written written_now = ⊤
 IsDone Asm unread written written_now = IsAssembled unread written written_now
 IsDone ListImage unread written written_now = IsListed unread written written_now
 IsDone Decode unread written written_now = IsDecodedStream unread written written_now false
@@ -43,9 +45,16 @@ IsDecodeError unread written written_now _ = ⊥
 -- what an error says of the bytes that were to be read and those that are written; of a script nothing
 abbrev pub IsErrorOf : Options → Option (List ℕ) → Option (List ℕ) → Option (List ℕ) → RunError → Type 0
 IsErrorOf (Step flow) unread written written_now e = ⊤
+IsErrorOf (Recover flow journal) unread written written_now e = ⊤
+IsErrorOf (Run o) unread written written_now e = ⊤
 IsErrorOf Asm unread written written_now e = IsAsmError unread written written_now e
 IsErrorOf ListImage unread written written_now e = IsListError unread written written_now e
 IsErrorOf Decode unread written written_now e = IsDecodeError unread written written_now e
+
+-- a run tells messages that it passes over, and its trace, and is done all the same
+abbrev pub IsQuiet : Options → Type 0
+IsQuiet (Run o) = ⊥
+IsQuiet _ = ⊤
 
 -- a status that is not 0 is that of an error, and the error holds
 abbrev pub IsFailed : Options → Option (List ℕ) → Option (List ℕ) → Option (List ℕ) → ℕ → Type 0

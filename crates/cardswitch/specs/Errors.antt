@@ -8,23 +8,22 @@ use Rattle.cli_io.specs.declared.error.ReadError.{ReadError}
 use Rattle.cli_io.specs.declared.error.ReadError.TheVariants as read
 use Rattle.cli_io.specs.declared.error.WriteError.{WriteError}
 use Rattle.cli_io.specs.declared.error.WriteError.TheVariants as write
-use Rattle.cli_script.specs.declared.error.ScriptError.{ScriptError}
-use Rattle.cli_script.specs.declared.error.ScriptError.TheVariants as script
-use Rattle.tx_machine.specs.declared.error.MachineError.{MachineError}
-use Rattle.tx_machine.specs.declared.error.MachineError.TheVariants as machine
+use Rattle.cli_step.specs.declared.error.StepError.{StepError}
+use Rattle.cli_step.specs.declared.error.StepError.TheVariants as step
 use Rattle.cardswitch.specs.declared.error.RunError.{RunError}
-use Rattle.cardswitch.specs.declared.error.RunError.TheVariants.{Input, NotDue, OutOfMemory, Read, Script, Write}
+use Rattle.cardswitch.specs.declared.error.RunError.TheVariants.{Input, JournalFile, OutOfMemory, Read, Serve, Step, Write}
+use Rattle.cli_run.specs.declared.error.ServeError.{ServeError}
+use Rattle.cli_run.specs.declared.error.ServeError.TheVariants as serve
 
--- 4 for want of memory, 1 for a refused input, a failed read and a failed write
+-- 4 for want of memory, 3 where a journal refused, 1 for a refused input, a failed read and a failed write
 abbrev pub run_status : RunError → ℕ
 run_status OutOfMemory = 4
+run_status (Step (step.Journal line cause)) = 3
+run_status (Serve (serve.Journal cause)) = 3
+run_status (JournalFile path) = 3
 run_status _ = 1
 
 -- what the errors of the parts become: want of memory is told as such, and all else is carried
-abbrev pub error_of_machine : MachineError → RunError
-error_of_machine machine.NotDue = NotDue
-error_of_machine machine.OutOfMemory = OutOfMemory
-
 abbrev pub error_of_read : ReadError → RunError
 error_of_read read.OutOfMemory = OutOfMemory
 error_of_read e = Read e
@@ -33,9 +32,14 @@ abbrev pub error_of_write : WriteError → RunError
 error_of_write write.OutOfMemory = OutOfMemory
 error_of_write e = Write e
 
-abbrev pub error_of_script : ScriptError → RunError
-error_of_script script.OutOfMemory = OutOfMemory
-error_of_script e = Script e
+abbrev pub error_of_step : StepError → RunError
+error_of_step (step.Write e) = Write e
+error_of_step step.OutOfMemory = OutOfMemory
+error_of_step e = Step e
+
+abbrev pub error_of_serve : ServeError → RunError
+error_of_serve serve.OutOfMemory = OutOfMemory
+error_of_serve e = Serve e
 
 abbrev pub error_of_stream : StreamError → RunError
 error_of_stream (stream.Read e) = Read e

@@ -1,17 +1,17 @@
 //! Why a run of the program ends early, and with which exit status.
 ghost use Rattle.std.specs.Prelude.{◌≡◌};
-ghost use Rattle.cardswitch.specs.Errors.{error_of_flows, error_of_machine, error_of_read, error_of_script};
+ghost use Rattle.cardswitch.specs.Errors.{error_of_flows, error_of_read, error_of_serve, error_of_step};
 ghost use Rattle.cardswitch.specs.Errors.{error_of_stream, error_of_write, run_status};
 ghost use Rattle.cardswitch.specs.declared.error.RunError.TheVariants.{OutOfMemory};
 
 use cli_decode::StreamError;
 use cli_flows::FlowsError;
 use cli_io::{ReadError, WriteError};
-use cli_script::ScriptError;
+use cli_run::ServeError;
+use cli_step::StepError;
 use std::alloc::{AllocError, AllocFailed};
 use sw_participant::Text;
 use thiserror::Error;
-use tx_machine::MachineError;
 
 /// Why a run of the program ends early. Its text goes to standard error.
 #[derive(Debug, Drop, Error)]
@@ -22,18 +22,25 @@ pub enum RunError {
     /// The output could not be written.
     #[error("writing the output: {0}")]
     Write(WriteError),
-    /// A line of the script or its flow is refused. The lines before it have run.
+    /// A line of the script, its flow or its plant is refused, or its journal refused. The lines before
+    /// it have run.
     #[error("{0}")]
-    Script(ScriptError),
+    Step(StepError),
+    /// The requests of a run, its plant or its journal are refused. What came before is answered.
+    #[error("{0}")]
+    Serve(ServeError),
+    /// What a card may spend is above the greatest limit.
+    #[error("the limit is too large; expected at most 999999999999999")]
+    BadLimit,
+    /// The file at the path is no journal, or it cannot be opened.
+    #[error("{}: it is no journal, or it cannot be opened; expected a journal's file, or none", .path.as_str())]
+    JournalFile { path: Text },
     /// The flow file at the path is not taken.
     #[error("{}: {cause}", .path.as_str())]
     FlowFile { path: Text, cause: FlowsError },
     /// The standard input is no flow file or no image.
     #[error("standard input: {0}")]
     Input(FlowsError),
-    /// A transaction was given a reply to a call that was not due.
-    #[error("the transaction was given a reply to a call that was not due")]
-    NotDue,
     /// A message or a frame of a stream is refused; what it prints says which.
     #[error("a message or a frame of the input is refused; expected frames of ISO 8583:1987 messages")]
     Refused,
@@ -44,12 +51,15 @@ pub enum RunError {
 
 impl RunError {
     /// The exit status of a run that ends with this error: 1 for a refused input and for failed reads
-    /// and writes, 4 for want of memory.
+    /// and writes, 3 where a journal refused, 4 for want of memory.
     pub fn status(&self) -> u8
         ensures { result ≡ run_status self.now }
     {
         match self {
             RunError::OutOfMemory => 4,
+            RunError::Step(StepError::Journal { .. }) => 3,
+            RunError::Serve(ServeError::Journal(_)) => 3,
+            RunError::JournalFile { .. } => 3,
             _ => 1,
         }
     }
@@ -68,17 +78,6 @@ impl<T: Drop> From<AllocFailed<T>> for RunError {
 
     fn from(_error: AllocFailed<T>) -> RunError {
         RunError::OutOfMemory
-    }
-}
-
-impl From<MachineError> for RunError {
-    ghost from_gives = { λ e f. f ≡ error_of_machine e };
-
-    fn from(error: MachineError) -> RunError {
-        match error {
-            MachineError::NotDue => RunError::NotDue,
-            MachineError::OutOfMemory => RunError::OutOfMemory,
-        }
     }
 }
 
@@ -104,13 +103,14 @@ impl From<WriteError> for RunError {
     }
 }
 
-impl From<ScriptError> for RunError {
-    ghost from_gives = { λ e f. f ≡ error_of_script e };
+impl From<StepError> for RunError {
+    ghost from_gives = { λ e f. f ≡ error_of_step e };
 
-    fn from(error: ScriptError) -> RunError {
+    fn from(error: StepError) -> RunError {
         match error {
-            ScriptError::OutOfMemory => RunError::OutOfMemory,
-            other => RunError::Script(other),
+            StepError::Write(error) => RunError::Write(error),
+            StepError::OutOfMemory => RunError::OutOfMemory,
+            other => RunError::Step(other),
         }
     }
 }
@@ -136,6 +136,17 @@ impl From<FlowsError> for RunError {
             FlowsError::Write(error) => RunError::Write(error),
             FlowsError::OutOfMemory => RunError::OutOfMemory,
             other => RunError::Input(other),
+        }
+    }
+}
+
+impl From<ServeError> for RunError {
+    ghost from_gives = { λ e f. f ≡ error_of_serve e };
+
+    fn from(error: ServeError) -> RunError {
+        match error {
+            ServeError::OutOfMemory => RunError::OutOfMemory,
+            other => RunError::Serve(other),
         }
     }
 }

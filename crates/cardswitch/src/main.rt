@@ -2,14 +2,13 @@
 //!
 //! The edge of the program: it reads its words and its input, runs the subcommand, and tells an error
 //! by a text on standard error and by the exit status: 0 done, 1 refused input or a failed read or
-//! write, 2 a bad command line, 4 want of memory.
+//! write, 2 a bad command line, 3 a refusal of a journal, 4 want of memory.
 #![tactic(auto)]
 
-mod drive;
 mod error;
 mod flow_file;
 mod program;
-mod script;
+mod requests;
 
 use cli_options::command_line::options;
 use std::alloc::Global;

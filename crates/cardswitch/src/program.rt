@@ -2,41 +2,42 @@
 ghost use Rattle.std.specs.Prelude.{◌≡◌, ◌≢◌, IfErr, OnOk, false};
 ghost use Rattle.std.specs.Io.KnownBytes.{Keeps};
 ghost use Rattle.std.specs.IoError.{error_kind};
-ghost use Rattle.cardswitch.specs.Done.{IsDecodeError, IsDone, IsErrorOf, IsFailed, IsShown};
+ghost use Rattle.cardswitch.specs.Done.{IsDecodeError, IsDone, IsErrorOf, IsFailed, IsQuiet, IsShown};
 ghost use Rattle.cardswitch.specs.Errors.{run_status};
 ghost use Rattle.cli_decode.specs.Decoded.{IsDecodedStream};
 ghost use Rattle.cli_options.specs.Refusal.{status_of};
 
 use crate::error::RunError;
 use crate::flow_file::flow_at;
-use crate::script::run_script;
+use crate::requests::{answer_requests, recover};
 use cli_decode::decode_stream;
 use cli_flows::{asm, list};
 use cli_io::{Input, WriteError, read_input};
 use cli_options::OptionsError;
 use cli_options::choice::Options;
+use cli_step::run_script;
 use std::alloc::Global;
-use std::fs::Files;
 use std::io::{self, ErrorKind, Read, Write};
 
 /// Runs a subcommand, and gives the exit status: 0 where it is done, or else that of the error, which
 /// is told. What it prints goes to `out`, and the error's text to `err`. Files that the options name
-/// are opened through `files`.
-pub fn run<F: Files, R: Read + Drop, O: Write, E: Write>(
+/// are opened through `rt`.
+pub fn run<R: Read + Drop, O: Write, E: Write>(
     alloc: Global,
-    files: &F,
+    rt: &HostRuntime,
     options: &Options<'_>,
     input: R,
     out: &mut O,
     err: &mut E,
 ) -> u8
-    ensures quiet { result ≡ 0 → Keeps (E.contents err.old) (E.contents err.new) }
+    ensures quiet { IsQuiet options.now → result ≡ 0
+        → Keeps (E.contents err.old) (E.contents err.new) }
     ensures done { result ≡ 0 → IsDone options.now
         (R.remaining input) (O.contents out.old) (O.contents out.new) }
     ensures failed { result ≢ 0 → IsFailed options.now
         (R.remaining input) (O.contents out.old) (O.contents out.new) result }
 {
-    match run_subcommand(alloc, files, options, input, out) {
+    match run_subcommand(alloc, rt, options, input, out, err) {
         Ok(()) => 0,
         Err(error) => tell(&error, err),
     }
@@ -52,19 +53,19 @@ fn tell<E: Write>(error: &RunError, err: &mut E) -> u8
 }
 
 // Runs a script over the flow of its own lines, or over that of a flow file.
-fn step<F: Files, R: Read + Drop, O: Write>(
+fn step<R: Read + Drop, O: Write>(
     alloc: Global,
-    files: &F,
+    rt: &HostRuntime,
     path: Option<&str>,
     input: R,
     out: &mut O,
 ) -> Result<(), RunError> {
     let flow = match path {
-        Some(path) => Some(flow_at(alloc, files, path)?),
+        Some(path) => Some(flow_at(alloc, rt, path)?),
         None => None,
     };
     let script = read_input(alloc, &mut Input::new(input))?;
-    run_script(alloc, flow, script.as_slice(), out)
+    Ok(run_script(alloc, flow, script.as_slice(), out)?)
 }
 
 fn decode<R: Read + Drop, O: Write>(alloc: Global, input: R, out: &mut O) -> Result<(), RunError>
@@ -79,23 +80,27 @@ fn decode<R: Read + Drop, O: Write>(alloc: Global, input: R, out: &mut O) -> Res
     Ok(())
 }
 
-fn run_subcommand<F: Files, R: Read + Drop, O: Write>(
+fn run_subcommand<R: Read + Drop, O: Write, E: Write>(
     alloc: Global,
-    files: &F,
+    rt: &HostRuntime,
     options: &Options<'_>,
     input: R,
     out: &mut O,
+    err: &mut E,
 ) -> Result<(), RunError>
+    ensures quiet { IsQuiet options.now → Keeps (E.contents err.old) (E.contents err.new) }
     ensures done { OnOk result (IsDone options.now
         (R.remaining input) (O.contents out.old) (O.contents out.new)) }
     ensures failed { IfErr result (IsErrorOf options.now
         (R.remaining input) (O.contents out.old) (O.contents out.new)) }
 {
     match options {
-        Options::Step { flow } => step(alloc, files, *flow, input, out),
+        Options::Step { flow } => step(alloc, rt, *flow, input, out),
         Options::Asm => Ok(asm(alloc, input, out)?),
         Options::List => Ok(list(alloc, input, out)?),
         Options::Decode => decode(alloc, input, out),
+        Options::Recover { flow, journal } => recover(alloc, rt, flow, journal, out),
+        Options::Run(options) => answer_requests(alloc, rt, options, input, out, err),
     }
 }
 

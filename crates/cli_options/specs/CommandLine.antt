@@ -1,12 +1,16 @@
 -- The command line of `cardswitch`: its subcommands as a table, and what words mean by it. clap's
 -- contracts say what a parse by such a table gives.
-use Rattle.std.specs.Prelude.{◌≡◌, true, false, List, Option, Some, None, codes, option_map}
+use Rattle.std.specs.Prelude.{◌≡◌, ◌^◌, ℕ, Bool, true, false, List, Option, Some, None, bytes_eq, codes, option_and_then, option_map, nat_lt, if◌then◌else◌}
+use Rattle.std.specs.Option.{option_map_or}
+use Rattle.cli_numbers.specs.Spelling.{number_spelled}
 use Rattle.std.specs.Borrow.{Bor}
 use Rattle.clap.specs.Words.{App, Row, Rule, Text, app_of, first_of, new_app, new_rule, subcommand_of, with_rule, with_subcommand}
 use Rattle.clap.specs.declared.builder.Command.{Command}
 use Rattle.clap.specs.declared.builder.Command.TheViews.{out-Command}
 use Rattle.cli_options.specs.declared.choice.Options.{Options}
-use Rattle.cli_options.specs.declared.choice.Options.TheVariants.{Asm, Decode, List as ListImage, Step}
+use Rattle.cli_options.specs.declared.choice.Options.TheVariants.{Asm, Decode, List as ListImage, Recover, Run, Step}
+use Rattle.cli_options.specs.declared.choice.RunOptions.{RunOptions}
+use Rattle.clap.specs.declared.builder.action.ArgAction.TheVariants.{SetTrue}
 
 -- clap's command is of this shape
 abbrev pub HasShape : App → Command → Type 0
@@ -19,6 +23,14 @@ IsLocal c = (out-Command c).has_globals ≡ false
 -- `--NAME VALUE`, which may be left out
 abbrev pub option_rule : Text → Rule
 option_rule name = record (new_rule name) { long = Some name; value_names = 1 }
+
+-- `--NAME VALUE`, which has to be given
+abbrev pub needed_rule : Text → Rule
+needed_rule name = record (option_rule name) { required = true }
+
+-- `--NAME`, without a value
+abbrev pub flag_rule : Text → Rule
+flag_rule name = record (new_rule name) { long = Some name; action = Some SetTrue }
 
 -- `step [--flow PATH]`
 abbrev pub step_app : App
@@ -36,6 +48,14 @@ list_app = new_app (codes "list")
 abbrev pub decode_app : App
 decode_app = new_app (codes "decode")
 
+-- `recover --flow PATH --journal PATH`
+abbrev pub recover_app : App
+recover_app = with_rule (with_rule (new_app (codes "recover")) (needed_rule (codes "flow"))) (needed_rule (codes "journal"))
+
+-- `run --flow PATH [--journal PATH] [--sessions N] [--limit N] [--trace]`
+abbrev pub run_app : App
+run_app = with_rule (with_rule (with_rule (with_rule (with_rule (new_app (codes "run")) (needed_rule (codes "flow"))) (option_rule (codes "journal"))) (option_rule (codes "sessions"))) (option_rule (codes "limit"))) (flag_rule (codes "trace"))
+
 -- the program itself: it has a version, and wants a subcommand
 abbrev pub program_app : App
 program_app = record (new_app (codes "cardswitch")) {
@@ -44,11 +64,32 @@ program_app = record (new_app (codes "cardswitch")) {
 
 -- the program with its subcommands
 abbrev pub switch_app : App
-switch_app = with_subcommand (with_subcommand (with_subcommand (with_subcommand program_app step_app.top) asm_app.top) list_app.top) decode_app.top
+switch_app = with_subcommand (with_subcommand (with_subcommand (with_subcommand (with_subcommand (with_subcommand program_app step_app.top) asm_app.top) list_app.top) decode_app.top) recover_app.top) run_app.top
 
 -- the text that a borrow shows
 abbrev pub text_of : Option (Bor Text) → Option Text
 text_of = option_map (λ s. s.now)
+
+-- a number below 2^63
+abbrev pub bounded : ℕ → Option ℕ
+bounded n = if nat_lt n (2 ^ 63) then Some n else None
+
+-- the number of an option, which may be left out
+abbrev pub number_in : ℕ → Option Text → Option ℕ
+number_in default None = Some default
+number_in default (Some word) = option_and_then bounded (number_spelled word)
+
+-- whether a flag was given
+abbrev pub is_set : Option Text → Bool
+is_set text = option_map_or (λ t. bytes_eq t (codes "true")) text false
+
+-- the options of `run`, whose own options are in the rows
+pub record AreRunOptions (rows : List Row) (o : RunOptions) : Type 0 where
+  pub flow : Some o.flow.now ≡ first_of (codes "flow") rows
+  pub journal : text_of o.journal ≡ first_of (codes "journal") rows
+  pub sessions : number_in 1 (first_of (codes "sessions") rows) ≡ Some o.sessions
+  pub limit : number_in 10000 (first_of (codes "limit") rows) ≡ Some o.limit
+  pub trace : o.trace ≡ is_set (first_of (codes "trace") rows)
 
 -- the options are those of the subcommand `name`, whose own options are in the rows
 abbrev pub AreOptionsAt : Text → List Row → Options → Type 0
@@ -56,6 +97,8 @@ AreOptionsAt name rows (Step flow) = (name ≡ codes "step") × (text_of flow �
 AreOptionsAt name rows Asm = name ≡ codes "asm"
 AreOptionsAt name rows ListImage = name ≡ codes "list"
 AreOptionsAt name rows Decode = name ≡ codes "decode"
+AreOptionsAt name rows (Recover flow journal) = (name ≡ codes "recover") × (Some flow.now ≡ first_of (codes "flow") rows) × (Some journal.now ≡ first_of (codes "journal") rows)
+AreOptionsAt name rows (Run o) = (name ≡ codes "run") × AreRunOptions rows o
 
 -- no options are those of the subcommand `name`
 abbrev pub IsNoSubcommand : Text → List Row → Type 0

@@ -5,11 +5,37 @@
 pub enum Options<'a> {
     /// `step`: a script of transactions comes from standard input. With `--flow` its flow is that of
     /// the flow file at this path.
-    Step { flow: Option<&'a str> },
+    Step {
+        flow: Option<&'a str>,
+    },
     /// `asm`: a flow file from standard input is printed as the image of its steps.
     Asm,
     /// `list`: an image from standard input is printed as a flow file.
     List,
     /// `decode`: prints the fields of the messages in frames from standard input.
     Decode,
+    /// `recover`: finishes what a journal has unfinished, by the flow of the flow file at a path, and
+    /// prints its lines.
+    Recover {
+        flow: &'a str,
+        /// The path of the journal's file.
+        journal: &'a str,
+    },
+    /// `run`: answers the requests in frames from standard input, by the flow of the flow file at a path.
+    Run(RunOptions<'a>),
+}
+
+/// What `run` is given.
+#[derive(Debug, Clone, Copy, PartialEq, Eq)]
+pub struct RunOptions<'a> {
+    /// The path of the flow file.
+    pub flow: &'a str,
+    /// The path of the journal's file; without it the journal is in memory.
+    pub journal: Option<&'a str>,
+    /// How many sessions the engine has; 1 where nothing is said.
+    pub sessions: u64,
+    /// What a card may spend, in minor units of its currency; 10,000 where nothing is said.
+    pub limit: u64,
+    /// Whether the trace is printed on standard error at the end.
+    pub trace: bool,
 }

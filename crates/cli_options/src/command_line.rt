@@ -1,15 +1,21 @@
 //! Reads the words of a command line.
-ghost use Rattle.std.specs.Prelude.{◌≡◌, IfErr, IfOk, IfSome, IsNone, OnOk, codes, map};
+ghost use Rattle.std.specs.Prelude.{◌≡◌, IfErr, IfOk, None, OnOk, Some, codes, map};
 ghost use Rattle.clap.specs.Words.{first_of, found_of, rows_of};
-ghost use Rattle.cli_options.specs.CommandLine.{AreOptionsAt, AreOptionsOf, IsNoSubcommand, text_of};
-ghost use Rattle.cli_options.specs.Refusal.{IsAccepted, IsRefusalOf};
+ghost use Rattle.cli_options.specs.CommandLine.{AreOptionsAt, AreOptionsOf, AreRunOptions};
+ghost use Rattle.cli_options.specs.CommandLine.{is_set, number_in, text_of};
+ghost use Rattle.cli_options.specs.Refusal.{IsAccepted, IsBadNumber, IsRefusalAt, IsRefusalOf, IsRunRefusal};
 
-use crate::choice::Options;
+use crate::choice::{Options, RunOptions};
 use crate::error::OptionsError;
 use crate::table::switch_command;
 use clap::ArgMatches;
+use cli_numbers::read_number;
+use cli_quote::Quoted;
 use std::alloc::Global;
 use std::convert::AsStr;
+
+/// Numbers of options are below it.
+const BOUND: u64 = 1 << 63;
 
 /// The options that the words ask for. The first word is the program's name, as in `env::args`.
 ///
@@ -25,10 +31,7 @@ pub fn options<'a, S: AsStr>(alloc: Global, words: &'a [S]) -> Result<Options<'a
     let Some((name, found)) = matches.subcommand() else {
         return Err(OptionsError::NoSubcommand);
     };
-    match options_at(name, found) {
-        Some(options) => Ok(options),
-        None => Err(OptionsError::NoSubcommand),
-    }
+    options_at(name, found)
 }
 
 /// The text after `--name`; `None` where the option was not given.
@@ -38,18 +41,67 @@ fn text_at<'a>(matches: &ArgMatches<'a>, name: &str) -> Option<&'a str>
     matches.get_str(name)
 }
 
-/// The options of the subcommand `name`, by what clap found for it; `None` for a foreign name.
-fn options_at<'a>(name: &str, found: &ArgMatches<'a>) -> Option<Options<'a>>
-    ensures some { IfSome result (AreOptionsAt name.now (rows_of (found_of found.now))) }
-    ensures none { IsNone result → IsNoSubcommand name.now (rows_of (found_of found.now)) }
+/// Whether a flag was given, by the text that clap keeps of it.
+fn is_set(text: Option<&str>) -> bool
+    ensures { result ≡ is_set (text_of text.entry) }
+{
+    match text {
+        Some(text) => text == "true",
+        None => false,
+    }
+}
+
+/// The number of the option `--name`, or `default` where it was not given.
+fn number_in(name: &'static str, text: Option<&str>, default: u64) -> Result<u64, OptionsError>
+    ensures found { IfOk result (λ n. number_in default (text_of text.entry) ≡ Some n) }
+    ensures refused { IfErr result (λ e. IsBadNumber e × (number_in default (text_of text.entry) ≡ None)) }
+{
+    let Some(text) = text else {
+        return Ok(default);
+    };
+    match read_number(text) {
+        Some(number) if number < BOUND => Ok(number),
+        _ => Err(OptionsError::BadNumber {
+            name,
+            found: Quoted::of(text.as_bytes()),
+        }),
+    }
+}
+
+/// The options of `run`, by what clap found for it.
+fn run_options<'a>(found: &ArgMatches<'a>) -> Result<RunOptions<'a>, OptionsError>
+    ensures found { IfOk result (AreRunOptions (rows_of (found_of found.now))) }
+    ensures refused { IfErr result (IsRunRefusal (rows_of (found_of found.now))) }
+{
+    let Some(flow) = text_at(found, "flow") else {
+        return Err(OptionsError::NoSubcommand);
+    };
+    Ok(RunOptions {
+        flow,
+        journal: text_at(found, "journal"),
+        sessions: number_in("sessions", text_at(found, "sessions"), 1)?,
+        limit: number_in("limit", text_at(found, "limit"), 10_000)?,
+        trace: is_set(text_at(found, "trace")),
+    })
+}
+
+/// The options of the subcommand `name`, by what clap found for it.
+fn options_at<'a>(name: &str, found: &ArgMatches<'a>) -> Result<Options<'a>, OptionsError>
+    ensures found { IfOk result (AreOptionsAt name.now (rows_of (found_of found.now))) }
+    ensures refused { IfErr result (IsRefusalAt name.now (rows_of (found_of found.now))) }
 {
     match name {
-        "step" => Some(Options::Step {
+        "step" => Ok(Options::Step {
             flow: text_at(found, "flow"),
         }),
-        "asm" => Some(Options::Asm),
-        "list" => Some(Options::List),
-        "decode" => Some(Options::Decode),
-        _ => None,
+        "asm" => Ok(Options::Asm),
+        "list" => Ok(Options::List),
+        "decode" => Ok(Options::Decode),
+        "recover" => match (text_at(found, "flow"), text_at(found, "journal")) {
+            (Some(flow), Some(journal)) => Ok(Options::Recover { flow, journal }),
+            _ => Err(OptionsError::NoSubcommand),
+        },
+        "run" => Ok(Options::Run(run_options(found)?)),
+        _ => Err(OptionsError::NoSubcommand),
     }
 }

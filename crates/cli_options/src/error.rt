@@ -5,6 +5,7 @@ ghost use Rattle.cli_options.specs.Refusal.{status_of};
 ghost use Rattle.cli_options.specs.declared.error.OptionsError.TheVariants.{OutOfMemory};
 
 use clap::error::ErrorKind;
+use cli_quote::Quoted;
 use std::alloc::AllocError;
 use thiserror::Error;
 
@@ -17,6 +18,9 @@ pub enum OptionsError {
     /// Words that name no subcommand.
     #[error("error: a subcommand was expected; try '--help'\n")]
     NoSubcommand,
+    /// The text of an option is not the number that it takes.
+    #[error("error: --{name} has a bad number: expected decimal digits, of a number below 2^63; found {found}\n")]
+    BadNumber { name: &'static str, found: Quoted },
     /// No memory was left to read the words.
     #[error("error: out of memory\n")]
     OutOfMemory,
@@ -33,7 +37,7 @@ impl OptionsError {
                 ErrorKind::DisplayHelp | ErrorKind::DisplayVersion => 0,
                 _ => 2,
             },
-            OptionsError::NoSubcommand => 2,
+            OptionsError::NoSubcommand | OptionsError::BadNumber { .. } => 2,
             OptionsError::OutOfMemory => 4,
         }
     }

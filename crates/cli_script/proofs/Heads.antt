@@ -8,7 +8,7 @@ use Rattle.sw_base.specs.Refusals.{or_else}
 use Rattle.flow_model.specs.declared.flow.Flow.{Flow}
 use Rattle.cli_script.specs.Grammar.{Answers}
 use Rattle.cli_script.specs.Scripts.{BeginsWith, IsBehind, IsHeadRead, IsActionRefusal, IsHeadRefused, IsLineRefusal, IsRefusedAt, IsRefusalBehind, IsScriptRefused, error_at, is_misplaced, others_of}
-use Rattle.cli_script.specs.Settings.{AddsSetting, IsKeptOf, answers_in, choices_in, groups_in, last_retries, retries_in}
+use Rattle.cli_script.specs.Settings.{AddsSetting, IsKeptOf, advices_in, answers_in, choices_in, groups_in, last_in, restores_in, retries_in, sessions_in}
 use Rattle.cli_script.specs.declared.error.LineError.{LineError}
 use Rattle.cli_script.specs.declared.error.LineError.TheVariants.{OutOfMemory}
 use Rattle.cli_script.specs.declared.error.ScriptError.{ScriptError}
@@ -34,10 +34,10 @@ or_or : (r a b : Option ℕ) → or_else (or_else r a) b ≡ or_else r (or_else 
 or_or None a b = refl
 or_or (Some n) a b = refl
 
-retries_more : (ss : List Setting) (s : Setting) → last_retries (ss ++ s ∷ []) ≡ or_else (retries_in s) (last_retries ss)
-retries_more [] s = or_none (retries_in s)
-retries_more (t ∷ ts) s =
-    ap (λ r. or_else r (retries_in t)) (retries_more ts s) ∙ or_or (retries_in s) (last_retries ts) (retries_in t)
+last_more : (f : Setting → Option ℕ) (ss : List Setting) (s : Setting)
+    → last_in f (ss ++ s ∷ []) ≡ or_else (f s) (last_in f ss)
+last_more f [] s = or_none (f s)
+last_more f (t ∷ ts) s = ap (λ r. or_else r (f t)) (last_more f ts s) ∙ or_or (f s) (last_in f ts) (f t)
 
 flat_more : {A : Type 0} (f : Setting → List A) (ss : List Setting) (s : Setting)
     → flat_map f (ss ++ s ∷ []) ≡ flat_map f ss ++ f s
@@ -46,11 +46,14 @@ flat_more f ss s = flat_map-append f ss (s ∷ []) ∙ ap (λ x. flat_map f ss +
 kept_more : (ss : List Setting) (s : Setting) (old new : Settings) → IsKeptOf ss old → AddsSetting old s new
     → IsKeptOf (ss ++ s ∷ []) new
 kept_more ss s old new kept adds = record {
-  retries = adds.retries ∙ ap (or_else (retries_in s)) kept.retries ∙ sym (retries_more ss s);
+  retries = adds.retries ∙ ap (or_else (retries_in s)) kept.retries ∙ sym (last_more retries_in ss s);
+  sessions = adds.sessions ∙ ap (or_else (sessions_in s)) kept.sessions ∙ sym (last_more sessions_in ss s);
   groups = adds.groups ∙ ap (λ gs. gs ++ groups_in s) kept.groups ∙ sym (flat_more groups_in ss s);
   replies = record {
-    answers = λ q. adds.answers q ∙ ap (λ bs. bs ++ answers_in q s) (kept.replies.answers q) ∙ sym (flat_more (answers_in q) ss s);
-    choices = λ q. adds.choices q ∙ ap (λ ts. ts ++ choices_in q s) (kept.replies.choices q) ∙ sym (flat_more (choices_in q) ss s);
+    answers = λ q. adds.answers q ∙ ap (λ xs. xs ++ answers_in q s) (kept.replies.answers q) ∙ sym (flat_more (answers_in q) ss s);
+    choices = λ q. adds.choices q ∙ ap (λ xs. xs ++ choices_in q s) (kept.replies.choices q) ∙ sym (flat_more (choices_in q) ss s);
+    advices = λ q. adds.advices q ∙ ap (λ xs. xs ++ advices_in q s) (kept.replies.advices q) ∙ sym (flat_more (advices_in q) ss s);
+    restores = λ q. adds.restores q ∙ ap (λ xs. xs ++ restores_in q s) (kept.replies.restores q) ∙ sym (flat_more (restores_in q) ss s);
   };
 }
 
@@ -105,5 +108,6 @@ head_refused file script e head = record {
   as_script (error.Line n cause found) refused = refused
   as_script (error.FlowBesideFile n found) refused = refused
   as_script (error.LateSetting n found) refused = refused
+  as_script (error.Crowded n found) refused = refused
   as_script (error.Flow n cause) refused = absurd refused
   as_script error.OutOfMemory refused = tt

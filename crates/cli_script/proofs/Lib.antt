@@ -1,5 +1,6 @@
-mod Entries
+mod Digits
 mod Heads
 mod LineEnds
-mod Numbers
+mod Meant
+mod Spelled
 mod Texts

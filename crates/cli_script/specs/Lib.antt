@@ -1,8 +1,11 @@
-pub mod Bytes
-pub mod Grammar
+pub mod Words
 pub mod Lines
+pub mod Bytes
+pub mod Puts
+pub mod Groups
+pub mod Forms
+pub mod Grammar
 pub mod Queues
 pub mod Replies
-pub mod Scripts
 pub mod Settings
-pub mod Words
+pub mod Scripts

@@ -1,5 +1,5 @@
 -- Queues by name.
-use Rattle.std.specs.Prelude.{◌≡◌, ℕ, List, [], ◌∷◌, ◌++◌, drop, if◌then◌else◌}
+use Rattle.std.specs.Prelude.{◌≡◌, ℕ, false, List, [], ◌∷◌, ◌++◌, if◌then◌else◌}
 use Rattle.std.specs.Option.{option_map_or}
 use Rattle.std.specs.BTreeMap.{get_by_text}
 use Rattle.std.specs.Str.{bytes_eq}
@@ -17,9 +17,6 @@ at_name q name x y = if bytes_eq q name then x else y
 abbrev pub PutsBehind : {A : Type 0} → (List ℕ → List A) → (List ℕ → List A) → List ℕ → A → Type 0
 PutsBehind old new name item = (q : List ℕ) → new q ≡ old q ++ at_name q name (item ∷ []) []
 
--- the first item of the name is taken, and all other queues stay
-abbrev pub TakesFirst : {A : Type 0} → (List ℕ → List A) → (List ℕ → List A) → List ℕ → Type 0
-TakesFirst old new name = (q : List ℕ) → new q ≡ at_name q name (drop 1 (old q)) (old q)
-
-abbrev pub AreSame : {A : Type 0} → (List ℕ → List A) → (List ℕ → List A) → Type 0
-AreSame old new = (q : List ℕ) → new q ≡ old q
+-- what is queued for other names stays
+abbrev pub OthersStay : {A : Type 0} → (List ℕ → A) → (List ℕ → A) → List ℕ → Type 0
+OthersStay old new name = (q : List ℕ) → bytes_eq q name ≡ false → new q ≡ old q

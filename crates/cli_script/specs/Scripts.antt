@@ -7,13 +7,15 @@ use Rattle.flow_model.specs.declared.flow.Flow.{Flow}
 use Rattle.cli_quote.specs.Quoting.{quoted}
 use Rattle.cli_script.specs.Grammar.{meaning_of}
 use Rattle.cli_script.specs.Lines.{is_line_feed}
-use Rattle.cli_script.specs.Settings.{IsKeptOf, IsRepliesOf, stated_flow}
+use Rattle.sw_scripted.specs.Puts.{is_crowded}
+use Rattle.cli_script.specs.Settings.{IsKeptOf, IsRepliesOf, stated_flow, stated_sessions}
 use Rattle.cli_script.specs.declared.error.LineError.{LineError}
 use Rattle.cli_script.specs.declared.error.LineError.TheVariants as refusal
 use Rattle.cli_script.specs.declared.error.ScriptError.{ScriptError}
 use Rattle.cli_script.specs.declared.error.ScriptError.TheVariants as error
 use Rattle.cli_script.specs.declared.actions.Actions.{Actions}
 use Rattle.cli_script.specs.declared.line.Action.{Action}
+use Rattle.cli_script.specs.declared.line.Action.TheVariants.{Offer}
 use Rattle.cli_script.specs.declared.line.ScriptLine.{ScriptLine}
 use Rattle.cli_script.specs.declared.line.ScriptLine.TheVariants as line
 use Rattle.cli_script.specs.declared.line.Setting.{Setting}
@@ -65,6 +67,7 @@ IsLineRefusal has_file number text meaning (error.FlowBesideFile n found) =
     Tells number text n found
     × ((s : Setting) × (meaning ≡ Ok (line.Setting s)) × (is_misplaced has_file s ≡ true))
 IsLineRefusal has_file number text meaning (error.LateSetting n found) = ⊥
+IsLineRefusal has_file number text meaning (error.Crowded n found) = ⊥
 IsLineRefusal has_file number text meaning (error.Flow n cause) = ⊥
 IsLineRefusal has_file number text meaning error.OutOfMemory = ⊤
 
@@ -117,6 +120,7 @@ pub record IsOpened (file : Option Flow) (script : List ℕ) (s : Script) : Type
   pub count : length stated ≡ s.actions.lines
   pub flow : s.flow ≡ stated_flow file stated
   pub checked : IsChecked s.flow
+  pub sessions : s.sessions ≡ stated_sessions stated
   pub replies : IsRepliesOf stated s.replies
 
 -- a script of settings alone has nothing to come
@@ -124,12 +128,19 @@ abbrev pub IsOpenedAs : Option Flow → List ℕ → Option Script → Type 0
 IsOpenedAs file script None = (ss : List Setting) × IsBehind ss script []
 IsOpenedAs file script (Some s) = IsOpened file script s
 
+-- the context that the line offers has too many names
+abbrev pub crowds : Action → Bool
+crowds (Offer ps) = is_crowded ps
+crowds _ = false
+
 -- why the line of this number, text and meaning is refused behind the settings
 abbrev pub IsActionRefusal : ℕ → List ℕ → Result ScriptLine LineError → ScriptError → Type 0
 IsActionRefusal number text meaning (error.Line n cause found) =
     Tells number text n found × (meaning ≡ Err cause)
 IsActionRefusal number text meaning (error.LateSetting n found) =
     Tells number text n found × ((s : Setting) × (meaning ≡ Ok (line.Setting s)))
+IsActionRefusal number text meaning (error.Crowded n found) =
+    Tells number text n found × ((a : Action) × (meaning ≡ Ok (line.Action a)) × (crowds a ≡ true))
 IsActionRefusal number text meaning (error.FlowBesideFile n found) = ⊥
 IsActionRefusal number text meaning (error.Flow n cause) = ⊥
 IsActionRefusal number text meaning error.OutOfMemory = ⊤
@@ -142,6 +153,6 @@ bytes_left a = length a.rest.now
 abbrev pub IsNextAction : Actions → Actions → Result (Option Action) ScriptError → Type 0
 IsNextAction old new (Ok None) = old.rest.now ≡ []
 IsNextAction old new (Ok (Some a)) = (old.rest.now ≢ []) × (new.rest.now ≡ others_of old.rest.now)
-    × (new.lines ≡ old.lines + 1) × (meaning_of (line_of old.rest.now) ≡ Ok (line.Action a))
+    × (new.lines ≡ old.lines + 1) × (meaning_of (line_of old.rest.now) ≡ Ok (line.Action a)) × (crowds a ≡ false)
 IsNextAction old new (Err e) = let text = line_of old.rest.now in
     (old.rest.now ≢ []) × IsActionRefusal (old.lines + 1) text (meaning_of text) e

@@ -1,10 +1,8 @@
 -- The words of a line of a script, and what a word spells. A line and a word are lists of bytes.
-use Rattle.std.specs.Prelude.{◌^◌, ◌==◌, ◌&&◌, ◌||◌, ℕ, Bool, List, [], ◌∷◌, length, nat_lt}
-use Rattle.std.specs.Prelude.{Option, Some, None, option_map, unwrap_or, if◌then◌else◌}
+use Rattle.std.specs.Prelude.{◌==◌, ◌||◌, ℕ, Bool, List, [], ◌∷◌, length, nat_lt}
+use Rattle.std.specs.Prelude.{Option, Some, None, is_none, option_and_then, option_map, unwrap_or, if◌then◌else◌}
 use Rattle.std.specs.Borrow.{Bor}
-use Rattle.std.specs.Char.{is_ascii_digit}
-use Rattle.std.specs.List.{after_first, before_first, list_all, list_any, position_or_len, slice_split}
-use Rattle.std.specs.Str.Parse.{digits_value}
+use Rattle.std.specs.List.{after_first, before_first, list_any, position_or_len, slice_split}
 
 -- the two parts around the first byte c
 abbrev pub cut_at : ℕ → List ℕ → Option (List ℕ × List ℕ)
@@ -45,9 +43,12 @@ has_control line = list_any is_control line
 abbrev pub has_empty_word : List ℕ → Bool
 has_empty_word line = list_any (λ w. length w == 0) (words_of line)
 
--- a decimal number below 2^64: digits alone, of which leading zeros count for nothing
-abbrev pub is_number : List ℕ → Bool
-is_number word = list_all is_ascii_digit word && nat_lt 0 (length word) && nat_lt (digits_value 10 word) (2 ^ 64)
+-- what words spell, where each of them spells something
+abbrev pub all_spelled : {A : Type 0} → (List ℕ → Option A) → List (List ℕ) → Option (List A)
+all_spelled spelled [] = Some []
+all_spelled spelled (w ∷ ws) =
+    option_and_then (λ x. option_map (λ xs. x ∷ xs) (all_spelled spelled ws)) (spelled w)
 
-abbrev pub number_spelled : List ℕ → Option ℕ
-number_spelled word = if is_number word then Some (digits_value 10 word) else None
+-- a word among these spells nothing
+abbrev pub has_bad : {A : Type 0} → (List ℕ → Option A) → List (List ℕ) → Bool
+has_bad spelled words = list_any (λ w. is_none (spelled w)) words

@@ -5,6 +5,7 @@ ghost use Rattle.cli_script.specs.declared.line.Setting.{Setting};
 
 use crate::error::{ScriptError, error_at};
 use crate::line::{Action, ScriptLine};
+use crate::puts::crowds;
 use crate::read::read_line;
 use crate::words::split_line;
 use cli_quote::Quoted;
@@ -30,6 +31,13 @@ impl<'a> Actions<'a> {
         Actions { rest, lines }
     }
 
+    /// How many lines were read, the settings among them.
+    pub fn lines(&self) -> usize
+        ensures { result ≡ self.now.lines }
+    {
+        self.lines
+    }
+
     /// The next action; `None` at the end of the script.
     pub fn next(&mut self, alloc: Global) -> Result<Option<Action>, ScriptError>
         ensures next { IsNextAction self.old self.new result }
@@ -47,6 +55,10 @@ impl<'a> Actions<'a> {
             let found = Quoted::of(text);
             return Err(ScriptError::LateSetting { line, found });
         };
+        if crowds(alloc, &action)? {
+            let found = Quoted::of(text);
+            return Err(ScriptError::Crowded { line, found });
+        }
         self.rest = others;
         self.lines = line;
         Ok(Some(action))

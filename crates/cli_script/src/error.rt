@@ -7,6 +7,7 @@ ghost use Rattle.cli_script.specs.declared.error.ScriptError.TheVariants as scri
 use cli_quote::Quoted;
 use flow_model::FlowError;
 use std::alloc::{AllocError, AllocFailed};
+use sw_participant::NoMemory;
 use thiserror::Error;
 
 /// Why a line is refused: what is wrong with it, and what was expected. The first three are tried in
@@ -25,11 +26,16 @@ pub enum LineError {
         expected words of text with single spaces between them")]
     EmptyWord,
     /// The first word begins no line.
-    #[error("its first word is no command; expected retries, flow, answer, choose or auto")]
+    #[error("its first word is no command; expected retries, sessions, flow, answer, choose, advice, \
+        restore, offer, take, release, ack, break, clear, go, call, write, stop, cut, where, rest, \
+        saved, calls or auto")]
     Command,
     /// `retries` without a number below 2^64.
     #[error("the number of retries is missing, or it is none; expected retries N, N in decimal digits")]
     Retries,
+    /// `sessions` without a number below 2^64.
+    #[error("the number of sessions is missing, or it is none; expected sessions N, N in decimal digits")]
+    Sessions,
     /// `flow` without a group's name.
     #[error("the group's name is missing; expected flow GROUP ENTRY ..")]
     Flow,
@@ -41,10 +47,64 @@ pub enum LineError {
     #[error("the name or the byte is missing, or one of them is none; \
         expected answer NAME HH, HH two hexadecimal digits")]
     Answer,
+    /// A word behind `answer`, `restore` or `offer` that is no entry of a context.
+    #[error("an entry of a context is none; \
+        expected N=HEX, N a name and HEX at most 65535 bytes in hexadecimal digits")]
+    Entry,
     /// `choose` without a name and a space behind it.
     #[error("the name or the text is missing, or the name is none; \
         expected choose NAME TEXT, one space before TEXT")]
     Choose,
+    /// `advice` without a name and bytes.
+    #[error("the name or the advice is missing, or one of them is none; \
+        expected advice NAME HEX, HEX in hexadecimal digits")]
+    Advice,
+    /// `restore` without a name.
+    #[error("the name is missing, or it is none; expected restore NAME N=HEX ..")]
+    Restore,
+    /// `take` without one number.
+    #[error("the session is missing, or it is none; expected take S, S in decimal digits")]
+    Take,
+    /// `release` with more words.
+    #[error("words follow that it does not take; expected release")]
+    Release,
+    /// `ack` without two numbers.
+    #[error("the id or the place is missing, or one of them is none; \
+        expected ack ID PLACE, both in decimal digits")]
+    Ack,
+    /// `break` without one name.
+    #[error("the name is missing, or it is none; expected break NAME")]
+    Break,
+    /// `clear` without one name.
+    #[error("the name is missing, or it is none; expected clear NAME")]
+    Clear,
+    /// `go` without one number.
+    #[error("the session is missing, or it is none; expected go S, S in decimal digits")]
+    Go,
+    /// `call` without one number.
+    #[error("the session is missing, or it is none; expected call S, S in decimal digits")]
+    Call,
+    /// `write` with words that are not one number.
+    #[error("the count is none; expected write, or write K, K in decimal digits")]
+    Write,
+    /// `stop` with more words.
+    #[error("words follow that it does not take; expected stop")]
+    Stop,
+    /// `cut` with more words.
+    #[error("words follow that it does not take; expected cut")]
+    Cut,
+    /// `where` without one number.
+    #[error("the session is missing, or it is none; expected where S, S in decimal digits")]
+    Where,
+    /// `rest` without one number.
+    #[error("the session is missing, or it is none; expected rest S, S in decimal digits")]
+    Rest,
+    /// `saved` without one number.
+    #[error("the session is missing, or it is none; expected saved S, S in decimal digits")]
+    Saved,
+    /// `calls` without one name.
+    #[error("the name is missing, or it is none; expected calls NAME")]
+    Calls,
     /// `auto` with more words.
     #[error("words follow that it does not take; expected auto")]
     Auto,
@@ -80,15 +140,23 @@ pub enum ScriptError {
         found: Quoted,
     },
     /// A group stands beside a flow file.
-    #[error("line {line}: a group stands beside a flow file; expected no flow lines with --flow; found {found}")]
+    #[error("line {line}: a group stands beside a flow file; \
+        expected no flow lines with --flow; found {found}")]
     FlowBesideFile {
         line: usize,
         found: Quoted,
     },
     /// A setting stands after other lines.
     #[error("line {line}: a setting stands after other lines; \
-        expected retries, flow, answer and choose before all else; found {found}")]
+        expected retries, sessions, flow, answer, choose, advice and restore before all else; \
+        found {found}")]
     LateSetting {
+        line: usize,
+        found: Quoted,
+    },
+    /// A context that is offered has too many entries.
+    #[error("line {line}: a context has more than 64 names; expected at most 64; found {found}")]
+    Crowded {
         line: usize,
         found: Quoted,
     },
@@ -101,6 +169,14 @@ pub enum ScriptError {
     /// No memory was left for what the script says.
     #[error("out of memory")]
     OutOfMemory,
+}
+
+impl From<NoMemory> for ScriptError {
+    ghost from_gives = { λ _ r. r ≡ script.OutOfMemory };
+
+    fn from(_error: NoMemory) -> ScriptError {
+        ScriptError::OutOfMemory
+    }
 }
 
 impl From<AllocError> for ScriptError {

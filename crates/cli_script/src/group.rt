@@ -1,8 +1,10 @@
 //! The line `flow GROUP ENTRY ..`.
-ghost use Rattle.std.specs.Prelude.{◌≡◌, IfOk, map, option_map};
-ghost use Rattle.cli_script.specs.Grammar.{Answers, entries_spelled, entry, entry_spelled};
-ghost use Rattle.cli_script.specs.Grammar.{entries_refusal, flow_line, group_line, has_bad_entry, kind_marked};
-ghost use Rattle.cli_script.specs.Words.{further_words};
+ghost use Rattle.std.specs.Prelude.{◌≡◌, IfOk, Some, map, option_map};
+ghost use Rattle.cli_script.specs.Forms.{flow_line, group_line, or_refuse};
+ghost use Rattle.cli_script.specs.Grammar.{Answers};
+ghost use Rattle.cli_script.specs.Groups.{entries_spelled, entry, entry_spelled, kind_marked};
+ghost use Rattle.cli_script.specs.Words.{further_words, has_bad};
+ghost use Rattle.cli_script.specs.declared.error.LineError.TheVariants.{Marks};
 
 use crate::error::LineError;
 use crate::line::{ScriptLine, Setting};
@@ -38,7 +40,7 @@ fn entry_parts(word: &str) -> Option<(&str, Kind)>
 }
 
 /// The entries that words spell.
-fn read_entries(alloc: Global, words: &[&str]) -> Result<Vec<Entry>, LineError>
+fn spelled_entries(alloc: Global, words: &[&str]) -> Result<Vec<Entry>, LineError>
     ensures { IfOk result (λ v. entries_spelled (map (λ w. w.now) words.now) ≡ Some v.items) }
 {
     let mut entries = Vec::new(alloc);
@@ -53,42 +55,43 @@ fn read_entries(alloc: Global, words: &[&str]) -> Result<Vec<Entry>, LineError>
 }
 
 /// The entries of a text that may be empty.
-fn further_entries(alloc: Global, text: &str) -> Result<Vec<Entry>, LineError>
-    ensures { IfOk result (λ v. entries_spelled (further_words text.now) ≡ Some v.items) }
+fn further_entries(alloc: Global, text: &str) -> Result<Sequence<Entry>, LineError>
+    ensures { IfOk result (λ entries. entries_spelled (further_words text.now) ≡ Some entries) }
 {
     let words = further_words(alloc, text)?;
-    read_entries(alloc, words.as_slice())
+    Ok(Sequence::new(spelled_entries(alloc, words.as_slice())?))
 }
 
 /// Whether a word of the text spells no entry.
 fn has_bad_entry(text: &str) -> bool
-    ensures { result ≡ has_bad_entry (further_words text.now) }
+    ensures { result ≡ has_bad entry_spelled (further_words text.now) }
 {
     !text.is_empty() && text.split(' ').any(|word| entry_parts(word).is_none())
 }
 
-fn group_line(alloc: Global, name: &str, entries: Vec<Entry>) -> Result<ScriptLine, LineError>
-    ensures { Answers (group_line name.now (Some entries.items)) result }
+/// The entries of a text that may be empty. They are read once, and looked over again where that
+/// fails: marks that there are not are told before want of memory.
+fn read_entries(alloc: Global, text: &str) -> Result<Sequence<Entry>, LineError>
+    ensures { Answers (or_refuse Marks (entries_spelled (further_words text.now))) result }
 {
-    Ok(ScriptLine::Setting(Setting::Flow(Group {
-        name: Text::from_str(alloc, name)?,
-        entries: Sequence::new(entries),
-    })))
-}
-
-/// Why the entries of a text are not read. Marks that there are not are told before want of memory.
-fn entries_error(text: &str) -> LineError
-    ensures { result ≡ entries_refusal (has_bad_entry (further_words text.now)) }
-{
-    if has_bad_entry(text) {
-        LineError::Marks
-    } else {
-        LineError::OutOfMemory
+    match further_entries(alloc, text) {
+        Ok(entries) => Ok(entries),
+        Err(_) if has_bad_entry(text) => Err(LineError::Marks),
+        Err(_) => Err(LineError::OutOfMemory),
     }
 }
 
-/// `GROUP ENTRY ..`, behind the first word. The entries are read once, and looked over again
-/// where that fails.
+/// The group of this name with the entries of a text that may be empty.
+#[tactic(auto, using(crate::proofs::Meant::parts_of_lines))]
+fn read_group(alloc: Global, name: &str, text: &str) -> Result<ScriptLine, LineError>
+    ensures { Answers (group_line name.now (entries_spelled (further_words text.now))) result }
+{
+    let entries = read_entries(alloc, text)?;
+    let name = Text::from_str(alloc, name)?;
+    Ok(ScriptLine::Setting(Setting::Flow(Group { name, entries })))
+}
+
+/// `GROUP ENTRY ..`, behind the first word.
 pub fn read_flow(alloc: Global, rest: &str) -> Result<ScriptLine, LineError>
     ensures { Answers (flow_line rest.now) result }
 {
@@ -96,8 +99,5 @@ pub fn read_flow(alloc: Global, rest: &str) -> Result<ScriptLine, LineError>
         return Err(LineError::Flow);
     }
     let (name, text) = first_and_rest(rest);
-    let Ok(entries) = further_entries(alloc, text) else {
-        return Err(entries_error(text));
-    };
-    group_line(alloc, name, entries)
+    read_group(alloc, name, text)
 }

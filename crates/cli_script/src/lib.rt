@@ -1,14 +1,18 @@
 //! The script of `step`: what each of its lines means, and what its settings state.
 #![tactic(auto)]
 
+mod action_lines;
 mod actions;
 mod error;
 mod group;
+mod hex;
 mod line;
+mod puts;
 mod queues;
 mod read;
 mod replies;
 mod script;
+mod setting_lines;
 mod settings;
 mod words;
 

@@ -1,6 +1,7 @@
 //! What a line of a script means.
 use flow_model::Group;
-use sw_participant::Text;
+use sw_participant::{Bytes, Sequence, Text};
+use sw_scripted::{Put, QueuedAnswer};
 
 /// A line of a script.
 #[derive(Debug, Drop)]
@@ -16,17 +17,65 @@ pub enum ScriptLine {
 pub enum Setting {
     /// `retries N`: how often a transaction that aborts with RETRY is tried again.
     Retries(u64),
+    /// `sessions N`: how many sessions there are.
+    Sessions(u64),
     /// `flow GROUP ENTRY ..`: one more group of the flow. Its names are not tested here.
     Flow(Group),
-    /// `answer NAME HH`: the byte of the participant's next preparation.
-    Answer { participant: Text, byte: u8 },
+    /// `answer NAME HH [N=HEX ..]`: the participant's next preparation.
+    Answer {
+        participant: Text,
+        answer: QueuedAnswer,
+    },
     /// `choose NAME TEXT`: the text of the participant's next selection.
-    Choose { participant: Text, text: Text },
+    Choose {
+        participant: Text,
+        text: Text,
+    },
+    /// `advice NAME HEX`: the advice of the participant's next commit or abort.
+    Advice {
+        participant: Text,
+        body: Bytes,
+    },
+    /// `restore NAME [N=HEX ..]`: what the participant's next `recover` puts into the context.
+    Restore {
+        participant: Text,
+        puts: Sequence<Put>,
+    },
 }
 
-/// What a line runs.
-#[derive(Debug, Clone, Copy, PartialEq, Eq)]
+/// What a line runs. Sessions, ids, places and counts are any numbers below 2^64.
+#[derive(Debug, Drop)]
 pub enum Action {
-    /// `auto`: one transaction with an empty context, from its start to its end.
+    /// `offer [N=HEX ..]`: a context with these entries goes to the end of the queue.
+    Offer(Sequence<Put>),
+    /// `take S`: the session takes the queue's first context.
+    Take(u64),
+    /// `release`: the shelf goes to the end of the queue.
+    Release,
+    /// `ack ID PLACE`: the advice of this place of the transaction was forwarded.
+    Ack { id: u64, place: u64 },
+    /// `break NAME`: the participant's calls are held from now on.
+    Break(Text),
+    /// `clear NAME`: they are held no more.
+    Clear(Text),
+    /// `go S`: the session's held call goes on.
+    Go(u64),
+    /// `call S`: the session's due call is made.
+    Call(u64),
+    /// `write [K]`: the oldest K unwritten entries are written, or all.
+    Write(Option<u64>),
+    /// `stop`: all is given up but the journal and the participants.
+    Stop,
+    /// `cut`: the history begins anew from what is written.
+    Cut,
+    /// `where S`: shows where the session's transaction stands.
+    Where(u64),
+    /// `rest S`: shows the entries that are to come.
+    Rest(u64),
+    /// `saved S`: shows the saved context.
+    Saved(u64),
+    /// `calls NAME`: shows how many calls the participant was made.
+    Calls(Text),
+    /// `auto`: one transaction with an empty context, from its offer to its end.
     Auto,
 }

@@ -1,6 +1,6 @@
 //! Queues by name.
-ghost use Rattle.std.specs.Prelude.{◌≡◌, ℕ, List, [], OnOk, slice_get, string_bytes};
-ghost use Rattle.cli_script.specs.Queues.{PutsBehind, TakesFirst, queue_at};
+ghost use Rattle.std.specs.Prelude.{◌≡◌, ℕ, List, [], OnOk, string_bytes};
+ghost use Rattle.cli_script.specs.Queues.{OthersStay, PutsBehind, queue_at};
 
 use std::alloc::{AllocError, Global};
 use std::collections::{BTreeMap, VecDeque};
@@ -28,14 +28,14 @@ impl<T: Drop> Queues<T> {
         Ok(())
     }
 
-    /// Takes the first item of a name; `None` where none is queued.
-    pub fn pop(&mut self, name: &str) -> Option<T>
-        ensures first { result ≡ slice_get (queue_at self.old name.now) 0 }
-        ensures rest { TakesFirst (queue_at self.old) (queue_at self.new) name.now }
+    /// Takes the queue of a name; an empty one where none is kept.
+    pub fn take(&mut self, alloc: Global, name: &str) -> VecDeque<T>
+        ensures taken { result.items ≡ queue_at self.old name.now }
+        ensures others { OthersStay (queue_at self.old) (queue_at self.new) name.now }
     {
-        match self.held.get_mut(name) {
-            Some(queue) => queue.pop_front(),
-            None => None,
+        match self.held.remove(name) {
+            Some(queue) => queue,
+            None => VecDeque::new(alloc),
         }
     }
 }

@@ -1,65 +1,16 @@
 //! Reads one line of a script.
 ghost use Rattle.std.specs.Prelude.{◌≡◌};
-ghost use Rattle.cli_script.specs.Grammar.{Answers, IsText, answer_line, auto_line, choose_line};
-ghost use Rattle.cli_script.specs.Grammar.{has_stray_space, meaning_at, meaning_of, retries_line, rows};
-ghost use Rattle.cli_script.specs.Words.{cut_at, number_spelled};
+ghost use Rattle.cli_script.specs.Grammar.{Answers, IsText, has_stray_space, meaning_at, meaning_of, rows};
 
+use crate::action_lines::read_action;
 use crate::error::LineError;
 use crate::group::read_flow;
-use crate::line::{Action, ScriptLine, Setting};
-use crate::words::{cut_at, first_and_rest, has_control, has_empty_word, read_byte, read_number};
+use crate::line::ScriptLine;
+use crate::setting_lines::{
+    read_advice, read_answer, read_choose, read_restore, read_retries, read_sessions,
+};
+use crate::words::{first_and_rest, has_control, has_empty_word};
 use std::alloc::Global;
-use sw_context::is_name;
-use sw_participant::Text;
-
-fn read_retries(rest: &str) -> Result<ScriptLine, LineError>
-    ensures { result ≡ retries_line (number_spelled rest.now) }
-{
-    match read_number(rest) {
-        Some(retries) => Ok(ScriptLine::Setting(Setting::Retries(retries))),
-        None => Err(LineError::Retries),
-    }
-}
-
-fn read_answer(alloc: Global, rest: &str) -> Result<ScriptLine, LineError>
-    ensures { Answers (answer_line (cut_at 32 rest.now)) result }
-{
-    let Some((name, word)) = cut_at(rest, ' ') else {
-        return Err(LineError::Answer);
-    };
-    if !is_name(name) {
-        return Err(LineError::Answer);
-    }
-    let Some(byte) = read_byte(word) else {
-        return Err(LineError::Answer);
-    };
-    let participant = Text::from_str(alloc, name)?;
-    Ok(ScriptLine::Setting(Setting::Answer { participant, byte }))
-}
-
-fn read_choose(alloc: Global, rest: &str) -> Result<ScriptLine, LineError>
-    ensures { Answers (choose_line (cut_at 32 rest.now)) result }
-{
-    let Some((name, text)) = cut_at(rest, ' ') else {
-        return Err(LineError::Choose);
-    };
-    if !is_name(name) {
-        return Err(LineError::Choose);
-    }
-    let participant = Text::from_str(alloc, name)?;
-    let text = Text::from_str(alloc, text)?;
-    Ok(ScriptLine::Setting(Setting::Choose { participant, text }))
-}
-
-fn read_auto(rest: &str) -> Result<ScriptLine, LineError>
-    ensures { result ≡ auto_line rest.now }
-{
-    if rest.is_empty() {
-        Ok(ScriptLine::Action(Action::Auto))
-    } else {
-        Err(LineError::Auto)
-    }
-}
 
 /// What a line with this first word means, by the text behind the word's space.
 fn read_row(alloc: Global, word: &str, rest: &str) -> Result<ScriptLine, LineError>
@@ -67,11 +18,13 @@ fn read_row(alloc: Global, word: &str, rest: &str) -> Result<ScriptLine, LineErr
 {
     match word {
         "retries" => read_retries(rest),
+        "sessions" => read_sessions(rest),
         "flow" => read_flow(alloc, rest),
         "answer" => read_answer(alloc, rest),
         "choose" => read_choose(alloc, rest),
-        "auto" => read_auto(rest),
-        _ => Err(LineError::Command),
+        "advice" => read_advice(alloc, rest),
+        "restore" => read_restore(alloc, rest),
+        _ => read_action(alloc, word, rest),
     }
 }
 

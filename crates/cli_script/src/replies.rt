@@ -1,67 +1,80 @@
 //! What participants reply, by their names.
-ghost use Rattle.std.specs.Prelude.{◌≡◌, ℕ, List, [], OnOk, slice_get, unwrap_or};
-ghost use Rattle.cli_script.specs.Queues.{AreSame, PutsBehind, TakesFirst};
-ghost use Rattle.cli_script.specs.Replies.{answers_at, choices_at};
+ghost use Rattle.std.specs.Prelude.{◌≡◌, ℕ, List, [], OnOk};
+ghost use Rattle.sw_scripted.specs.Scripted.{queues_of};
+ghost use Rattle.cli_script.specs.Queues.{OthersStay, PutsBehind};
+ghost use Rattle.cli_script.specs.Replies.{advices_at, answers_at, choices_at, queued_at, restores_at};
 
 use crate::queues::Queues;
 use std::alloc::{AllocError, Global};
-use sw_participant::Text;
+use sw_participant::{Bytes, Sequence, Text};
+use sw_scripted::{Put, QueuedAnswer, QueuedReplies};
 
-/// The byte of a participant that has no answer queued: PREPARED.
-const PREPARED: u8 = 0x01;
-
-/// What participants reply, each reply taken once, in the order in which they were queued.
+/// What participants reply, in the order in which it was queued.
 #[derive(Drop)]
 pub struct Replies {
-    answers: Queues<u8>,
+    answers: Queues<QueuedAnswer>,
     choices: Queues<Text>,
+    advices: Queues<Bytes>,
+    restores: Queues<Sequence<Put>>,
 }
 
 impl Replies {
     pub fn new(alloc: Global) -> Replies
         ensures answers { (q : List ℕ) → answers_at result q ≡ [] }
         ensures choices { (q : List ℕ) → choices_at result q ≡ [] }
+        ensures advices { (q : List ℕ) → advices_at result q ≡ [] }
+        ensures restores { (q : List ℕ) → restores_at result q ≡ [] }
     {
         Replies {
             answers: Queues::new(alloc),
             choices: Queues::new(alloc),
+            advices: Queues::new(alloc),
+            restores: Queues::new(alloc),
         }
     }
 
-    /// Queues the byte of a participant's next preparation but those that are queued.
-    pub fn queue_answer(&mut self, name: Text, byte: u8) -> Result<(), AllocError>
-        ensures queued { OnOk result (PutsBehind (answers_at self.old) (answers_at self.new) name byte) }
-        ensures choices { AreSame (choices_at self.old) (choices_at self.new) }
+    /// Queues the answer of a participant's next preparation but those that are queued.
+    pub fn queue_answer(&mut self, name: Text, answer: QueuedAnswer) -> Result<(), AllocError>
+        ensures queued { OnOk result (PutsBehind (answers_at self.old) (answers_at self.new) name answer) }
+        ensures others { self.new ≡ record self.old { answers = self.new.answers } }
     {
-        self.answers.push(name.into_string(), byte)
+        self.answers.push(name.into_string(), answer)
     }
 
-    /// Queues the text of a participant's next selection but those that are queued.
+    /// The same of the text of its next selection.
     pub fn queue_choice(&mut self, name: Text, text: Text) -> Result<(), AllocError>
         ensures queued { OnOk result (PutsBehind (choices_at self.old) (choices_at self.new) name text) }
-        ensures answers { AreSame (answers_at self.old) (answers_at self.new) }
+        ensures others { self.new ≡ record self.old { choices = self.new.choices } }
     {
         self.choices.push(name.into_string(), text)
     }
 
-    /// The byte of a participant's next preparation, the first that is queued; PREPARED where none is.
-    pub fn next_answer(&mut self, name: &str) -> u8
-        ensures first { result ≡ unwrap_or (slice_get (answers_at self.old name.now) 0) 1 }
-        ensures rest { TakesFirst (answers_at self.old) (answers_at self.new) name.now }
-        ensures choices { AreSame (choices_at self.old) (choices_at self.new) }
+    /// The same of the advice of its next commit or abort.
+    pub fn queue_advice(&mut self, name: Text, body: Bytes) -> Result<(), AllocError>
+        ensures queued { OnOk result (PutsBehind (advices_at self.old) (advices_at self.new) name body) }
+        ensures others { self.new ≡ record self.old { advices = self.new.advices } }
     {
-        self.answers.pop(name).unwrap_or(PREPARED)
+        self.advices.push(name.into_string(), body)
     }
 
-    /// The text of a participant's next selection, the first that is queued; empty where none is.
-    pub fn next_choice(&mut self, alloc: Global, name: &str) -> Text
-        ensures first { result ≡ unwrap_or (slice_get (choices_at self.old name.now) 0) [] }
-        ensures rest { TakesFirst (choices_at self.old) (choices_at self.new) name.now }
-        ensures answers { AreSame (answers_at self.old) (answers_at self.new) }
+    /// The same of the entries that its next `recover` puts into the context.
+    pub fn queue_restore(&mut self, name: Text, puts: Sequence<Put>) -> Result<(), AllocError>
+        ensures queued { OnOk result (PutsBehind (restores_at self.old) (restores_at self.new) name puts) }
+        ensures others { self.new ≡ record self.old { restores = self.new.restores } }
     {
-        match self.choices.pop(name) {
-            Some(text) => text,
-            None => Text::new(String::new(alloc)),
+        self.restores.push(name.into_string(), puts)
+    }
+
+    /// Takes all that is queued for a participant.
+    pub fn take(&mut self, alloc: Global, name: &str) -> QueuedReplies
+        ensures taken { queues_of result ≡ queued_at self.old name.now }
+        ensures others { OthersStay (queued_at self.old) (queued_at self.new) name.now }
+    {
+        QueuedReplies {
+            answers: self.answers.take(alloc, name),
+            choices: self.choices.take(alloc, name),
+            advices: self.advices.take(alloc, name),
+            restores: self.restores.take(alloc, name),
         }
     }
 }

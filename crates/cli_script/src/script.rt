@@ -1,7 +1,7 @@
 //! A script: the settings at its head, and the lines behind them.
 ghost use Rattle.std.specs.Prelude.{◌≡◌, ◌+◌, ◌<◌, ◌≤◌, ◌^◌, IfErr, IfOk, length};
-ghost use Rattle.cli_script.specs.Scripts.{HasNoSetting, IsHeadRead, IsHeadRefused, IsNextSetting, IsOpenedAs};
-ghost use Rattle.cli_script.specs.Scripts.{IsScriptRefused, is_misplaced};
+ghost use Rattle.cli_script.specs.Scripts.{HasNoSetting, IsHeadRead, IsHeadRefused, IsNextSetting};
+ghost use Rattle.cli_script.specs.Scripts.{IsOpenedAs, IsScriptRefused, is_misplaced};
 
 use crate::actions::Actions;
 use crate::error::{ScriptError, error_at};
@@ -88,6 +88,8 @@ fn read_head(alloc: Global, has_file: bool, script: &[u8]) -> Result<Head<'_>, S
 pub struct Script<'a> {
     /// The flow that the settings state. It is checked.
     pub flow: Flow,
+    /// The number of sessions that the settings state.
+    pub sessions: u64,
     /// The replies that the settings queue.
     pub replies: Replies,
     /// The lines that are still to come.
@@ -115,6 +117,7 @@ pub fn open_script(
     if rest.is_empty() {
         return Ok(None);
     }
+    let sessions = settings.sessions();
     let (flow, replies) = settings.into_parts(file);
     if let Err(cause) = flow.check_by_map(alloc)? {
         return Err(ScriptError::Flow {
@@ -125,6 +128,7 @@ pub fn open_script(
     let actions = Actions::new(rest, lines);
     Ok(Some(Script {
         flow,
+        sessions,
         replies,
         actions,
     }))

@@ -1,6 +1,7 @@
 //! What the settings of a script state: the flow, and the replies of its participants.
 ghost use Rattle.std.specs.Prelude.{◌≡◌, [], List, OnOk};
-ghost use Rattle.cli_script.specs.Settings.{AddsSetting, IsKeptOf, IsRepliesOf, retries_or, stated_flow};
+ghost use Rattle.cli_script.specs.Settings.{AddsSetting, IsKeptOf, IsRepliesOf};
+ghost use Rattle.cli_script.specs.Settings.{retries_or, stated_flow, stated_sessions};
 ghost use Rattle.cli_script.specs.declared.line.Setting.{Setting as Stated};
 
 use crate::line::Setting;
@@ -9,10 +10,14 @@ use flow_model::{Flow, Group};
 use std::alloc::{AllocError, Global};
 use sw_participant::Sequence;
 
+/// The number of sessions where none is stated.
+const SESSIONS: u64 = 2;
+
 /// What is kept of settings.
 #[derive(Drop)]
 pub struct Settings {
     retries: Option<u64>,
+    sessions: Option<u64>,
     groups: Vec<Group>,
     replies: Replies,
 }
@@ -23,6 +28,7 @@ impl Settings {
     {
         Settings {
             retries: None,
+            sessions: None,
             groups: Vec::new(alloc),
             replies: Replies::new(alloc),
         }
@@ -34,15 +40,30 @@ impl Settings {
     {
         match setting {
             Setting::Retries(retries) => self.retries = Some(retries),
+            Setting::Sessions(sessions) => self.sessions = Some(sessions),
             Setting::Flow(group) => self.groups.push(group)?,
-            Setting::Answer { participant, byte } => {
-                self.replies.queue_answer(participant, byte)?;
-            }
+            Setting::Answer {
+                participant,
+                answer,
+            } => self.replies.queue_answer(participant, answer)?,
             Setting::Choose { participant, text } => {
                 self.replies.queue_choice(participant, text)?;
             }
+            Setting::Advice { participant, body } => {
+                self.replies.queue_advice(participant, body)?;
+            }
+            Setting::Restore { participant, puts } => {
+                self.replies.queue_restore(participant, puts)?;
+            }
         }
         Ok(())
+    }
+
+    /// The number of sessions; 2 where none is stated.
+    pub fn sessions(&self) -> u64
+        ensures { (ss : List Stated) → IsKeptOf ss self.now → result ≡ stated_sessions ss }
+    {
+        self.sessions.unwrap_or(SESSIONS)
     }
 
     /// The flow that the settings state, over that of a flow file if there is one, and the replies.
@@ -53,6 +74,7 @@ impl Settings {
     {
         let Settings {
             retries,
+            sessions: _,
             groups,
             replies,
         } = self;

@@ -1,11 +1,9 @@
 //! The lines of a script, the words of a line, and what a word spells.
 ghost use Rattle.std.specs.Prelude.{◌≡◌, ◌<◌, ◌≤◌, [], IfOk, MatchOption, length, map};
-ghost use Rattle.std.specs.Char.{is_ascii_digit};
-ghost use Rattle.std.specs.List.{list_all, position_or_len};
-ghost use Rattle.cli_script.specs.Bytes.{byte_spelled, pair_value};
+ghost use Rattle.std.specs.List.{position_or_len};
 ghost use Rattle.cli_script.specs.Lines.{IsFirstLine, is_line_feed};
 ghost use Rattle.cli_script.specs.Words.{cut_at, first_word, further_words, has_control};
-ghost use Rattle.cli_script.specs.Words.{has_empty_word, number_spelled, parts_shown, rest_of, words_of};
+ghost use Rattle.cli_script.specs.Words.{has_empty_word, parts_shown, rest_of, words_of};
 
 use std::alloc::{AllocError, Global};
 
@@ -80,40 +78,4 @@ pub fn further_words(alloc: Global, text: &str) -> Result<Vec<&str>, AllocError>
         return Ok(Vec::new(alloc));
     }
     split_words(alloc, text)
-}
-
-/// The byte of two hexadecimal digits, each in either case.
-fn read_pair(high: u8, low: u8) -> Option<u8>
-    ensures { result ≡ pair_value high low }
-{
-    let high = (high as char).to_digit(16)?;
-    let low = (low as char).to_digit(16)?;
-    Some((high * 16 + low) as u8)
-}
-
-/// `HH`: a byte as just two hexadecimal digits, each in either case.
-pub fn read_byte(word: &str) -> Option<u8>
-    ensures { result ≡ byte_spelled word.now }
-{
-    match word.as_bytes() {
-        [high, low] => read_pair(*high, *low),
-        _ => None,
-    }
-}
-
-fn is_digits(word: &str) -> bool
-    ensures { result ≡ list_all is_ascii_digit word.now }
-{
-    word.as_bytes().iter().all(|byte| byte.is_ascii_digit())
-}
-
-/// A decimal number below 2^64: digits alone, of which leading zeros count for nothing.
-pub fn read_number(word: &str) -> Option<u64>
-    ensures { result ≡ number_spelled word.now }
-{
-    if is_digits(word) {
-        word.parse().ok()
-    } else {
-        None
-    }
 }

@@ -1,12 +1,12 @@
 //! Openings on a journal that has transactions.
 
-use crate::flows::{main_of, plain};
-use crate::script::{Said, Turn, agreeing};
+use crate::flows::plain;
+use crate::script::played;
 use std::alloc::Global;
 use std::test::Fail;
-use sw_participant::{Act, Bytes, Kind, Sequence, Text};
+use sw_participant::{Bytes, Sequence, Text};
 use tx_engine::{Engine, EngineError};
-use tx_history::{Event, JournalView, Row};
+use tx_history::{JournalView, Row};
 use tx_machine::Phase;
 
 /// A journal whose transaction 1 is preparing.
@@ -34,25 +34,21 @@ fn half_prepared(alloc: Global) -> Result<JournalView, Fail> {
     view(alloc, joined, Some(Text::from_str(alloc, "send")?))
 }
 
-const ABORTED: [(Turn, Said); 11] = [
-    (
-        Turn::Next(0),
-        Said::Due(1, 0, Act::Abort { recovering: true }),
-    ),
-    (Turn::Offer, Said::Number(1)),
-    (Turn::Take(1), Said::Refused(5)),
-    (Turn::Cut, Said::Refused(15)),
-    (Turn::Tell(0), Said::Number(2)),
-    (Turn::Next(0), Said::Unwritten),
-    (Turn::Write(2), Said::Done),
-    (
-        Turn::Next(0),
-        Said::Due(1, 1, Act::Abort { recovering: true }),
-    ),
-    (Turn::Tell(0), Said::Number(3)),
-    (Turn::Next(0), Said::Idle),
-    (Turn::Take(1), Said::Taken(4, 2)),
-];
+const ABORTED: &str = "\
+counts = 0 0 1 0 2 1
+next 0 = due 1 0 Abort { recovering: true }
+offer = 1
+take 1 = Recovering
+cut = InUse
+tell 0 = 2
+next 0 = unwritten
+write 2 = 0
+next 0 = due 1 1 Abort { recovering: true }
+tell 0 = 3
+next 0 = idle
+take 1 = 4 id 2
+counts = 0 0 0 4 2 1
+";
 
 #[test]
 fn what_was_preparing_is_aborted(rt: HostRuntime) -> Result<(), Fail> {
@@ -62,56 +58,18 @@ fn what_was_preparing_is_aborted(rt: HostRuntime) -> Result<(), Fail> {
     let sound = view.ok();
     assert!(rt; sound);
     let mut engine = Engine::open(alloc, &code, &view, 2)?;
-    assert!(rt; engine.recovering() == 1 && engine.is_recovering());
-    assert_eq!(rt; agreeing(alloc, &mut engine, &ABORTED), ABORTED.len());
-    assert!(rt; engine.recovering() == 0 && !engine.is_recovering());
+    let came = played(rt.alloc(), &mut engine, ABORTED)?;
+    assert_eq!(rt; came.as_str(), ABORTED);
     Ok(())
 }
 
-const RESTORED: [(Turn, Said); 11] = [
-    (
-        Turn::Next(0),
-        Said::Due(1, 0, Act::Recover { commit: false }),
-    ),
-    (Turn::Tell(0), Said::Refused(7)),
-    (Turn::Restore(0), Said::Number(1)),
-    (Turn::Next(0), Said::Unwritten),
-    (Turn::Write(1), Said::Done),
-    (
-        Turn::Next(0),
-        Said::Due(1, 0, Act::Abort { recovering: true }),
-    ),
-    (Turn::Tell(0), Said::Number(2)),
-    (Turn::Write(2), Said::Done),
-    (
-        Turn::Next(0),
-        Said::Due(1, 1, Act::Abort { recovering: true }),
-    ),
-    (Turn::Tell(0), Said::Number(3)),
-    (Turn::Next(0), Said::Idle),
-];
-
-#[test]
-fn a_context_is_restored_before_the_outcome(rt: HostRuntime) -> Result<(), Fail> {
-    let alloc = rt.alloc();
-    let code = main_of(
-        alloc,
-        0,
-        &[("check", Kind::RECOVERING), ("send", Kind::PLAIN)],
-    )?;
-    let view = half_prepared(alloc)?;
-    let sound = view.ok();
-    assert!(rt; sound);
-    let mut engine = Engine::open(alloc, &code, &view, 1)?;
-    assert_eq!(rt; agreeing(alloc, &mut engine, &RESTORED), RESTORED.len());
-    Ok(())
-}
-
-const CLOSED: [(Turn, Said); 3] = [
-    (Turn::Cut, Said::Refused(16)),
-    (Turn::Write(1), Said::Done),
-    (Turn::Cut, Said::Done),
-];
+const CLOSED: &str = "\
+counts = 0 0 0 1 2 1
+cut = NotWritten
+write 1 = 0
+cut = 0
+counts = 0 0 0 0 2 0
+";
 
 #[test]
 fn what_has_nobody_to_tell_is_closed(rt: HostRuntime) -> Result<(), Fail> {
@@ -121,11 +79,8 @@ fn what_has_nobody_to_tell_is_closed(rt: HostRuntime) -> Result<(), Fail> {
     let sound = view.ok();
     assert!(rt; sound);
     let mut engine = Engine::open(alloc, &code, &view, 1)?;
-    assert!(rt; engine.recovering() == 0 && engine.history().len() == 1);
-    assert!(rt; matches!(engine.history()[0].event, Event::Closed { id: 1 }));
-    assert!(rt; matches!(engine.history()[0].change.row, Some((1, None))));
-    assert_eq!(rt; agreeing(alloc, &mut engine, &CLOSED), CLOSED.len());
-    assert!(rt; engine.opened().rows.as_slice().is_empty() && engine.history().is_empty());
+    let came = played(alloc, &mut engine, CLOSED)?;
+    assert_eq!(rt; came.as_str(), CLOSED);
     Ok(())
 }
 

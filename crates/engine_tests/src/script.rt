@@ -1,162 +1,175 @@
-//! Calls of an engine as data, and what they answer. The helpers have no contract, so that the proof of
-//! a test carries no values.
+//! Calls of an engine as lines of text, each with what it answers behind ` = `. The helpers have no
+//! contract, so that the proof of a test carries no values.
+//!
+//! `counts` (queued, on the shelf, recovering, entries, next id of the opened journal, its rows), `often N NAME` (so
+//! many breakpoints, as the last answers), `offer`, `take S`, `next S`, `answer S BYTE`, `choose S TEXT`, `restore S`, `tell S`, `advise S` (told, with the
+//! advice `AB`), `ack ID PLACE`, `break NAME`, `clear NAME`, `go S`, `release`, `write MARK`, `cut`, `rest S`. An
+//! event answers its entry's number, `write` and `cut` answer 0, and a refusal its name. Contexts are empty.
 
 use std::alloc::Global;
+use std::test::Fail;
 use sw_context::Context;
-use sw_participant::Act;
 use tx_engine::{Engine, EngineError, Next};
 
-/// A call of the engine. Contexts are empty.
-#[derive(Clone, Copy, Debug)]
-pub enum Turn {
-    Offer,
-    Take(usize),
-    Next(usize),
-    Answer(usize, u8),
-    Choose(usize, &'static str),
-    Restore(usize),
-    Tell(usize),
-    /// Telling a member that gives the advice `AB`.
-    Advise(usize),
-    Ack(u64, usize),
-    Break(&'static str),
-    Clear(&'static str),
-    LetGo(usize),
-    Release,
-    Write(usize),
-    Cut,
+fn number(word: &str) -> Result<usize, Fail> {
+    Ok(word.parse::<usize>()?)
 }
 
-/// What a call answers.
-#[derive(Clone, Copy, Debug, PartialEq, Eq)]
-pub enum Said {
-    /// The entry's number.
-    Number(usize),
-    /// The number of a take's entry, and the transaction's id.
-    Taken(usize, u64),
-    /// The number of the refusal.
-    Refused(usize),
-    Done,
-    Idle,
-    Unwritten,
-    /// A breakpoint holds this transaction's call of this participant.
-    Held(u64, u16, Act),
-    Due(u64, u16, Act),
-}
-
-fn number(error: &EngineError) -> usize {
-    match error {
-        EngineError::UnknownParticipant { .. } => 1,
-        EngineError::BadSessions => 2,
-        EngineError::Busy => 3,
-        EngineError::Empty => 4,
-        EngineError::Recovering => 5,
-        EngineError::IdsSpent => 6,
-        EngineError::NotDue => 7,
-        EngineError::NoAdvice => 8,
-        EngineError::NoParticipant => 9,
-        EngineError::NotHeld => 10,
-        EngineError::BadMark => 11,
-        EngineError::NoSession => 12,
-        EngineError::HistoryFull => 13,
-        EngineError::OutOfMemory => 14,
-        EngineError::InUse => 15,
-        EngineError::NotWritten => 16,
+fn cut_word(text: &str) -> (&str, &str) {
+    match text.split_once(' ') {
+        Some(parts) => parts,
+        None => (text, ""),
     }
 }
 
-fn refused(error: EngineError) -> Said {
-    Said::Refused(number(&error))
-}
-
-fn numbered(answer: Result<usize, EngineError>) -> Said {
-    match answer {
-        Ok(number) => Said::Number(number),
-        Err(error) => refused(error),
-    }
-}
-
-fn done(answer: Result<(), EngineError>) -> Said {
-    match answer {
-        Ok(()) => Said::Done,
-        Err(error) => refused(error),
-    }
-}
-
-fn taken(alloc: Global, engine: &mut Engine, session: usize) -> Said {
-    match engine.take(alloc, session) {
-        Ok(taken) => Said::Taken(taken.number, taken.id),
-        Err(error) => refused(error),
-    }
-}
-
-fn next(engine: &Engine, session: usize) -> Said {
-    match engine.next(session) {
-        Ok(Next::Idle) => Said::Idle,
-        Ok(Next::Unwritten) => Said::Unwritten,
-        Ok(Next::Held(call)) => Said::Held(call.id, call.participant, call.act),
-        Ok(Next::Due(call)) => Said::Due(call.id, call.participant, call.act),
-        Err(error) => refused(error),
-    }
-}
-
-fn reply(alloc: Global, engine: &mut Engine, turn: Turn) -> Said {
+// A call of a session; `None` where the word is none.
+fn reply(
+    alloc: Global,
+    engine: &mut Engine,
+    call: &str,
+    session: usize,
+    text: &str,
+) -> Result<Option<Result<usize, EngineError>>, Fail> {
     let context = Context::new(alloc);
-    match turn {
-        Turn::Offer => numbered(engine.offer(&context)),
-        Turn::Answer(session, byte) => numbered(engine.answered(alloc, session, byte, &context)),
-        Turn::Restore(session) => numbered(engine.recovered(session, &context)),
-        _ => Said::Done,
+    Ok(match call {
+        "answer" => Some(engine.answered(alloc, session, text.parse::<u8>()?, &context)),
+        "choose" => Some(engine.chose(alloc, session, text)),
+        "restore" => Some(engine.recovered(session, &context)),
+        "tell" => Some(engine.told(alloc, session, None)),
+        "advise" => Some(engine.told(alloc, session, Some(b"AB"))),
+        "go" => Some(engine.let_go(session)),
+        _ => None,
+    })
+}
+
+fn zero(answer: Result<(), EngineError>) -> Result<usize, EngineError> {
+    match answer {
+        Ok(()) => Ok(0),
+        Err(error) => Err(error),
     }
 }
 
-fn tell(alloc: Global, engine: &mut Engine, turn: Turn) -> Said {
-    match turn {
-        Turn::Choose(session, text) => numbered(engine.chose(alloc, session, text)),
-        Turn::Tell(session) => numbered(engine.told(alloc, session, None)),
-        Turn::Advise(session) => numbered(engine.told(alloc, session, Some(b"AB"))),
-        _ => Said::Done,
-    }
-}
-
-fn hold(engine: &mut Engine, turn: Turn) -> Said {
-    match turn {
-        Turn::Break(name) => numbered(engine.set_break(name)),
-        Turn::Clear(name) => numbered(engine.clear_break(name)),
-        Turn::LetGo(session) => numbered(engine.let_go(session)),
-        _ => Said::Done,
-    }
-}
-
-/// Makes one call.
-pub fn play(alloc: Global, engine: &mut Engine, turn: Turn) -> Said {
-    match turn {
-        Turn::Take(session) => taken(alloc, engine, session),
-        Turn::Next(session) => next(engine, session),
-        Turn::Ack(id, place) => numbered(engine.acked(id, place)),
-        Turn::Release => numbered(engine.release()),
-        Turn::Write(mark) => done(engine.written(mark)),
-        Turn::Cut => done(engine.cut(alloc)),
-        Turn::Break(_) | Turn::Clear(_) | Turn::LetGo(_) => hold(engine, turn),
-        Turn::Choose(..) | Turn::Tell(_) | Turn::Advise(_) => tell(alloc, engine, turn),
-        _ => reply(alloc, engine, turn),
-    }
-}
-
-/// How many of these calls answer as is said.
-pub fn agreeing(alloc: Global, engine: &mut Engine, turns: &[(Turn, Said)]) -> usize {
-    for (number, (turn, said)) in turns.iter().enumerate() {
-        if play(alloc, engine, *turn) != *said {
-            return number;
+// A call of no session; `None` where the word is none.
+fn event(
+    alloc: Global,
+    engine: &mut Engine,
+    call: &str,
+    text: &str,
+) -> Result<Option<Result<usize, EngineError>>, Fail> {
+    Ok(match call {
+        "offer" => Some(engine.offer(&Context::new(alloc))),
+        "release" => Some(engine.release()),
+        "break" => Some(engine.set_break(text)),
+        "clear" => Some(engine.clear_break(text)),
+        "cut" => Some(zero(engine.cut(alloc))),
+        "write" => Some(zero(engine.written(number(text)?))),
+        "often" => {
+            let (count, name) = cut_word(text);
+            Some(often(engine, number(count)?, name))
         }
-    }
-    turns.len()
+        "ack" => {
+            let (id, place) = cut_word(text);
+            Some(engine.acked(number(id)? as u64, number(place)?))
+        }
+        _ => None,
+    })
 }
 
-/// Whether these places are still to come for the session's transaction.
-pub fn rests(alloc: Global, engine: &Engine, session: usize, places: &[(usize, usize)]) -> bool {
-    match engine.rest(alloc, session) {
-        Ok(rest) => rest.as_slice() == places,
-        Err(_) => false,
+fn shown(alloc: Global, answer: Result<usize, EngineError>) -> Result<String, Fail> {
+    Ok(match answer {
+        Ok(number) => format!(in alloc; "{number}")?,
+        Err(error) => format!(in alloc; "{error:?}")?,
+    })
+}
+
+fn next(alloc: Global, engine: &Engine, session: usize) -> Result<String, Fail> {
+    Ok(match engine.next(session) {
+        Ok(Next::Idle) => format!(in alloc; "idle")?,
+        Ok(Next::Unwritten) => format!(in alloc; "unwritten")?,
+        Ok(Next::Held(call)) => format!(in alloc;
+            "held {} {} {:?}",
+            call.id, call.participant, call.act
+        )?,
+        Ok(Next::Due(call)) => format!(in alloc;
+            "due {} {} {:?}",
+            call.id, call.participant, call.act
+        )?,
+        Err(error) => format!(in alloc; "{error:?}")?,
+    })
+}
+
+fn take(alloc: Global, engine: &mut Engine, session: usize) -> Result<String, Fail> {
+    Ok(match engine.take(alloc, session) {
+        Ok(taken) => format!(in alloc; "{} id {}", taken.number, taken.id)?,
+        Err(error) => format!(in alloc; "{error:?}")?,
+    })
+}
+
+fn counts(alloc: Global, engine: &Engine) -> Result<String, Fail> {
+    let opened = engine.opened();
+    Ok(format!(in alloc;
+        "{} {} {} {} {} {}",
+        engine.queued(),
+        engine.shelved(),
+        engine.recovering(),
+        engine.history().len(),
+        opened.next_id,
+        opened.rows.as_slice().len()
+    )?)
+}
+
+// Sets a breakpoint so many times.
+fn often(engine: &mut Engine, count: usize, name: &str) -> Result<usize, EngineError> {
+    let mut number = 0;
+    for _ in 0..count {
+        number = engine.set_break(name)?;
     }
+    Ok(number)
+}
+
+// What a call of a session answers.
+fn session_call(
+    alloc: Global,
+    engine: &mut Engine,
+    call: &str,
+    text: &str,
+) -> Result<String, Fail> {
+    let (session, text) = cut_word(text);
+    let session = number(session)?;
+    match call {
+        "take" => take(alloc, engine, session),
+        "next" => next(alloc, engine, session),
+        "rest" => Ok(format!(in alloc; "{:?}", engine.rest(alloc, session)?)?),
+        _ => match reply(alloc, engine, call, session, text)? {
+            Some(answer) => shown(alloc, answer),
+            None => Err(Fail::new("a call that there is not")),
+        },
+    }
+}
+
+fn play(alloc: Global, engine: &mut Engine, line: &str) -> Result<String, Fail> {
+    let (call, text) = cut_word(line);
+    if call == "counts" {
+        return counts(alloc, engine);
+    }
+    match event(alloc, engine, call, text)? {
+        Some(answer) => shown(alloc, answer),
+        None => session_call(alloc, engine, call, text),
+    }
+}
+
+/// Makes the calls of a script, and gives the script with what they answered.
+pub fn played(alloc: Global, engine: &mut Engine, script: &str) -> Result<String, Fail> {
+    let mut text = String::new(alloc);
+    for line in script.lines() {
+        let Some((call, _)) = line.split_once(" = ") else {
+            return Err(Fail::new("a line without an answer"));
+        };
+        let came = play(alloc, engine, call)?;
+        text.push_str(call)?;
+        text.push_str(" = ")?;
+        text.push_str(came.as_str())?;
+        text.push('\n')?;
+    }
+    Ok(text)
 }

@@ -84,7 +84,7 @@ unclosed f v past id o law w true e =
     let busy : open_at f (look id v.view.rows) (own_items f v past id) ≡ true = ap (λ (r : Option Row). open_at f r (own_items f v past id)) w.there ∙ ap not w.unfinished in
     absurd (cc)
 
-recovered_id : (f : Flow) (v : Start) (past : List Event) (s id : ℕ) → serves f v past s ≡ Some id → id < v.view.next_id → recovering f v past ≡ Some id
+pub recovered_id : (f : Flow) (v : Start) (past : List Event) (s id : ℕ) → serves f v past s ≡ Some id → id < v.view.next_id → recovering f v past ≡ Some id
 recovered_id f v past s id h less = elim (serves_who f v past s id h) [
   | inl a ↦ a.0
   | inr a ↦ absurd (let le = taken_from v past s id a in omega arith)

@@ -8,3 +8,7 @@ pub mod StandingStates
 pub mod RestoredAgree
 pub mod CallsAgree
 pub mod AdvicesByPlace
+pub mod ProperStates
+pub mod RowsAgree
+pub mod AdvicesAgree
+pub mod JournalsAgree

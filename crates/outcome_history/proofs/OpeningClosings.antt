@@ -43,7 +43,7 @@ none_left : (told : ℕ) (xs : List ℕ) → told ≡ 0 → not (nat_lt told (le
 none_left told [] z h = refl
 none_left told (x ∷ xs) z h = absurd (grind (arith, nat_tests))
 
-more_names : (r : Row) (o : Option (List ℕ)) → length r.joined ≤ length (to_tell r o)
+pub more_names : (r : Row) (o : Option (List ℕ)) → length r.joined ≤ length (to_tell r o)
 more_names r None = omega arith
 more_names r (Some n) = omega (arith, length-append r.joined)
 

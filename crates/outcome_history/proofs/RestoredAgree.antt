@@ -29,7 +29,7 @@ reopened_closed true = refl
 reopened_closed false = refl
 
 -- its outcome is decided
-decided_phase : (f : Flow) (v : Start) (past : List Event) (id : ℕ) → IsOrdered v.view → recovering f v past ≡ Some id → is_open (state_of f v past id).phase ≡ false
+pub decided_phase : (f : Flow) (v : Start) (past : List Event) (id : ℕ) → IsOrdered v.view → recovering f v past ≡ Some id → is_open (state_of f v past id).phase ≡ false
 decided_phase f v past id o h =
     let w = found f v.view.rows (own_items f v past) 1 v.view.next_id id o.rows h in
     let l : id < v.view.next_id = (look_within v.view.rows 1 v.view.next_id id w.row o.rows w.there).1 in
@@ -42,7 +42,7 @@ and_first true c h = refl
 and_first false c h = absurd (cc)
 
 -- so no preparation or selection is answered meanwhile
-no_reply : (f : Flow) (v : Start) (past : List Event) (s id k : ℕ) (c : Bool) → IsOrdered v.view → IsLawful f v past → recovering f v past ≡ Some k → holds f v past s ≡ Some id → (is_open (state_of f v past id).phase && c) ≡ true → ⊥
+pub no_reply : (f : Flow) (v : Start) (past : List Event) (s id k : ℕ) (c : Bool) → IsOrdered v.view → IsLawful f v past → recovering f v past ≡ Some k → holds f v past s ≡ Some id → (is_open (state_of f v past id).phase && c) ≡ true → ⊥
 no_reply f v past s id k c o law r h due =
     let w = served_is f v past s id k o law r (holds_serves f v past s id h).0 in
     let closed = decided_phase f v past id o w.0 in

@@ -16,9 +16,9 @@ ghost use Rattle.tx_history.specs.declared.journal.Row.{Row};
 ghost use Rattle.tx_history.specs.Keys.{look, place_lt, put_by, same_place};
 ghost use Rattle.tx_history.specs.History.{Start, is_restored, last_of, next_id, recovering};
 ghost use Rattle.tx_history.specs.History.{serves, state_of, taken};
-ghost use Rattle.tx_history.specs.Journal.{IsLawful, is_closed};
+ghost use Rattle.tx_history.specs.Journal.{IsLawful, is_closed, journal};
 ghost use Rattle.tx_history.specs.Lives.{opened};
-ghost use Rattle.tx_history.specs.Views.{IsOk, IsOrdered};
+ghost use Rattle.tx_history.specs.Views.{IsOk, IsOrdered, StartFits};
 ghost use Rattle.outcome_history.specs.Calls.{Calls};
 ghost use Rattle.outcome_history.specs.Looked.{advice_at, closings, id_view};
 ghost use Rattle.outcome_history.specs.Sessions.{full_state, id_events, recovered_state, restored};
@@ -33,8 +33,8 @@ pub fn views_fit()
 {}
 
 /// Sessions serve, take and recover the same transactions in both words, and a reply speaks of the
-/// transaction that its session serves. The last entry of a transaction has the same number, and the
-/// entries of an opening are those with which a plant is made.
+/// transaction that its session serves. The last entry of a transaction has the same number, and
+/// the entries of an opening are those with which a plant is made.
 pub fn sessions_agree()
     ensures serves { (f : Flow) (v : Start) (past : List Event) (s : ℕ)
         → IsOrdered v.view → IsLawful f v past
@@ -84,9 +84,9 @@ pub fn states_agree()
         → at f (id_view f v.view) (id_events f v past) id ≡ None }
 {}
 
-/// The same call is due to the transaction that a session serves, a `recover` call before an outcome
-/// among them; and of the transaction that is recovered it is told alike whether its context was
-/// restored.
+/// The same call is due to the transaction that a session serves, a `recover` call before an
+/// outcome among them; and of the transaction that is recovered it is told alike whether its
+/// context was restored.
 pub fn calls_agree()
     ensures calls { (f : Flow) (v : Start) (past : List Event) (s id : ℕ)
         → IsOrdered v.view → IsLawful f v past → serves f v past s ≡ Some id → Calls f v past id }
@@ -104,4 +104,13 @@ pub fn advices_by_place()
     ensures { (place key : ℕ × ℕ) (advice : Option (List ℕ)) (old : List ((ℕ × ℕ) × List ℕ))
         → advice_at place (put_by place_lt key advice old)
         ≡ (if same_place key place then advice else advice_at place old) }
+{}
+
+/// The journal that a lawful history leaves is, by look-up, the one that the outcome law has: of a
+/// lawful history from a sound start, the next id, the rows and the advices are those that the
+/// outcome law makes of the same events.
+pub fn journals_agree()
+    ensures { (f : Flow) (v : Start) (past : List Event)
+        → StartFits f v → IsLawful f v past
+        → core.journal f (id_view f v.view) (id_events f v past) ≡ id_view f (journal f v past) }
 {}

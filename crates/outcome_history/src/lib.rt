@@ -1,12 +1,16 @@
 //! The outcome law joined with histories: what its own words (`tx_outcome`) are in the words of
 //! histories and journals (`tx_history`).
 //!
-//! There is no code here, but laws of the definitions: sound journals are what the outcome law begins
-//! from ([`views_fit`]), sessions serve the same transactions ([`sessions_agree`]), these stand in the
-//! same places ([`states_agree`]), and the same calls are due to them ([`calls_agree`]). An advice that
-//! is put into a journal stands under its place alone ([`advices_by_place`]).
+//! There is no code here, but laws of the definitions: sound journals are what the outcome law
+//! begins from ([`views_fit`]), sessions serve the same transactions ([`sessions_agree`]), these
+//! stand in the same places ([`states_agree`]), and the same calls are due to them
+//! ([`calls_agree`]). An advice that is put into a journal stands under its place alone
+//! ([`advices_by_place`]), and the journal that a history leaves is the outcome law's
+//! ([`journals_agree`]).
 #![tactic(auto)]
 
 mod laws;
 
-pub use laws::{advices_by_place, calls_agree, sessions_agree, states_agree, views_fit};
+pub use laws::{
+    advices_by_place, calls_agree, journals_agree, sessions_agree, states_agree, views_fit,
+};

@@ -5,6 +5,6 @@
 #[cfg(test)]
 mod books;
 #[cfg(test)]
-mod keys;
+mod deliveries;
 #[cfg(test)]
-mod requests;
+mod keys;

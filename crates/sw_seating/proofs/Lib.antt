@@ -1,2 +1,3 @@
-mod Numbered
+-- what crates over flows cite
+pub mod Numbered
 mod Seats

@@ -1,6 +1,6 @@
 -- The changes of a lawful history are such as the tables take, and lead to tables without a fault.
 -- for: laws::entries_fit, laws::histories_are_kept
-use Rattle.std.proofs.Common.{◌≡◌, ℕ, suc, zero, ◌+◌, ◌<◌, ◌≤◌, Bool, true, false, ◌==◌, ◌&&◌, if◌then◌else◌, List, [], ◌∷◌, ◌++◌, filter, map, Option, Some, None, nat_lt, length, refl, sym, ap, subst, ◌∙◌, true≢false, arith, append_assoc, IsTrue}
+use Rattle.std.proofs.Common.{◌≡◌, ℕ, suc, zero, ◌+◌, ◌<◌, ◌≤◌, Bool, true, false, ◌==◌, if◌then◌else◌, List, [], ◌∷◌, ◌++◌, filter, Option, Some, None, nat_lt, length, refl, sym, ap, subst, ◌∙◌, true≢false, arith, append_assoc, IsTrue}
 use Rattle.sw_context.specs.Names.{is_name}
 use Rattle.std.specs.Prelude.{slice_get}
 use Rattle.std.specs.List.{AllByRecursion}
@@ -15,7 +15,7 @@ use Rattle.tx_history.specs.declared.journal.JournalView.{JournalView}
 use Rattle.tx_history.specs.declared.journal.Row as own
 use Rattle.tx_history.specs.declared.journal.Waiting.{Waiting}
 use Rattle.tx_history.specs.History.{Start, next_id, place_in, put_advice, serves}
-use Rattle.tx_history.specs.Journal.{IsLawful, advices, applied, change, journal, to_close, touched}
+use Rattle.tx_history.specs.Journal.{IsLawful, advices, applied, change, journal, touched}
 use Rattle.tx_history.specs.Keys.{Rising, look, place_lt, put_at, put_by, put_new, put_place, put_some}
 use Rattle.tx_history.specs.Views.{AreSessions, AreSpelled, FlowFits, IsDoing, IsHistory, IsOk, PlacesRise, RowFits, StartFits}
 use Rattle.tx_history.proofs.Changes.{leads}
@@ -172,7 +172,7 @@ tail_spelled (Cleared p) past h = h
 tail_spelled (LetGo s) past h = h
 tail_spelled (Closed id) past h = h
 
-earlier : (f : Flow) (v : Start) (n : ℕ) (past : List Event) (e : Event) → IsHistory f v n (e ∷ past) → IsHistory f v n past
+pub earlier : (f : Flow) (v : Start) (n : ℕ) (past : List Event) (e : Event) → IsHistory f v n (e ∷ past) → IsHistory f v n past
 earlier f v n past e h = record { few = h.few; sessions = tail_sessions n e past h.sessions; spelled = tail_spelled e past h.spelled; lawful = h.lawful.2 }
 
 module _ (f : Flow) (v : Start) (n : ℕ) (past : List Event) (flow : FlowFits f) (start : StartFits f v) (h : IsHistory f v n past) where

@@ -4,3 +4,4 @@ mod MakeLemmas
 mod ReadLemmas
 mod RestLemmas
 pub mod HistoryChanges
+mod ViewReads

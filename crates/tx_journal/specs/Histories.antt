@@ -1,5 +1,5 @@
 -- The entries of a history, as a journal has them.
-use Rattle.std.specs.Prelude.{◌≡◌, ℕ, ◌+◌, List, [], ◌∷◌, ◌++◌, length, None}
+use Rattle.std.specs.Prelude.{ℕ, ◌+◌, List, [], ◌∷◌, ◌++◌, length, None}
 use Rattle.flow_model.specs.declared.flow.Flow.{Flow}
 use Rattle.tx_history.specs.declared.event.Entry.{Entry}
 use Rattle.tx_history.specs.declared.event.Event.{Event}

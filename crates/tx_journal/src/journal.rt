@@ -4,6 +4,7 @@ ghost use Rattle.std.specs.Prelude.{◌≡◌, ◌≤◌, ◌⊎◌, All, Err, I
 ghost use Rattle.sqlite.specs.Held.{state};
 ghost use Rattle.sqlite_trees.specs.View.{doubt};
 ghost use Rattle.journal_rows.specs.Law.{changes_of};
+ghost use Rattle.journal_rows.specs.Reads.{Stands};
 ghost use Rattle.journal_rows.specs.Tables.{Tables, all_made};
 ghost use Rattle.journal_tables.specs.Small.{IsEntrySmall};
 ghost use Rattle.tx_journal.specs.Kept.{IsCleanJournal, OpensAs, kept};
@@ -105,6 +106,8 @@ impl<S: Alter> Journal<S> {
             → (t : Tables) → (kept S.Store self.new).may_leave t → t ≡ (kept S.Store self.old).tables }
         ensures means { IsCleanJournal (kept S.Store self.new)
             → Means (kept S.Store self.old).tables self.new.failed result }
+        ensures stands { IsCleanJournal (kept S.Store self.new)
+            → IfOk result (Stands (kept S.Store self.old).tables) }
     {
         if self.failed {
             return Err(JournalError::Failed);

@@ -525,6 +525,7 @@ law_blank j rows none id = record {
   advised = λ n a g x y. absurd (grind (arith, x, none id n));
   numbered = λ h. refl;
   in_row = λ r is. absurd (grind (arith, is, rows id));
+  decided = tt;
 }
 
 pub due_unfinished : (d : DueCall) (x : FullReply) → answers d x ≡ true → not (is_idle d) ≡ true

@@ -19,6 +19,7 @@ good_ended t st adv g none = record {
   all_told = good_told t st adv g (g.sound.ended none).0;
   ordered = g.ordered;
   advised = g.advised;
+  decided = g.decided;
 }
 
 pub cut_holds : (known : Bool) (s : Option Standing) (x : Option FullReply) (t : List Deed) (adv : ℕ → Option (List ℕ)) → IdFits known s x t adv → standing_row s ≡ None → x ≡ None → IdFits known None None t adv

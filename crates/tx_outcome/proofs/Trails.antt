@@ -6,7 +6,7 @@ use Rattle.std.proofs.lemmas.Bool.Decides.{nat_tests}
 use Rattle.tx_machine.specs.declared.values.Phase.{Phase}
 use Rattle.tx_machine.specs.declared.values.Phase.TheVariants.{Preparing, Aborting, Committing, Undoing}
 use Rattle.tx_machine.specs.Row.{Row}
-use Rattle.tx_outcome.specs.Trail.{Deed, Answered, Chose, Told, Recovered, Stopped, has_call, has_open_call, has_commit, has_abort, has_outcome, told_by, joins_of, places_told, last_told, untold_in, may_tell, may_recover, is_unstopped, InOrder, count, is_committing, InRow, IdLaw}
+use Rattle.tx_outcome.specs.Trail.{Deed, Answered, Chose, Told, Recovered, Stopped, has_call, has_open_call, has_commit, has_abort, has_outcome, told_by, joins_of, places_told, last_told, untold_in, may_tell, may_recover, is_unstopped, InOrder, count, is_committing, last_row, IsOutcomeOf, FollowsRows, InRow, IdLaw}
 use Rattle.tx_outcome.specs.One.{Decision, Undecided, ToCommit, ToAbort, DueCall, Preparation, Selection, Telling, Recovery, NoCall, FullReply, Answer, Chosen, Advice, Restored, Standing, commits, IsRowOf, DueFits, IsStanding, Made, Follows, advised, GoesOneWay, IsLive, IsOver, One, standing_row, IdFits, OneFits, Reopened, Reopens, Move, Born, Call, Settle, Close, Ack, Stop, without, Moves, LawOfOne}
 
 -- trails without calls, without outcomes
@@ -50,6 +50,19 @@ none_ordered (Chose p ∷ t) h = absurd (grind arith)
 none_ordered (Told c p n a ∷ t) h = absurd (grind arith)
 none_ordered (Recovered q k ∷ t) h = absurd (grind arith)
 none_ordered (Stopped r ∷ t) h = none_ordered t h
+
+pub none_decided : (t : List Deed) → has_call t ≡ false → FollowsRows t
+none_decided [] h = tt
+none_decided (Answered p b ∷ t) h = absurd (grind arith)
+none_decided (Chose p ∷ t) h = absurd (grind arith)
+none_decided (Told c p n a ∷ t) h = absurd (grind arith)
+none_decided (Recovered q k ∷ t) h = absurd (grind arith)
+none_decided (Stopped r ∷ t) h = none_decided t h
+
+-- the way of the row at the last stop
+pub outcome_of : (o : Option Row) (c : Bool) → ((r : Row) → o ≡ Some r → c ≡ is_committing r.phase) → IsOutcomeOf o c
+outcome_of None c h = tt
+outcome_of (Some r) c h = h r refl
 
 pub none_unstopped : (t : List Deed) → has_call t ≡ false → is_unstopped t ≡ true
 none_unstopped [] h = refl
@@ -130,6 +143,7 @@ law_unborn t advice h none = record {
   advised = λ n a g x y. absurd (grind (arith, none n));
   numbered = λ k. h;
   in_row = λ r x. absurd (grind arith);
+  decided = none_decided t h;
 }
 
 pub law_dead : (t : List Deed) (advice : ℕ → Option (List ℕ)) → IsOver t advice → IdLaw t true None advice
@@ -140,6 +154,7 @@ law_dead t advice d = record {
   advised = d.advised;
   numbered = λ k. absurd (grind arith);
   in_row = λ r x. absurd (grind arith);
+  decided = d.decided;
 }
 
 -- all were told
@@ -166,6 +181,7 @@ law_good t st advice g = record {
   advised = g.advised;
   numbered = λ k. absurd (grind arith);
   in_row = λ r x. in_row_good t st advice r g (g.sound.row r x);
+  decided = g.decided;
 }
 
 -- calls
@@ -233,6 +249,7 @@ law_preparation u st advice p b is g =
       ordered = (none.1, none.0, g.ordered);
       advised = g.advised;
       numbered = λ k. absurd (grind arith);
+      decided = g.decided;
       in_row = λ r x.
           let f = g.sound.row r x in
           let old = in_row_good u st advice r g f in
@@ -255,6 +272,7 @@ law_selection u st advice p is g =
       ordered = (none.1, none.0, g.ordered);
       advised = g.advised;
       numbered = λ k. absurd (grind arith);
+      decided = g.decided;
       in_row = λ r x.
           let old = in_row_good u st advice r g (g.sound.row r x) in
           record { no_commit = old.no_commit; no_abort = old.no_abort; told = old.told; joined = old.joined; unadvised = old.unadvised };
@@ -271,6 +289,7 @@ law_tell u st advice p a is g =
       ordered = (g.again st.told (omega arith), g.ordered);
       advised = λ n x y at last. grind (arith, nat_tests, g.quiet n, g.advised n x y at);
       numbered = λ k. absurd (grind arith);
+      decided = (outcome_of (last_row u) (commits st.decision) (λ r at. (g.reopened r at).0), g.decided);
       in_row = λ r x.
           let f = g.sound.row r x in
           let old = in_row_good u st advice r g f in
@@ -293,6 +312,7 @@ law_recovery u st advice p is g =
       ordered = (g.afresh st.told (omega arith) (λ h e. not_back st g.sound (λ q k. grind (arith, is, k)) h), g.ordered);
       advised = g.advised;
       numbered = λ k. absurd (grind arith);
+      decided = g.decided;
       in_row = λ r x.
           let old = in_row_good u st advice r g (g.sound.row r x) in
           record { no_commit = old.no_commit; no_abort = old.no_abort; told = old.told; joined = old.joined; unadvised = old.unadvised };
@@ -320,8 +340,8 @@ lawful a h = law_holds a.known a.standing a.ahead a.trail a.advice h
 
 -- moves
 
-pub born : (t : List Deed) (st : Standing) (advice : ℕ → Option (List ℕ)) → has_call t ≡ false → ((n : ℕ) → advice n ≡ None) → IsStanding st → st.decision ≡ Undecided → st.told ≡ 0 → IsLive t st advice
-born t st advice h none sound decision told = record {
+pub born : (t : List Deed) (st : Standing) (advice : ℕ → Option (List ℕ)) → has_call t ≡ false → ((n : ℕ) → advice n ≡ None) → last_row t ≡ None → IsStanding st → st.decision ≡ Undecided → st.told ≡ 0 → IsLive t st advice
+born t st advice h none unstopped sound decision told = record {
   sound = sound;
   ordered = none_ordered t h;
   way = way_any st.decision t (none_outcome t h) (none_unstopped t h);
@@ -331,6 +351,8 @@ born t st advice h none sound decision told = record {
   afresh = λ n less not. none_may_recover n t h;
   quiet = λ n less. none n;
   advised = λ n a g x y. absurd (grind (arith, none n));
+  reopened = λ r at. absurd (grind (arith, at, unstopped));
+  decided = none_decided t h;
 }
 
 pub settle_preparation : (u : List Deed) (st to : Standing) (advice : ℕ → Option (List ℕ)) (p b : ℕ) (w : List ℕ) → st.due ≡ Preparation p → IsLive u st advice → Follows (Preparation p) (Answer b w) st to → IsStanding to → IsLive (Answered p b ∷ u) to advice
@@ -347,6 +369,8 @@ settle_preparation u st to advice p b w is g f sound =
       afresh = λ n less not. g.afresh n (omega (arith, f.1)) (λ h e. not_back st g.sound (λ q k. grind (arith, is, k)) h);
       quiet = λ n less. g.quiet n (omega (arith, f.1));
       advised = g.advised;
+      reopened = λ r at. absurd ((g.reopened r at).1 fits.0);
+      decided = g.decided;
     }
 
 pub settle_selection : (u : List Deed) (st to : Standing) (advice : ℕ → Option (List ℕ)) (p : ℕ) (w : List ℕ) → st.due ≡ Selection p → IsLive u st advice → Follows (Selection p) (Chosen w) st to → IsStanding to → IsLive (Chose p ∷ u) to advice
@@ -363,6 +387,8 @@ settle_selection u st to advice p w is g f sound =
       afresh = λ n less not. g.afresh n (omega (arith, f.1)) (λ h e. not_back st g.sound (λ q k. grind (arith, is, k)) h);
       quiet = λ n less. g.quiet n (omega (arith, f.1));
       advised = g.advised;
+      reopened = λ r at. absurd ((g.reopened r at).1 fits.0);
+      decided = g.decided;
     }
 
 pub told_step : (u : List Deed) (ms : List ℕ) (c : Bool) (p told : ℕ) (a : Option (List ℕ)) (n q : ℕ) → n < told + 1 → slice_get ms told ≡ Some p → slice_get ms n ≡ Some q
@@ -403,6 +429,8 @@ settle_tell u st to advice p a is g f sound =
       afresh = λ n less not. grind (arith, nat_tests, g.afresh n (omega (arith, f.1)) (λ h e. omega (arith, e, less, f.1)), f.1, less);
       quiet = λ n less. quiet_step advice p st.told a n (omega (arith, f.1)) (g.quiet n (omega (arith, f.1)));
       advised = λ n x y at last. advised_step advice u (commits st.decision) p st.told a n x y (g.quiet st.told (omega arith)) (g.advised n x y) at last;
+      reopened = λ r at. (let w = g.reopened r at in (ap commits f.2 ∙ w.0, λ e. w.1 (sym f.2 ∙ e)));
+      decided = (outcome_of (last_row u) (commits st.decision) (λ r at. (g.reopened r at).0), g.decided);
     }
 
 pub settle_recovery : (u : List Deed) (st to : Standing) (advice : ℕ → Option (List ℕ)) (p : ℕ) → st.due ≡ Recovery p → IsLive u st advice → Follows (Recovery p) Restored st to → IsStanding to
@@ -422,6 +450,8 @@ settle_recovery u st to advice p is g f sound =
           grind (arith, nat_tests, g.afresh n (omega (arith, f.1)) (λ h e. never h), other);
       quiet = λ n less. g.quiet n (omega (arith, f.1));
       advised = g.advised;
+      reopened = λ r at. (let w = g.reopened r at in (ap commits f.2 ∙ w.0, λ e. w.1 (sym f.2 ∙ e)));
+      decided = g.decided;
     }
 
 pub settle : (d : DueCall) (x : FullReply) (m : Deed) (u : List Deed) (st to : Standing) (advice : ℕ → Option (List ℕ)) → st.due ≡ d → Made d x st m → IsLive u st advice → Follows d x st to → IsStanding to
@@ -439,6 +469,7 @@ good_dead t st advice g none = record {
   all_told = λ p. let old : joins_of p t ≤ count p [] = subst (λ (ms : List ℕ). joins_of p t ≤ count p ms) none (g.joined p) in (0, old);
   ordered = g.ordered;
   advised = g.advised;
+  decided = g.decided;
 }
 
 pub without_none : (k n : ℕ) (advice : ℕ → Option (List ℕ)) → advice n ≡ None → without k advice n ≡ None
@@ -458,15 +489,18 @@ good_acked k t st advice g = record {
   afresh = g.afresh;
   quiet = λ n less. without_none k n advice (g.quiet n less);
   advised = λ n x y at last. g.advised n x y (without_some k n advice x at) last;
+  reopened = g.reopened;
+  decided = g.decided;
 }
 
 pub acked : (k : ℕ) (known : Bool) (s : Option Standing) (x : Option FullReply) (t : List Deed) (advice : ℕ → Option (List ℕ)) → IdFits known s x t advice → IdFits known s x t (without k advice)
-acked k false None None t advice h = (h.0, λ n. without_none k n advice (h.1 n))
+acked k false None None t advice h = (h.0, λ n. without_none k n advice (h.1 n), h.2)
 acked k true None None t advice h = record {
   one_way = h.one_way;
   all_told = h.all_told;
   ordered = h.ordered;
   advised = λ n x y at last. h.advised n x y (without_some k n advice x at) last;
+  decided = h.decided;
 }
 acked k true (Some st) None t advice h = good_acked k t st advice h
 acked k true (Some st) (Some x) t advice h = (h.0, h.1, h.2, h.3, good_acked k h.1 st advice h.4)
@@ -486,6 +520,13 @@ pub reopened_way : (b : Bool) (m : Decision) (t : List Deed) → m ≡ (if b the
 reopened_way true m t is no_commit no_abort = subst (λ (m : Decision). GoesOneWay m t) (sym is) (no_abort refl)
 reopened_way false m t is no_commit no_abort = subst (λ (m : Decision). GoesOneWay m t) (sym is) (no_commit refl)
 
+pub reopened_not : (b : Bool) (m : Decision) → m ≡ (if b then ToCommit else ToAbort) → m ≡ Undecided → ⊥
+reopened_not true m is h = grind (arith, is, h)
+reopened_not false m is h = grind (arith, is, h)
+
+same_row : (r q : Row) → Some r ≡ Some q → r ≡ q
+same_row r q e = grind (arith, e)
+
 pub reopened_good : (t : List Deed) (known : Bool) (r : Row) (st : Standing) (advice : ℕ → Option (List ℕ)) → IdLaw t known (Some r) advice → Reopened r st → IsLive (Stopped (Some r) ∷ t) st advice
 reopened_good t known r st advice law o =
     let f : IsRowOf st r = o.sound.row r o.row in
@@ -500,15 +541,17 @@ reopened_good t known r st advice law o =
       afresh = λ n less not. let new : untold_in r.phase r.told n ≡ true = untold_from r.phase r.told n (omega (arith, f.told)) in grind (arith, new);
       quiet = λ n less. i.unadvised n (omega (arith, f.told));
       advised = law.advised;
+      reopened = λ q at. (sym f.phase ∙ ap (λ (r : Row). is_committing r.phase) (same_row r q at), reopened_not (is_committing r.phase) st.decision o.decision);
+      decided = law.decided;
     }
 
 -- what is opened on a view for which the law holds
 pub opened : (known : Bool) (row : Option Row) (to : Option Standing) (t : List Deed) (advice : ℕ → Option (List ℕ))
     → (known ≡ false → (row ≡ None) × ((n : ℕ) → advice n ≡ None)) → IdLaw t known row advice → Reopens row to → IdFits known to None (Stopped row ∷ t) advice
-opened false None to t advice ok law re = subst (λ (to : Option Standing). IdFits false to None (Stopped None ∷ t) advice) (sym re) (law.numbered refl, (ok refl).1)
+opened false None to t advice ok law re = subst (λ (to : Option Standing). IdFits false to None (Stopped None ∷ t) advice) (sym re) (law.numbered refl, (ok refl).1, refl)
 opened false (Some r) to t advice ok law re = absurd (grind (arith, (ok refl).0))
 opened true None to t advice ok law re = subst (λ (to : Option Standing). IdFits true to None (Stopped None ∷ t) advice) (sym re)
-    (record { one_way = law.one_way; all_told = law.all_told refl refl; ordered = law.ordered; advised = law.advised })
+    (record { one_way = law.one_way; all_told = law.all_told refl refl; ordered = law.ordered; advised = law.advised; decided = law.decided })
 opened true (Some r) to t advice ok law re = subst (λ (to : Option Standing). IdFits true to None (Stopped (Some r) ∷ t) advice) (sym re.1) (reopened_good t true r re.0 advice law re.2)
 
 pub unborn_ok : (known : Bool) (s : Option Standing) (x : Option FullReply) (t : List Deed) (advice : ℕ → Option (List ℕ)) → IdFits known s x t advice → known ≡ false → (standing_row s ≡ None) × ((n : ℕ) → advice n ≡ None)
@@ -521,7 +564,7 @@ unborn_ok true s x t advice h k = absurd (grind arith)
 
 pub born_holds : (known : Bool) (s : Option Standing) (x : Option FullReply) (t : List Deed) (advice : ℕ → Option (List ℕ)) (st : Standing) → IdFits known s x t advice → known ≡ false → IsStanding st → st.decision ≡ Undecided → st.told ≡ 0
     → IdFits true (Some st) x t advice
-born_holds false None None t advice st h k sound decision told = born t st advice h.0 h.1 sound decision told
+born_holds false None None t advice st h k sound decision told = born t st advice h.0 h.1 h.2 sound decision told
 born_holds false None (Some x) t advice st h k sound decision told = absurd h
 born_holds false (Some old) x t advice st h k sound decision told = absurd h
 born_holds true s x t advice st h k sound decision told = absurd (grind arith)

@@ -1,8 +1,9 @@
--- There are such runs.
+-- The order of calls, and their outcome, in plain words.
 -- for: laws::clauses
-use Rattle.std.proofs.Common.{◌≡◌, ℕ, Bool, true, false, List, [], ◌∷◌, ◌++◌, Option, refl, ap, arith}
+use Rattle.std.proofs.Common.{◌≡◌, ℕ, Bool, true, false, List, [], ◌∷◌, ◌++◌, Option, Some, refl, ap, subst, arith}
 use Rattle.std.proofs.lemmas.Bool.Decides.{nat_tests}
-use Rattle.tx_outcome.specs.Trail.{Deed, Answered, Chose, Told, Recovered, Stopped, has_open_call, may_tell, may_recover, is_unstopped, InOrder}
+use Rattle.tx_machine.specs.Row.{Row}
+use Rattle.tx_outcome.specs.Trail.{Deed, Answered, Chose, Told, Recovered, Stopped, has_open_call, may_tell, may_recover, is_unstopped, InOrder, is_committing, last_row, FollowsRows, IsOutcomeOf}
 use Rattle.flow_model.specs.declared.flow.Flow.{Flow}
 use Rattle.tx_outcome.specs.Core.{Called, Halted}
 use Rattle.tx_outcome.specs.Plant.{Plant, PlantMove, Take, Call, Record, Acking, Quiet, Put, Note, Stop, Cut, PlantMoves, view}
@@ -76,3 +77,24 @@ adds f Put p q h = ([], ap (λ (z : Plant). z.calls) h.3, λ ms. (h.0, h.1, h.2,
 adds f (Note n) p q h = ([], ap (λ (z : Plant). z.calls) h.2, λ ms. (h.0, h.1, ap (λ (z : Plant). with_calls z ms) h.2))
 adds f Cut p q h = ([], ap (λ (z : Plant). z.calls) h.3, λ ms. (h.0, h.1, h.2, ap (λ (z : Plant). with_calls z ms) h.3))
 adds f (Stop cs) p q h = (Halted (view f p) ∷ [], ap (λ (z : Plant). z.calls) h.1, λ ms. (h.0, ap (λ (z : Plant). with_calls z (Halted (view f p) ∷ ms)) h.1))
+
+-- who is told after a stop is told the outcome that the row had
+
+follows_later : (a t : List Deed) → FollowsRows (a ++ t) → FollowsRows t
+follows_later [] t h = h
+follows_later (Told c p n x ∷ a) t h = follows_later a t h.1
+follows_later (Answered p b ∷ a) t h = follows_later a t h
+follows_later (Chose p ∷ a) t h = follows_later a t h
+follows_later (Recovered p n ∷ a) t h = follows_later a t h
+follows_later (Stopped row ∷ a) t h = follows_later a t h
+
+last_since : (b d : List Deed) (row : Option Row) → has_stop b ≡ false → last_row (b ++ (Stopped row ∷ d)) ≡ row
+last_since [] d row h = refl
+last_since (Told c p n x ∷ b) d row h = last_since b d row h
+last_since (Answered p x ∷ b) d row h = last_since b d row h
+last_since (Chose p ∷ b) d row h = last_since b d row h
+last_since (Recovered p n ∷ b) d row h = last_since b d row h
+last_since (Stopped r ∷ b) d row h = absurd (cc)
+
+pub told_way : (r : Row) (c : Bool) (p n : ℕ) (x : Option (List ℕ)) (a b d : List Deed) → FollowsRows (a ++ (Told c p n x ∷ (b ++ (Stopped (Some r) ∷ d)))) → has_stop b ≡ false → c ≡ is_committing r.phase
+told_way r c p n x a b d h none = subst (λ (o : Option Row). IsOutcomeOf o c) (last_since b d (Some r) none) (follows_later a (Told c p n x ∷ (b ++ (Stopped (Some r) ∷ d))) h).0

@@ -2,7 +2,7 @@
 use Rattle.std.specs.Prelude.{◌≡◌, ℕ, ◌+◌, ◌<◌, ◌≤◌, Bool, true, false, List, [], ◌∷◌, ◌++◌, length, Option, Some, None, slice_get, ◌==◌}
 use Rattle.std.specs.Prelude.{if◌then◌else◌}
 use Rattle.tx_machine.specs.Row.{Row}
-use Rattle.tx_outcome.specs.Trail.{Deed, Answered, Chose, Told, Recovered, Stopped, joins, has_call, has_commit, has_abort, has_outcome, told_by, joins_of, places_told, last_told, may_tell, may_recover, is_unstopped, InOrder, count, listed, is_committing, IdLaw}
+use Rattle.tx_outcome.specs.Trail.{Deed, Answered, Chose, Told, Recovered, Stopped, joins, has_call, has_commit, has_abort, has_outcome, told_by, joins_of, places_told, last_told, may_tell, may_recover, is_unstopped, InOrder, count, listed, is_committing, last_row, FollowsRows, IdLaw}
 
 -- Undecided: preparing or aborting, nobody told. A journalled transaction never is.
 pub data Decision : Type 0 where
@@ -98,6 +98,8 @@ pub record IsLive (t : List Deed) (st : Standing) (advice : ℕ → Option (List
   pub afresh : (n : ℕ) → st.told ≤ n → (st.restored ≡ true → n ≡ st.told → ⊥) → may_recover n t ≡ true
   pub quiet : (n : ℕ) → st.told ≤ n → advice n ≡ None
   pub advised : (n : ℕ) (a : List ℕ) (g : Option (List ℕ)) → advice n ≡ Some a → last_told n t ≡ Some g → g ≡ Some a
+  pub reopened : (r : Row) → last_row t ≡ Some r → (commits st.decision ≡ is_committing r.phase) × (st.decision ≡ Undecided → ⊥)
+  pub decided : FollowsRows t
 
 -- the same of one that is over
 pub record IsOver (t : List Deed) (advice : ℕ → Option (List ℕ)) : Type 0 where
@@ -105,6 +107,7 @@ pub record IsOver (t : List Deed) (advice : ℕ → Option (List ℕ)) : Type 0 
   pub all_told : (p : ℕ) → (k : ℕ) × (joins_of p t ≤ places_told p t 0 k)
   pub ordered : InOrder t
   pub advised : (n : ℕ) (a : List ℕ) (g : Option (List ℕ)) → advice n ≡ Some a → last_told n t ≡ Some g → g ≡ Some a
+  pub decided : FollowsRows t
 
 -- One id: its trail; whether it is below the journal's next id; its written standing; the reply that was given beyond what
 -- is written, kept or in an entry (there is one at most, since a call waits until what was due before it is written); its
@@ -122,7 +125,7 @@ standing_row (Some st) = st.row
 
 -- what every list of moves keeps
 abbrev pub IdFits : Bool → Option Standing → Option FullReply → List Deed → (ℕ → Option (List ℕ)) → Type 0
-IdFits false None None t advice = (has_call t ≡ false) × ((n : ℕ) → advice n ≡ None)
+IdFits false None None t advice = (has_call t ≡ false) × ((n : ℕ) → advice n ≡ None) × (last_row t ≡ None)
 IdFits true None None t advice = IsOver t advice
 IdFits true (Some st) None t advice = IsLive t st advice
 IdFits true (Some st) (Some x) t advice = (m : Deed) × (u : List Deed) × (t ≡ m ∷ u) × Made st.due x st m × IsLive u st advice

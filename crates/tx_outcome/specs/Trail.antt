@@ -130,6 +130,23 @@ is_committing Aborting = false
 is_committing Committing = true
 is_committing Undoing = false
 
+-- the row that the journal had at the last stop
+abbrev pub last_row : List Deed → Option Row
+last_row [] = None
+last_row (Stopped row ∷ t) = row
+last_row (_ ∷ t) = last_row t
+
+-- the outcome of a journalled transaction: to commit where its row was committing, and else to abort
+abbrev pub IsOutcomeOf : Option Row → Bool → Type 0
+IsOutcomeOf None commit = Unit {0}
+IsOutcomeOf (Some r) commit = commit ≡ is_committing r.phase
+
+-- who is told after a stop at which the journal had the transaction is told that outcome
+abbrev pub FollowsRows : List Deed → Type 0
+FollowsRows [] = Unit {0}
+FollowsRows (Told c p n a ∷ t) = IsOutcomeOf (last_row t) c × FollowsRows t
+FollowsRows (_ ∷ t) = FollowsRows t
+
 -- What the law says of a transaction with this row: commits only where it is committing and aborts only where it is not;
 -- each member below the number told was told; nobody prepared more often than the row has it; no advice of a place that was
 -- not told.
@@ -145,7 +162,8 @@ pub record InRow (t : List Deed) (r : Row) (advice : ℕ → Option (List ℕ)) 
 -- all told (b): without a row in the journal, each participant was told at as many places as it prepared without NO_JOIN;
 -- in order (c): calls come in the order above, each member told once but for a stop that lost it;
 -- advised (d): an advice that the journal holds is what the last outcome call of its place gave;
--- numbered and in row (e): no call is of an id that the journal does not know, and a row tells what was called.
+-- numbered and in row (e): no call is of an id that the journal does not know, and a row tells what was called;
+-- decided (f): after a restart a transaction that was committing is committed, and any other that the journal has is aborted.
 pub record IdLaw (t : List Deed) (known : Bool) (row : Option Row) (advice : ℕ → Option (List ℕ)) : Type 0 where
   pub one_way : has_commit t ≡ true → has_abort t ≡ true → ⊥
   pub all_told : known ≡ true → row ≡ None → (p : ℕ) → (k : ℕ) × (joins_of p t ≤ places_told p t 0 k)
@@ -153,3 +171,4 @@ pub record IdLaw (t : List Deed) (known : Bool) (row : Option Row) (advice : ℕ
   pub advised : (n : ℕ) (a : List ℕ) (g : Option (List ℕ)) → advice n ≡ Some a → last_told n t ≡ Some g → g ≡ Some a
   pub numbered : known ≡ false → has_call t ≡ false
   pub in_row : (r : Row) → row ≡ Some r → InRow t r advice
+  pub decided : FollowsRows t

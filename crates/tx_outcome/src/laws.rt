@@ -1,6 +1,7 @@
 //! The outcome law, layer by layer. Trails and lists of calls have the newest first.
 
-ghost use Rattle.std.specs.Prelude.{◌≡◌, ℕ, Bool, true, false, List, Option, None, Some, [], ◌∷◌, ◌++◌, ◌<◌, ◌+◌, length};
+ghost use Rattle.std.specs.Prelude.{◌≡◌, ℕ, Bool, true, false, List, Option, None, Some, [], ◌∷◌};
+ghost use Rattle.std.specs.Prelude.{◌++◌, ◌<◌, ◌+◌, length};
 ghost use Rattle.std.specs.Prelude.{slice_index, nat_lt, if◌then◌else◌};
 ghost use Rattle.flow_model.specs.declared.flow.Flow.{Flow};
 ghost use Rattle.sw_participant.specs.declared.call.Call.{Call};
@@ -11,14 +12,20 @@ ghost use Rattle.tx_machine.specs.Table.{TxState, is_due};
 ghost use Rattle.tx_machine.specs.Table as table;
 ghost use Rattle.tx_machine.specs.Due.{due_of};
 ghost use Rattle.tx_machine.specs.Row.{Row, row_of};
-ghost use Rattle.tx_outcome.specs.Trail.{Deed, Told, Recovered, Stopped, InOrder, IdLaw, listed, is_committing};
-ghost use Rattle.tx_outcome.specs.One.{One, Advice, Made, standing_row, Move, Moves, OneFits, LawOfOne, Standing};
+ghost use Rattle.tx_outcome.specs.Trail.{Deed, Told, Recovered, Stopped, InOrder, IdLaw, listed};
+ghost use Rattle.tx_outcome.specs.Trail.{FollowsRows, is_committing};
+ghost use Rattle.tx_outcome.specs.One.{One, Advice, Made, standing_row, Move, Moves, OneFits};
+ghost use Rattle.tx_outcome.specs.One.{LawOfOne, Standing};
 ghost use Rattle.tx_outcome.specs.One.{IdFits, Reopens, Reopened, FullReply, Follows, IsStanding};
-ghost use Rattle.tx_outcome.specs.States.{FullState, Head, own, outcome_due, recovers, begin, due, after, answers};
+ghost use Rattle.tx_outcome.specs.States.{FullState, Head, own, outcome_due, recovers, begin, due};
+ghost use Rattle.tx_outcome.specs.States.{after, answers};
 ghost use Rattle.tx_outcome.specs.States.{reopen, PhaseFits, standing, StateFits};
-ghost use Rattle.tx_outcome.specs.Core.{IdView, IdEvent, PlantDeed, Halted, CoreFits, at, standing_of, CoreMove};
-ghost use Rattle.tx_outcome.specs.Core.{Core, CoreRun, OutcomeLaw, ViewFits, Shuts, opened, written};
-ghost use Rattle.tx_outcome.specs.Plant.{Plant, PlantMove, PlantMoves, PlantRun, unfinished, made_on, view, shut_ids};
+ghost use Rattle.tx_outcome.specs.Core.{IdView, IdEvent, PlantDeed, Halted, CoreFits, at};
+ghost use Rattle.tx_outcome.specs.Core.{standing_of, CoreMove};
+ghost use Rattle.tx_outcome.specs.Core.{Core, CoreRun, OutcomeLaw, ViewFits, Shuts, opened};
+ghost use Rattle.tx_outcome.specs.Core.{written};
+ghost use Rattle.tx_outcome.specs.Plant.{Plant, PlantMove, PlantMoves, PlantRun, unfinished};
+ghost use Rattle.tx_outcome.specs.Plant.{made_on, view, shut_ids};
 ghost use Rattle.tx_outcome.specs.Drive.{Turn, Outcome, Driven};
 ghost use Rattle.tx_outcome.specs.Owning.{reply_of, replies, afters, told_row};
 ghost use Rattle.tx_outcome.specs.Stations.{station_call, deed_of, with_context};
@@ -31,7 +38,8 @@ pub fn one_keeps()
     ensures opened { (known : Bool) (row : Option Row) (to : Option Standing) (t : List Deed)
         (advice : ℕ → Option (List ℕ))
         → (known ≡ false → (row ≡ None) × ((n : ℕ) → advice n ≡ None))
-        → IdLaw t known row advice → Reopens row to → IdFits known to None (Stopped row ∷ t) advice }
+        → IdLaw t known row advice → Reopens row to
+        → IdFits known to None (Stopped row ∷ t) advice }
     ensures moved { (mv : Move) (a b : One) → OneFits a → Moves mv a b → OneFits b }
     ensures lawful { (a : One) → OneFits a → LawOfOne a }
 {}
@@ -43,15 +51,16 @@ pub fn table_is_sound()
     ensures sound { (f : Flow) (st : FullState) → StateFits st → IsStanding (standing f st) }
     ensures leads { (f : Flow) (st : FullState) (x : FullReply)
         → StateFits st → answers (due f st) x ≡ true
-        → StateFits (after f st x) × Follows (due f st) x (standing f st) (standing f (after f st x)) }
+        → StateFits (after f st x)
+        × Follows (due f st) x (standing f st) (standing f (after f st x)) }
     ensures reopens { (f : Flow) (r : Row)
         → PhaseFits r → StateFits (reopen r) × Reopened r (standing f (reopen r)) }
     ensures row { (f : Flow) (st : FullState) (r : Row)
         → StateFits st → (standing f st).row ≡ Some r → PhaseFits r }
 {}
 
-/// Where the outcome law holds of the calls made before and of the journal's view that is opened, it
-/// holds after every list of moves of the core. It holds of a blank journal and no calls.
+/// Where the outcome law holds of the calls made before and of the journal's view that is opened,
+/// it holds after every list of moves of the core. It holds of a blank journal and no calls.
 pub fn outcome_law()
     ensures kept { (f : Flow) (j : IdView) (cs : List IdEvent) (calls : List PlantDeed)
         (ts : List CoreMove) (d : Core)
@@ -67,7 +76,8 @@ pub fn outcome_law()
 pub fn plant_law()
     ensures { (f : Flow) (j : IdView) (cs : List ℕ) (calls : List PlantDeed) (ts : List PlantMove)
         (q : Plant)
-        → OutcomeLaw calls j → ViewFits j → Shuts j (shut_ids cs) → PlantRun f ts (made_on j cs calls) q
+        → OutcomeLaw calls j → ViewFits j → Shuts j (shut_ids cs)
+        → PlantRun f ts (made_on j cs calls) q
         → OutcomeLaw q.calls (view f q) × ViewFits (view f q) }
 {}
 
@@ -88,8 +98,9 @@ pub fn some_run()
     ensures shelving { ShelvingRun }
 {}
 
-/// The order of the calls of one transaction in plain words. A history that begins anew from what is
-/// written keeps what every history keeps. A turn's calls may be added to any calls before them.
+/// The order of the calls of one transaction, and its outcome after a stop, in plain words. A
+/// history that begins anew from what is written keeps what every history keeps. A turn's calls
+/// may be added to any calls before them.
 pub fn clauses()
     ensures told_again { (n p q : ℕ) (c e : Bool) (x y : Option (List ℕ)) (a b d : List Deed)
         → InOrder (a ++ (Told c p n x ∷ (b ++ (Told e q n y ∷ d)))) → has_untold n b ≡ true }
@@ -98,6 +109,9 @@ pub fn clauses()
     ensures no_stop_in { (a b d : List Deed) (m k : Deed)
         → is_open_call m ≡ true → is_open_call k ≡ true
         → InOrder (a ++ (m ∷ (b ++ (k ∷ d)))) → has_stop b ≡ false }
+    ensures told_way { (r : Row) (c : Bool) (p n : ℕ) (x : Option (List ℕ)) (a b d : List Deed)
+        → FollowsRows (a ++ (Told c p n x ∷ (b ++ (Stopped (Some r) ∷ d))))
+        → has_stop b ≡ false → c ≡ is_committing r.phase }
     ensures cut { (f : Flow) (c : Core) → CoreFits f c → c.late ≡ []
         → ((id : ℕ) → (standing_row (standing_of f (at f c.start c.gone id)) ≡ None)
         × (unfinished f (at f c.start c.gone id) ≡ false))
@@ -106,8 +120,8 @@ pub fn clauses()
 {}
 
 /// What a state is in the machine's words: of a transaction of this life its table state after its
-/// items, with their row; of a journalled one the outcome of the member that the row's number names,
-/// after a recover call where its participant has the mark.
+/// items, with their row; of a journalled one the outcome of the member that the row's number
+/// names, after a recover call where its participant has the mark.
 pub fn table_words()
     ensures items { (f : Flow) (s : TxState) (xs : List Item)
         → afters f (own s) (replies xs) ≡ own (table.after f s xs) }

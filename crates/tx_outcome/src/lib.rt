@@ -3,17 +3,19 @@
 //! A *trail* is all that was done for one transaction: its calls, with their replies, and the stops
 //! between them. Of every trail, and of the journal that goes with it, holds (`specs/Trail.antt`):
 //! - nobody is told to commit where anybody is told to abort;
-//! - once the journal has no row of a transaction, each participant that joined was told, as often as
-//!   it joined;
-//! - no stop stands between two preparations, none follows an outcome, and a member is told a second
-//!   time only after a stop at which the journal did not have yet that it was told;
+//! - once the journal has no row of a transaction, each participant that joined was told, as often
+//!   as it joined;
+//! - no stop stands between two preparations, none follows an outcome, and a member is told a
+//!   second time only after a stop at which the journal did not have yet that it was told;
 //! - an advice that the journal holds is what the member gave last;
 //! - the journal knows each transaction that was called for, and a row says no less than what was
-//!   done.
+//!   done;
+//! - who is told after a restart is told to commit where the journal's row was committing, and else
+//!   to abort.
 //!
 //! It is proved for one transaction first ([`one_keeps`]) of what the written table gives it
-//! ([`table_is_sound`]), then of a core whose events name transactions ([`outcome_law`]), of a plant
-//! whose events name sessions ([`plant_law`]), and of the turns by which a plant is driven
+//! ([`table_is_sound`]), then of a core whose events name transactions ([`outcome_law`]), of a
+//! plant whose events name sessions ([`plant_law`]), and of the turns by which a plant is driven
 //! ([`drive_law`]). There is no code here: the engine, the journal and the stations keep what the
 //! small steps of `specs/Plant.antt` ask of them.
 #![tactic(auto)]

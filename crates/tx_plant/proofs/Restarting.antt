@@ -1,5 +1,5 @@
 -- What a new engine begins from: the contexts that the view has saved.
--- for: restart::waiting_of, restart::reopen, plant::Plant::stop
+-- for: restart::waiting_of, restart::view_of, restart::reopen, running::Running::stop, plant::Plant::new
 use Rattle.std.proofs.Common.{◌≡◌, ◌≢◌, ℕ, zero, suc, ◌+◌, ◌*◌, ◌<◌, ◌≤◌, ◌==◌, Bool, true, false, List, [], ◌∷◌, ◌++◌, length, take, drop, Option, Some, None, refl, sym, ap, subst, arith, ◌∙◌, append_assoc, append-nil, get_or, replicate}
 use Rattle.std.specs.Prelude.{Ok, slice_get, option_map, ◌/◌, ◌%◌}
 use Rattle.std.specs.List.{flat_map}
@@ -8,7 +8,10 @@ use Rattle.std.specs.BTreeMap.{insert_entry}
 use Rattle.std.proofs.lemmas.Bool.Decides.{nat_tests}
 use Rattle.std.specs.Prelude.{◌||◌, nat_lt}
 use Rattle.std.proofs.lemmas.List.{length-replicate}
-use Rattle.sw_base.specs.Refusals.{or_else, refused_if}
+use Rattle.sw_base.specs.Refusals.{or_else, refused, refused_if}
+use Rattle.sw_seating.specs.declared.seating.SeatingError.{SeatingError}
+use Rattle.sw_seating.specs.Seating.{seating_refusal}
+use Rattle.flow_model.specs.Places.{parts_of}
 use Rattle.sw_context.specs.Pairs.{Pairs}
 use Rattle.sw_participant.specs.Chains.{Rule, Stopped}
 use Rattle.sw_context.specs.Spelling.{bytes_of, entry_bytes, name_bytes, value_bytes}
@@ -22,12 +25,13 @@ use Rattle.tx_history.specs.Journal.{to_close}
 use Rattle.tx_history.specs.Lives.{closes_of}
 use Rattle.tx_history.specs.Views.{IsOk}
 use Rattle.tx_history.specs.Keys.{look, Rising}
-use Rattle.tx_journal.specs.Means.{Means}
 use Rattle.tx_engine.specs.declared.error.EngineError.{EngineError}
 use Rattle.tx_engine.specs.declared.error.EngineError.TheVariants.{BadSessions}
 use Rattle.tx_engine.specs.World.{World}
 use Rattle.tx_engine.specs.Opening.{open_refusal, opened_world}
-use Rattle.tx_plant.specs.Plant.{Fresh, IsClean, Opened, Reads, Seen}
+use Rattle.tx_plant.specs.declared.turn.PlantError.{PlantError}
+use Rattle.tx_plant.specs.declared.turn.PlantError.TheVariants as error
+use Rattle.tx_plant.specs.Plant.{Fresh, Opened, Reads, Seen, Unmade, Unopened}
 use Rattle.tx_history.proofs.RisingKeys.{look_within}
 use Rattle.tx_plant.specs.declared.seat.Seat.{Seat}
 use Rattle.tx_plant.specs.Core.{Core, Reseats, find}
@@ -95,9 +99,6 @@ saved_more rows m k item es ws fs rise there e f before id x h = by (id == item.
 
 -- the new core
 
-pub reads_of : (j k : Seen) (view : JournalView) → (IsClean k → Means j.tables k.failed (Ok view)) → (IsClean k → k.failed ≡ false → k.tables ≡ j.tables) → Reads j view k
-reads_of j k view means same = record { fresh = λ c. (means c).1; view_is = λ c. (means c).0; tables = λ c. same c (means c).1 }
-
 pub opened_core : (flow : Flow) (n : ℕ) (view : JournalView) (j k : Seen) (first q : Core) → IsOk view → first.world ≡ opened_world flow view n → open_refusal flow view n ≡ None → first.seats ≡ replicate n None → first.ended ≡ []
     → ((id : ℕ) (x : Pairs) → find id first.waiting ≡ Some x → recovered view id ≡ Some x) → Reads j view k → Reseats first q → Opened flow n view j q k
 opened_core flow n view j k first q ok world allowed seats ended waiting reads re = record {
@@ -161,3 +162,15 @@ led_opened rule os p q flow n view j k o =
     let some = some_sessions flow view n o.allowed in
     let long : length o.first.seats ≡ n = ap length o.is_fresh.seats ∙ length-replicate n None in
     λ start s. (recovered view, (refl, λ id. refl), keeps_reseat (recovered view) o.first q (omega (arith, some, long)) o.reseats (keeps_fresh flow view n o.first o.is_fresh))
+
+-- why no plant is made
+
+suits : (o : Option SeatingError) (u : Unit {0}) → Ok u ≡ refused o → o ≡ None
+suits None u h = refl
+suits (Some e) u h = absurd (cc)
+
+pub unmade : (flow : Flow) (n : ℕ) (names : List (List ℕ)) (j k : Seen) (e : PlantError) (u : Unit {0}) → Ok u ≡ refused (seating_refusal names (parts_of flow)) → Unopened flow n j e k → Unmade flow n names j e k
+unmade flow n names j k (error.Seating x) u h why = absurd why
+unmade flow n names j k (error.Engine x) u h why = (suits (seating_refusal names (parts_of flow)) u h, why)
+unmade flow n names j k (error.Journal x) u h why = (suits (seating_refusal names (parts_of flow)) u h, why)
+unmade flow n names j k error.OutOfMemory u h why = (suits (seating_refusal names (parts_of flow)) u h, why)

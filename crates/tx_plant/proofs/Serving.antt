@@ -16,7 +16,7 @@ use Rattle.tx_engine.specs.declared.error.EngineError.TheVariants.{OutOfMemory}
 use Rattle.tx_engine.specs.declared.next.Next.{Next}
 use Rattle.tx_engine.specs.declared.next.Next.TheVariants.{Due}
 use Rattle.tx_engine.specs.World.{World, Recorded}
-use Rattle.tx_engine.specs.Calls.{next_of, reply_refusal}
+use Rattle.tx_engine.specs.Calls.{asks_for, next_of, reply_refusal}
 use Rattle.tx_engine.specs.Replies.{kind_of}
 use Rattle.tx_plant.specs.declared.seat.Seat.{Seat}
 use Rattle.tx_plant.specs.declared.turn.Outcome.{Outcome}
@@ -37,12 +37,12 @@ rests_work rule os cs l t ps ds e f h = record {
 }
 
 -- where the due call was made
-pub call_works : (rule : ℕ → Rule) (os : List (List ℕ)) (cs : List ℕ) (l : Seat) (call : Call) (told : ℕ) (reply : Reply) (x : Pairs) (ps : List (List ℕ)) (ds : List ℕ) → call.id ≡ l.id → l.kept ≡ None → Makes rule os l.context call reply ps x → ds ≡ counted cs call.participant
+pub call_works : (rule : ℕ → Rule) (os : List (List ℕ)) (cs : List ℕ) (l : Seat) (call : Call) (told : ℕ) (reply : Reply) (x : Pairs) (ps : List (List ℕ)) (ds : List ℕ) → call.id ≡ l.id → l.kept ≡ None → asks_for (kind_of reply) call.act ≡ true → Makes rule os l.context call reply ps x → ds ≡ counted cs call.participant
     → (m : List Moved) × Calls (Due call) told l (record { id = l.id; context = x; kept = Some reply }) m × Works rule os cs l (record { id = l.id; context = x; kept = Some reply }) m ps ds
-call_works rule os cs l call told reply x ps ds own unkept made count =
+call_works rule os cs l call told reply x ps ds own unkept suits made count =
     let place = place_of call.act told in (
       Called call place reply ∷ [],
-      record { call = call; reply = reply; due = refl; own = own; unkept = unkept; seat = refl; is = refl },
+      record { call = call; reply = reply; due = refl; own = own; suits = suits; unkept = unkept; seat = refl; is = refl },
       record {
         id = refl;
         chain = λ start a. subst (λ (i : ℕ). Chain recovered rule os start (Called call place reply ∷ []) ps (with_context start i x)) own (chain_called {V = JournalView} recovered rule os start call place reply ps l.context x (ap start own ∙ a) made);
@@ -94,6 +94,7 @@ asked_entered rule os cs w s n l c t ps ds r to e asked entered = (let (m, (k, a
   by m k a work (Ok (outcome.Held x)) h = absurd h
   by m k a work (Ok (outcome.Written x)) h = absurd h
   by m k a work (Ok (outcome.Restarted x)) h = absurd h
+  by m k a work (Ok (outcome.Cut x)) h = absurd h
   by m k a work (Err x) (seat, same) = (
     m,
     inr (k, (subst (λ (z : Seat). Asked (next_of w s) (told_of w l.id) l z m k) (sym seat) a, same)),
@@ -111,6 +112,7 @@ asked_waits W w s n l t o e asked = (let (m, (k, a, r), work) = asked 0 in (m, b
   by m (outcome.Held x) k a r = (k, a, r, refl)
   by m (outcome.Written x) k a r = absurd a
   by m (outcome.Restarted x) k a r = absurd a
+  by m (outcome.Cut x) k a r = absurd a
 
 pub asked_failed : (W : List Moved → Type 0) (w : World) (s : ℕ) (n : Next) (l t : Seat) (x : NoMemory) (y : AllocError)
     → ((told : ℕ) → (m : List Moved) × AskedBy n told l t m (Err x) × W m) → (m : List Moved) × Serves w s l t m (Err y) w × W m
@@ -127,6 +129,7 @@ refused_entered w s c t r e (Ok outcome.Unwritten) done to k f a b = absurd b
 refused_entered w s c t r e (Ok (outcome.Held x)) done to k f a b = absurd b
 refused_entered w s c t r e (Ok (outcome.Written x)) done to k f a b = absurd b
 refused_entered w s c t r e (Ok (outcome.Restarted x)) done to k f a b = absurd b
+refused_entered w s c t r e (Ok (outcome.Cut x)) done to k f a b = absurd b
 refused_entered w s c t r e (Err x) done to k f a b = (f, same_by_refusal (reply_refusal (kind_of r) w s) e done (to ≡ w) a)
 
 pub recorded_entered : (w : World) (s : ℕ) (c t : Seat) (r : Reply) (n : ℕ) (to : World) → c.kept ≡ Some r → t ≡ record c { kept = None } → Accepts OutOfMemory (reply_refusal (kind_of r) w s) (Ok n) (λ (n : ℕ). Recorded w (event_of s r c.context) n to) (to ≡ w) → Enters w s c t (Ok (outcome.Accepted n)) to

@@ -47,6 +47,7 @@ serves_id w s l t m (Ok outcome.Unwritten) to (k, a, b, e) = same_id w to e
 serves_id w s l t m (Ok (outcome.Held x)) to (k, a, b, e) = same_id w to e
 serves_id w s l t m (Ok (outcome.Written x)) to (k, a, b, e) = same_id w to e
 serves_id w s l t m (Ok (outcome.Restarted x)) to (k, a, b, e) = same_id w to e
+serves_id w s l t m (Ok (outcome.Cut x)) to (k, a, b, e) = same_id w to e
 serves_id w s l t m (Err x) to (inl (a, e)) = same_id w to e
 serves_id w s l t m (Err x) to (inr (q, (a, e))) = same_id w to e
 

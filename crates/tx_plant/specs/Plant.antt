@@ -1,5 +1,5 @@
 -- What contracts see of a plant with its journal, and its turns.
-use Rattle.std.specs.Prelude.{◌≡◌, ◌⊎◌, ℕ, ◌+◌, ◌-◌, ⊤, Bool, true, false, List, [], ◌∷◌, ◌++◌, length, take, drop, min, slice_get, replicate, Option, Some, None, Result, Ok, Err}
+use Rattle.std.specs.Prelude.{◌≡◌, ◌⊎◌, ℕ, ◌+◌, ◌≤◌, ⊤, Bool, true, false, List, [], ◌∷◌, ◌++◌, length, take, drop, min, slice_get, replicate, Option, Some, None, Result, Ok, Err}
 use Rattle.std.specs.declared.alloc.AllocError.{AllocError}
 use Rattle.sqlite_trees.specs.View.{doubt}
 use Rattle.sw_participant.specs.Chains.{Rule, Stopped, counts_after}
@@ -9,11 +9,18 @@ use Rattle.tx_history.specs.Journal.{entries}
 use Rattle.journal_rows.specs.Tables.{Tables, all_made}
 use Rattle.journal_rows.specs.Faults.{IsViewIn}
 use Rattle.journal_rows.specs.Law.{changes_of}
+use Rattle.journal_rows.specs.Reads.{Stands}
+use Rattle.tx_journal.specs.declared.error.Cause.TheVariants.{Refused}
 use Rattle.tx_journal.specs.declared.error.JournalError.{JournalError}
+use Rattle.tx_journal.specs.declared.error.JournalError.TheVariants.{Store}
+use Rattle.tx_journal.specs.Means.{Means}
+use Rattle.sw_seating.specs.Seating.{seating_refusal}
+use Rattle.flow_model.specs.Places.{parts_of}
 use Rattle.tx_journal.specs.Kept.{JournalState}
 use Rattle.tx_engine.specs.World.{World}
+use Rattle.tx_engine.specs.Calls.{unfinished}
 use Rattle.tx_engine.specs.Opening.{opened_world, open_refusal}
-use Rattle.tx_history.specs.Views.{IsOk}
+use Rattle.tx_history.specs.Views.{FlowFits, IsHistory, IsOk, StartFits}
 use Rattle.flow_model.specs.declared.flow.Flow.{Flow}
 use Rattle.sw_context.specs.Pairs.{Pairs}
 use Rattle.tx_plant.specs.declared.seat.Seats.{Seats}
@@ -27,7 +34,7 @@ use Rattle.tx_plant.specs.declared.turn.DriveFault.{DriveFault}
 use Rattle.tx_plant.specs.Recovered.{recovered}
 use Rattle.tx_plant.specs.Steps.{Moved}
 use Rattle.tx_plant.specs.Core.{Core, Reseats, Same, Stepped, core, find}
-use Rattle.tx_plant.specs.Turns.{IsLogged, Takes}
+use Rattle.tx_plant.specs.Turns.{Cuts, IsLogged, Takes}
 use Rattle.tx_plant.specs.Led.{Led}
 
 -- want of memory, as a plant tells it
@@ -77,10 +84,17 @@ Writes most w j (Err e) to k = (to ≡ w) × (k.failed ≡ true)
 
 -- stops
 
+-- a journal that has not failed is as it was
+pub record Stays (j k : Seen) : Type 0 where
+  pub clean : doubt j.is_clean ≤ doubt k.is_clean
+  pub fresh : k.failed ≡ false → j.failed ≡ false
+  pub tables : IsClean k → k.failed ≡ false → k.tables ≡ j.tables
+
 -- what a view that was read is of the journal
 pub record Reads (j : Seen) (view : JournalView) (k : Seen) : Type 0 where
   pub fresh : IsClean k → k.failed ≡ false
   pub view_is : IsClean k → IsViewIn j.tables view
+  pub stands : IsClean k → Stands j.tables view
   pub tables : IsClean k → k.tables ≡ j.tables
 
 -- The core of a new engine, before session 0 is seated: nothing is held or ended, and the contexts that wait are such as
@@ -103,22 +117,31 @@ pub record Opened (flow : Flow) (n : ℕ) (view : JournalView) (j : Seen) (q : C
 abbrev pub Reopens : Flow → ℕ → Seen → World → Seats → Seen → Type 0
 Reopens flow n j w seats k = (view : JournalView) × Opened flow n view j (core w seats) k
 
--- the rows that no closing entry closes: a new engine's history has these alone
-abbrev pub left_open : World → ℕ
-left_open w = length w.start.view.rows - length w.past
+-- why no view was read: the journal's own refusal, or it is one that no engine may be opened on
+abbrev pub Unread : Seen → JournalError → Seen → Type 0
+Unread j e k = (IsClean k → Means j.tables k.failed (Err e)) ⊎ ((view : JournalView) × Reads j view k × (IsOk view → ⊥) × (e ≡ Store Refused))
 
--- why no engine was opened
-abbrev pub Unopened : Flow → ℕ → PlantError → Type 0
-Unopened flow n (error.Engine e) = (view : JournalView) × (open_refusal flow view n ≡ Some e)
-Unopened flow n (error.Journal e) = ⊤
-Unopened flow n error.OutOfMemory = ⊤
-Unopened flow n _ = ⊥
+-- why no engine was opened: no view was read, or the engine refused it
+abbrev pub Unopened : Flow → ℕ → Seen → PlantError → Seen → Type 0
+Unopened flow n j (error.Journal e) k = Unread j e k
+Unopened flow n j (error.Engine e) k = (view : JournalView) × IsOk view × Reads j view k × (open_refusal flow view n ≡ Some e)
+Unopened flow n j error.OutOfMemory k = ⊤
+Unopened flow n j (error.Seating e) k = ⊥
+
+-- why no plant was made, by the names of its stations: they do not suit the flow, or no engine was opened
+abbrev pub Unmade : Flow → ℕ → List (List ℕ) → Seen → PlantError → Seen → Type 0
+Unmade flow n names j (error.Seating e) k = seating_refusal names (parts_of flow) ≡ Some e
+Unmade flow n names j e k = (seating_refusal names (parts_of flow) ≡ None) × Unopened flow n j e k
+
+abbrev pub OnSeating : PlantError → Type 0 → Type 0
+OnSeating (error.Seating e) fact = fact
+OnSeating e fact = ⊤
 
 abbrev pub Stops : List Moved → Whole → Result Outcome PlantError → Whole → Type 0
-Stops m p (Ok (outcome.Restarted u)) q = (view : JournalView) × (m ≡ Stopped view ∷ []) × Opened p.core.world.flow p.core.world.sessions view p.journal q.core q.journal × (u ≡ left_open q.core.world)
-Stops m p (Ok (outcome.Refused e)) q = Same m p.core q.core × Unopened p.core.world.flow p.core.world.sessions (error.Engine e)
+Stops m p (Ok (outcome.Restarted u)) q = (view : JournalView) × (m ≡ Stopped view ∷ []) × Opened p.core.world.flow p.core.world.sessions view p.journal q.core q.journal × (u ≡ unfinished q.core.world)
+Stops m p (Ok (outcome.Refused e)) q = Same m p.core q.core × Unopened p.core.world.flow p.core.world.sessions p.journal (error.Engine e) q.journal
 Stops m p (Ok o) q = ⊥
-Stops m p (Err e) q = Same m p.core q.core
+Stops m p (Err e) q = Same m p.core q.core × Unopened p.core.world.flow p.core.world.sessions p.journal e q.journal
 
 -- turns
 
@@ -142,12 +165,39 @@ Turned (turn.Write most) r m p q =
     (m ≡ []) × (q.core ≡ record p.core { world = q.core.world })
     × (x : Result Outcome JournalError) × (r ≡ journal_fault x) × Writes most p.core.world p.journal x q.core.world q.journal
 Turned turn.Stop r m p q = Stops m p r q
+Turned turn.Cut r m p q = (m ≡ []) × (q.core ≡ record p.core { world = q.core.world }) × Raises (λ x. Cuts p.core.world x q.core.world) r p q
 Turned t r m p q = Logged t m p r q
+
+-- What every engine is: its history is lawful, from a sound start, and no more of it is written than there is.
+pub record IsEngine (w : World) : Type 0 where
+  pub flow : FlowFits w.flow
+  pub start : StartFits w.flow w.start
+  pub lawful : IsHistory w.flow w.start w.sessions w.past
+  pub marked : w.mark ≤ length w.past
+
+-- a failed journal stays failed
+abbrev pub StaysFailed : Seen → Seen → Type 0
+StaysFailed j k = k.failed ≡ false → j.failed ≡ false
+
+abbrev pub is_write : Turn → Bool
+is_write (turn.Write most) = true
+is_write _ = false
+
+-- what a turn leaves of a journal: it changes the tables by a write alone
+pub record LeavesJournal (t : Turn) (j k : Seen) : Type 0 where
+  pub failed : StaysFailed j k
+  pub tables : is_write t ≡ false → IsClean k → k.failed ≡ false → k.tables ≡ j.tables
+
+-- what every turn leaves, whatever came of it
+pub record GoesOn (t : Turn) (p q : Whole) : Type 0 where
+  pub engine : IsEngine q.core.world
+  pub clean : doubt p.journal.is_clean ≤ doubt q.journal.is_clean
+  pub journal : LeavesJournal t p.journal q.journal
 
 -- turns and outcomes side by side
 abbrev pub Driven : List Turn → List Outcome → List Moved → Whole → Whole → Type 0
 Driven [] [] m p q = (m ≡ []) × (q ≡ p)
-Driven (t ∷ ts) (o ∷ os) m p q = (w : Whole) × (first : List Moved) × (later : List Moved) × Turned t (Ok o) first p w × Driven ts os later w q × (m ≡ first ++ later)
+Driven (t ∷ ts) (o ∷ os) m p q = (w : Whole) × (first : List Moved) × (later : List Moved) × Turned t (Ok o) first p w × Driven ts os later w q × (m ≡ first ++ later) × GoesOn t p w
 Driven [] (o ∷ os) m p q = ⊥
 Driven (t ∷ ts) [] m p q = ⊥
 
@@ -161,6 +211,7 @@ pub record Faults (turns : List Turn) (f : DriveFault) (m : List Moved) (p q : W
   pub driven : Driven (take f.done turns) outcomes first p between
   pub turn_is : slice_get turns f.done ≡ Some turn
   pub failed : Turned turn (Err f.cause) last between q
+  pub goes : GoesOn turn between q
   pub all : m ≡ first ++ last
 
 -- or there was no memory for the outcomes, and nothing was done

@@ -1,5 +1,5 @@
 -- A session's reply: its call, and its entry.
-use Rattle.std.specs.Prelude.{◌≡◌, ◌⊎◌, ℕ, List, [], ◌∷◌, Option, Some, None, Result, Ok, Err}
+use Rattle.std.specs.Prelude.{◌≡◌, ◌⊎◌, ℕ, true, List, [], ◌∷◌, Option, Some, None, Result, Ok, Err}
 use Rattle.std.specs.declared.alloc.AllocError.{AllocError}
 use Rattle.sw_context.specs.Pairs.{Pairs}
 use Rattle.sw_context.specs.Spelling.{bytes_of}
@@ -18,7 +18,7 @@ use Rattle.tx_engine.specs.declared.next.Next.{Next}
 use Rattle.tx_engine.specs.declared.next.Next.TheVariants as next
 use Rattle.tx_engine.specs.Replies.{kind_of}
 use Rattle.tx_engine.specs.World.{World, Recorded}
-use Rattle.tx_engine.specs.Calls.{next_of, reply_refusal}
+use Rattle.tx_engine.specs.Calls.{asks_for, next_of, reply_refusal}
 use Rattle.tx_plant.specs.declared.seat.Seat.{Seat}
 use Rattle.tx_plant.specs.declared.turn.Outcome.{Outcome}
 use Rattle.tx_plant.specs.declared.turn.Outcome.TheVariants as outcome
@@ -39,12 +39,13 @@ event_of s reply.Recovered x = event.Recovered s (bytes_of x)
 abbrev pub told_of : World → ℕ → ℕ
 told_of w id = (state_of w.flow w.start w.past id).told
 
--- the due call of the transaction in the seat was made, and its reply is kept
+-- the due call of the transaction in the seat was made, and its reply, one of the call's kind, is kept
 pub record Calls (n : Next) (told : ℕ) (l t : Seat) (m : List Moved) : Type 0 where
   pub call : Call
   pub reply : Reply
   pub due : n ≡ next.Due call
   pub own : call.id ≡ l.id
+  pub suits : asks_for (kind_of reply) call.act ≡ true
   pub unkept : l.kept ≡ None
   pub seat : t ≡ record { id = l.id; context = t.context; kept = Some reply }
   pub is : m ≡ Called call (place_of call.act told) reply ∷ []

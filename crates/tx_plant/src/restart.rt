@@ -1,7 +1,7 @@
-//! A stop: all is given up but the journal and the stations, and an engine is opened on what is written.
+//! A stop: all is given up but the journal and the stations, and an engine is opened on what is
+//! written.
 
-ghost use Rattle.std.specs.Prelude.{◌≡◌, ◌≤◌, ℕ, [], Some, None, IfErr, IfOk, length, replicate};
-ghost use Rattle.sqlite_trees.specs.View.{doubt};
+ghost use Rattle.std.specs.Prelude.{◌≡◌, ℕ, [], Some, None, IfErr, IfOk, length, replicate};
 ghost use Rattle.sw_context.specs.Pairs.{Pairs};
 ghost use Rattle.tx_history.specs.Keys.{Rising};
 ghost use Rattle.tx_history.specs.History.{next_id};
@@ -9,11 +9,12 @@ ghost use Rattle.tx_history.specs.Views.{IsOk};
 ghost use Rattle.tx_journal.specs.Kept.{kept};
 ghost use Rattle.tx_plant.specs.Core.{find};
 ghost use Rattle.tx_plant.specs.Recovered.{recovered, saved_in};
-ghost use Rattle.tx_plant.specs.Plant.{Reads, Reopens, Unopened, left_open, seen};
+ghost use Rattle.tx_plant.specs.Plant.{IsEngine, Reads, Reopens, Stays, Unopened, Unread, seen};
+ghost use Rattle.tx_plant.specs.Written.{IsWritten};
 
 use crate::seat::{Seat, Seats};
 use crate::turn::PlantError;
-use crate::write::history_len;
+use crate::write::is_engine;
 use flow_asm::Code;
 use sqlite::Alter;
 use std::alloc::{AllocError, Global};
@@ -75,20 +76,20 @@ impl Seats {
     }
 }
 
-// The journal's view, as an engine may be opened on it. Only where the disk does not return what was
-// written it is none.
+// The journal's view, as an engine may be opened on it. Only where the disk does not return what
+// was written it is none.
 fn view_of<S: Alter>(alloc: Global, journal: &mut Journal<S>) -> Result<JournalView, JournalError>
     ensures ok { IfOk result IsOk }
     ensures read { IfOk result (λ v.
         Reads (seen (kept S.Store journal.old)) v (seen (kept S.Store journal.new))) }
-    ensures clean { doubt (kept S.Store journal.old).is_clean
-        ≤ doubt (kept S.Store journal.new).is_clean }
+    ensures unread { IfErr result (λ e.
+        Unread (seen (kept S.Store journal.old)) e (seen (kept S.Store journal.new))) }
+    ensures stays { Stays (seen (kept S.Store journal.old)) (seen (kept S.Store journal.new)) }
 {
-    let view = journal.view(alloc)?;
-    if view.ok() {
-        Ok(view)
-    } else {
-        Err(JournalError::Store(Cause::Refused))
+    match journal.view(alloc) {
+        Ok(view) if view.ok() => Ok(view),
+        Ok(_) => Err(JournalError::Store(Cause::Refused)),
+        Err(error) => Err(error),
     }
 }
 
@@ -101,11 +102,13 @@ pub(crate) fn reopen<S: Alter>(
 ) -> Result<(Engine, Seats), PlantError>
     ensures opened { IfOk result (λ r. Reopens code.now sessions
         (seen (kept S.Store journal.old)) r.0 r.1 (seen (kept S.Store journal.new))) }
-    ensures refused { IfErr result (λ e. Unopened code.now sessions e) }
+    ensures refused { IfErr result (λ e. Unopened code.now sessions
+        (seen (kept S.Store journal.old)) e (seen (kept S.Store journal.new))) }
     ensures sessions { IfOk result (λ r. length r.1.by_session.items ≡ r.0.sessions) }
     ensures next { IfOk result (λ r. r.1.next_id ≡ next_id r.0.start r.0.past) }
-    ensures clean { doubt (kept S.Store journal.old).is_clean
-        ≤ doubt (kept S.Store journal.new).is_clean }
+    ensures engine { IfOk result (λ r. IsEngine r.0) }
+    ensures written { IfOk result (λ r. IsWritten r.0 (seen (kept S.Store journal.new))) }
+    ensures stays { Stays (seen (kept S.Store journal.old)) (seen (kept S.Store journal.new)) }
 {
     let view = match view_of(alloc, journal) {
         Ok(view) => view,
@@ -120,17 +123,6 @@ pub(crate) fn reopen<S: Alter>(
         return Err(PlantError::OutOfMemory);
     };
     seats.reseat(&engine);
+    is_engine(&engine);
     Ok((engine, seats))
-}
-
-/// How many transactions of the journal a new engine has not finished.
-pub(crate) fn left_open(engine: &Engine) -> usize
-    ensures { result ≡ left_open engine.now }
-{
-    engine
-        .opened()
-        .rows
-        .as_slice()
-        .len()
-        .saturating_sub(history_len(engine))
 }

@@ -9,11 +9,13 @@ ghost use Rattle.tx_journal.specs.Kept.{kept};
 ghost use Rattle.tx_plant.specs.Steps.{Moved};
 ghost use Rattle.tx_plant.specs.Core.{Stepped, core};
 ghost use Rattle.tx_plant.specs.Led.{Led};
-ghost use Rattle.tx_plant.specs.Plant.{Stops, Writes, seen, whole};
-ghost use Rattle.tx_plant.specs.Turns.{IsLogged, Takes, event_for};
+ghost use Rattle.tx_plant.specs.Plant.{Seen, Stays, StaysFailed, Stops, Writes, seen, whole};
+ghost use Rattle.tx_plant.specs.Written.{IsWritten};
+ghost use Rattle.tx_plant.specs.Turns.{Cuts, IsLogged, Takes, event_for};
 
-use crate::restart::{left_open, reopen};
+use crate::restart::reopen;
 use crate::seat::Seats;
+use crate::serve::refusal;
 use crate::step::step;
 use crate::take::take;
 use crate::told::log;
@@ -25,8 +27,8 @@ use sw_participant::Station;
 use tx_engine::Engine;
 use tx_journal::{Journal, JournalError};
 
-/// An engine with the seats of its sessions. (A type of its own: beside stations a plant cannot have a
-/// ghost field.)
+/// An engine with the seats of its sessions. (A type of its own: beside stations a plant cannot
+/// have a ghost field.)
 #[derive(Drop)]
 pub(crate) struct Running {
     pub(crate) engine: Engine,
@@ -37,8 +39,9 @@ pub(crate) struct Running {
 
 impl Running {
     pub(crate) fn take(&mut self, alloc: Global, s: usize) -> Result<Outcome, AllocError>
-        ensures { (m : List Moved) × Takes (core self.old.engine self.old.seats) s m result
+        ensures taken { (m : List Moved) × Takes (core self.old.engine self.old.seats) s m result
             (core self.new.engine self.new.seats) }
+        ensures written { (j : Seen) → IsWritten self.old.engine j → IsWritten self.new.engine j }
     {
         take(alloc, &mut self.engine, &mut self.seats, s)
     }
@@ -61,6 +64,7 @@ impl Running {
             (core self.new.engine self.new.seats)
             × (map calls_of stations.new.items
             ≡ counts_after (map calls_of stations.old.items) m) }
+        ensures written { (j : Seen) → IsWritten self.old.engine j → IsWritten self.new.engine j }
     {
         step(alloc, &mut self.engine, stations, &mut self.seats, s)
     }
@@ -71,6 +75,7 @@ impl Running {
         ensures other { IfNone result (event_for self.old.engine turn.now ≡ None) }
         ensures kept { IfNone result (self.new.engine ≡ self.old.engine) }
         ensures seats { self.new.seats ≡ self.old.seats }
+        ensures written { (j : Seen) → IsWritten self.old.engine j → IsWritten self.new.engine j }
     {
         log(&mut self.engine, turn)
     }
@@ -82,11 +87,32 @@ impl Running {
     ) -> Result<Outcome, JournalError>
         ensures written { Writes most self.old.engine (seen (kept S.Store journal.old)) result
             self.new.engine (seen (kept S.Store journal.new)) }
+        ensures failed { StaysFailed (seen (kept S.Store journal.old))
+            (seen (kept S.Store journal.new)) }
         ensures seats { self.new.seats ≡ self.old.seats }
+        ensures kept { IsWritten self.old.engine (seen (kept S.Store journal.old))
+            → IsWritten self.new.engine (seen (kept S.Store journal.new)) }
         ensures clean { doubt (kept S.Store journal.old).is_clean
             ≤ doubt (kept S.Store journal.new).is_clean }
     {
+        // What the entries are is known by the history.
+        let _ = self.engine.history();
         write(&mut self.engine, journal, most)
+    }
+
+    /// The history begins anew from what is written. No session holds a transaction then, so no
+    /// seat changes.
+    pub(crate) fn cut(&mut self, alloc: Global) -> Result<Outcome, AllocError>
+        ensures cut { Cuts self.old.engine result self.new.engine }
+        ensures seats { self.new.seats ≡ self.old.seats }
+        ensures written { (j : Seen) → IsWritten self.old.engine j → IsWritten self.new.engine j }
+    {
+        // That the view it began from is in order is known by its history.
+        let _ = self.engine.history();
+        match self.engine.cut(alloc) {
+            Ok(()) => Ok(Outcome::Cut(self.seats.next_id)),
+            Err(error) => refusal(error),
+        }
     }
 
     /// All is given up, and an engine is opened on what is written.
@@ -98,13 +124,16 @@ impl Running {
         ensures stopped { (m : List Moved)
             × Stops m (whole self.old.engine self.old.seats (seen (kept S.Store journal.old)))
             result (whole self.new.engine self.new.seats (seen (kept S.Store journal.new))) }
+        ensures written { IsWritten self.old.engine (seen (kept S.Store journal.old))
+            → IsWritten self.new.engine (seen (kept S.Store journal.new)) }
+        ensures stays { Stays (seen (kept S.Store journal.old)) (seen (kept S.Store journal.new)) }
         ensures clean { doubt (kept S.Store journal.old).is_clean
             ≤ doubt (kept S.Store journal.new).is_clean }
     {
         let sessions = self.engine.sessions();
         match reopen(alloc, self.engine.code(), journal, sessions) {
             Ok((engine, seats)) => {
-                let unfinished = left_open(&engine);
+                let unfinished = engine.recovering();
                 self.engine = engine;
                 self.seats = seats;
                 Ok(Outcome::Restarted(unfinished))

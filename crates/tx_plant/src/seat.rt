@@ -9,8 +9,8 @@ use sw_context::Context;
 use sw_participant::Reply;
 use tx_engine::{Engine, Next};
 
-/// The transaction that a session holds: its context as its last call left it, and the reply of that
-/// call where it could not be recorded.
+/// The transaction that a session holds: its context as its last call left it, and the reply of
+/// that call where it could not be recorded.
 #[derive(Drop)]
 pub(crate) struct Seat {
     pub(crate) id: u64,
@@ -68,7 +68,8 @@ fn called_id(engine: &Engine) -> Option<u64>
 }
 
 impl Seats {
-    /// Gives session 0, where it holds nothing, the context of the transaction that it begins to recover.
+    /// Gives session 0, where it holds nothing, the context of the transaction that it begins to
+    /// recover.
     pub(crate) fn reseat(&mut self, engine: &Engine)
         requires { 0 < length self.old.by_session.items }
         ensures reseated { Reseats (core engine.now self.old) (core engine.now self.new) }

@@ -8,7 +8,8 @@ ghost use Rattle.tx_engine.specs.declared.next.Next.TheVariants.{Due};
 ghost use Rattle.tx_engine.specs.World.{Recorded};
 ghost use Rattle.tx_engine.specs.Calls.{next_of, reply_refusal};
 ghost use Rattle.tx_engine.specs.Replies.{kind_of};
-ghost use Rattle.tx_plant.specs.Steps.{Moved, Calls, Works, AskedBy, Enters, Refuses, Serves, event_of};
+ghost use Rattle.tx_plant.specs.Steps.{Moved, Calls, Works, AskedBy, Enters, Refuses, Serves};
+ghost use Rattle.tx_plant.specs.Steps.{event_of};
 
 use crate::seat::Seat;
 use crate::turn::Outcome;
@@ -43,8 +44,8 @@ fn make(stations: &mut Vec<Station>, seat: &mut Seat, call: &Call) -> Result<(),
     Ok(())
 }
 
-// Sees to it that a reply is kept: the one that is kept already, or that of the due call. Where no call can
-// be made it says why.
+// Sees to it that a reply is kept: the one that is kept already, or that of the due call. Where no
+// call can be made it says why.
 fn ask(
     stations: &mut Vec<Station>,
     seat: &mut Seat,
@@ -86,7 +87,8 @@ fn record(
     reply: &Reply,
     context: &Context,
 ) -> Result<usize, EngineError>
-    ensures { Accepts EngineError.OutOfMemory (reply_refusal (kind_of reply.now) engine.old s) result
+    ensures { Accepts EngineError.OutOfMemory
+        (reply_refusal (kind_of reply.now) engine.old s) result
         (λ n. Recorded engine.old (event_of s reply.now context.now) n engine.new)
         (engine.new ≡ engine.old) }
 {

@@ -34,6 +34,8 @@ pub enum Turn {
     LetGo(usize),
     /// All is given up but the journal and the stations, and the engine is opened anew.
     Stop,
+    /// The engine's history begins anew from what is written, without a stop.
+    Cut,
 }
 
 /// What came of a turn.
@@ -52,6 +54,8 @@ pub enum Outcome {
     Written(usize),
     /// So many transactions of the journal are not finished.
     Restarted(usize),
+    /// The next take gets this id.
+    Cut(u64),
 }
 
 /// Why a plant was not made, or a turn not done.
@@ -68,8 +72,8 @@ pub enum PlantError {
     OutOfMemory,
 }
 
-/// A turn that could not be done. The turns before it stand, and it changed nothing but that it may have
-/// kept a reply, which the session's next step records without a second call.
+/// A turn that could not be done. The turns before it stand, and it changed nothing but that it may
+/// have kept a reply, which the session's next step records without a second call.
 #[derive(Debug, Drop)]
 pub struct DriveFault {
     /// How many turns are done.

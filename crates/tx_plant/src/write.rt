@@ -1,10 +1,10 @@
 //! Writing: the oldest unwritten entries go into the journal, and then the mark moves.
 
-ghost use Rattle.std.specs.Prelude.{◌≡◌, ◌+◌, ◌≤◌, All, length};
+ghost use Rattle.std.specs.Prelude.{◌≡◌, ◌+◌, ◌≤◌, All, OnOk, false, length};
 ghost use Rattle.sqlite_trees.specs.View.{doubt};
 ghost use Rattle.journal_tables.specs.Small.{IsEntrySmall};
 ghost use Rattle.tx_journal.specs.Kept.{kept};
-ghost use Rattle.tx_plant.specs.Plant.{Writes, count_of, late, seen};
+ghost use Rattle.tx_plant.specs.Plant.{IsEngine, StaysFailed, Writes, count_of, late, seen};
 
 use crate::turn::Outcome;
 use sqlite::Alter;
@@ -39,6 +39,14 @@ pub(crate) fn history_len(engine: &Engine) -> usize
     engine.history().len()
 }
 
+/// What every engine is. (A function for the proofs above.)
+pub(crate) fn is_engine(engine: &Engine)
+    ensures { IsEngine engine.now }
+{
+    let _ = engine.history();
+    let _ = engine.mark();
+}
+
 // The mark moves over so many entries.
 fn move_mark(engine: &mut Engine, count: usize) -> usize
     requires { count ≤ length (late engine.old) }
@@ -60,6 +68,9 @@ pub(crate) fn write<S: Alter>(
     most: Option<usize>,
 ) -> Result<Outcome, JournalError>
     ensures written { Writes most engine.old (seen (kept S.Store journal.old)) result engine.new
+        (seen (kept S.Store journal.new)) }
+    ensures fresh { OnOk result (journal.old.failed ≡ false) }
+    ensures failed { StaysFailed (seen (kept S.Store journal.old))
         (seen (kept S.Store journal.new)) }
     ensures clean { doubt (kept S.Store journal.old).is_clean
         ≤ doubt (kept S.Store journal.new).is_clean }

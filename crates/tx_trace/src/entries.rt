@@ -18,13 +18,7 @@ pub fn line(alloc: Global, engine: &Engine, number: usize) -> Result<Option<Stri
     if number == 0 {
         return Ok(None);
     }
-    let mut tracer = Tracer::new(alloc, engine);
-    for _ in 1..number {
-        if tracer.next(alloc, engine)?.is_none() {
-            return Ok(None);
-        }
-    }
-    tracer.next(alloc, engine)
+    Tracer::new(alloc, engine).line_at(alloc, engine, number)
 }
 
 /// The places (group, index) of the entries to come of the transaction that the session holds, the

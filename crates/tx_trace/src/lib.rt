@@ -20,6 +20,7 @@ mod tracer;
 pub use entries::{line, rest};
 pub use laws::tracers_go_on;
 pub use moves::step_line;
+pub use names::Names;
 pub use places::{Place, whereis};
-pub use text::NextText;
+pub use text::{Hex, NextText, PhaseText};
 pub use tracer::Tracer;

@@ -236,6 +236,30 @@ impl Tracer {
         let line = self.follow(engine, entry, traced)?;
         Ok(Some(line))
     }
+
+    /// The line of the entry of this number, which it has not gone through; none where there is no such
+    /// entry. It goes on up to it. The only refusal is want of memory.
+    ///
+    /// The engine is as in [`Tracer::next`].
+    pub fn line_at(
+        &mut self,
+        alloc: Global,
+        engine: &Engine,
+        number: usize,
+    ) -> Result<Option<String>, AllocError>
+        requires follows { Follows engine.now self.old }
+        requires ahead { count_of self.old < number }
+        ensures line { IfOk result (λ line.
+            option_map string_bytes line ≡ line_in engine.now number) }
+        ensures follows { Follows engine.now self.new }
+    {
+        for _ in self.count() + 1..number {
+            if self.next(alloc, engine)?.is_none() {
+                return Ok(None);
+            }
+        }
+        self.next(alloc, engine)
+    }
 }
 
 // The machine, where the transaction has not ended.

@@ -46,6 +46,29 @@ impl Engine {
         &self.code
     }
 
+    /// The code that the engine was opened with. The engine is given up.
+    pub fn into_code(self) -> Code
+        ensures { result ≡ self.flow }
+    {
+        let Engine {
+            code,
+            first: _,
+            first_queue: _,
+            first_breaks: _,
+            entries: _,
+            mark: _,
+            slots: _,
+            queue: _,
+            shelf: _,
+            advices: _,
+            breaks: _,
+            next_id: _,
+            restored: _,
+            recovering: _,
+        } = self;
+        code
+    }
+
     /// The view that the history began from.
     pub fn opened(&self) -> &JournalView
         ensures { result.now ≡ self.now.start.view }

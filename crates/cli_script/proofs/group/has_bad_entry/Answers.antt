@@ -1,8 +1,8 @@
 use Rattle.std.proofs.Common.{is_none, lit<, rules, tests}
 use Rattle.std.proofs.lemmas.Iterator.Search.{any_from_yields_List}
 use Rattle.std.proofs.lemmas.Iterator.Splits.{YieldsList-from_str_split}
-use Rattle.cli_script.specs.Grammar.{entry_spelled}
-use Rattle.cli_script.proofs.Entries.{further_any}
+use Rattle.cli_script.specs.Groups.{entry_spelled}
+use Rattle.cli_script.proofs.Spelled.{further_any}
 use Rattle.cli_script.proofs.group.has_bad_entry.Goals as goal
 
 pub returns-then-not-is_empty : goal.returns-then-not-is_empty

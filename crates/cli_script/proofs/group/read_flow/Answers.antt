@@ -1,7 +1,8 @@
 use Rattle.std.proofs.Common.{rules}
-use Rattle.cli_script.proofs.Entries.{entries_refused}
+use Rattle.cli_script.proofs.Spelled.{some_group}
 use Rattle.cli_script.proofs.group.read_flow.Goals as goal
 
-pub returns-in_default : goal.returns-in_default
-returns-in_default c =
-    rw (c.entries_error.ensures, c.first_and_rest.ensures.rest) (entries_refused c.args.rest.now (search rules))
+pub returns : goal.returns
+returns c =
+    let answers = rw (c.first_and_rest.ensures.word, c.first_and_rest.ensures.rest) at c.read_group.ensures in
+    rw (some_group c.args.rest.now (search rules)) answers

@@ -18,8 +18,8 @@ returns-then-is_misplaced c =
     let means = meant (meaning_of (line_of c.args.rest.now)) c.in-Ok.meaning answers ∙ ap Ok c.in-Setting.is in
     (c.in-Some.ensures.0, ((refl, rw (c.of-found.ensures, c.in-Some.ensures.1) refl), (c.in-Setting.setting, means, sym c.is_misplaced.ensures ∙ c.if-is_misplaced.true)))
 
-pub returns-else-is_misplaced : goal.returns-else-is_misplaced
-returns-else-is_misplaced c =
+pub returns-in-Setting : goal.returns-in-Setting
+returns-in-Setting c =
     let answers = rw c.in-Some.ensures.1 at c.in-Ok.ensures in
     let means = meant (meaning_of (line_of c.args.rest.now)) c.in-Ok.meaning answers ∙ ap Ok c.in-Setting.is in
     ((c.in-Some.ensures.0, means), sym c.is_misplaced.ensures ∙ c.if-is_misplaced.false, c.in-Some.ensures.2)

@@ -1,16 +1,6 @@
-use Rattle.std.proofs.Common.{◌≤◌, ◌+◌, sym, arith}
-use Rattle.tx_trace.specs.Follow.{count_of}
-use Rattle.tx_trace.proofs.Answered.{none_shown}
-use Rattle.tx_trace.proofs.Earlier.{line_zero, no_later}
+use Rattle.std.proofs.Common.{sym}
+use Rattle.tx_trace.proofs.Earlier.{line_zero}
 use Rattle.tx_trace.proofs.entries.line.Goals as goal
 
 pub returns-then-number-eq0 : goal.returns-then-number-eq0
 returns-then-number-eq0 c = rw c.if-number-eq0.true (sym (line_zero c.args.engine.now.flow c.args.engine.now.start c.args.engine.now.past))
-
-pub returns-then-is_none : goal.returns-then-is_none
-returns-then-is_none c =
-    let counted = c.loop.invariant.counted in
-    let within = c.loop-test.true in
-    let le : count_of c.loop.tracer + 1 ≤ c.args.number = omega arith in
-    let none = none_shown c.in_ok-next.field-0 _ (rw c.if-is_none.true at c.is_none.ensures) c.in_ok-next.ensures.line in
-    sym (no_later c.args.engine.now.flow c.args.engine.now.start c.args.engine.now.past (count_of c.loop.tracer + 1) c.args.number (omega arith) le none)

@@ -1,4 +1,4 @@
-use Rattle.std.proofs.Common.{◌∙◌, ◌+◌, Ok, ap, refl}
+use Rattle.std.proofs.Common.{◌∙◌, ◌+◌, Ok, ap, refl, rules}
 use Rattle.cli_script.proofs.Heads.{action_refused, fewer, meant}
 use Rattle.cli_script.specs.Grammar.{meaning_of}
 use Rattle.cli_script.specs.Scripts.{line_of}
@@ -20,11 +20,17 @@ returns-in_default-action_of-clause-next c =
     let setting = c.in_default-action_of.ensures in
     (c.in-Some.ensures.0, ((refl, rw (c.of-found.ensures, c.in-Some.ensures.1) refl), (setting.0, means ∙ ap Ok setting.1)))
 
+pub returns-then-branch-clause-next : goal.returns-then-branch-clause-next
+returns-then-branch-clause-next c =
+    let answers = rw c.in-Some.ensures.1 at c.in-Ok.ensures in
+    let means = meant (meaning_of (line_of c.args.self.now.rest.now)) c.in-Ok.meaning answers in
+    (c.in-Some.ensures.0, ((refl, rw (c.of-found-then-branch.ensures, c.in-Some.ensures.1) refl), (c.in-Some-action_of.action, means ∙ ap Ok c.in-Some-action_of.ensures, search rules)))
+
 pub returns-clause-next : goal.returns-clause-next
 returns-clause-next c =
     let answers = rw c.in-Some.ensures.1 at c.in-Ok.ensures in
     let means = meant (meaning_of (line_of c.args.self.now.rest.now)) c.in-Ok.meaning answers in
-    (c.in-Some.ensures.0, c.in-Some.ensures.2, refl, means ∙ ap Ok c.in-Some-action_of.ensures)
+    (c.in-Some.ensures.0, c.in-Some.ensures.2, refl, means ∙ ap Ok c.in-Some-action_of.ensures, search rules)
 
 pub returns-clause-fewer : goal.returns-clause-fewer
 returns-clause-fewer c = rw c.in-Some.ensures.2 (fewer c.args.self.now.rest.now c.in-Some.ensures.0)

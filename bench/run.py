@@ -1,0 +1,111 @@
+#!/usr/bin/env python3
+"""Times `cardswitch run`: authorizations a second, over a journal in memory and on a file, and what they take.
+
+    bench/run.py [--program PATH] [--requests N]
+
+Beside it, in the same run, SQLite's C library (through Python's sqlite3) makes the commits of as many transactions in a
+journal of the same tables, WAL and synchronous FULL on the file: the rows of one approved authorization, a commit for
+each of its entries. Then the time and the memory of 1,000, 10,000 and 100,000 requests, in memory.
+"""
+
+import argparse
+import os
+import resource
+import sqlite3
+import subprocess
+import sys
+import tempfile
+import time
+
+TOP = os.path.dirname(os.path.dirname(os.path.abspath(__file__)))
+BUILT = os.path.join(TOP, "crates", "cardswitch", "out", "cardswitch")
+FLOW = os.path.join(TOP, "examples", "switch.toml")
+TABLES = """
+CREATE TABLE meta (k INTEGER PRIMARY KEY NOT NULL, v INTEGER NOT NULL) STRICT;
+CREATE TABLE tx (id INTEGER PRIMARY KEY NOT NULL, phase INTEGER NOT NULL, told INTEGER NOT NULL, doing TEXT NOT NULL,
+    tries INTEGER NOT NULL, context BLOB NOT NULL) STRICT;
+CREATE TABLE member (id INTEGER NOT NULL REFERENCES tx ON DELETE CASCADE, place INTEGER NOT NULL, name TEXT NOT NULL,
+    PRIMARY KEY (id, place)) STRICT;
+INSERT INTO meta VALUES (1, 1), (2, 1);
+"""
+# The rows of an approved authorization after each of its entries: phase, members, told, doing.
+ROWS = [
+    (0, [], 0, "check"),
+    (0, [], 0, "limits"),
+    (0, ["limits"], 0, "route"),
+    (0, ["limits"], 0, ""),
+    (0, ["limits"], 0, "reverse"),
+    (0, ["limits", "reverse"], 0, "query_alpha"),
+    (0, ["limits", "reverse"], 0, "standin"),
+    (0, ["limits", "reverse"], 0, "forward"),
+    (0, ["limits", "reverse", "forward"], 0, "respond"),
+    (2, ["limits", "reverse", "forward"], 0, ""),
+    (2, ["limits", "reverse", "forward"], 1, ""),
+    (2, ["limits", "reverse", "forward"], 2, ""),
+]
+
+
+def requests(count):
+    """So many approved authorizations, each of a card of its own."""
+    made = []
+    for number in range(count):
+        card = b"4%015d" % number
+        made.append(b"00830100722000000080800016" + card + b"000000" + b"000000000100" + b"0102030405")
+        made.append(b"%06d" % (number % 1_000_000) + b"TERM0001978")
+    return b"".join(made)
+
+
+def run(program, count, journal=None):
+    """The seconds and the bytes of memory of a run on so many requests."""
+    command = [program, "run", "--flow", FLOW] + (["--journal", journal] if journal else [])
+    began = time.monotonic()
+    with subprocess.Popen(command, stdin=subprocess.PIPE, stdout=subprocess.PIPE) as process:
+        out, _ = process.communicate(requests(count))
+    took = time.monotonic() - began
+    assert process.returncode == 0 and out.count(b"TERM0001") == count, (process.returncode, out[:200])
+    return took
+
+
+def commits(count, path):
+    """The seconds of SQLite's C library for the commits of so many authorizations."""
+    journal = sqlite3.connect(path, isolation_level=None)
+    journal.execute("PRAGMA journal_mode = WAL")
+    journal.execute("PRAGMA synchronous = FULL")
+    journal.execute("PRAGMA foreign_keys = ON")
+    journal.executescript(TABLES)
+    context = bytes(100)
+    began = time.monotonic()
+    for number in range(1, count + 1):
+        for place, (phase, members, told, doing) in enumerate(ROWS):
+            journal.execute("BEGIN")
+            if place == 0:
+                journal.execute("UPDATE meta SET v = ? WHERE k = 2", (number + 1,))
+            journal.execute("DELETE FROM tx WHERE id = ?", (number,))
+            journal.execute("INSERT INTO tx VALUES (?, ?, ?, ?, 0, ?)", (number, phase, told, doing, context))
+            for at, name in enumerate(members):
+                journal.execute("INSERT INTO member VALUES (?, ?, ?)", (number, at, name))
+            journal.execute("COMMIT")
+        journal.execute("DELETE FROM tx WHERE id = ?", (number,))
+    return time.monotonic() - began
+
+
+def main():
+    parser = argparse.ArgumentParser(description="Times cardswitch run.")
+    parser.add_argument("--program", default=BUILT)
+    parser.add_argument("--requests", type=int, default=2000)
+    given = parser.parse_args()
+    count = given.requests
+    with tempfile.TemporaryDirectory(dir=TOP) as room:
+        ours = run(given.program, count, f"{room}/ours.db")
+        theirs = commits(count, f"{room}/theirs.db")
+        print(f"file:   {count / ours:9.0f} authorizations a second, C SQLite's commits {count / theirs:9.0f}, ratio {theirs / ours:.2f}")
+        ours, theirs = run(given.program, count), commits(count, ":memory:")
+        print(f"memory: {count / ours:9.0f} authorizations a second, C SQLite's commits {count / theirs:9.0f}, ratio {theirs / ours:.2f}")
+    for count in (1_000, 10_000, 100_000):
+        took = run(given.program, count)
+        most = resource.getrusage(resource.RUSAGE_CHILDREN).ru_maxrss
+        print(f"{count:7} requests in memory: {took:7.2f} s, {count / took:8.0f} a second, at most {most / 1024:6.0f} MB")
+
+
+if __name__ == "__main__":
+    sys.exit(main())

@@ -1,0 +1,24 @@
+//! Numbers as words spell them.
+#![tactic(auto)]
+
+ghost use Rattle.std.specs.Prelude.{◌≡◌};
+ghost use Rattle.std.specs.Char.{is_ascii_digit};
+ghost use Rattle.std.specs.List.{list_all};
+ghost use Rattle.cli_numbers.specs.Spelling.{number_spelled};
+
+fn is_digits(word: &str) -> bool
+    ensures { result ≡ list_all is_ascii_digit word.now }
+{
+    word.as_bytes().iter().all(|byte| byte.is_ascii_digit())
+}
+
+/// A decimal number below 2^64: digits alone, of which leading zeros count for nothing.
+pub fn read_number(word: &str) -> Option<u64>
+    ensures { result ≡ number_spelled word.now }
+{
+    if is_digits(word) {
+        word.parse().ok()
+    } else {
+        None
+    }
+}

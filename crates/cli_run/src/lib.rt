@@ -1,0 +1,20 @@
+//! `run`: requests in frames to responses in frames, one transaction after the other.
+//!
+//! [`run`] makes a plant of the switch's participants over a journal. It recovers what the journal has
+//! unfinished, then answers each request as it comes: its response is written and flushed once the last
+//! entry of its transaction is written. Behind the last request the shelf is released and drained, and the
+//! stored advices are sent to the issuers.
+#![tactic(auto)]
+
+mod advices;
+mod console;
+mod error;
+mod issuers;
+mod serving;
+mod stream;
+mod switch;
+
+pub use console::Console;
+pub use error::ServeError;
+pub use issuers::Issuers;
+pub use serving::{Setup, run};

@@ -1,8 +1,0 @@
-use Rattle.std.proofs.Common.{◌≡◌, ◌++◌, drop, map, option_map}
-use Rattle.cli_script.specs.Grammar.{entries_spelled}
-use Rattle.cli_script.proofs.group.read_entries.Given as goal
-
--- the entries so far and those of the words left are those of the words
-abbrev pub invariant-loop-word : goal.invariant-loop-word
-invariant-loop-word l = option_map (λ es. l.entries.items ++ es) (entries_spelled (map (λ w. w.now) (drop l.word-index l.words)))
-    ≡ entries_spelled (map (λ w. w.now) l.words)

@@ -1,0 +1,68 @@
+-- What the lines of a script do to a plant.
+use Rattle.std.specs.Prelude.{◌≡◌, ℕ, ◌<◌, ⊤, Bool, true, false, List, [], Option, Some, None, Ok}
+use Rattle.sw_scripted.specs.Puts.{put_all}
+use Rattle.sw_scripted.specs.declared.puts.Put.{Put}
+use Rattle.cli_script.specs.declared.line.Action.{Action}
+use Rattle.cli_script.specs.declared.line.Action.TheVariants as action
+use Rattle.tx_history.specs.declared.event.Event.{Event}
+use Rattle.tx_engine.specs.World.{World, Recorded}
+use Rattle.tx_plant.specs.declared.turn.Outcome.{Outcome}
+use Rattle.tx_plant.specs.declared.turn.Outcome.TheVariants as outcome
+use Rattle.tx_plant.specs.declared.turn.Turn.{Turn}
+use Rattle.tx_plant.specs.declared.turn.Turn.TheVariants as turn
+use Rattle.tx_plant.specs.Plant.{Turned, Whole}
+use Rattle.tx_plant.specs.Steps.{Moved}
+use Rattle.tx_trace.specs.Follow.{count_of}
+use Rattle.tx_trace.specs.declared.tracer.Tracer.{Tracer}
+use Rattle.cli_step.specs.Said.{said, with_line}
+
+-- the offer of a context with these entries
+abbrev pub offer_of : List Put → Turn
+offer_of puts = turn.Offer (put_all [] puts)
+
+-- the turn that a line is; the others only show something, or are `auto`
+abbrev pub turn_of : Action → Option Turn
+turn_of (action.Offer puts) = Some (offer_of puts)
+turn_of (action.Take s) = Some (turn.Take s)
+turn_of action.Release = Some turn.Release
+turn_of (action.Ack id place) = Some (turn.Ack id place)
+turn_of (action.Break name) = Some (turn.Break name)
+turn_of (action.Clear name) = Some (turn.Clear name)
+turn_of (action.Go s) = Some (turn.LetGo s)
+turn_of (action.Call s) = Some (turn.Step s)
+turn_of (action.Write most) = Some (turn.Write most)
+turn_of action.Stop = Some turn.Stop
+turn_of action.Cut = Some turn.Cut
+turn_of _ = None
+
+-- the session that the line of a step names
+abbrev pub session_of : Action → ℕ
+session_of (action.Call s) = s
+session_of _ = 0
+
+-- the turn was done, with this outcome
+abbrev pub Does : Turn → Outcome → Whole → Whole → Type 0
+Does t o p q = (m : List Moved) × Turned t (Ok o) m p q
+
+-- the turn was done, and the line of what came of it stands behind the text
+abbrev pub Says : Turn → ℕ → Whole → List ℕ → Whole → List ℕ → Type 0
+Says t s p text q longer = (o : Outcome) × Does t o p q × (longer ≡ with_line text (said q.core.world s o))
+
+-- the history began anew
+abbrev pub is_fresh : Outcome → Bool
+is_fresh (outcome.Restarted n) = true
+is_fresh (outcome.Cut n) = true
+is_fresh _ = false
+
+-- what an outcome says of the history
+abbrev pub Stands : Outcome → World → World → Type 0
+Stands (outcome.Accepted n) w to = (e : Event) × Recorded w e n to
+Stands (outcome.Written n) w to = to ≡ record w { mark = n }
+Stands (outcome.Restarted n) w to = ⊤
+Stands (outcome.Cut n) w to = ⊤
+Stands _ w to = to ≡ w
+
+-- the tracer has not gone through the entry of the outcome
+abbrev pub IsAhead : Tracer → Outcome → Type 0
+IsAhead t (outcome.Accepted n) = count_of t < n
+IsAhead t _ = ⊤

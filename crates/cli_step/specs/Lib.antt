@@ -1,0 +1,4 @@
+pub mod Places
+pub mod Said
+pub mod Doing
+pub mod Errors

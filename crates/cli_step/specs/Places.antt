@@ -1,0 +1,57 @@
+-- Where a transaction stands, as a script's lines show it.
+use Rattle.std.specs.Prelude.{ℕ, List, [], ◌++◌, codes, Option, Some, None}
+use Rattle.std.specs.List.{flat_map}
+use Rattle.std.specs.Fmt.{decimal}
+use Rattle.sw_context.specs.Pairs.{Pairs}
+use Rattle.sw_participant.specs.declared.call.Act.{Act}
+use Rattle.sw_participant.specs.declared.call.Act.TheVariants as act
+use Rattle.flow_model.specs.declared.flow.Flow.{Flow}
+use Rattle.tx_trace.specs.declared.places.Place.{Place}
+use Rattle.tx_trace.specs.Trace.{Text, group_name, hex_text, part_name, phase_text}
+
+abbrev pub act_word : Act → Text
+act_word act.Prepare = codes "prepare"
+act_word act.PrepareForAbort = codes "prepare_for_abort"
+act_word act.Select = codes "select"
+act_word (act.Commit recovering) = codes "commit"
+act_word (act.Abort recovering) = codes "abort"
+act_word (act.Recover commit) = codes "recover"
+
+-- `CALL NAME`
+abbrev pub call_text : Flow → Place → Text
+call_text f p = act_word p.call.act ++ codes " " ++ part_name f p.call.participant
+
+-- ` GROUP/INDEX`
+abbrev pub entry_text : Flow → ℕ → ℕ → Text
+entry_text f g i = codes " " ++ group_name f g ++ codes "/" ++ decimal i
+
+-- the same where an entry is called; nothing while members are told
+abbrev pub called_entry : Flow → Option ℕ → Option ℕ → Text
+called_entry f (Some g) (Some i) = entry_text f g i
+called_entry f _ _ = []
+
+-- ` step N`
+abbrev pub step_text : Option ℕ → Text
+step_text None = []
+step_text (Some n) = codes " step " ++ decimal n
+
+-- `held S CALL NAME[ GROUP/INDEX]`
+abbrev pub held_text : Flow → ℕ → Place → Text
+held_text f s p = codes "held " ++ decimal s ++ codes " " ++ call_text f p ++ called_entry f p.group p.index
+
+-- `where ID PHASE CALL NAME[ step N GROUP/INDEX]`
+abbrev pub where_text : Flow → Place → Text
+where_text f p = codes "where " ++ decimal p.id ++ codes " " ++ phase_text p.phase ++ codes " " ++ call_text f p
+    ++ step_text p.step ++ called_entry f p.group p.index
+
+-- `rest[ GROUP/INDEX ..]`
+abbrev pub rest_text : Flow → List (ℕ × ℕ) → Text
+rest_text f places = codes "rest" ++ flat_map (λ (p : ℕ × ℕ). entry_text f p.0 p.1) places
+
+-- ` N=HEX`
+abbrev pub put_text : List ℕ × List ℕ → Text
+put_text e = codes " " ++ e.0 ++ codes "=" ++ flat_map hex_text e.1
+
+-- `saved ID[ N=HEX ..]`
+abbrev pub saved_text : ℕ → Pairs → Text
+saved_text id context = codes "saved " ++ decimal id ++ flat_map put_text context

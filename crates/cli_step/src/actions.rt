@@ -1,0 +1,112 @@
+//! What the lines of a script do.
+
+ghost use Rattle.std.specs.Prelude.{◌≡◌, IfOk, OnOk, Some, string_bytes};
+ghost use Rattle.tx_journal.specs.Kept.{kept};
+ghost use Rattle.tx_plant.specs.Plant.{seen, whole};
+ghost use Rattle.tx_plant.specs.declared.turn.Turn.{Turn as ATurn};
+ghost use Rattle.tx_trace.specs.Follow.{Follows};
+ghost use Rattle.cli_step.specs.Doing.{Says, offer_of, session_of, turn_of};
+
+use crate::auto::auto;
+use crate::error::ActionError;
+use crate::said::said;
+use crate::shown::{push_line, show};
+use crate::turns::do_turn;
+use cli_script::Action;
+use sqlite::Alter;
+use std::alloc::Global;
+use sw_context::Context;
+use sw_participant::{NoMemory, Sequence};
+use sw_scripted::{Put, put_all};
+use tx_plant::{Plant, Turn};
+use tx_trace::Tracer;
+
+// The offer of a context with these entries.
+fn offer_of(alloc: Global, puts: &Sequence<Put>) -> Result<Turn, NoMemory>
+    ensures { IfOk result (λ t. t ≡ offer_of puts.now) }
+{
+    let mut context = Context::new(alloc);
+    put_all(&mut context, puts.as_slice())?;
+    Ok(Turn::Offer(context))
+}
+
+// The turn that a line is; none where it only shows something, or is `auto`.
+fn turn_of(alloc: Global, action: &Action) -> Result<Option<Turn>, NoMemory>
+    ensures { IfOk result (λ t. t ≡ turn_of action.now) }
+{
+    let turn = match action {
+        Action::Offer(puts) => offer_of(alloc, puts)?,
+        Action::Take(s) => Turn::Take(*s as usize),
+        Action::Release => Turn::Release,
+        Action::Ack { id, place } => Turn::Ack(*id, *place as usize),
+        Action::Break(name) => Turn::Break(name.copy()?),
+        Action::Clear(name) => Turn::Clear(name.copy()?),
+        Action::Go(s) => Turn::LetGo(*s as usize),
+        Action::Call(s) => Turn::Step(*s as usize),
+        Action::Write(None) => Turn::Write(None),
+        Action::Write(Some(most)) => Turn::Write(Some(*most as usize)),
+        Action::Stop => Turn::Stop,
+        Action::Cut => Turn::Cut,
+        _ => return Ok(None),
+    };
+    Ok(Some(turn))
+}
+
+// The session that the line of a step names.
+fn session_of(action: &Action) -> usize
+    ensures { result ≡ session_of action.now }
+{
+    match action {
+        Action::Call(s) => *s as usize,
+        _ => 0,
+    }
+}
+
+// Does a turn of this session, and adds the line of what came of it.
+fn run_turn<S: Alter>(
+    alloc: Global,
+    plant: &mut Plant<S>,
+    tracer: &mut Tracer,
+    turn: Turn,
+    s: usize,
+    text: &mut String,
+) -> Result<(), ActionError>
+    requires { Follows plant.old.running.engine tracer.old }
+    ensures says { OnOk result (Says turn s
+        (whole plant.old.running.engine plant.old.running.seats
+        (seen (kept S.Store plant.old.journal))) (string_bytes text.old)
+        (whole plant.new.running.engine plant.new.running.seats
+        (seen (kept S.Store plant.new.journal))) (string_bytes text.new)) }
+    ensures follows { OnOk result (Follows plant.new.running.engine tracer.new) }
+{
+    let outcome = do_turn(alloc, plant, tracer, turn)?;
+    let line = said(alloc, plant.engine(), tracer, s, &outcome)?;
+    Ok(push_line(text, line)?)
+}
+
+/// Runs a line, and adds what it prints. A line that is a turn does that turn, and the line of what came
+/// of it is added.
+pub fn run_action<S: Alter>(
+    alloc: Global,
+    plant: &mut Plant<S>,
+    tracer: &mut Tracer,
+    action: &Action,
+    text: &mut String,
+) -> Result<(), ActionError>
+    requires { Follows plant.old.running.engine tracer.old }
+    ensures says { OnOk result ((t : ATurn) → turn_of action.now ≡ Some t
+        → Says t (session_of action.now)
+        (whole plant.old.running.engine plant.old.running.seats
+        (seen (kept S.Store plant.old.journal))) (string_bytes text.old)
+        (whole plant.new.running.engine plant.new.running.seats
+        (seen (kept S.Store plant.new.journal))) (string_bytes text.new)) }
+    ensures follows { OnOk result (Follows plant.new.running.engine tracer.new) }
+{
+    match turn_of(alloc, action)? {
+        Some(turn) => run_turn(alloc, plant, tracer, turn, session_of(action), text),
+        None => match action {
+            Action::Auto => auto(alloc, plant, tracer, text),
+            other => show(alloc, plant, other, text),
+        },
+    }
+}

@@ -1,0 +1,117 @@
+//! Why the run of a script ends early.
+
+ghost use Rattle.std.specs.Prelude.{◌≡◌};
+ghost use Rattle.cli_step.specs.Errors.{at_line, error_of_script, error_of_write};
+ghost use Rattle.cli_step.specs.declared.error.ActionError.TheVariants as act;
+ghost use Rattle.cli_step.specs.declared.error.StepError.TheVariants.{OutOfMemory};
+
+use cli_io::WriteError;
+use cli_script::ScriptError;
+use std::alloc::{AllocError, AllocFailed};
+use sw_participant::NoMemory;
+use thiserror::Error;
+use tx_journal::JournalError;
+use tx_plant::PlantError;
+
+/// Why the run of a script ends early, and at which line. What the lines before it printed stands.
+#[derive(Debug, Drop, Error)]
+pub enum StepError {
+    /// A line of the script or its flow is refused.
+    #[error("{0}")]
+    Script(ScriptError),
+    /// No plant can be made of what the settings state, at the first line that is none.
+    #[error("line {line}: {cause}")]
+    Plant { line: usize, cause: PlantError },
+    /// The journal refused.
+    #[error("line {line}: the journal refused: {cause}")]
+    Journal { line: usize, cause: JournalError },
+    /// The output could not be written.
+    #[error("writing the output: {0}")]
+    Write(WriteError),
+    /// No memory was left.
+    #[error("out of memory")]
+    OutOfMemory,
+}
+
+/// Why a line was not run.
+#[derive(Debug, Drop)]
+pub enum ActionError {
+    Plant(PlantError),
+    OutOfMemory,
+}
+
+impl ActionError {
+    /// The error of the line of this number.
+    pub fn at_line(self, line: usize) -> StepError
+        ensures { result ≡ at_line line self }
+    {
+        match self {
+            ActionError::OutOfMemory => StepError::OutOfMemory,
+            ActionError::Plant(PlantError::OutOfMemory) => StepError::OutOfMemory,
+            ActionError::Plant(PlantError::Journal(cause)) => StepError::Journal { line, cause },
+            ActionError::Plant(cause) => StepError::Plant { line, cause },
+        }
+    }
+}
+
+impl From<PlantError> for ActionError {
+    ghost from_gives = { λ e a. a ≡ act.Plant e };
+
+    fn from(error: PlantError) -> ActionError {
+        ActionError::Plant(error)
+    }
+}
+
+impl From<AllocError> for ActionError {
+    ghost from_gives = { λ _ a. a ≡ act.OutOfMemory };
+
+    fn from(_error: AllocError) -> ActionError {
+        ActionError::OutOfMemory
+    }
+}
+
+impl From<NoMemory> for ActionError {
+    ghost from_gives = { λ _ a. a ≡ act.OutOfMemory };
+
+    fn from(_error: NoMemory) -> ActionError {
+        ActionError::OutOfMemory
+    }
+}
+
+impl From<AllocError> for StepError {
+    ghost from_gives = { λ _ s. s ≡ OutOfMemory };
+
+    fn from(_error: AllocError) -> StepError {
+        StepError::OutOfMemory
+    }
+}
+
+impl<T: Drop> From<AllocFailed<T>> for StepError {
+    ghost from_gives = { λ _ s. s ≡ OutOfMemory };
+
+    fn from(_error: AllocFailed<T>) -> StepError {
+        StepError::OutOfMemory
+    }
+}
+
+impl From<ScriptError> for StepError {
+    ghost from_gives = { λ e s. s ≡ error_of_script e };
+
+    fn from(error: ScriptError) -> StepError {
+        match error {
+            ScriptError::OutOfMemory => StepError::OutOfMemory,
+            other => StepError::Script(other),
+        }
+    }
+}
+
+impl From<WriteError> for StepError {
+    ghost from_gives = { λ e s. s ≡ error_of_write e };
+
+    fn from(error: WriteError) -> StepError {
+        match error {
+            WriteError::OutOfMemory => StepError::OutOfMemory,
+            other => StepError::Write(other),
+        }
+    }
+}

@@ -1,0 +1,19 @@
+//! The script of `step`, run over a plant.
+//!
+//! Promised here, by the definitions in `specs/`:
+//! - each line that is a turn does that turn of the plant (`Plant::drive`), and prints the line of what came
+//!   of it: of an accepted event the line of its entry, by a tracer that goes along (`Says`);
+//! - `where` prints the place that `tx_trace::whereis` gives.
+#![tactic(auto)]
+
+mod actions;
+mod auto;
+mod error;
+mod places;
+mod said;
+mod script;
+mod shown;
+mod turns;
+
+pub use error::StepError;
+pub use script::run_script;

@@ -1,0 +1,69 @@
+//! Turns of a plant, with a tracer of its history.
+
+ghost use Rattle.std.specs.Prelude.{◌≡◌, IfOk, OnOk, false};
+ghost use Rattle.tx_journal.specs.Kept.{kept};
+ghost use Rattle.tx_plant.specs.Plant.{seen, whole};
+ghost use Rattle.tx_trace.specs.Follow.{Follows};
+ghost use Rattle.cli_step.specs.Doing.{Does, IsAhead, is_fresh};
+
+use sqlite::Alter;
+use std::alloc::Global;
+use tx_plant::{Outcome, Plant, PlantError, Turn};
+use tx_trace::{Tracer, tracers_go_on};
+
+// Does a turn. The tracer is one of the plant's history still, unless that began anew.
+fn drive_one<S: Alter>(
+    alloc: Global,
+    plant: &mut Plant<S>,
+    tracer: &Tracer,
+    turn: Turn,
+) -> Result<Outcome, PlantError>
+    requires { Follows plant.old.running.engine tracer.now }
+    ensures does { IfOk result (λ o. Does turn o
+        (whole plant.old.running.engine plant.old.running.seats
+        (seen (kept S.Store plant.old.journal)))
+        (whole plant.new.running.engine plant.new.running.seats
+        (seen (kept S.Store plant.new.journal)))) }
+    ensures follows { IfOk result (λ o.
+        is_fresh o ≡ false → Follows plant.new.running.engine tracer.now) }
+    ensures ahead { IfOk result (λ o. IsAhead tracer.now o) }
+{
+    tracers_go_on();
+    let turns = [turn];
+    match plant.drive(alloc, turns.as_slice()) {
+        Ok(mut outcomes) => match outcomes.pop() {
+            Some(outcome) => Ok(outcome),
+            None => unreachable!(),
+        },
+        Err(fault) => Err(fault.cause),
+    }
+}
+
+fn is_fresh(outcome: &Outcome) -> bool
+    ensures { result ≡ is_fresh outcome.now }
+{
+    matches!(outcome, Outcome::Restarted(_) | Outcome::Cut(_))
+}
+
+/// Does a turn. Where the history begins anew by it, so does the tracer.
+pub fn do_turn<S: Alter>(
+    alloc: Global,
+    plant: &mut Plant<S>,
+    tracer: &mut Tracer,
+    turn: Turn,
+) -> Result<Outcome, PlantError>
+    requires { Follows plant.old.running.engine tracer.old }
+    ensures does { IfOk result (λ o. Does turn o
+        (whole plant.old.running.engine plant.old.running.seats
+        (seen (kept S.Store plant.old.journal)))
+        (whole plant.new.running.engine plant.new.running.seats
+        (seen (kept S.Store plant.new.journal)))) }
+    ensures follows { OnOk result (Follows plant.new.running.engine tracer.new) }
+    ensures ahead { IfOk result (λ o. IsAhead tracer.new o) }
+{
+    let outcome = drive_one(alloc, plant, tracer, turn)?;
+    if is_fresh(&outcome) {
+        *tracer = Tracer::new(alloc, plant.engine());
+    }
+    Ok(outcome)
+}

@@ -1,0 +1,12 @@
+pub mod Sameness
+pub mod CallsMade
+pub mod Growth
+pub mod SeatReplies
+pub mod Steps
+pub mod Takes
+pub mod Writing
+pub mod Cutting
+pub mod Stopping
+pub mod Driving
+pub mod Making
+pub mod Restarts

@@ -1,0 +1,4 @@
+pub mod Deeds
+pub mod Mirrors
+pub mod Lives
+pub mod Decided

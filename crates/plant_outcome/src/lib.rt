@@ -1,0 +1,15 @@
+//! The outcome law of the plant: what all its calls together keep, through every stop and cut.
+//!
+//! There is no code here, but laws of what `tx_plant::Plant` promises of itself:
+//! - a turn is a list of small steps of the plant that the outcome law speaks of (`tx_outcome`),
+//!   which stands for the real one: its entries by session, its written entries, its kept replies
+//!   ([`turns_are_moves`]);
+//! - so the outcome law holds of all calls ever made, and of the journal that the written entries
+//!   make, after every list of turns ([`plants_keep_the_law`]);
+//! - after a restart a transaction that was committing is committed, and each other one aborted
+//!   ([`restarts_decide`]).
+#![tactic(auto)]
+
+mod laws;
+
+pub use laws::{plants_keep_the_law, restarts_decide, turns_are_moves};

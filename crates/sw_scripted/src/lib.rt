@@ -1,0 +1,12 @@
+//! Participants by a script: each replies from queues of its own.
+//!
+//! Promised here: a [`Scripted`] participant takes each reply from the front of its queue, and an empty
+//! queue gives PREPARED, no group, no advice and nothing to restore (`specs/Scripted.antt`); entries are
+//! put into a context in their order, and one that finds it full is passed over ([`put_all`]).
+#![tactic(auto)]
+
+mod participant;
+mod puts;
+
+pub use participant::{QueuedAnswer, QueuedReplies, Scripted};
+pub use puts::{Put, is_crowded, put_all};

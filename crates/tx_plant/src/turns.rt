@@ -1,0 +1,173 @@
+//! Turns, one after the other.
+
+ghost use Rattle.std.specs.Prelude.{◌≡◌, ◌≤◌, List, map, IfErr, IfOk, None};
+ghost use Rattle.sqlite_trees.specs.View.{doubt};
+ghost use Rattle.sw_participant.specs.Chains.{counts_after, rule_at};
+ghost use Rattle.sw_participant.specs.Stations.{type_of, name_of, calls_of, object_of, rule_of};
+ghost use Rattle.tx_journal.specs.Kept.{kept};
+ghost use Rattle.tx_plant.specs.Steps.{Moved};
+ghost use Rattle.tx_plant.specs.Core.{core};
+ghost use Rattle.tx_plant.specs.Led.{Led};
+ghost use Rattle.tx_plant.specs.Plant.{Drives, DrivesTo, GoesOn, LeavesJournal, Turned};
+ghost use Rattle.tx_plant.specs.Plant.{seen, whole};
+ghost use Rattle.tx_plant.specs.Turns.{event_for};
+ghost use Rattle.tx_plant.specs.Written.{IsWritten};
+
+use crate::running::Running;
+use crate::turn::{DriveFault, Outcome, PlantError, Turn, journal_fault, raised};
+use crate::write::is_engine;
+use sqlite::Alter;
+use std::alloc::Global;
+use sw_participant::Station;
+use tx_journal::Journal;
+
+// A turn of a session, a write, a stop or a cut.
+fn session_turn<S: Alter>(
+    alloc: Global,
+    running: &mut Running,
+    journal: &mut Journal<S>,
+    stations: &mut Vec<Station>,
+    turn: &Turn,
+) -> Result<Outcome, PlantError>
+    requires { event_for running.old.engine turn.now ≡ None }
+    ensures types { map type_of stations.new.items ≡ map type_of stations.old.items }
+    ensures names { map name_of stations.new.items ≡ map name_of stations.old.items }
+    ensures turned { (m : List Moved)
+        × Turned turn.now result m
+        (whole running.old.engine running.old.seats (seen (kept S.Store journal.old)))
+        (whole running.new.engine running.new.seats (seen (kept S.Store journal.new)))
+        × Led (rule_at (rule_of Participant-dyn) stations.old.items)
+        (map (object_of Participant-dyn) stations.old.items)
+        (core running.old.engine running.old.seats) m
+        (map (object_of Participant-dyn) stations.new.items)
+        (core running.new.engine running.new.seats)
+        × (map calls_of stations.new.items ≡ counts_after (map calls_of stations.old.items) m) }
+    ensures written { IsWritten running.old.engine (seen (kept S.Store journal.old))
+        → IsWritten running.new.engine (seen (kept S.Store journal.new)) }
+    ensures journal { LeavesJournal turn.now (seen (kept S.Store journal.old))
+        (seen (kept S.Store journal.new)) }
+    ensures clean { doubt (kept S.Store journal.old).is_clean
+        ≤ doubt (kept S.Store journal.new).is_clean }
+{
+    match turn {
+        Turn::Take(s) => raised(running.take(alloc, *s)),
+        Turn::Step(s) => raised(running.step(alloc, stations, *s)),
+        Turn::Write(most) => journal_fault(running.write(journal, *most)),
+        Turn::Stop => running.stop(alloc, journal),
+        Turn::Cut => raised(running.cut(alloc)),
+        _ => unreachable!(),
+    }
+}
+
+// Does one turn.
+fn any_turn<S: Alter>(
+    alloc: Global,
+    running: &mut Running,
+    journal: &mut Journal<S>,
+    stations: &mut Vec<Station>,
+    turn: &Turn,
+) -> Result<Outcome, PlantError>
+    ensures types { map type_of stations.new.items ≡ map type_of stations.old.items }
+    ensures names { map name_of stations.new.items ≡ map name_of stations.old.items }
+    ensures turned { (m : List Moved)
+        × Turned turn.now result m
+        (whole running.old.engine running.old.seats (seen (kept S.Store journal.old)))
+        (whole running.new.engine running.new.seats (seen (kept S.Store journal.new)))
+        × Led (rule_at (rule_of Participant-dyn) stations.old.items)
+        (map (object_of Participant-dyn) stations.old.items)
+        (core running.old.engine running.old.seats) m
+        (map (object_of Participant-dyn) stations.new.items)
+        (core running.new.engine running.new.seats)
+        × (map calls_of stations.new.items ≡ counts_after (map calls_of stations.old.items) m) }
+    ensures written { IsWritten running.old.engine (seen (kept S.Store journal.old))
+        → IsWritten running.new.engine (seen (kept S.Store journal.new)) }
+    ensures journal { LeavesJournal turn.now (seen (kept S.Store journal.old))
+        (seen (kept S.Store journal.new)) }
+    ensures clean { doubt (kept S.Store journal.old).is_clean
+        ≤ doubt (kept S.Store journal.new).is_clean }
+{
+    match running.log(turn) {
+        Some(logged) => raised(logged),
+        None => session_turn(alloc, running, journal, stations, turn),
+    }
+}
+
+/// Does one turn.
+pub(crate) fn one_turn<S: Alter>(
+    alloc: Global,
+    running: &mut Running,
+    journal: &mut Journal<S>,
+    stations: &mut Vec<Station>,
+    turn: &Turn,
+) -> Result<Outcome, PlantError>
+    ensures types { map type_of stations.new.items ≡ map type_of stations.old.items }
+    ensures names { map name_of stations.new.items ≡ map name_of stations.old.items }
+    ensures turned { (m : List Moved)
+        × Turned turn.now result m
+        (whole running.old.engine running.old.seats (seen (kept S.Store journal.old)))
+        (whole running.new.engine running.new.seats (seen (kept S.Store journal.new)))
+        × Led (rule_at (rule_of Participant-dyn) stations.old.items)
+        (map (object_of Participant-dyn) stations.old.items)
+        (core running.old.engine running.old.seats) m
+        (map (object_of Participant-dyn) stations.new.items)
+        (core running.new.engine running.new.seats)
+        × (map calls_of stations.new.items ≡ counts_after (map calls_of stations.old.items) m) }
+    ensures written { IsWritten running.old.engine (seen (kept S.Store journal.old))
+        → IsWritten running.new.engine (seen (kept S.Store journal.new)) }
+    ensures goes { GoesOn turn.now
+        (whole running.old.engine running.old.seats (seen (kept S.Store journal.old)))
+        (whole running.new.engine running.new.seats (seen (kept S.Store journal.new))) }
+    ensures clean { doubt (kept S.Store journal.old).is_clean
+        ≤ doubt (kept S.Store journal.new).is_clean }
+{
+    let done = any_turn(alloc, running, journal, stations, turn);
+    is_engine(&running.engine);
+    done
+}
+
+/// Does the turns, one after the other.
+pub(crate) fn all_turns<S: Alter>(
+    alloc: Global,
+    running: &mut Running,
+    journal: &mut Journal<S>,
+    stations: &mut Vec<Station>,
+    turns: &[Turn],
+) -> Result<Vec<Outcome>, DriveFault>
+    ensures types { map type_of stations.new.items ≡ map type_of stations.old.items }
+    ensures names { map name_of stations.new.items ≡ map name_of stations.old.items }
+    ensures done { IfOk result (λ outcomes.
+        Drives (rule_at (rule_of Participant-dyn) stations.old.items)
+        (map (object_of Participant-dyn) stations.old.items) (map calls_of stations.old.items)
+        turns.now outcomes.items
+        (whole running.old.engine running.old.seats (seen (kept S.Store journal.old)))
+        (map (object_of Participant-dyn) stations.new.items) (map calls_of stations.new.items)
+        (whole running.new.engine running.new.seats (seen (kept S.Store journal.new)))) }
+    ensures fault { IfErr result (λ fault.
+        DrivesTo (rule_at (rule_of Participant-dyn) stations.old.items)
+        (map (object_of Participant-dyn) stations.old.items) (map calls_of stations.old.items)
+        turns.now fault
+        (whole running.old.engine running.old.seats (seen (kept S.Store journal.old)))
+        (map (object_of Participant-dyn) stations.new.items) (map calls_of stations.new.items)
+        (whole running.new.engine running.new.seats (seen (kept S.Store journal.new)))) }
+    ensures written { IsWritten running.old.engine (seen (kept S.Store journal.old))
+        → IsWritten running.new.engine (seen (kept S.Store journal.new)) }
+    ensures clean { doubt (kept S.Store journal.old).is_clean
+        ≤ doubt (kept S.Store journal.new).is_clean }
+{
+    let Ok(mut outcomes) = Vec::with_capacity(alloc, turns.len()) else {
+        return Err(DriveFault {
+            done: 0,
+            cause: PlantError::OutOfMemory,
+        });
+    };
+    for turn in turns {
+        match one_turn(alloc, running, journal, stations, turn) {
+            Ok(outcome) => outcomes.push_reserved(outcome),
+            Err(cause) => return Err(DriveFault {
+                done: outcomes.len(),
+                cause,
+            }),
+        }
+    }
+    Ok(outcomes)
+}

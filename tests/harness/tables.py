@@ -1,0 +1,29 @@
+#!/usr/bin/env python3
+"""Prints the rows of all tables of a journal's file, as SQLite's own library reads them.
+
+    tables PATH
+
+A line for each row: the table's name and the values, in the order of the table's key; bytes as hexadecimal digits.
+"""
+
+import sqlite3
+import sys
+
+ORDER = {"meta": "k", "tx": "id", "member": "id, place", "shelf": "id", "advice": "id, place"}
+
+
+def shown(value):
+    return value.hex() if isinstance(value, bytes) else str(value)
+
+
+def main():
+    journal = sqlite3.connect(f"file:{sys.argv[1]}?mode=ro", uri=True)
+    for (fault,) in journal.execute("PRAGMA integrity_check"):
+        if fault != "ok":
+            print(f"integrity: {fault}")
+    for table, key in ORDER.items():
+        for row in journal.execute(f"SELECT * FROM {table} ORDER BY {key}"):
+            print(table, *map(shown, row))
+
+
+main()

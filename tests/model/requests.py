@@ -1,0 +1,152 @@
+"""Random streams of requests for `run`, each with the responses and the journal that the model answers."""
+
+from harness.case import Case, Exactly
+from model import messages
+from model.flows import Entry, Flow, Group, Kind
+from model.switch import Switch
+
+SELECTOR, ABORT_AWARE, PLAIN = Kind(selector=True), Kind(abort_aware=True), Kind()
+QUERIES = ("alpha", "beta")
+CARDS = [b"4000000000000002", b"5100000000000008", b"5500000000000004", b"6011000000000004", b"40000000000", b"4" * 19]
+LAST = [0, 0, 0, 0, 5, 51, 54, 61, 91, 91, 99]
+TERMINALS = [b"TERM0001", b"TERM0002", b"T2      "]
+
+
+def group(name, *entries):
+    return Group(name, [Entry(participant, kind) for participant, kind in entries])
+
+
+def whole_flow():
+    """The flow with stand-in, reversal and forwarding."""
+    made = [group("main", ("check", PLAIN), ("limits", PLAIN), ("route", SELECTOR), ("forward", PLAIN), ("respond", ABORT_AWARE))]
+    made += [group(name, ("reverse", PLAIN), (f"query_{name}", PLAIN), ("standin", PLAIN)) for name in QUERIES]
+    return Flow(0, made)
+
+
+def short_flow():
+    """The flow that knows authorizations alone."""
+    made = [group("main", ("check", PLAIN), ("limits", PLAIN), ("route", SELECTOR), ("respond", ABORT_AWARE))]
+    return Flow(0, made + [group(name, (f"query_{name}", PLAIN)) for name in QUERIES])
+
+
+def flow_file(flow):
+    """The flow file of a flow."""
+    lines = []
+    for it in flow.groups:
+        lines += ["[[group]]", f'name = "{it.name}"']
+        for entry in it.entries:
+            lines += ["[[group.entry]]", f'participant = "{entry.participant}"']
+            lines += ["selector = true"] * entry.kind.selector + ["abort_aware = true"] * entry.kind.abort_aware
+    return "".join(f"{line}\n" for line in lines).encode()
+
+
+def authorization(random):
+    amount = random.randrange(0, 100_000, 100) if random.random() < 0.3 else random.randrange(0, 1_200, 100)
+    fields = {
+        2: random.choice(CARDS),
+        3: b"000000",
+        4: b"%012d" % (amount + random.choice(LAST)),
+        7: b"%010d" % random.randrange(10**10),
+        11: b"%06d" % random.randrange(10**6),
+        41: random.choice(TERMINALS),
+        49: b"978",
+    }
+    for number, value in ((12, b"123456"), (13, b"1122"), (32, b"12345"), (33, b"678"), (37, b"REF000000001"), (42, b"MERCHANT 000001")):
+        if random.random() < 0.2:
+            fields[number] = value
+    return random.choice([b"0100", b"0100", b"0101"]), fields
+
+
+def reversal(random, original):
+    """A reversal of a request that came before."""
+    mti, was = original
+    fields = {number: was[number] for number in (2, 3, 4, 7, 41, 49) if number in was}
+    fields[11] = b"%06d" % random.randrange(10**6)
+    fields[90] = mti + was.get(11, b"000000") + was.get(7, b"0" * 10) + b"0" * 22
+    return random.choice([b"0400", b"0401", b"0420", b"0421"]), fields
+
+
+def request(random, before):
+    """A request: a new one, one that came before, a reversal, a network test, or another type."""
+    chance = random.random()
+    if before and chance < 0.1:
+        return random.choice(before)
+    if before and chance < 0.3:
+        return reversal(random, random.choice(before))
+    if chance < 0.36:
+        return random.choice([b"0800", b"0801"]), {11: b"%06d" % random.randrange(10**6), 70: b"301"}
+    made = authorization(random)
+    if chance < 0.4:
+        return random.choice([b"0110", b"0200", b"0120", b"0810"]), made[1]
+    return made
+
+
+def spoilt(random, fields):
+    """The fields without one of them, or as they are."""
+    if random.random() < 0.15:
+        fields = dict(fields)
+        del fields[random.choice(list(fields))]
+    return fields
+
+
+def stream(random):
+    """The messages of a run."""
+    before, made = [], []
+    for _ in range(random.choice([1, 2, 5, 10, 20])):
+        mti, fields = request(random, before)
+        fields = spoilt(random, fields)
+        before.append((mti, fields))
+        made.append(messages.encode(mti, fields))
+    if random.random() < 0.2:
+        made.insert(random.randrange(len(made) + 1), random.choice([b"", b"0100", b"x" * 30, made[0][:-1]]))
+    return made
+
+
+def run_case(random, name):
+    flow = whole_flow() if random.random() < 0.8 else short_flow()
+    limit = random.choice([10_000, 10_000, 0, 700, 999_999_999_999_999])
+    return served(name, flow, limit, stream(random), random.random() < 0.5)
+
+
+def served(name, flow, limit, made, is_file):
+    """The case of a run over a journal in memory, or on a file, whose tables are then shown."""
+    command = f"cardswitch run --flow flow.toml --limit {limit}"
+    switch = Switch(flow, limit)
+    frames = switch.run(made)
+    if is_file:
+        command += " --journal journal.db && tables journal.db"
+        frames += tables(switch)
+    case = Case(name, command, b"".join(b"%04d" % len(it) + it for it in made))
+    case.files = {"flow.toml": flow_file(flow)}
+    case.stdout = Exactly(frames)
+    case.stderr = Told(made)
+    return case
+
+
+def tables(switch):
+    """What the journal holds at the end: no transaction is unfinished."""
+    lines = [b"meta 1 1", b"meta 2 %d" % switch.next_id]
+    lines += [b"advice %d %d %s" % (*key, switch.advices[key].hex().encode()) for key in sorted(switch.advices)]
+    return b"".join(line + b"\n" for line in lines)
+
+
+class Told:
+    """On standard error: a line for each message that cannot be read, and no other."""
+
+    def __init__(self, made):
+        self.numbers = [number for number, it in enumerate(made, 1) if not is_message(it)]
+
+    def wrong(self, name, came):
+        wanted = [b"cardswitch: message %d is passed over: " % number for number in self.numbers]
+        lines = came.splitlines()
+        if len(lines) == len(wanted) and all(line.startswith(it) for line, it in zip(lines, wanted)):
+            return None
+        return f"{name}: wanted messages {self.numbers} to be told, came {came!r}"
+
+
+def is_message(text):
+    try:
+        messages.decode(text)
+    except messages.Refused:
+        return False
+    return True

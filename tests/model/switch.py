@@ -1,0 +1,239 @@
+"""The participants of the switch, and what `run` answers. docs/PARTICIPANTS.md and docs/OPERATING.md have them."""
+
+from dataclasses import dataclass, field
+
+from model import messages
+from model.table import Transaction
+
+# Where the issuers of cards are, by the first digits: the longest counts.
+ROUTES = {b"4": "alpha", b"5": "beta", b"55": "alpha"}
+NEEDED = {"authorization": (2, 3, 4, 7, 11, 41), "reversal": (2, 4, 11, 41, 90), "network": (11, 70)}
+CLASSES = {b"0100": "authorization", b"0101": "authorization", b"0800": "network", b"0801": "network"}
+CLASSES |= dict.fromkeys((b"0400", b"0401", b"0420", b"0421"), "reversal")
+ANSWERED = (2, 3, 4, 7, 11, 12, 13, 32, 37, 41, 42, 49, 70, 90)
+REVERSED = (2, 3, 4, 7, 11, 12, 13, 32, 37, 41, 42, 49)
+ISSUED = (2, 3, 4, 7, 11, 41, 49)
+
+
+def copied(numbers, fields):
+    return {number: fields[number] for number in numbers if number in fields}
+
+
+def route_of(card):
+    """The group that asks the issuer of a card, or None."""
+    prefixes = [prefix for prefix in ROUTES if card.startswith(prefix)]
+    return ROUTES[max(prefixes, key=len)] if prefixes else None
+
+
+def issued(mti, fields):
+    """What the simulated issuer answers, or None."""
+    if mti in (b"0100", b"0101"):
+        last = fields[4][-2:]
+        if last == b"91":
+            return None
+        if last in (b"05", b"51", b"54", b"61"):
+            return b"0110", copied(ISSUED, fields) | {39: last}
+        return b"0110", copied(ISSUED, fields) | {38: fields[11], 39: b"00"}
+    if mti in (b"0120", b"0121", b"0420", b"0421"):
+        return mti[:2] + b"30", copied(ISSUED, fields) | {39: b"00"}
+    return None
+
+
+class Book:
+    """What the cards have spent and hold, under one limit for each."""
+
+    def __init__(self, limit):
+        self.limit = limit
+        # By id: card, key, amount, and "open", "used" or "reversed".
+        self.items = {}
+
+    def reserve(self, number, card, key, amount):
+        if any(item[1] == key for item in self.items.values()):
+            return b"94"
+        held = sum(item[2] for item in self.items.values() if item[0] == card and item[3] != "reversed")
+        if held + amount > self.limit:
+            return b"61"
+        self.items[number] = [card, key, amount, "open"]
+        return None
+
+    def settle(self, number):
+        if number in self.items and self.items[number][3] == "open":
+            self.items[number][3] = "used"
+
+    def release(self, number):
+        if number in self.items and self.items[number][3] == "open":
+            del self.items[number]
+
+    def reverse(self, key):
+        for item in self.items.values():
+            if item[1] == key and item[3] == "used":
+                item[3] = "reversed"
+
+
+@dataclass
+class Request:
+    """A transaction's context."""
+
+    number: int
+    mti: bytes
+    fields: dict
+    kind: str
+    notes: dict = field(default_factory=dict)
+
+    def refuse(self, code):
+        self.notes["rc"] = code
+        return 0x40
+
+
+class Switch:
+    """The switch over its flow: answers one message after the other."""
+
+    def __init__(self, flow, limit, next_id=1):
+        self.flow, self.book, self.next_id = flow, Book(limit), next_id
+        self.first_id = next_id
+        self.advices = {}
+
+    def check(self, request):
+        fields, kind = request.fields, request.kind
+        if kind is None:
+            return request.refuse(b"12")
+        if any(number not in fields for number in NEEDED[kind]):
+            return request.refuse(b"30")
+        if kind == "authorization" and len(fields[2]) < 12:
+            return request.refuse(b"14")
+        if 4 in fields and int(fields[4]) == 0:
+            return request.refuse(b"13")
+        return 0xC1
+
+    def limits(self, request):
+        if request.kind == "reversal":
+            return 0x81
+        if request.kind != "authorization":
+            return 0xC1
+        fields = request.fields
+        key = (fields[2], fields[41], fields[11], fields[7])
+        code = self.book.reserve(request.number, fields[2], key, int(fields[4]))
+        return request.refuse(code) if code else 0x81
+
+    def route(self, request):
+        if request.kind == "authorization" and route_of(request.fields[2]) is None:
+            return request.refuse(b"91")
+        return 0xC1
+
+    def query(self, request):
+        if request.kind != "authorization":
+            return 0xC1
+        request.notes |= {"sent": b"1", "late": b"1"}
+        answer = issued(request.mti, request.fields)
+        if answer is None:
+            return 0x41
+        request.notes["rc"] = answer[1][39]
+        if 38 in answer[1]:
+            request.notes["auth"] = answer[1][38]
+        del request.notes["late"]
+        return 0x41 if answer[1][39] == b"00" else 0x40
+
+    def standin(self, request):
+        if "late" not in request.notes or "rc" in request.notes:
+            return 0xC1
+        if int(request.fields[4]) > 1000:
+            return request.refuse(b"91")
+        request.notes |= {"rc": b"00", "auth": b"SI" + request.fields[11][-4:], "standin": b"1"}
+        return 0x41
+
+    def reverse(self, request):
+        return 0x81 if request.kind == "authorization" else 0xC1
+
+    def forward(self, request):
+        return 0x81 if request.kind in ("authorization", "reversal") else 0xC1
+
+    def respond(self, request, default=b"00"):
+        if request.mti[2] % 2 == 0:
+            mti = request.mti[:2] + bytes([request.mti[2] + 1]) + b"0"
+            fields = copied(ANSWERED, request.fields) | {39: request.notes.get("rc", default)}
+            if "auth" in request.notes:
+                fields[38] = request.notes["auth"]
+            request.notes["response"] = messages.encode(mti, fields)
+        return 0x41 if default == b"00" else 0x40
+
+    def reversal(self, request):
+        fields = request.fields
+        padded = [fields.get(number, b"").rjust(11, b"0") for number in (32, 33)]
+        original = request.mti + fields[11] + fields[7] + b"".join(padded)
+        return messages.encode(b"0420", copied(REVERSED, fields) | {90: original})
+
+    def committed(self, name, request):
+        """What a member does on commit, and its advice."""
+        fields, notes = request.fields, request.notes
+        if name == "limits" and request.kind == "authorization":
+            self.book.settle(request.number)
+        if name == "limits" and request.kind == "reversal":
+            self.book.reverse((fields[2], fields[41], fields[90][4:10], fields[90][10:20]))
+        if name == "reverse" and "late" in notes:
+            return self.reversal(request)
+        if name == "forward" and "standin" in notes:
+            return messages.encode(b"0120", fields | {38: notes["auth"], 39: notes["rc"]})
+        if name == "forward" and request.kind == "reversal":
+            return messages.encode(b"0420", fields)
+        return None
+
+    def aborted(self, name, request):
+        notes = request.notes
+        if name == "limits":
+            self.book.release(request.number)
+        if name == "reverse" and "sent" in notes and ("late" in notes or notes.get("rc") == b"00"):
+            return self.reversal(request)
+        return None
+
+    def prepared(self, name, request):
+        return getattr(self, "query" if name.startswith("query_") else name)(request)
+
+    def selected(self, request):
+        if request.kind != "authorization" or "rc" in request.notes:
+            return ""
+        return route_of(request.fields[2]) or ""
+
+    def step(self, transaction, request):
+        """Makes the due call; whether there was one."""
+        call, entry = transaction.due()
+        if call == "prepare":
+            transaction.answered(self.prepared(entry.name, request))
+        elif call == "prepare_for_abort":
+            transaction.answered(self.respond(request, b"96"))
+        elif call == "select":
+            transaction.chose(self.selected(request))
+        elif call in ("commit", "abort"):
+            made = self.committed if call == "commit" else self.aborted
+            advice = made(entry.name, request)
+            if advice is not None:
+                self.advices[request.number, transaction.told] = advice
+            transaction.was_told()
+        else:
+            return False
+        return True
+
+    def answer(self, message):
+        """The response to a message, or None; None for one that cannot be read."""
+        try:
+            mti, fields = messages.decode(message)
+        except messages.Refused:
+            return None
+        request = Request(self.next_id, mti, fields, CLASSES.get(mti))
+        self.next_id += 1
+        transaction = Transaction(self.flow, self.flow.retries)
+        while self.step(transaction, request):
+            pass
+        return request.notes.get("response")
+
+    def send_advices(self):
+        """Sends the stored advices; those that an issuer accepts are dropped."""
+        for place in sorted(self.advices):
+            _, fields = messages.decode(self.advices[place])
+            if 2 in fields and route_of(fields[2]) and 11 in fields and 41 in fields:
+                del self.advices[place]
+
+    def run(self, requests):
+        """The frames of the responses to these messages."""
+        responses = [self.answer(message) for message in requests]
+        self.send_advices()
+        return b"".join(b"%04d" % len(response) + response for response in responses if response is not None)
