@@ -453,7 +453,36 @@ def event(random, names, sessions):
 
 
 def whole_case(random, name):
-    return stepped(name, whole_script(random), None)
+    case = stepped(name, whole_script(random), None)
+    case.stdout = Lawful(case.stdout.text)
+    return case
+
+
+class Lawful(Exactly):
+    """A trace whose calls keep the outcome law too, as far as its lines show it."""
+
+    def wrong(self, name, came):
+        return super().wrong(name, came) or unlawful(came.decode().splitlines())
+
+
+def unlawful(lines):
+    """What calls of a trace break the outcome law, or None: by id, which outcome was told, and at how many stops."""
+    outcomes, prepared, stops = {}, {}, 0
+    for line in lines:
+        words = line.split(" ")
+        stops += words[0] == "restart"
+        if len(words) < 4 or words[1] not in ("P", "A", "C", "U"):
+            continue
+        number, call = words[0], words[2]
+        if call in ("commit", "abort"):
+            if outcomes.setdefault(number, call) != call:
+                return f"transaction {number} is told to commit and to abort"
+        elif call != "recover":
+            if number in outcomes:
+                return f"transaction {number} is prepared after its outcome"
+            if prepared.setdefault(number, stops) != stops:
+                return f"transaction {number} is prepared on behind a stop"
+    return None
 
 
 def whole_script(random):
