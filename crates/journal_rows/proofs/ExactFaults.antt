@@ -8,13 +8,14 @@ use Rattle.sqlite_value.specs.Order.{Row, column, bytes}
 use Rattle.sqlite_keyed.specs.Lists.{sort_by}
 use Rattle.sqlite_keyed.proofs.KeyedLemmas.{same_int}
 use Rattle.sqlite_keyed.proofs.ListLemmas.{all_both, all_weaker}
-use Rattle.sw_base.specs.Refusals.{first_of, or_else, refused_if}
+use Rattle.sw_base.specs.Refusals.{or_else, refused_if}
 use Rattle.tx_machine.specs.declared.values.Phase.{Phase}
 use Rattle.tx_machine.specs.declared.values.Phase.TheVariants.{Preparing, Aborting, Committing, Undoing}
 use Rattle.journal_rows.specs.Tables.{Tables, code}
 use Rattle.journal_rows.specs.Reads.{nat_of, int_in, int_at, value_of, members_of, members_in, place_cmp, shown_meta, shown_tx, shown_member, shown_shelf}
 use Rattle.journal_rows.specs.Faults.{IsFaultIn, IsTx, TxFits, ShelfFits, are_placed, bad_meta, bad_member, bad_advice, first_bad, has_id, high_key, is_given, is_placed, is_within, least_of, low_key, orphan, suits, unplaced}
-use Rattle.journal_rows.proofs.ExactTables.{ArePlaced, HasPlaces, HasTxCells, IsExact, IsNatural, IsOwned, has_tx, is_meta_key}
+use Rattle.journal_rows.proofs.ExactTables.{HasPlaces, HasTxCells, IsExact, IsNatural, IsOwned, has_tx, is_meta_key}
+use Rattle.journal_rows.proofs.PlacedLemmas.{ArePlaced}
 use Rattle.journal_rows.proofs.PlacedLemmas.{place_total}
 use Rattle.journal_rows.proofs.SortedLemmas.{sorted-all}
 use Rattle.journal_rows.proofs.Views.{all_from_map, all_passed, next_of, none_bad, none_first}

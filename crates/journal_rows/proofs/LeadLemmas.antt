@@ -20,11 +20,12 @@ use Rattle.tx_history.specs.declared.event.Change.{Change}
 use Rattle.tx_history.specs.declared.journal.JournalView.{JournalView}
 use Rattle.tx_history.specs.Keys.{put_by, put_some, put_new, put_place, place_lt}
 use Rattle.tx_history.specs.Journal.{applied}
-use Rattle.journal_rows.specs.Tables.{Tables, made, with_members, with_member, row_put, row_made, next_made, shelf_made, advice_put, advice_made, no_shelf, code, text_of, meta_row, advice_row, is_of, is_at}
+use Rattle.journal_rows.specs.Tables.{Tables, made, with_last, row_put, row_made, next_made, shelf_made, advice_put, advice_made, no_shelf, code, text_of, meta_row, advice_row, is_of, is_at}
 use Rattle.journal_rows.specs.Reads.{IsOrdered, Stands, HaveNats, IsNat, IsInt, int_in, nat_of, nat_at, int_at, phase_of, name_in, value_of, row_of, waiting_of, members_in, read, shown_meta, shown_tx, shown_shelf}
-use Rattle.journal_rows.specs.Law.{IsNamed, IsRowNamed, HasName, RowsLeadOn, AllRowsLeadOn}
-use Rattle.journal_rows.proofs.KeyedLemmas.{low, high, put_parts, keyed_put, keyed_drop, all_pass}
-use Rattle.journal_rows.proofs.PlacedLemmas.{add_members, members_shaped, members_ints, joined_new, joined_same, joined_left, names_in, advice_new, advice_drop}
+use Rattle.journal_rows.specs.Law.{Follows, IsNamed, RowFollows, joined_in}
+use Rattle.journal_rows.proofs.KeyedLemmas.{low, high, put_over, put_parts, keyed_put, keyed_drop, all_pass}
+use Rattle.journal_rows.proofs.PlacedLemmas.{Numbered, names_in, shown_left, advice_new, advice_drop}
+use Rattle.journal_rows.proofs.MemberLemmas.{HasMembers, last_put, members_put}
 
 -- the next id
 
@@ -154,9 +155,10 @@ advice_leads (Some change) t v s = go change.1
 
 -- the rows
 
-pub members_only : (id place : ℕ) (names : List (List ℕ)) (t : Tables) → with_members id place names t ≡ record t { member = add_members id place names t.member }
-members_only id place [] t = refl
-members_only id place (name ∷ names) t = members_only id (place + 1) names (with_member (pos id) (pos place) name t)
+pub last_only : (id place : ℕ) (names : List (List ℕ)) (t : Tables) → with_last id place names t ≡ record t { member = last_put id place names t.member }
+last_only id place [] t = refl
+last_only id place (name ∷ []) t = refl
+last_only id place (name ∷ next ∷ names) t = last_only id (place + 1) (next ∷ names) t
 
 pub phase_back : (p : Phase) → phase_of (code p) ≡ p
 phase_back Preparing = refl
@@ -187,11 +189,17 @@ same_row members more r e i = record {
   context = bytes (column (shown_tx r) 5);
 }
 
-pub row_leads : (change : Option (ℕ × Option own.Row)) (t : Tables) (v : JournalView) → HasName change → Stands t v → Stands (row_made change t) (record v { rows = put_some change v.rows })
-row_leads None t v named s = s
-row_leads (Some change) t v named s = go change.1 named
+-- the members that the journal has of the transaction of a change stand at their places
+abbrev pub HasOwn : Option (ℕ × Option own.Row) → JournalView → List Row → Type 0
+HasOwn None v members = Unit {0}
+HasOwn (Some change) v members = HasMembers change.0 (joined_in v change.0) members
+
+pub row_leads : (change : Option (ℕ × Option own.Row)) (t : Tables) (v : JournalView) → RowFollows v change → HasOwn change v t.member → Stands t v
+    → Stands (row_made change t) (record v { rows = put_some change v.rows })
+row_leads None t v follows has s = s
+row_leads (Some change) t v follows has s = go change.1 follows
   where
-    go : (x : Option own.Row) → IsRowNamed x → Stands (row_put change.0 x t) (record v { rows = put_by nat_lt change.0 x v.rows })
+    go : (x : Option own.Row) → Follows v change.0 x → Stands (row_put change.0 x t) (record v { rows = put_by nat_lt change.0 x v.rows })
     go None h =
         let o = s.ordered in
         let id = change.0 in
@@ -200,7 +208,7 @@ row_leads (Some change) t v named s = go change.1 named
         let after = members_in (row_put id None t) in
         let f = λ (r : Row). row_of (members_in t) (shown_tx r) in
         let g = λ (r : Row). row_of after (shown_tx r) in
-        let drop = keyed_drop id f g t.tx o.tx.0 o.tx_ids (λ r nat apart. same_row left t.member r (joined_left id t.member o.member o.member_ids (int_in (column r 0)) (apart_ids id r nat apart))) in
+        let drop = keyed_drop id f g t.tx o.tx.0 o.tx_ids (λ r nat apart. same_row left t.member r (ap (map (λ m. bytes (column m 2))) (shown_left id t.member o.member o.member_ids (int_in (column r 0)) (apart_ids id r nat apart)))) in
         let all = map-map (λ r. (nat_at r 0, row_of after r)) shown_tx (without_rowid (pos id) t.tx) ∙ drop
         ∙ ap (put_by nat_lt id None) (sym (map-map (λ r. (nat_at r 0, row_of (members_in t) r)) shown_tx t.tx)) ∙ ap (λ (w : JournalView). put_by nat_lt id None w.rows) s.reads in record {
           ordered = record {
@@ -211,7 +219,7 @@ row_leads (Some change) t v named s = go change.1 named
             advice = o.advice;
             tx_ids = all-filter (λ r. IsNat (column r 0)) (λ r. not (has_rowid (pos id) r)) t.tx o.tx_ids;
             shelf_ids = o.shelf_ids;
-            member_ids = all-filter (λ r. IsInt (column r 1)) p t.member o.member_ids;
+            member_ids = all-filter Numbered p t.member o.member_ids;
             advice_ids = o.advice_ids;
           };
           reads = λ i. record { next_id = (s.reads i).next_id; rows = all i; shelf = (s.reads i).shelf; advices = (s.reads i).advices };
@@ -219,46 +227,55 @@ row_leads (Some change) t v named s = go change.1 named
     go (Some x) h =
         let o = s.ordered in
         let id = change.0 in
-        let p = λ (r : Row). not (is_of (pos id) r) in
         let cells = Null ∷ Int (pos (code x.phase)) ∷ Int (pos x.told) ∷ Text (text_of x.doing) ∷ Int (pos x.tries) ∷ Blob x.context ∷ [] in
         let new = Int (pos id) ∷ cells in
-        let left = filter p t.member in
-        let members = add_members id 0 x.joined left in
+        let members = last_put id 0 x.joined t.member in
         let next : Tables = record t { tx = put_row new (without_rowid (pos id) t.tx); member = members } in
         let f = λ (r : Row). row_of (members_in t) (shown_tx r) in
         let g = λ (r : Row). row_of (members_in next) (shown_tx r) in
+        let done = members_put id x.joined (joined_in v id) t.member o.member o.member_ids has h.members in
         let put = keyed_put id f g t.tx o.tx.0 o.tx_ids
-        (λ r nat apart. same_row members t.member r (joined_same id x.joined t.member o.member o.member_ids (int_in (column r 0)) (apart_ids id r nat apart))) cells in
-        let names = joined_new id x.joined t.member o.member o.member_ids in
-        let row : g new ≡ x = λ i. record { phase = phase_back x.phase i; joined = names i; told = x.told; doing = name_back x.doing h i; tries = x.tries; context = x.context } in
+        (λ r nat apart. same_row members t.member r (ap (map (λ m. bytes (column m 2))) (done.others (int_in (column r 0)) (apart_ids id r nat apart)))) cells in
+        let row : g new ≡ x = λ i. record { phase = phase_back x.phase i; joined = done.members.are i; told = x.told; doing = name_back x.doing h.named i; tries = x.tries; context = x.context } in
         let all = map-map (λ r. (nat_at r 0, row_of (members_in next) r)) shown_tx next.tx ∙ put ∙ ap (λ y. put_by nat_lt id (Some y) (map (λ r. (nat_at r 0, f r)) t.tx)) row
         ∙ ap (put_by nat_lt id (Some x)) (sym (map-map (λ r. (nat_at r 0, row_of (members_in t) r)) shown_tx t.tx)) ∙ ap (λ (w : JournalView). put_by nat_lt id (Some x) w.rows) s.reads in
         let stands : Stands next (record v { rows = put_by nat_lt id (Some x) v.rows }) = record {
           ordered = record {
             meta = o.meta;
             tx = shaped_put new (pos id) t.tx refl o.tx;
-            member = members_shaped id 0 x.joined left (IsShaped-filter Table p t.member o.member);
+            member = done.shaped;
             shelf = o.shelf;
             advice = o.advice;
             tx_ids = nats_put new (pos id) t.tx refl o.tx_ids;
             shelf_ids = o.shelf_ids;
-            member_ids = members_ints id 0 x.joined left (all-filter (λ r. IsInt (column r 1)) p t.member o.member_ids);
+            member_ids = done.ints;
             advice_ids = o.advice_ids;
           };
           reads = λ i. record { next_id = (s.reads i).next_id; rows = all i; shelf = (s.reads i).shelf; advices = (s.reads i).advices };
         } in
-        subst (λ u. Stands u (record v { rows = put_by nat_lt id (Some x) v.rows })) (sym (members_only id 0 x.joined _)) stands
+        let over : next ≡ record t { tx = put_row new t.tx; member = members } = λ i. record t { tx = put_over new t.tx o.tx.0 i; member = members } in
+        subst (λ u. Stands u (record v { rows = put_by nat_lt id (Some x) v.rows })) (over ∙ sym (last_only id 0 x.joined (record t { tx = put_row new t.tx }))) stands
 
--- a change, and a list of them
+-- a change
 
-pub leads_on : (c : Change) → RowsLeadOn c
-leads_on c t v named s =
+pub next_follows : (n : Option ℕ) (v : JournalView) (row : Option (ℕ × Option own.Row)) → RowFollows v row → RowFollows (record v { next_id = unwrap_or n v.next_id }) row
+next_follows n v None h = h
+next_follows n v (Some change) h = go change.1 h
+  where
+    go : (x : Option own.Row) → Follows v change.0 x → Follows (record v { next_id = unwrap_or n v.next_id }) change.0 x
+    go None h = record { named = h.named; members = h.members }
+    go (Some r) h = record { named = h.named; members = h.members }
+
+next_own : (n : Option ℕ) (t : Tables) (v : JournalView) (row : Option (ℕ × Option own.Row)) → HasOwn row v t.member → HasOwn row (record v { next_id = unwrap_or n v.next_id }) (next_made n t).member
+next_own None t v None h = h
+next_own None t v (Some change) h = h
+next_own (Some n) t v None h = h
+next_own (Some n) t v (Some change) h = h
+
+pub leads_on : (c : Change) (t : Tables) (v : JournalView) → RowFollows v c.row → HasOwn c.row v t.member → Stands t v → Stands (made c t) (applied c v)
+leads_on c t v follows has s =
     let one = next_leads c.next_id t v s in
-    let two = row_leads c.row (next_made c.next_id t) _ named one in
+    let two = row_leads c.row (next_made c.next_id t) _ (next_follows c.next_id v c.row follows) (next_own c.next_id t v c.row has) one in
     let three = emptied_leads c.emptied _ _ two in
     let four = shelf_leads c.shelved _ _ three in
     advice_leads c.advice _ _ four
-
-pub all_lead_on : (cs : List Change) → AllRowsLeadOn cs
-all_lead_on [] t v named s = s
-all_lead_on (c ∷ cs) t v named s = all_lead_on cs (made c t) (applied c v) named.1 (leads_on c t v named.0 s)

@@ -1,6 +1,7 @@
 pub mod KeyedLemmas
 pub mod SortedLemmas
 pub mod PlacedLemmas
+pub mod MemberLemmas
 pub mod LeadLemmas
 pub mod Views
 mod ExactTables

@@ -1,31 +1,30 @@
 -- Tables whose rows are numbered as they come, and read by id and place.
 -- for: laws::rows_lead_on
-use Rattle.std.proofs.Common.{◌≡◌, ℕ, ◌+◌, ℤ, pos, ◌+ℤ◌, ◌<ℤ◌, Bool, true, false, not, ◌&&◌, ◌||◌, cond, List, [], ◌∷◌, ◌++◌, map, filter, fold, Some, None, nat_lt, nat_eq, Less, Equal, Greater, Ordering, is_lt, is_gt, is_eq, int_cmp, int_eq, refl, sym, ap, ap₂, subst, ◌∙◌, true≢false, IsTrue, arith, append_assoc}
+use Rattle.std.proofs.Common.{◌≡◌, ℕ, ◌+◌, ℤ, pos, ◌<ℤ◌, Bool, true, false, not, ◌&&◌, ◌||◌, cond, List, [], ◌∷◌, ◌++◌, map, filter, Some, None, nat_lt, nat_eq, Less, Equal, Greater, Ordering, is_lt, is_gt, is_eq, int_cmp, int_eq, refl, sym, ap, ap₂, subst, ◌∙◌, true≢false, IsTrue, arith, append_assoc}
 use Rattle.std.specs.List.{AllByRecursion}
 use Rattle.std.specs.Cmp.{IsTotalOrder}
 use Rattle.std.specs.Ordering.{ordering_then}
 use Rattle.std.proofs.lemmas.Cmp.{then_total, on_total}
 use Rattle.std.proofs.lemmas.List.{map-append}
-use Rattle.std.proofs.lemmas.List.Elements.{filter-append}
-use Rattle.sqlite.specs.declared.types.Value.TheVariants.{Int, Text, Blob}
+use Rattle.sqlite.specs.declared.types.Value.TheVariants.{Int, Blob}
 use Rattle.sqlite_value.specs.Order.{Row, column, value_cmp, bytes}
 use Rattle.sqlite_value.proofs.OrderLemmas.{value_cmp_total, value_cmp-Int}
 use Rattle.sqlite_trees.specs.Tree.{put_row, rowid, IsTable}
 use Rattle.sqlite_trees.specs.View.{IsShaped, is_int}
 use Rattle.sqlite_trees.specs.declared.store.Shape.TheVariants.{Table}
-use Rattle.sqlite_trees.proofs.TreeLemmas.{IsShaped-put_row, IsShaped-filter, all-put_row}
+use Rattle.sqlite_trees.proofs.TreeLemmas.{IsShaped-filter}
 use Rattle.sqlite_rules.specs.Edit.{next_rowid, id_in}
-use Rattle.sqlite_rules.proofs.TableLemmas.{int_is, next_after}
+use Rattle.sqlite_rules.proofs.TableLemmas.{int_is}
 use Rattle.sqlite_keyed.specs.Keyed.{IsKeyedBy}
 use Rattle.sqlite_keyed.specs.Lists.{sort_by}
 use Rattle.sqlite_keyed.proofs.KeyedLemmas.{above_all, Less-from_lt, lt_from_Less, same_int, int_eq_apart}
-use Rattle.sqlite_keyed.proofs.ListLemmas.{all_weaker, all_both, ascending_weaker, filter-map, filter-filter, map-map, filter_none}
-use Rattle.journal_rows.specs.Tables.{member_row, advice_row, is_of, is_at}
+use Rattle.sqlite_keyed.proofs.ListLemmas.{all_weaker, all_both, ascending_weaker, filter-map, map-map}
+use Rattle.journal_rows.specs.Tables.{advice_row, is_of, is_at}
 use Rattle.journal_rows.specs.Reads.{int_in, nat_at, int_at, IsInt, IsNat, place_cmp, shown_member, shown_advice, members_of}
 use Rattle.tx_history.specs.Keys.{put_by, place_lt}
 use Rattle.journal_rows.proofs.KeyedLemmas.{filter_map_on, cmp_nats, all_pass, gt_back, lt_nat}
 use Rattle.std.proofs.lemmas.Int.{ints}
-use Rattle.journal_rows.proofs.SortedLemmas.{HasNoTies, Rises, sorted_itself, filter_sorted, sorted_more, rises-sorted, all-sorted, parted}
+use Rattle.journal_rows.proofs.SortedLemmas.{HasNoTies, Rises, filter_sorted, sorted_more, rises-sorted, all-sorted, parted}
 
 pub place_total : IsTotalOrder place_cmp
 place_total = then_total (on_total (λ (r : Row). column r 1) value_cmp_total) (then_total (on_total (λ (r : Row). column r 2) value_cmp_total) (on_total (λ (r : Row). column r 0) value_cmp_total))
@@ -44,7 +43,7 @@ no_ties rows up =
 
 -- a row more, numbered by the table
 
-put_end : (new : Row) (rows : List Row) → AllByRecursion (λ r. value_cmp (rowid r) (rowid new) ≡ Less) rows → put_row new rows ≡ rows ++ new ∷ []
+pub put_end : (new : Row) (rows : List Row) → AllByRecursion (λ r. value_cmp (rowid r) (rowid new) ≡ Less) rows → put_row new rows ≡ rows ++ new ∷ []
 put_end new [] h = refl
 put_end new (r ∷ rows) h = rw (h.0) (ap (λ l. r ∷ l) (put_end new rows h.1))
 
@@ -73,170 +72,81 @@ put_more cells rows h = put_end (Int (next_rowid rows) ∷ cells) rows (below_ne
 
 -- members
 
-abbrev pub add_members : ℕ → ℕ → List (List ℕ) → List Row → List Row
-add_members id place [] rows = rows
-add_members id place (name ∷ names) rows = add_members id (place + 1) names (put_row (member_row (next_rowid rows) (pos id) (pos place) name) rows)
-
-abbrev pub news : ℤ → ℕ → ℕ → List (List ℕ) → List Row
-news k id place [] = []
-news k id place (name ∷ names) = member_row k (pos id) (pos place) name ∷ news (k +ℤ pos 1) id (place + 1) names
-
-pub added : (id place : ℕ) (names : List (List ℕ)) (rows : List Row) → IsShaped Table rows → add_members id place names rows ≡ rows ++ news (next_rowid rows) id place names
-added id place [] rows h = sym (Rattle.std.proofs.Common.append-nil rows)
-added id place (name ∷ names) rows h =
-    let new = member_row (next_rowid rows) (pos id) (pos place) name in
-    let more = put_more (Int (pos id) ∷ Int (pos place) ∷ Text name ∷ []) rows h in
-    let rest = added id (place + 1) names (put_row new rows) (IsShaped-put_row new rows refl h) in
-    rest ∙ ap (λ l. l ++ news (next_rowid l) id (place + 1) names) more ∙ ap (λ k. (rows ++ new ∷ []) ++ news k id (place + 1) names) (next_after rows new) ∙ append_assoc rows (new ∷ []) (news (next_rowid rows +ℤ pos 1) id (place + 1) names)
-
 abbrev pub of_id : ℤ → Row → Bool
 of_id i r = int_eq (int_in (column r 1)) i
 
+abbrev pub Numbered : Row → Type 0
+Numbered r = IsInt (column r 1) × IsInt (column r 2)
+
+-- shown members at the places from `at` on, without gap
+abbrev pub ArePlaced : ℕ → List Row → Type 0
+ArePlaced at [] = Unit {0}
+ArePlaced at (r ∷ rows) = (int_at r 1 ≡ pos at) × ArePlaced (at + 1) rows
+
+abbrev pub shown_of : ℤ → List Row → List Row
+shown_of i rows = members_of i (map shown_member (sort_by place_cmp rows))
+
 abbrev pub names_in : ℤ → List Row → List (List ℕ)
-names_in i rows = map (λ m. bytes (column m 2)) (members_of i (map shown_member (sort_by place_cmp rows)))
+names_in i rows = map (λ m. bytes (column m 2)) (shown_of i rows)
 
-names_are : (i : ℤ) (rows : List Row) → IsTable rows → names_in i rows ≡ map (λ r. bytes (column r 3)) (sort_by place_cmp (filter (of_id i) rows))
-names_are i rows up =
-    ap (map (λ m. bytes (column m 2))) (filter-map (λ r. int_eq (int_at r 0) i) shown_member (sort_by place_cmp rows) ∙ ap (map shown_member) (filter_sorted place_cmp place_total (of_id i) rows (no_ties rows up)))
-    ∙ map-map (λ m. bytes (column m 2)) shown_member (sort_by place_cmp (filter (of_id i) rows))
-
-filter_same_on : {A : Type 0} (p q : A → Bool) (xs : List A) → AllByRecursion (λ x. p x ≡ q x) xs → filter p xs ≡ filter q xs
-filter_same_on p q [] h = refl
-filter_same_on p q (x ∷ xs) h = λ i. cond (h.0 i) (x ∷ filter_same_on p q xs h.1 i) (filter_same_on p q xs h.1 i)
-
-filter_twice : {A : Type 0} (p q : A → Bool) (xs : List A) → filter p (filter q xs) ≡ filter (λ x. q x && p x) xs
+pub filter_twice : {A : Type 0} (p q : A → Bool) (xs : List A) → filter p (filter q xs) ≡ filter (λ x. q x && p x) xs
 filter_twice p q [] = refl
 filter_twice p q (x ∷ xs) =
     elim (q x) as (λ b. filter p (cond b (x ∷ filter q xs) (filter q xs)) ≡ cond (b && p x) (x ∷ filter (λ x. q x && p x) xs) (filter (λ x. q x && p x) xs))
     [ true ↦ ap (λ l. cond (p x) (x ∷ l) l) (filter_twice p q xs) | false ↦ filter_twice p q xs ]
 
+and_swap : (a b : Bool) → (a && b) ≡ (b && a)
+and_swap true true = refl
+and_swap true false = refl
+and_swap false true = refl
+and_swap false false = refl
+
+pub filter_swap : {A : Type 0} (p q : A → Bool) (xs : List A) → filter p (filter q xs) ≡ filter q (filter p xs)
+filter_swap p q xs = filter_twice p q xs ∙ ap (λ f. filter f xs) (λ i x. and_swap (q x) (p x) i) ∙ sym (filter_twice q p xs)
+
+-- a filter that keeps all that another one asks for
+pub filter_kept : {A : Type 0} (p q : A → Bool) (xs : List A) → AllByRecursion (λ x. p x ≡ true → q x ≡ true) xs → filter p (filter q xs) ≡ filter p xs
+filter_kept p q [] h = refl
+filter_kept p q (x ∷ xs) h = go (p x) (q x) refl refl (filter_kept p q xs h.1)
+  where
+    go : (a b : Bool) → p x ≡ a → q x ≡ b → filter p (filter q xs) ≡ filter p xs → filter p (cond (q x) (x ∷ filter q xs) (filter q xs)) ≡ cond (p x) (x ∷ filter p xs) (filter p xs)
+    go true true e f more = rw (f, e) (ap (λ l. x ∷ l) more)
+    go true false e f more = absurd (true≢false (sym (h.0 e) ∙ f))
+    go false true e f more = rw (f, e) more
+    go false false e f more = rw (f, e) more
+
 pub of_is : (id : ℕ) (r : Row) → IsInt (column r 1) → is_of (pos id) r ≡ of_id (pos id) r
 of_is id r int = ap (λ v. is_eq (value_cmp v (Int (pos id)))) int ∙ ap is_eq (value_cmp-Int (int_in (column r 1)) (pos id))
 
-equal_itself : (i : ℤ) → int_eq i i ≡ true
+pub equal_itself : (i : ℤ) → int_eq i i ≡ true
 equal_itself i = Rattle.std.proofs.lemmas.Cmp.int_eq_equiv.refl i
 
-news_all : (k : ℤ) (id place : ℕ) (names : List (List ℕ)) → filter (of_id (pos id)) (news k id place names) ≡ news k id place names
-news_all k id place [] = refl
-news_all k id place (name ∷ names) = rw (equal_itself (pos id)) (ap (λ l. member_row k (pos id) (pos place) name ∷ l) (news_all (k +ℤ pos 1) id (place + 1) names))
-
-news_none : (i k : ℤ) (id place : ℕ) (names : List (List ℕ)) → int_eq (pos id) i ≡ false → filter (of_id i) (news k id place names) ≡ []
-news_none i k id place [] h = refl
-news_none i k id place (name ∷ names) h = rw h (news_none i (k +ℤ pos 1) id (place + 1) names h)
-
-news_names : (k : ℤ) (id place : ℕ) (names : List (List ℕ)) → map (λ r. bytes (column r 3)) (news k id place names) ≡ names
-news_names k id place [] = refl
-news_names k id place (name ∷ names) = ap (λ l. name ∷ l) (news_names (k +ℤ pos 1) id (place + 1) names)
-
-tied_int : (i : ℤ) → value_cmp (Int i) (Int i) ≡ Equal
+pub tied_int : (i : ℤ) → value_cmp (Int i) (Int i) ≡ Equal
 tied_int i = Rattle.std.proofs.lemmas.Cmp.tied_itself value_cmp_total (Int i)
-
-place_less : (k l : ℤ) (id p q : ℕ) (a b : List ℕ) → pos p <ℤ pos q → place_cmp (member_row k (pos id) (pos p) a) (member_row l (pos id) (pos q) b) ≡ Less
-place_less k l id p q a b less = rw (tied_int (pos id), value_cmp-Int (pos p) (pos q), Less-from_lt (pos p) (pos q) less) refl
-
-news_above : (k l : ℤ) (id p q : ℕ) (name : List ℕ) (names : List (List ℕ)) → pos p <ℤ pos q → AllByRecursion (λ r. place_cmp (member_row k (pos id) (pos p) name) r ≡ Less) (news l id q names)
-news_above k l id p q name [] less = tt
-news_above k l id p q name (n ∷ names) less = (place_less k l id p q name n less, news_above k (l +ℤ pos 1) id p (q + 1) name names (omega (arith, ints)))
-
-pub news_rise : (k : ℤ) (id place : ℕ) (names : List (List ℕ)) → Rises place_cmp place_total (news k id place names)
-news_rise k id place [] = tt
-news_rise k id place (name ∷ names) = (news_above k (k +ℤ pos 1) id place (place + 1) name names (omega (arith, ints)), news_rise (k +ℤ pos 1) id (place + 1) names)
-
-abbrev pub replaced : ℕ → List (List ℕ) → List Row → List Row
-replaced id names rows = add_members id 0 names (filter (λ r. not (is_of (pos id) r)) rows)
-
-pub members_shaped : (id place : ℕ) (names : List (List ℕ)) (rows : List Row) → IsShaped Table rows → IsShaped Table (add_members id place names rows)
-members_shaped id place [] rows h = h
-members_shaped id place (name ∷ names) rows h =
-    let new = member_row (next_rowid rows) (pos id) (pos place) name in
-    members_shaped id (place + 1) names (put_row new rows) (IsShaped-put_row new rows refl h)
-
-pub members_ints : (id place : ℕ) (names : List (List ℕ)) (rows : List Row) → AllByRecursion (λ r. IsInt (column r 1)) rows → AllByRecursion (λ r. IsInt (column r 1)) (add_members id place names rows)
-members_ints id place [] rows h = h
-members_ints id place (name ∷ names) rows h =
-    let new = member_row (next_rowid rows) (pos id) (pos place) name in
-    members_ints id (place + 1) names (put_row new rows) (all-put_row (λ r. IsInt (column r 1)) new rows refl h)
 
 unset : (b : Bool) → not b ≡ true → b ≡ false
 unset true e = absurd (true≢false (sym e))
 unset false e = refl
 
 -- the members of one id as they are read
-pub members_are : (i : ℤ) (rows : List Row) → IsTable rows → members_of i (map shown_member (sort_by place_cmp rows)) ≡ map shown_member (sort_by place_cmp (filter (of_id i) rows))
+pub members_are : (i : ℤ) (rows : List Row) → IsTable rows → shown_of i rows ≡ map shown_member (sort_by place_cmp (filter (of_id i) rows))
 members_are i rows up = filter-map (λ r. int_eq (int_at r 0) i) shown_member (sort_by place_cmp rows) ∙ ap (map shown_member) (filter_sorted place_cmp place_total (of_id i) rows (no_ties rows up))
 
-module _ (id : ℕ) (names : List (List ℕ)) (rows : List Row) (h : IsShaped Table rows) (ints : AllByRecursion (λ r. IsInt (column r 1)) rows) where
-  others : List Row
-  others = filter (λ r. not (is_of (pos id) r)) rows
+pub names_are : (i : ℤ) (rows : List Row) → IsTable rows → names_in i rows ≡ map (λ r. bytes (column r 3)) (sort_by place_cmp (filter (of_id i) rows))
+names_are i rows up = ap (map (λ m. bytes (column m 2))) (members_are i rows up) ∙ map-map (λ m. bytes (column m 2)) shown_member (sort_by place_cmp (filter (of_id i) rows))
 
-  others_are : others ≡ filter (λ r. not (of_id (pos id) r)) rows
-  unfolding others
-  others_are = filter_same_on (λ r. not (is_of (pos id) r)) (λ r. not (of_id (pos id) r)) rows (all_weaker _ (λ r. not (is_of (pos id) r) ≡ not (of_id (pos id) r)) (λ r int. ap not (of_is id r int)) rows ints)
+-- what the members of another id are when those of this one are gone
+pub others_left : (id : ℕ) (rows : List Row) → AllByRecursion Numbered rows → (i : ℤ) → (i ≡ pos id → ⊥) → filter (of_id i) (filter (λ r. not (is_of (pos id) r)) rows) ≡ filter (of_id i) rows
+others_left id rows ints i apart =
+    filter_kept (of_id i) (λ r. not (is_of (pos id) r)) rows
+    (all_weaker Numbered (λ r. of_id i r ≡ true → not (is_of (pos id) r) ≡ true)
+    (λ r int e. let same = same_int (int_in (column r 1)) i e in ap not (of_is id r int.0 ∙ int_eq_apart (int_in (column r 1)) (pos id) (λ k. apart (sym same ∙ k)))) rows ints)
 
-  shaped : IsShaped Table others
-  unfolding others
-  shaped = IsShaped-filter Table (λ r. not (is_of (pos id) r)) rows h
-
-  all : List Row
-  all = others ++ news (next_rowid others) id 0 names
-
-  all_is : add_members id 0 names others ≡ all
-  unfolding all
-  all_is = added id 0 names others shaped
-
-  all_rise : IsTable (add_members id 0 names others)
-  all_rise = (members_shaped id 0 names others shaped).0
-
-  out : (i : ℤ) → filter (of_id i) all ≡ filter (of_id i) others ++ filter (of_id i) (news (next_rowid others) id 0 names)
-  unfolding all
-  out i = filter-append (of_id i) others (news (next_rowid others) id 0 names)
-
-  pub joined_new : names_in (pos id) (add_members id 0 names (filter (λ r. not (is_of (pos id) r)) rows)) ≡ names
-  unfolding others all
-  joined_new =
-      let none : filter (of_id (pos id)) others ≡ [] = ap (filter (of_id (pos id))) others_are ∙ filter_none (of_id (pos id)) _ (all_weaker _ (λ r. of_id (pos id) r ≡ false) (λ r e. turned (of_id (pos id) r) e) _ (all_pass (λ r. not (of_id (pos id) r)) rows)) in
-      let found = news (next_rowid others) id 0 names in
-      names_are (pos id) (add_members id 0 names others) all_rise
-      ∙ ap (λ l. map (λ r. bytes (column r 3)) (sort_by place_cmp (filter (of_id (pos id)) l))) all_is
-      ∙ ap (λ l. map (λ r. bytes (column r 3)) (sort_by place_cmp l)) (out (pos id) ∙ ap₂ ◌++◌ none (news_all (next_rowid others) id 0 names))
-      ∙ ap (map (λ r. bytes (column r 3))) (sorted_itself place_cmp place_total found (news_rise (next_rowid others) id 0 names))
-      ∙ news_names (next_rowid others) id 0 names
-    where
-      turned : (b : Bool) → not b ≡ true → b ≡ false
-      turned true e = absurd (true≢false (sym e))
-      turned false e = refl
-
-  pub others_left : (i : ℤ) → (i ≡ pos id → ⊥) → filter (of_id i) (filter (λ r. not (is_of (pos id) r)) rows) ≡ filter (of_id i) rows
-  unfolding others
-  others_left i apart =
-      ap (filter (of_id i)) others_are
-      ∙ filter-filter (of_id i) (λ r. not (of_id (pos id) r)) (λ r e. let same = same_int (int_in (column r 1)) i e in ap not (int_eq_apart (int_in (column r 1)) (pos id) (λ k. apart (sym same ∙ k)))) rows
-
-  -- the stored rows of one id after the members of this one are replaced
-  pub rows_same : (i : ℤ) → (i ≡ pos id → ⊥) → filter (of_id i) (add_members id 0 names (filter (λ r. not (is_of (pos id) r)) rows)) ≡ filter (of_id i) rows
-  unfolding others all
-  rows_same i apart =
-      ap (filter (of_id i)) all_is ∙ out i
-      ∙ ap₂ ◌++◌ (others_left i apart) (news_none i (next_rowid others) id 0 names (int_eq_apart (pos id) i (λ e. apart (sym e)))) ∙ Rattle.std.proofs.Common.append-nil (filter (of_id i) rows)
-
-  pub rows_new : filter (of_id (pos id)) (add_members id 0 names (filter (λ r. not (is_of (pos id) r)) rows)) ≡ news (next_rowid (filter (λ r. not (is_of (pos id) r)) rows)) id 0 names
-  unfolding others all
-  rows_new =
-      let none : filter (of_id (pos id)) others ≡ [] = ap (filter (of_id (pos id))) others_are ∙ filter_none (of_id (pos id)) _ (all_weaker _ (λ r. of_id (pos id) r ≡ false) (λ r e. unset (of_id (pos id) r) e) _ (all_pass (λ r. not (of_id (pos id) r)) rows)) in
-      ap (filter (of_id (pos id))) all_is ∙ out (pos id) ∙ ap₂ ◌++◌ none (news_all (next_rowid others) id 0 names)
-
-  pub joined_same : (i : ℤ) → (i ≡ pos id → ⊥) → names_in i (add_members id 0 names (filter (λ r. not (is_of (pos id) r)) rows)) ≡ names_in i rows
-  unfolding others all
-  joined_same i apart =
-      names_are i (add_members id 0 names others) all_rise
-      ∙ ap (λ l. map (λ r. bytes (column r 3)) (sort_by place_cmp (filter (of_id i) l))) all_is
-      ∙ ap (λ l. map (λ r. bytes (column r 3)) (sort_by place_cmp l))
-      (out i ∙ ap₂ ◌++◌ (others_left i apart) (news_none i (next_rowid others) id 0 names (int_eq_apart (pos id) i (λ e. apart (sym e)))) ∙ Rattle.std.proofs.Common.append-nil (filter (of_id i) rows))
-      ∙ sym (names_are i rows h.0)
-
-pub joined_left : (id : ℕ) (rows : List Row) → IsShaped Table rows → AllByRecursion (λ r. IsInt (column r 1)) rows → (i : ℤ) → (i ≡ pos id → ⊥)
-    → names_in i (filter (λ r. not (is_of (pos id) r)) rows) ≡ names_in i rows
-joined_left id rows h ints i apart = joined_same id [] rows h ints i apart
+pub shown_left : (id : ℕ) (rows : List Row) → IsShaped Table rows → AllByRecursion Numbered rows → (i : ℤ) → (i ≡ pos id → ⊥)
+    → shown_of i (filter (λ r. not (is_of (pos id) r)) rows) ≡ shown_of i rows
+shown_left id rows h cells i apart =
+    let p = λ (r : Row). not (is_of (pos id) r) in
+    members_are i (filter p rows) (IsShaped-filter Table p rows h).0 ∙ ap (λ l. map shown_member (sort_by place_cmp l)) (others_left id rows cells i apart) ∙ sym (members_are i rows h.0)
 
 -- advices
 
@@ -263,7 +173,7 @@ cut_gt Equal Equal c = refl
 cut_gt Equal Greater c = refl
 cut_gt Greater b c = refl
 
-apart_not : (a b c : Ordering) → not (is_eq a && is_eq b) ≡ true → is_eq (ordering_then a (ordering_then b c)) ≡ false
+pub apart_not : (a b c : Ordering) → not (is_eq a && is_eq b) ≡ true → is_eq (ordering_then a (ordering_then b c)) ≡ false
 apart_not Less b c e = refl
 apart_not Equal Less c e = refl
 apart_not Equal Equal c e = absurd (true≢false (sym e))

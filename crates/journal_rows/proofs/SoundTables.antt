@@ -1,7 +1,7 @@
 -- Exact tables that stand for a sound journal have no row at fault.
 -- for: laws::sound_tables_stay, tx_journal
-use Rattle.std.proofs.Common.{◌≡◌, ℕ, suc, zero, ◌+◌, ◌<◌, ◌≤◌, ℤ, pos, negsuc, Bool, true, false, cond, not, ◌&&◌, ◌||◌, ◌==◌, int_lt, int_eq, if◌then◌else◌, List, [], ◌∷◌, map, Option, Some, None, nat_le, nat_lt, length, get_or, inl, inr, refl, sym, ap, subst, ◌∙◌, true≢false, arith, IsTrue}
-use Rattle.std.specs.List.{All, AllByRecursion, list_any}
+use Rattle.std.proofs.Common.{◌≡◌, ℕ, suc, ◌+◌, ◌<◌, ◌≤◌, ℤ, pos, Bool, true, false, cond, not, ◌&&◌, ◌||◌, ◌==◌, int_lt, int_eq, if◌then◌else◌, List, [], ◌∷◌, map, Option, Some, None, nat_le, nat_lt, length, inl, refl, sym, ap, subst, ◌∙◌, true≢false, arith, IsTrue}
+use Rattle.std.specs.List.{All, AllByRecursion}
 use Rattle.std.proofs.lemmas.Int.{ints}
 use Rattle.std.proofs.lemmas.Bool.{and_parts}
 use Rattle.std.proofs.lemmas.Bool.Decides.{nat_tests}
@@ -22,14 +22,14 @@ use Rattle.tx_history.specs.Views.{IsDoing, IsNamed, IsOk, PlacesRise, RowFits, 
 use Rattle.tx_history.proofs.RisingKeys.{look_within}
 use Rattle.journal_rows.specs.declared.error.JournalTable.TheVariants.{Meta, Tx, Member, Shelf, Advice}
 use Rattle.tx_history.specs.declared.event.Change.{Change}
-use Rattle.journal_rows.specs.Law.{AllStaySound}
+use Rattle.journal_rows.specs.Law.{AllStaySound, RowsLeadOn}
 use Rattle.journal_rows.specs.Tables.{Tables, all_made, code}
 use Rattle.journal_rows.specs.Reads.{IsNat, IsOrdered, name_in, nat_at, nat_of, int_in, int_at, phase_of, read, row_of, value_of, waiting_of, members_of, members_in, advices_in, place_cmp, shown_meta, shown_tx, shown_member, shown_shelf, shown_advice}
 use Rattle.journal_rows.specs.Faults.{IsFaultIn, IsFirstBad, IsTx, ShelfFits, TxFits, are_placed, bad_in, bad_meta, bad_member, bad_advice, first_bad, has_id, high_key, is_advice, is_given, is_placed, is_shelved, is_within, least_of, low_key, names_nobody_or_one, orphan, suits, unplaced}
 use Rattle.journal_rows.proofs.ExactFaults.{exact_from, owned_is}
-use Rattle.journal_rows.proofs.ExactTables.{ArePlaced, HasPlaces, HasTxCells, IsExact, IsNatural, IsOwned, all_exact, has_tx, is_meta_key}
-use Rattle.journal_rows.proofs.LeadLemmas.{all_lead_on, phase_back}
-use Rattle.journal_rows.proofs.PlacedLemmas.{place_total}
+use Rattle.journal_rows.proofs.ExactTables.{HasPlaces, HasTxCells, IsExact, IsNatural, IsOwned, all_lead_on, has_tx, is_meta_key}
+use Rattle.journal_rows.proofs.LeadLemmas.{phase_back}
+use Rattle.journal_rows.proofs.PlacedLemmas.{ArePlaced, place_total}
 use Rattle.journal_rows.proofs.SortedLemmas.{all-sorted}
 use Rattle.journal_rows.proofs.Views.{next_of}
 
@@ -310,7 +310,11 @@ module _ (t : Tables) (o : IsOrdered t) (x : IsExact t) (ok : IsOk (read t)) whe
   }
 
 -- changes of tables that have no row at fault
+
+pub rows_lead : (cs : List Change) → RowsLeadOn cs
+rows_lead cs t v follow stands sound = (all_lead_on cs t v follow stands (exact_from t sound)).0
+
 pub rows_stay_sound : (cs : List Change) → AllStaySound cs
-rows_stay_sound cs t v named stands sound ok =
-    let after = all_lead_on cs t v named stands in
-    sound_of (all_made cs t) after.ordered (all_exact cs t v named stands (exact_from t sound)) (subst IsOk (sym after.reads) ok)
+rows_stay_sound cs t v follow stands sound ok =
+    let after = all_lead_on cs t v follow stands (exact_from t sound) in
+    sound_of (all_made cs t) after.0.ordered after.1 (subst IsOk (sym after.0.reads) ok)

@@ -8,7 +8,7 @@ use Rattle.sqlite_value.specs.Order.{Row, column}
 use Rattle.sqlite_trees.specs.Tree.{rowid}
 use Rattle.sqlite_trees.specs.View.{IsShaped, is_int}
 use Rattle.sqlite_trees.specs.declared.store.Shape.TheVariants as shape
-use Rattle.sqlite_keyed.proofs.ListLemmas.{all_both, all_weaker}
+use Rattle.sqlite_keyed.proofs.ListLemmas.{all_both}
 use Rattle.journal_rows.specs.declared.error.BadRow.{BadRow}
 use Rattle.journal_rows.specs.declared.error.JournalTable.{JournalTable}
 use Rattle.tx_history.specs.declared.journal.JournalView.{JournalView}
@@ -144,7 +144,7 @@ stands_from t v a b c d e members advices is = record {
     advice = e;
     tx_ids = tx_nats t b is.sound;
     shelf_ids = shelf_nats t d is.sound;
-    member_ids = all_weaker _ (λ r. IsInt (column r 1)) (λ r both. both.0) t.member members;
+    member_ids = members;
     advice_ids = advice_nats t advices is.sound;
   };
   reads = is.reads;

@@ -124,7 +124,7 @@ pub record IsOrdered (t : Tables) : Type 0 where
   pub advice : IsShaped Table t.advice
   pub tx_ids : HaveNats t.tx
   pub shelf_ids : HaveNats t.shelf
-  pub member_ids : AllByRecursion (λ r. IsInt (column r 1)) t.member
+  pub member_ids : AllByRecursion (λ r. IsInt (column r 1) × IsInt (column r 2)) t.member
   pub advice_ids : AllByRecursion (λ r. IsNat (column r 1) × IsNat (column r 2)) t.advice
 
 -- the tables, in order, stand for this journal

@@ -61,6 +61,9 @@ without_tx id t = record t { tx = without_rowid id t.tx; member = filter (λ r. 
 abbrev pub with_member : ℤ → ℤ → List ℕ → Tables → Tables
 with_member id place name t = record t { member = put_row (member_row (next_rowid t.member) id place name) t.member }
 
+abbrev pub without_member : ℤ → ℤ → Tables → Tables
+without_member id place t = record t { member = filter (λ r. not (is_at id place r)) t.member }
+
 abbrev pub with_shelf : ℤ → ℤ → List ℕ → Tables → Tables
 with_shelf id tries context t = record t { shelf = put_row (shelf_row id tries context) t.shelf }
 
@@ -88,15 +91,17 @@ abbrev pub text_of : Option (List ℕ) → List ℕ
 text_of None = []
 text_of (Some name) = name
 
--- members at these places on
-abbrev pub with_members : ℕ → ℕ → List (List ℕ) → Tables → Tables
-with_members id place [] t = t
-with_members id place (name ∷ names) t = with_members id (place + 1) names (with_member (pos id) (pos place) name t)
+-- the last of the names, the first of which is at this place, over what stands at its own
+abbrev pub with_last : ℕ → ℕ → List (List ℕ) → Tables → Tables
+with_last id place [] t = t
+with_last id place (name ∷ []) t = with_member (pos id) (pos place) name (without_member (pos id) (pos place) t)
+with_last id place (name ∷ next ∷ names) t = with_last id (place + 1) (next ∷ names) t
 
+-- a row, and of its members the last one
 abbrev pub row_put : ℕ → Option own.Row → Tables → Tables
 row_put id None t = without_tx (pos id) t
 row_put id (Some r) t =
-    with_members id 0 r.joined (with_tx (pos id) (pos (code r.phase)) (pos r.told) (text_of r.doing) (pos r.tries) r.context (without_tx (pos id) t))
+    with_last id 0 r.joined (with_tx (pos id) (pos (code r.phase)) (pos r.told) (text_of r.doing) (pos r.tries) r.context t)
 
 abbrev pub row_made : Option (ℕ × Option own.Row) → Tables → Tables
 row_made None t = t

@@ -2,12 +2,13 @@
 
 ghost use Rattle.std.specs.Prelude.{List};
 ghost use Rattle.tx_history.specs.declared.event.Change.{Change};
-ghost use Rattle.journal_rows.specs.Law.{AllRowsLeadOn, AllStaySound};
+ghost use Rattle.journal_rows.specs.Law.{AllStaySound, RowsLeadOn};
 
-/// Tables that stand for a journal stand, after changes, for the journal after these changes. Each
-/// row that is put may have `doing` only with a name.
+/// Tables that stand for a journal without a fault stand, after changes, for the journal after these
+/// changes. Each row that is put has `doing` only with a name, and the members that the journal has of its
+/// transaction, or these and one more: of the members, a change writes the last one alone.
 pub fn rows_lead_on()
-    ensures { (changes : List Change) → AllRowsLeadOn changes }
+    ensures { (changes : List Change) → RowsLeadOn changes }
 {}
 
 /// Where no row of the tables was at fault, none is after changes that lead to a sound journal: so what

@@ -58,14 +58,14 @@ use Rattle.sqlite_typed.proofs.AnswerLemmas.{Source, last_table, at_end}
 not_tied : (a b : ℤ) → (a ≡ b → ⊥) → int_eq a b ≡ false
 not_tied a b h = not_true _ (λ e. h (int_tie a b e))
 
-same_int : (a : ℤ) → int_eq a a ≡ true
+pub same_int : (a : ℤ) → int_eq a a ≡ true
 same_int a = ap is_eq (tied_itself_int a)
   where
     tied_itself_int : (a : ℤ) → int_cmp a a ≡ Equal
     tied_itself_int a = sym (value_cmp-Int a a) ∙ tied_itself value_cmp_total (Int a)
 
 -- the pairs with this key are none, or one
-one_found : (id : ℤ) (xs : List Pair) → IsKeyedBy key xs → (filter (λ p. int_eq (key p) id) xs ≡ []) ⊎ ((x : Pair) × (filter (λ p. int_eq (key p) id) xs ≡ x ∷ []) × (key x ≡ id) × Has xs x)
+pub one_found : (id : ℤ) (xs : List Pair) → IsKeyedBy key xs → (filter (λ p. int_eq (key p) id) xs ≡ []) ⊎ ((x : Pair) × (filter (λ p. int_eq (key p) id) xs ≡ x ∷ []) × (key x ≡ id) × Has xs x)
 one_found id [] h = inl refl
 one_found id (x ∷ xs) h = go (one_found id xs h.1) (int_eq (key x) id) refl
   where
@@ -112,17 +112,17 @@ module _ (trees : Trees) (shaped : IsShaped Table (trees 1)) (id : ℤ) where
             a.shown ∙ ap (λ l. page delete_query params (map (λ (p : Output). p.1) l)) ordered,
       )
 
-has_split : (rows : List Row) (r : Row) → Has rows r → Has (map split rows) (split r)
+pub has_split : (rows : List Row) (r : Row) → Has rows r → Has (map split rows) (split r)
 has_split [] r h = h
 has_split (x ∷ rows) r (inl e) = inl (ap split e)
 has_split (x ∷ rows) r (inr h) = inr (has_split rows r h)
 
-has_row : (rows : List Row) (p : Pair) → Has (map split rows) p → (r : Row) × Has rows r × (p ≡ split r)
+pub has_row : (rows : List Row) (p : Pair) → Has (map split rows) p → (r : Row) × Has rows r × (p ≡ split r)
 has_row [] p h = absurd h
 has_row (x ∷ rows) p (inl e) = (x, inl refl, e)
 has_row (x ∷ rows) p (inr h) = let it = has_row rows p h in (it.0, inr it.1, it.2)
 
-row_is : (id : ℤ) (x : Row) → IsTrue (is_int (rowid x)) → has_rowid id x ≡ true → column x 0 ≡ Int id
+pub row_is : (id : ℤ) (x : Row) → IsTrue (is_int (rowid x)) → has_rowid id x ≡ true → column x 0 ≡ Int id
 row_is id x int here =
     let v = int_is (column x 0) int in v ∙ ap Int (int_tie _ id (ap is_eq (sym (value_cmp-Int (id_in (column x 0)) id) ∙ ap (λ w. value_cmp w (Int id)) (sym v)) ∙ here))
 

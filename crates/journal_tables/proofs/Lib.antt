@@ -4,5 +4,6 @@ pub mod DropLemmas
 pub mod StepLemmas
 pub mod CascadeLemmas
 pub mod DropRowLemmas
+pub mod PutRowLemmas
 pub mod ChainLemmas
 pub mod Types

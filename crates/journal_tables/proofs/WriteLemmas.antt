@@ -46,7 +46,7 @@ ends_as task mode command db tally after h =
     let rest = went (went done.2).2 in
     (done.0, done.1, ap (λ (p : Tally × Database). p.1) (same_value rest.2))
 
-passed_over : (b c : Bool) (P Q : Type 0) → b ≡ false → MatchBool (if b then c else false) P Q → Q
+pub passed_over : (b c : Bool) (P Q : Type 0) → b ≡ false → MatchBool (if b then c else false) P Q → Q
 passed_over b c P Q e h = rw e at h
 
 one_insert : (task : Task) (terms : List Term) (width : ℕ) (db : Trees) (w : Written) (source : Row) → task.table.is_counted ≡ false

@@ -2,16 +2,16 @@
 
 ghost use Rattle.std.specs.Prelude.{pos, if◌then◌else◌, ◌≡◌, ◌≤◌, All, length};
 ghost use Rattle.sqlite.specs.Held.{state};
-ghost use Rattle.journal_rows.specs.Tables.{all_made, advice_made, code, made, next_made, no_shelf, row_made};
-ghost use Rattle.journal_rows.specs.Tables.{shelf_made, text_of, with_member, with_members};
+ghost use Rattle.journal_rows.specs.Tables.{advice_made, all_made, code, made, next_made, no_shelf, row_made};
+ghost use Rattle.journal_rows.specs.Tables.{shelf_made, text_of, with_last};
 ghost use Rattle.journal_tables.specs.Small.{IsAdviceSmall, IsChangeSmall, IsEntrySmall, IsNextSmall};
 ghost use Rattle.journal_tables.specs.Small.{IsRowChangeSmall, IsRowSmall, IsShelfSmall, IsSmall};
 ghost use Rattle.journal_rows.specs.Law.{changes_of};
-ghost use Rattle.journal_tables.specs.Steps.{Goes, LeavesNothing, Runs, with_row};
+ghost use Rattle.journal_tables.specs.Steps.{Goes, LeavesNothing, member_put, with_cells};
 
 use crate::statements::{
-    add_advice, add_member, add_meta, add_row, add_shelved, clear_shelf, drop_advice, drop_meta,
-    drop_row, drop_shelved,
+    add_advice, add_member, add_meta, add_shelved, clear_shelf, drop_advice, drop_member,
+    drop_meta, drop_row, drop_shelved, put_row,
 };
 use sqlite::{Alter, Error, Transaction};
 use sw_participant::{Bytes, Text};
@@ -117,50 +117,52 @@ fn text_of(name: &Option<Text>) -> &[u8]
     }
 }
 
+// The member at this place, over the one that stands there.
 fn put_member<S: Alter>(
     tx: &mut Transaction<'_, S>,
     id: u64,
-    place: u64,
+    place: usize,
     name: &Text,
-) -> Result<usize, Error>
+) -> Result<(), Error>
     requires small { IsSmall id }
     requires near { IsSmall place }
     ensures same_reference { tx.new.conn.ghost_name ≡ tx.old.conn.ghost_name }
-    ensures steps { Runs (with_member (pos id) (pos place) name.now)
+    ensures steps { Goes (member_put id place name.now)
         (state S.Store tx.old.conn.now) (state S.Store tx.new.conn.now) result }
     ensures survives { LeavesNothing
         (state S.Store tx.old.conn.now) (state S.Store tx.new.conn.now) }
 {
-    add_member(tx, id as i64, place as i64, name.as_str().as_bytes())
-}
-
-fn put_members<S: Alter>(tx: &mut Transaction<'_, S>, id: u64, names: &[Text]) -> Result<(), Error>
-    requires small { IsSmall id }
-    requires few { length names.now ≤ 1001 }
-    ensures same_reference { tx.new.conn.ghost_name ≡ tx.old.conn.ghost_name }
-    ensures steps { Goes (with_members id 0 names.now)
-        (state S.Store tx.old.conn.now) (state S.Store tx.new.conn.now) result }
-    ensures survives { LeavesNothing
-        (state S.Store tx.old.conn.now) (state S.Store tx.new.conn.now) }
-{
-    let mut place: u64 = 0;
-    for name in names {
-        put_member(tx, id, place, name)?;
-        place += 1;
-    }
+    drop_member(tx, id as i64, place as i64)?;
+    add_member(tx, id as i64, place as i64, name.as_str().as_bytes())?;
     Ok(())
 }
 
-fn put_row<S: Alter>(tx: &mut Transaction<'_, S>, id: u64, row: &Row) -> Result<(), Error>
+// Of the members the last one alone: an entry adds at most one, and those before it stand in the tables.
+fn put_last<S: Alter>(tx: &mut Transaction<'_, S>, id: u64, names: &[Text]) -> Result<(), Error>
     requires small { IsSmall id }
-    requires fits { IsRowSmall row.now }
+    requires few { length names.now ≤ 1001 }
     ensures same_reference { tx.new.conn.ghost_name ≡ tx.old.conn.ghost_name }
-    ensures steps { Goes (with_row id row.now)
+    ensures steps { Goes (with_last id 0 names.now)
         (state S.Store tx.old.conn.now) (state S.Store tx.new.conn.now) result }
     ensures survives { LeavesNothing
         (state S.Store tx.old.conn.now) (state S.Store tx.new.conn.now) }
 {
-    add_row(
+    let Some((last, before)) = names.split_last() else {
+        return Ok(());
+    };
+    put_member(tx, id, before.len(), last)
+}
+
+fn put_cells<S: Alter>(tx: &mut Transaction<'_, S>, id: u64, row: &Row) -> Result<(), Error>
+    requires small { IsSmall id }
+    requires fits { IsRowSmall row.now }
+    ensures same_reference { tx.new.conn.ghost_name ≡ tx.old.conn.ghost_name }
+    ensures steps { Goes (with_cells id row.now)
+        (state S.Store tx.old.conn.now) (state S.Store tx.new.conn.now) result }
+    ensures survives { LeavesNothing
+        (state S.Store tx.old.conn.now) (state S.Store tx.new.conn.now) }
+{
+    put_row(
         tx,
         id as i64,
         code(row.phase),
@@ -169,10 +171,10 @@ fn put_row<S: Alter>(tx: &mut Transaction<'_, S>, id: u64, row: &Row) -> Result<
         i64::from(row.tries),
         row.context.as_slice(),
     )?;
-    put_members(tx, id, row.joined.as_slice())
+    Ok(())
 }
 
-// The row of a transaction, with its members.
+// The row of a transaction, with its last member.
 fn make_row<S: Alter>(
     tx: &mut Transaction<'_, S>,
     change: &Option<(u64, Option<Row>)>,
@@ -187,11 +189,12 @@ fn make_row<S: Alter>(
     let Some((id, put)) = change else {
         return Ok(());
     };
-    drop_row(tx, *id as i64)?;
     let Some(row) = put else {
+        drop_row(tx, *id as i64)?;
         return Ok(());
     };
-    put_row(tx, *id, row)
+    put_cells(tx, *id, row)?;
+    put_last(tx, *id, row.joined.as_slice())
 }
 
 /// Makes all parts of a change: the next id, the row, the emptying of the shelf, what is put there, the

@@ -5,7 +5,8 @@
 
 ghost use Rattle.std.specs.Prelude.{◌≡◌};
 ghost use Rattle.sqlite.specs.Held.{state};
-ghost use Rattle.journal_rows.specs.Tables.{with_meta, with_tx, without_tx, with_member, without_meta};
+ghost use Rattle.journal_rows.specs.Tables.{with_meta, with_tx, without_tx, without_meta};
+ghost use Rattle.journal_rows.specs.Tables.{with_member, without_member};
 ghost use Rattle.journal_rows.specs.Tables.{with_shelf, without_shelf, no_shelf, with_advice, without_advice};
 ghost use Rattle.journal_tables.specs.Steps.{Runs, LeavesNothing};
 
@@ -126,7 +127,8 @@ pub fn drop_row<S: Alter>(tx: &mut Transaction<'_, S>, id: i64) -> Result<usize,
     tx.execute("DELETE FROM tx WHERE id = ?1", &[ValueRef::Int(id)])
 }
 
-pub fn add_row<'x, S: Alter>(
+/// Puts the row of tx, over the one that has its id.
+pub fn put_row<'x, S: Alter>(
     tx: &mut Transaction<'_, S>,
     id: i64,
     phase: i64,
@@ -142,7 +144,8 @@ pub fn add_row<'x, S: Alter>(
         (state S.Store tx.old.conn.now) (state S.Store tx.new.conn.now) }
 {
     tx.execute(
-        "INSERT INTO tx (id, phase, told, doing, tries, context) VALUES (?1, ?2, ?3, ?4, ?5, ?6)",
+        "INSERT INTO tx (id, phase, told, doing, tries, context) VALUES (?1, ?2, ?3, ?4, ?5, ?6) \
+ON CONFLICT (id) DO UPDATE SET phase = ?2, told = ?3, doing = ?4, tries = ?5, context = ?6",
         &[
             ValueRef::Int(id),
             ValueRef::Int(phase),
@@ -151,6 +154,23 @@ pub fn add_row<'x, S: Alter>(
             ValueRef::Int(tries),
             ValueRef::Blob(context),
         ],
+    )
+}
+
+pub fn drop_member<S: Alter>(
+    tx: &mut Transaction<'_, S>,
+    id: i64,
+    place: i64,
+) -> Result<usize, Error>
+    ensures same_reference { tx.new.conn.ghost_name ≡ tx.old.conn.ghost_name }
+    ensures steps { Runs (without_member id place)
+        (state S.Store tx.old.conn.now) (state S.Store tx.new.conn.now) result }
+    ensures survives { LeavesNothing
+        (state S.Store tx.old.conn.now) (state S.Store tx.new.conn.now) }
+{
+    tx.execute(
+        "DELETE FROM member WHERE id = ?1 AND place = ?2",
+        &[ValueRef::Int(id), ValueRef::Int(place)],
     )
 }
 

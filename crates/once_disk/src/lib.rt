@@ -1,10 +1,13 @@
-//! Two disks whose calls are counted together: one of them fails, once; a disk for tests of what a fault
+//! Two disks whose calls are counted together: one of them fails, once; for tests of what a fault
 //! leaves.
 //!
-//! Of both disks holds what `sqlite_disk` asks of a disk. Which call fails no contract says.
+//! Of both disks holds what `sqlite_disk` asks of a disk, and they begin as the disks that they are over
+//! ([`pair`]). Which call fails no contract says.
 #![tactic(auto)]
 
-ghost use Rattle.std.specs.Prelude.{◌≡◌, ◌+◌, ◌&&◌, not, false, IsErr};
+ghost use Rattle.std.specs.Prelude.{◌≡◌, ◌+◌, ◌&&◌, not, false, IfOk, IsErr};
+ghost use Rattle.std.specs.Arc.{arc_value};
+ghost use Rattle.once_disk.specs.Fresh.{IsOver};
 ghost use Rattle.sqlite_disk.specs.Disk.{CountsFault};
 ghost use Rattle.sqlite_disk.specs.Refusal.{finds_no_room};
 
@@ -25,14 +28,20 @@ pub struct Once<D: Disk> {
     sync_refused: bool,
 }
 
-/// Two disks with one counter.
+/// Two disks over these two, with one counter: of their calls together the one after `calls` others
+/// fails, after so many yields.
 pub fn pair<D: Disk + Drop>(
     alloc: Global,
     first: D,
     second: D,
     calls: u64,
     yields: u64,
-) -> Result<(Once<D>, Once<D>), AllocError> {
+) -> Result<(Once<D>, Once<D>), AllocError>
+    ensures first { IfOk result (λ disks. IsOver disks.0 first yields) }
+    ensures second { IfOk result (λ disks. IsOver disks.1 second yields) }
+    ensures counter { IfOk result (λ disks.
+        arc_value disks.0.calls_left ≡ arc_value disks.1.calls_left) }
+{
     let counter = Arc::new(alloc, AtomicU64::new(calls))?;
     let other = Arc::try_clone(&counter)?;
     Ok((
