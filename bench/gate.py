@@ -21,11 +21,21 @@ TICKS = os.sysconf("SC_CLK_TCK")
 KINDS = ("proof", "tests", "edits")
 
 
-def look(pid):
+def is_below(pid, top):
+    """Whether a process is one that the command has started, or that one of those has."""
+    while pid > 1:
+        if pid == top:
+            return True
+        with open(f"/proc/{pid}/stat") as it:
+            pid = int(it.read().rsplit(")", 1)[1].split()[1])
+    return False
+
+
+def look(pid, top):
     """A process of the prover: its crate, what it does there, and its processor seconds."""
     with open(f"/proc/{pid}/cmdline", "rb") as it:
         words = it.read().decode(errors="replace").split("\0")
-    if not words[0].endswith("/bin/rattle") or "--crate-name" not in words:
+    if not words[0].endswith("/bin/rattle") or "--crate-name" not in words or not is_below(int(pid), top):
         return None
     crate = words[words.index("--crate-name") + 1]
     folder = os.readlink(f"/proc/{pid}/cwd")
@@ -35,11 +45,11 @@ def look(pid):
     return crate, kind, sum(int(it) for it in fields[11:15]) / TICKS
 
 
-def watch(seen, done):
+def watch(seen, done, top):
     while not done.wait(0.25):
         for pid in filter(str.isdigit, os.listdir("/proc")):
             try:
-                found = look(pid)
+                found = look(pid, top)
             except (OSError, IndexError, ValueError):
                 continue
             if found:
@@ -80,9 +90,10 @@ def main():
     if cores:
         command = ["taskset", "-c", cores, *command]
     seen, done, begin = {}, threading.Event(), time.monotonic()
-    watcher = threading.Thread(target=watch, args=(seen, done))
+    process = subprocess.Popen(command, cwd=ROOT)
+    watcher = threading.Thread(target=watch, args=(seen, done, process.pid))
     watcher.start()
-    status = subprocess.run(command, cwd=ROOT).returncode
+    status = process.wait()
     done.set()
     watcher.join()
     clock = (time.monotonic() - begin) / 60

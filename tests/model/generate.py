@@ -616,6 +616,7 @@ def cases(random, count, is_every=False):
     yield from limits()
     yield from spoilt_messages()
     yield from spoilt_images(random, is_every)
+    yield requests.fields_case(random, "fields/run: each field of a request missing, and spoilt")
     kinds = [("step", step_case)] * 4 + [("whole", whole_case)] * 4
     kinds += [("asm", asm_case)] * 2 + [("list", list_case)] * 2 + [("decode", decode_case)]
     kinds += [("run", requests.run_case)] * 2

@@ -81,12 +81,68 @@ def request(random, before):
     return made
 
 
+# Values that a field takes and that are no good, or good for nothing.
+USELESS = {
+    2: [b"", b"4" * 11, b"4" * 12, b"9" * 19],
+    4: [b"0" * 12, b"9" * 12],
+    7: [b"0" * 10],
+    11: [b"0" * 6],
+    32: [b""],
+    33: [b"9" * 11],
+    41: [b" " * 8],
+    70: [b"000"],
+    90: [b"0" * 42],
+}
+
+
+def foreign(random, number, value):
+    """A value with a byte that its field does not take: the message cannot be read."""
+    bad = b"x/:\x00" if messages.FORMS[number][0] is messages.N else b"\x1f\x7f\x80\n"
+    at = random.randrange(len(value)) if value else 0
+    return value[:at] + bytes([random.choice(bad)]) + value[at + 1 :]
+
+
 def spoilt(random, fields):
-    """The fields without one of them, or as they are."""
-    if random.random() < 0.15:
-        fields = dict(fields)
-        del fields[random.choice(list(fields))]
+    """The fields without one of them, with one of them spoilt, or as they are."""
+    chance, number, fields = random.random(), random.choice(list(fields)), dict(fields)
+    if chance < 0.12:
+        del fields[number]
+    elif chance < 0.18:
+        fields[number] = random.choice(USELESS.get(number, [fields[number]]))
+    elif chance < 0.21:
+        fields[number] = foreign(random, number, fields[number])
     return fields
+
+
+def whole_request(mti):
+    """A request with all fields that the switch looks at or copies."""
+    fields = {2: CARDS[0], 3: b"000000", 4: b"000000000100", 7: b"0102030405", 11: b"000000", 12: b"123456", 13: b"1122"}
+    fields |= {32: b"12345", 33: b"678", 37: b"REF000000001", 41: TERMINALS[0], 42: b"MERCHANT 000001", 49: b"978"}
+    if mti[:2] == b"04":
+        fields[90] = b"0100" + b"000000" + fields[7] + b"0" * 22
+    return fields | {70: b"301"} if mti[:2] == b"08" else fields
+
+
+def spoilings(random, mti):
+    """The whole request, then without each field, and with each field spoilt in turn."""
+    fields = whole_request(mti)
+    yield fields
+    for number, value in fields.items():
+        yield {other: fields[other] for other in fields if other != number}
+        yield fields | {number: foreign(random, number, value)}
+        for bad in USELESS.get(number, []):
+            yield fields | {number: bad}
+
+
+def fields_case(random, name):
+    """Each field of each class of request missing and spoilt, each in a request of its own."""
+    made = []
+    for mti in (b"0100", b"0101", b"0400", b"0421", b"0800", b"0801"):
+        for fields in spoilings(random, mti):
+            if fields.get(11) == b"000000":
+                fields = fields | {11: b"%06d" % (len(made) + 1)}
+            made.append(messages.encode(mti, fields))
+    return served(name, whole_flow(), 999_999_999_999_999, made, True)
 
 
 def stream(random):

@@ -5,7 +5,7 @@ ghost use Rattle.flow_model.specs.Check.{IsChecked};
 use crate::error::RunError;
 use crate::flow_file::flow_at;
 use cli_options::choice::RunOptions;
-use cli_run::{Console, Issuers, ServeError, Setup, run};
+use cli_run::{Issuers, ServeError, Setup, Told, run};
 use flow_asm::{Code, assemble};
 use sqlite::{Alter, Connection};
 use std::alloc::Global;
@@ -45,10 +45,11 @@ fn serve<S: Alter + Drop, R: Read + Drop, O: Write, E: Write>(
     conn: Connection<S>,
     setup: Setup,
     input: Option<R>,
-    console: &mut Console<'_, O, E>,
+    out: &mut O,
+    told: &mut Told<'_, E>,
 ) -> Result<(), ServeError> {
     match Journal::open(alloc, conn) {
-        Ok(journal) => run(alloc, code, journal, setup, input, console),
+        Ok(journal) => run(alloc, code, journal, setup, input, out, told)?.into_result(),
         Err((cause, _)) => Err(ServeError::from(cause)),
     }
 }
@@ -61,10 +62,11 @@ fn serve_file<R: Read + Drop, O: Write, E: Write>(
     path: &str,
     setup: Setup,
     input: Option<R>,
-    console: &mut Console<'_, O, E>,
+    out: &mut O,
+    told: &mut Told<'_, E>,
 ) -> Result<(), RunError> {
     match Connection::open(rt, path) {
-        Ok(conn) => Ok(serve(alloc, code, conn, setup, input, console)?),
+        Ok(conn) => Ok(serve(alloc, code, conn, setup, input, out, told)?),
         Err(_) => Err(RunError::JournalFile {
             path: Text::from_str(alloc, path)?,
         }),
@@ -83,16 +85,15 @@ pub fn answer_requests<R: Read + Drop, O: Write, E: Write>(
     let flow = flow_at(alloc, rt, options.flow)?;
     let setup = setup(alloc, options.limit, options.sessions as usize)?;
     let code = assemble(alloc, &flow)?;
-    let mut console = Console {
-        out,
+    let mut told = Told {
         err,
         trace: options.trace,
     };
     match options.journal {
-        Some(path) => serve_file(alloc, rt, &code, path, setup, Some(input), &mut console),
+        Some(path) => serve_file(alloc, rt, &code, path, setup, Some(input), out, &mut told),
         None => {
             let conn = Connection::open_in_memory(alloc)?;
-            Ok(serve(alloc, &code, conn, setup, Some(input), &mut console)?)
+            Ok(serve(alloc, &code, conn, setup, Some(input), out, &mut told)?)
         }
     }
 }
@@ -108,12 +109,11 @@ pub fn recover<O: Write>(
     let flow = flow_at(alloc, rt, flow)?;
     let setup = setup(alloc, LIMIT, 1)?;
     let code = assemble(alloc, &flow)?;
-    let mut told = std::io::sink();
-    let mut console = Console {
-        out,
-        err: &mut told,
+    let mut sink = std::io::sink();
+    let mut told = Told {
+        err: &mut sink,
         trace: false,
     };
     let input: Option<Empty> = None;
-    serve_file(alloc, rt, &code, journal, setup, input, &mut console)
+    serve_file(alloc, rt, &code, journal, setup, input, out, &mut told)
 }

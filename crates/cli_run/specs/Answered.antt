@@ -1,6 +1,99 @@
--- Which responses a switch has given.
-use Rattle.std.specs.Prelude.{ℕ, ◌+◌, ◌≤◌}
+-- What a run has written: the responses of the transactions that ended, one after the other.
+use Rattle.std.specs.Prelude.{◌≡◌, ℕ, List, [], ◌∷◌, ◌++◌, length, Option, Some, None, codes}
+use Rattle.std.specs.Io.KnownBytes.{Appends}
+use Rattle.std.specs.Ordering.{nat_cmp}
+use Rattle.std.specs.BTreeMap.Range.{entries_between}
+use Rattle.std.specs.declared.ops.Bound.TheVariants.{Excluded, Unbounded}
+use Rattle.sw_context.specs.Pairs.{Pairs, find}
+use Rattle.sw_frame.specs.Stream.{AreFramed}
+use Rattle.tx_engine.specs.World.{World}
+use Rattle.tx_journal.specs.Kept.{JournalState}
+use Rattle.tx_plant.specs.declared.seat.Seats.{Seats}
+use Rattle.tx_plant.specs.declared.turn.Outcome.{Outcome}
+use Rattle.tx_plant.specs.declared.turn.Turn.{Turn}
+use Rattle.tx_plant.specs.declared.turn.Turn.TheVariants as turn
+use Rattle.tx_plant.specs.Steps.{Moved}
+use Rattle.tx_plant.specs.Plant.{Driven, Whole, seen, whole}
 
--- the last transaction answered is none that began before the run, but for the one just below the first
-abbrev pub IsFresh : ℕ → ℕ → Type 0
-IsFresh first answered = first ≤ answered + 1
+-- a switch between two calls of its plant: the plant, and the id of the last transaction whose response was given
+pub record Point : Type 0 where
+  pub plant : Whole
+  pub answered : ℕ
+
+-- the same of its parts
+abbrev pub point : World → Seats → JournalState → ℕ → Point
+point w seats j id = record { plant = whole w seats (seen j); answered = id }
+
+-- every entry is written
+abbrev pub IsAllWritten : World → Type 0
+IsAllWritten w = w.mark ≡ length w.past
+
+-- the contexts of the transactions that ended, with ids above this, in their order
+abbrev pub above : ℕ → List (ℕ × Pairs) → List (ℕ × Pairs)
+above id ended = entries_between nat_cmp (Excluded id) Unbounded ended
+
+-- the response of a context is its entry of that name
+abbrev pub response : Pairs → Option (List ℕ)
+response x = find (codes "response") x
+
+abbrev pub with_response : Option (List ℕ) → List (List ℕ) → List (List ℕ)
+with_response None rs = rs
+with_response (Some r) rs = r ∷ rs
+
+abbrev pub responses : List (ℕ × Pairs) → List (List ℕ)
+responses [] = []
+responses (e ∷ es) = with_response (response e.1) (responses es)
+
+-- the id of the last of them
+abbrev pub last_id : ℕ → List (ℕ × Pairs) → ℕ
+last_id id [] = id
+last_id id (e ∷ es) = last_id e.0 es
+
+-- the contexts whose responses were not given
+abbrev pub unanswered : Point → List (ℕ × Pairs)
+unanswered p = above p.answered p.plant.core.ended
+
+abbrev pub all_answered : Point → Point
+all_answered p = record p { answered = last_id p.answered (unanswered p) }
+
+-- turns were done, or the responses that were not given are
+pub data Deed : Type 0 where
+  Drove : (turns : List Turn) → (outcomes : List Outcome) → Deed
+  Gave : Deed
+
+-- One after the other, with what they write. Turns write nothing. Responses are given as frames, ids rising, and only when
+-- every entry of the history is written.
+abbrev pub Goes : List Deed → Point → List ℕ → Point → Type 0
+Goes [] p bytes q = (bytes ≡ []) × (q ≡ p)
+Goes (Drove turns outcomes ∷ ds) p bytes q = (m : List Moved) × (w : Whole) × Driven turns outcomes m p.plant w × Goes ds (record p { plant = w }) bytes q
+Goes (Gave ∷ ds) p bytes q = (text : List ℕ) × (rest : List ℕ) × IsAllWritten p.plant.core.world × AreFramed text (responses (unanswered p)) × (bytes ≡ text ++ rest) × Goes ds (all_answered p) rest q
+
+-- the contexts that turns offer
+abbrev pub offer_of : Turn → List Pairs
+offer_of (turn.Offer x) = x ∷ []
+offer_of _ = []
+
+abbrev pub offers_in : List Turn → List Pairs
+offers_in [] = []
+offers_in (t ∷ ts) = offer_of t ++ offers_in ts
+
+abbrev pub offered : List Deed → List Pairs
+offered [] = []
+offered (Drove turns outcomes ∷ ds) = offers_in turns ++ offered ds
+offered (Gave ∷ ds) = offered ds
+
+-- what was done from one point to the next: these contexts were offered, and nothing written
+pub record Acts (offers : List Pairs) (p q : Point) : Type 0 where
+  pub deeds : List Deed
+  pub goes : Goes deeds p [] q
+  pub offers_are : offered deeds ≡ offers
+  pub written : IsAllWritten q.plant.core.world
+
+-- the same with what an output holds before and after, where that is known
+pub record Serves (offers : List Pairs) (p : Point) (before : Option (List ℕ)) (q : Point) (after : Option (List ℕ)) : Type 0 where
+  pub deeds : List Deed
+  pub bytes : List ℕ
+  pub goes : Goes deeds p bytes q
+  pub offers_are : offered deeds ≡ offers
+  pub appends : Appends before after bytes
+  pub written : IsAllWritten q.plant.core.world

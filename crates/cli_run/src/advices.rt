@@ -1,6 +1,8 @@
 //! The advices that the journal stores.
 
-ghost use Rattle.cli_run.specs.Answered.{IsFresh};
+ghost use Rattle.std.specs.Prelude.{[], OnOk};
+ghost use Rattle.tx_journal.specs.Kept.{kept};
+ghost use Rattle.cli_run.specs.Answered.{Acts, IsAllWritten, point};
 
 use crate::error::ServeError;
 use crate::switch::Switch;
@@ -32,21 +34,46 @@ fn advices_of(alloc: Global, engine: &Engine) -> Result<Vec<Stored>, AllocError>
     Ok(list)
 }
 
-/// Sends each stored advice once, ids and places rising, and drops those that their issuers accept. The
-/// advice of a transaction that began before the switch was made goes as a repeat.
+// Sends an advice, and drops it where its issuer accepts it. That of a transaction that began before the
+// switch was made goes as a repeat.
+fn send_advice<S: Alter, L: Link>(
+    alloc: Global,
+    switch: &mut Switch<S>,
+    sender: &mut Sender<L>,
+    stored: &Stored,
+) -> Result<(), ServeError>
+    requires written { IsAllWritten switch.old.plant.running.engine }
+    ensures acts { OnOk result
+        (Acts []
+        (point switch.old.plant.running.engine switch.old.plant.running.seats
+        (kept S.Store switch.old.plant.journal) switch.old.answered)
+        (point switch.new.plant.running.engine switch.new.plant.running.seats
+        (kept S.Store switch.new.plant.journal) switch.new.answered)) }
+{
+    let repeat = switch.is_old(stored.id);
+    if sender.send(stored.advice.as_slice(), repeat)? {
+        switch.act(alloc, Turn::Ack(stored.id, stored.place))?;
+    }
+    Ok(())
+}
+
+/// Sends each stored advice once, ids and places rising, and drops those that their issuers accept.
 pub(crate) fn send_advices<S: Alter, L: Link>(
     alloc: Global,
     switch: &mut Switch<S>,
     sender: &mut Sender<L>,
 ) -> Result<(), ServeError>
-    requires fresh { IsFresh switch.old.first_id switch.old.answered }
-    ensures still_fresh { IsFresh switch.new.first_id switch.new.answered }
+    requires written { IsAllWritten switch.old.plant.running.engine }
+    ensures acts { OnOk result
+        (Acts []
+        (point switch.old.plant.running.engine switch.old.plant.running.seats
+        (kept S.Store switch.old.plant.journal) switch.old.answered)
+        (point switch.new.plant.running.engine switch.new.plant.running.seats
+        (kept S.Store switch.new.plant.journal) switch.new.answered)) }
 {
-    for stored in advices_of(alloc, switch.engine())? {
-        let repeat = switch.is_old(stored.id);
-        if sender.send(stored.advice.as_slice(), repeat)? {
-            switch.act(alloc, Turn::Ack(stored.id, stored.place))?;
-        }
+    let list = advices_of(alloc, switch.engine())?;
+    for stored in &list {
+        send_advice(alloc, switch, sender, stored)?;
     }
     Ok(())
 }

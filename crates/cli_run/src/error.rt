@@ -33,6 +33,13 @@ pub enum ServeError {
     /// The input ends within a frame, so many bytes after its beginning.
     #[error("the input ends within a frame; found {0} bytes of it")]
     Truncated(usize),
+    /// The response of this transaction does not fit a frame.
+    #[error("the response of transaction {0} is longer than a frame; expected at most 9,999 bytes")]
+    LongResponse(u64),
+    /// A transaction took more steps than one has, or came back from the shelf more often than it may. No
+    /// transaction does.
+    #[error("a transaction did not end within the steps that one has")]
+    Endless,
     /// No memory was left.
     #[error("out of memory")]
     OutOfMemory,

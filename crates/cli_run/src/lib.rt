@@ -7,14 +7,16 @@
 #![tactic(auto)]
 
 mod advices;
-mod console;
 mod error;
+mod given;
 mod issuers;
 mod serving;
 mod stream;
 mod switch;
+mod told;
 
-pub use console::Console;
 pub use error::ServeError;
 pub use issuers::Issuers;
 pub use serving::{Setup, run};
+pub use stream::StreamEnd;
+pub use told::Told;

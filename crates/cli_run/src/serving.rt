@@ -1,13 +1,17 @@
 //! The whole run.
 
-ghost use Rattle.cli_run.specs.Answered.{IsFresh};
+ghost use Rattle.std.specs.Prelude.{[], OnOk};
+ghost use Rattle.tx_journal.specs.Kept.{kept};
+ghost use Rattle.tx_plant.specs.Plant.{IsEngine};
+ghost use Rattle.cli_run.specs.Answered.{Acts, IsAllWritten, Serves, point};
 
 use crate::advices::send_advices;
-use crate::console::Console;
 use crate::error::ServeError;
 use crate::issuers::{Issuers, routes, sender_over};
-use crate::stream::Requests;
-use crate::switch::{MAX_RELEASES, Switch, cause_of};
+use crate::stream::{Requests, StreamEnd};
+use crate::switch::{Switch, cause_of};
+use crate::told::{Told, write_lines};
+use cli_io::WriteError;
 use flow_asm::Code;
 use sqlite::Alter;
 use std::alloc::Global;
@@ -16,62 +20,105 @@ use sw_book::Book;
 use sw_issuers::Sender;
 use sw_participant::Station;
 use sw_parts::{CheckFields, Forward, Limits, Link, QueryIssuer, Respond, Reverse, Route, StandIn};
+use tx_engine::Engine;
 use tx_journal::Journal;
 use tx_plant::{Plant, Turn};
 
+/// More releases than put anything on the shelf again: each takes one of at most 100 tries.
+const MAX_RELEASES: usize = 101;
+
 impl<S: Alter> Switch<S> {
-    // Moves the shelf to the queue and runs what waits there, until nothing is on the shelf.
-    fn drain<O: Write, E: Write>(
-        &mut self,
-        alloc: Global,
-        console: &mut Console<'_, O, E>,
-    ) -> Result<(), ServeError>
-        requires fresh { IsFresh self.old.first_id self.old.answered }
-        ensures still_fresh { IsFresh self.new.first_id self.new.answered }
+    // Finishes what the journal has unfinished.
+    fn recover(&mut self, alloc: Global) -> Result<(), ServeError>
+        requires made { IsEngine self.old.plant.running.engine }
+        ensures acts { OnOk result
+            (Acts []
+            (point self.old.plant.running.engine self.old.plant.running.seats
+            (kept S.Store self.old.plant.journal) self.old.answered)
+            (point self.new.plant.running.engine self.new.plant.running.seats
+            (kept S.Store self.new.plant.journal) self.new.answered)) }
     {
-        for _ in 0..MAX_RELEASES {
-            if self.engine().shelved() == 0 {
-                return Ok(());
-            }
-            self.act(alloc, Turn::Release)?;
-            self.answer_queue(alloc, console)?;
+        self.plant.recover(alloc)?;
+        match self.plant.drive(alloc, &[Turn::Write(None)]) {
+            Ok(_) => Ok(()),
+            Err(fault) => Err(ServeError::from(fault.cause)),
         }
-        Ok(())
     }
 
     // Runs all that waits in the queue.
     fn answer_queue<O: Write, E: Write>(
         &mut self,
         alloc: Global,
-        console: &mut Console<'_, O, E>,
+        out: &mut O,
+        told: &mut Told<'_, E>,
     ) -> Result<(), ServeError>
-        requires fresh { IsFresh self.old.first_id self.old.answered }
-        ensures still_fresh { IsFresh self.new.first_id self.new.answered }
+        requires written { IsAllWritten self.old.plant.running.engine }
+        ensures serves { OnOk result (Serves []
+            (point self.old.plant.running.engine self.old.plant.running.seats
+            (kept S.Store self.old.plant.journal) self.old.answered)
+            (O.contents out.old)
+            (point self.new.plant.running.engine self.new.plant.running.seats
+            (kept S.Store self.new.plant.journal) self.new.answered)
+            (O.contents out.new)) }
     {
         for _ in 0..self.engine().queued() {
-            self.serve_next(alloc)?;
-            self.give_response(alloc, console)?;
+            self.answer_next(alloc, out, told)?;
         }
         Ok(())
     }
 
+    // Moves the shelf to the queue and runs what waits there, until nothing is on the shelf.
+    fn drain<O: Write, E: Write>(
+        &mut self,
+        alloc: Global,
+        out: &mut O,
+        told: &mut Told<'_, E>,
+    ) -> Result<(), ServeError>
+        requires written { IsAllWritten self.old.plant.running.engine }
+        ensures serves { OnOk result (Serves []
+            (point self.old.plant.running.engine self.old.plant.running.seats
+            (kept S.Store self.old.plant.journal) self.old.answered)
+            (O.contents out.old)
+            (point self.new.plant.running.engine self.new.plant.running.seats
+            (kept S.Store self.new.plant.journal) self.new.answered)
+            (O.contents out.new)) }
+    {
+        for _ in 0..MAX_RELEASES {
+            if self.engine().shelved() == 0 {
+                return Ok(());
+            }
+            self.act(alloc, Turn::Release)?;
+            self.answer_queue(alloc, out, told)?;
+        }
+        Err(ServeError::Endless)
+    }
+
+    // Answers the requests of an input and what is on the shelf, and sends the stored advices.
     fn serve_to_end<L: Link, R: Read + Drop, O: Write, E: Write>(
         &mut self,
         alloc: Global,
         sender: &mut Sender<L>,
         input: R,
-        console: &mut Console<'_, O, E>,
-    ) -> Result<(), ServeError>
-        requires fresh { IsFresh self.old.first_id self.old.answered }
-        ensures still_fresh { IsFresh self.new.first_id self.new.answered }
+        out: &mut O,
+        told: &mut Told<'_, E>,
+    ) -> Result<StreamEnd, ServeError>
+        requires written { IsAllWritten self.old.plant.running.engine }
     {
         let mut input = input;
         let mut requests = Requests::new(alloc);
-        let end = requests.serve_all(alloc, self, &mut input, console)?;
-        self.drain(alloc, console)?;
+        let end = requests.serve_all(alloc, self, &mut input, out, told)?;
+        self.drain(alloc, out, told)?;
         send_advices(alloc, self, sender)?;
-        end.into_result()
+        self.give(alloc, out)?;
+        Ok(end)
     }
+}
+
+// Prints the lines of all entries of the engine's history.
+fn print<O: Write>(alloc: Global, engine: &Engine, out: &mut O) -> Result<(), ServeError> {
+    write_lines(alloc, engine, out)?;
+    out.flush().map_err(WriteError::from)?;
+    Ok(())
 }
 
 /// What a run has besides its flow and its journal.
@@ -88,9 +135,9 @@ pub struct Setup {
 }
 
 /// Recovers what the journal has unfinished. Without an input the lines of that are printed, and that is all.
-/// Else it answers the requests of an input as they come, then what is on
-/// the shelf, and sends the stored advices. At the end, also where it ends early, the lines of the trace are
-/// written. Where the stream of frames is refused, what came before is answered, and all else is done.
+/// Else it answers the requests of an input as they come, then what is on the shelf, and sends the stored
+/// advices. At the end, also where it ends early, the lines of the trace are written. Where the stream of
+/// frames is refused, what came before is answered, and all else is done.
 ///
 /// The stations are made here and handed to nobody.
 pub fn run<S: Alter + Drop, R: Read + Drop, O: Write, E: Write>(
@@ -99,8 +146,9 @@ pub fn run<S: Alter + Drop, R: Read + Drop, O: Write, E: Write>(
     journal: Journal<S>,
     setup: Setup,
     input: Option<R>,
-    console: &mut Console<'_, O, E>,
-) -> Result<(), ServeError> {
+    out: &mut O,
+    told: &mut Told<'_, E>,
+) -> Result<StreamEnd, ServeError> {
     let Setup {
         book,
         queried,
@@ -134,9 +182,10 @@ pub fn run<S: Alter + Drop, R: Read + Drop, O: Write, E: Write>(
     };
     switch.recover(alloc)?;
     let Some(input) = input else {
-        return console.print(alloc, switch.engine());
+        print(alloc, switch.engine(), out)?;
+        return Ok(StreamEnd::Whole);
     };
-    let served = switch.serve_to_end(alloc, &mut sender, input, console);
-    console.trace(alloc, switch.engine())?;
+    let served = switch.serve_to_end(alloc, &mut sender, input, out, told);
+    told.trace(alloc, switch.engine())?;
     served
 }

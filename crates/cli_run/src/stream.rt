@@ -1,10 +1,15 @@
 //! The frames of a stream, answered as they come.
 
-ghost use Rattle.cli_run.specs.Answered.{IsFresh};
+ghost use Rattle.std.specs.Prelude.{OnOk, map};
+ghost use Rattle.sw_frame.specs.Feeds.{messages};
+ghost use Rattle.iso_codec.specs.Reads.{read};
+ghost use Rattle.tx_journal.specs.Kept.{kept};
+ghost use Rattle.cli_run.specs.Answered.{IsAllWritten, Serves, point};
+ghost use Rattle.cli_run.specs.Requests.{if_read, request_of, requests};
 
-use crate::console::Console;
 use crate::error::ServeError;
 use crate::switch::Switch;
+use crate::told::Told;
 use cli_io::ReadError;
 use iso_codec::{DecodeError, decode};
 use sqlite::Alter;
@@ -17,7 +22,7 @@ const PIECE: usize = 65_536;
 
 /// How a stream of frames ended. What came before is answered.
 #[derive(Debug, Drop)]
-pub(crate) enum StreamEnd {
+pub enum StreamEnd {
     /// Behind a whole frame, or before the first.
     Whole,
     /// Four bytes in a length's place were no digits.
@@ -29,7 +34,8 @@ pub(crate) enum StreamEnd {
 }
 
 impl StreamEnd {
-    pub(crate) fn into_result(self) -> Result<(), ServeError> {
+    /// An error where the stream was refused.
+    pub fn into_result(self) -> Result<(), ServeError> {
         match self {
             StreamEnd::Whole => Ok(()),
             StreamEnd::BadLength => Err(ServeError::BadLength),
@@ -46,33 +52,64 @@ pub(crate) struct Requests {
     count: u64,
 }
 
+// Answers a message; one that cannot be read is told by its number and passed over.
+fn serve<S: Alter, O: Write, E: Write>(
+    alloc: Global,
+    switch: &mut Switch<S>,
+    number: u64,
+    message: &[u8],
+    out: &mut O,
+    told: &mut Told<'_, E>,
+) -> Result<(), ServeError>
+    requires written { IsAllWritten switch.old.plant.running.engine }
+    ensures serves { OnOk result (Serves (map request_of (if_read (read message.now) message.now))
+        (point switch.old.plant.running.engine switch.old.plant.running.seats
+        (kept S.Store switch.old.plant.journal) switch.old.answered)
+        (O.contents out.old)
+        (point switch.new.plant.running.engine switch.new.plant.running.seats
+        (kept S.Store switch.new.plant.journal) switch.new.answered)
+        (O.contents out.new)) }
+{
+    match decode(alloc, message) {
+        Ok(_) => switch.answer(alloc, message, out, told),
+        Err(DecodeError::OutOfMemory) => Err(ServeError::OutOfMemory),
+        Err(error) => {
+            told.pass_over(number, &error);
+            Ok(())
+        }
+    }
+}
+
+// Answers messages, one after the other.
+fn serve_messages<S: Alter, O: Write, E: Write>(
+    alloc: Global,
+    switch: &mut Switch<S>,
+    count: &mut u64,
+    list: &[Vec<u8>],
+    out: &mut O,
+    told: &mut Told<'_, E>,
+) -> Result<(), ServeError>
+    requires written { IsAllWritten switch.old.plant.running.engine }
+    ensures serves { OnOk result (Serves (requests (messages list.now))
+        (point switch.old.plant.running.engine switch.old.plant.running.seats
+        (kept S.Store switch.old.plant.journal) switch.old.answered)
+        (O.contents out.old)
+        (point switch.new.plant.running.engine switch.new.plant.running.seats
+        (kept S.Store switch.new.plant.journal) switch.new.answered)
+        (O.contents out.new)) }
+{
+    for message in list {
+        *count = count.saturating_add(1);
+        serve(alloc, switch, *count, message, out, told)?;
+    }
+    Ok(())
+}
+
 impl Requests {
     pub(crate) fn new(alloc: Global) -> Requests {
         Requests {
             framer: Framer::new(alloc),
             count: 0,
-        }
-    }
-
-    // Answers a message; one that cannot be read is told and passed over.
-    fn serve<S: Alter, O: Write, E: Write>(
-        &mut self,
-        alloc: Global,
-        switch: &mut Switch<S>,
-        message: &[u8],
-        console: &mut Console<'_, O, E>,
-    ) -> Result<(), ServeError>
-        requires fresh { IsFresh switch.old.first_id switch.old.answered }
-        ensures still_fresh { IsFresh switch.new.first_id switch.new.answered }
-    {
-        self.count = self.count.saturating_add(1);
-        match decode(alloc, message) {
-            Ok(_) => switch.answer(alloc, message, console),
-            Err(DecodeError::OutOfMemory) => Err(ServeError::OutOfMemory),
-            Err(error) => {
-                console.pass_over(self.count, &error);
-                Ok(())
-            }
         }
     }
 
@@ -82,32 +119,52 @@ impl Requests {
         alloc: Global,
         switch: &mut Switch<S>,
         piece: &[u8],
-        console: &mut Console<'_, O, E>,
+        out: &mut O,
+        told: &mut Told<'_, E>,
     ) -> Result<(), ServeError>
-        requires fresh { IsFresh switch.old.first_id switch.old.answered }
-        ensures still_fresh { IsFresh switch.new.first_id switch.new.answered }
+        requires written { IsAllWritten switch.old.plant.running.engine }
+        ensures still_written { OnOk result (IsAllWritten switch.new.plant.running.engine) }
     {
-        let messages = match self.framer.feed(piece) {
-            Ok(messages) => messages,
-            Err(FrameError::OutOfMemory) => return Err(ServeError::OutOfMemory),
-            // The framer has failed, and says so.
-            Err(_) => return Ok(()),
-        };
-        for message in &messages {
-            self.serve(alloc, switch, message, console)?;
+        match self.framer.feed(piece) {
+            Ok(list) => serve_messages(alloc, switch, &mut self.count, &list, out, told),
+            Err(error) => stop_on_memory(&error),
         }
-        Ok(())
     }
 
-    // How the stream ended, at its end or where its framer has failed.
-    fn end(&self) -> StreamEnd {
+    // How the stream ended, where a read gave so many bytes last, if it did.
+    fn end_after(&self, count: usize) -> Option<StreamEnd> {
         if self.framer.failed() {
-            return StreamEnd::BadLength;
+            return Some(StreamEnd::BadLength);
+        }
+        if count > 0 {
+            return None;
         }
         match self.framer.pending().len() {
-            0 => StreamEnd::Whole,
-            bytes => StreamEnd::Truncated(bytes),
+            0 => Some(StreamEnd::Whole),
+            bytes => Some(StreamEnd::Truncated(bytes)),
         }
+    }
+
+    // Reads once, and answers the messages that are whole then. It tells how the stream ended, if it did.
+    fn serve_read<S: Alter, R: Read, O: Write, E: Write>(
+        &mut self,
+        alloc: Global,
+        switch: &mut Switch<S>,
+        input: &mut R,
+        buf: &mut [u8],
+        out: &mut O,
+        told: &mut Told<'_, E>,
+    ) -> Result<Option<StreamEnd>, ServeError>
+        requires written { IsAllWritten switch.old.plant.running.engine }
+        ensures still_written { OnOk result (IsAllWritten switch.new.plant.running.engine) }
+    {
+        let count = match input.read(buf) {
+            Ok(count) => count,
+            Err(error) if error.kind() == ErrorKind::Interrupted => return Ok(None),
+            Err(error) => return unread(error),
+        };
+        self.serve_piece(alloc, switch, &buf[..count], out, told)?;
+        Ok(self.end_after(count))
     }
 
     /// Answers all messages of an input, as they come.
@@ -116,32 +173,36 @@ impl Requests {
         alloc: Global,
         switch: &mut Switch<S>,
         input: &mut R,
-        console: &mut Console<'_, O, E>,
+        out: &mut O,
+        told: &mut Told<'_, E>,
     ) -> Result<StreamEnd, ServeError>
-        requires fresh { IsFresh switch.old.first_id switch.old.answered }
-        ensures still_fresh { IsFresh switch.new.first_id switch.new.answered }
+        requires written { IsAllWritten switch.old.plant.running.engine }
+        ensures still_written { OnOk result (IsAllWritten switch.new.plant.running.engine) }
     {
         let mut buf = vec![in alloc; 0u8; PIECE]?;
         // More reads than any run makes.
         for _ in 0..u64::MAX {
-            let count = match input.read(buf.as_mut_slice()) {
-                Ok(count) => count,
-                Err(error) if error.kind() == ErrorKind::Interrupted => continue,
-                Err(error) => return unread(error),
-            };
-            self.serve_piece(alloc, switch, &buf[..count], console)?;
-            if count == 0 || self.framer.failed() {
-                return Ok(self.end());
+            let end = self.serve_read(alloc, switch, input, buf.as_mut_slice(), out, told)?;
+            if let Some(end) = end {
+                return Ok(end);
             }
         }
-        Ok(self.end())
+        Ok(StreamEnd::Unread(ReadError::TooManyReads))
+    }
+}
+
+// Want of memory ends the run. At any other error the framer has failed, and says so.
+fn stop_on_memory(error: &FrameError) -> Result<(), ServeError> {
+    match error {
+        FrameError::OutOfMemory => Err(ServeError::OutOfMemory),
+        _ => Ok(()),
     }
 }
 
 // A read failed. Want of memory ends the run, any other error the stream.
-fn unread(error: io::Error) -> Result<StreamEnd, ServeError> {
+fn unread(error: io::Error) -> Result<Option<StreamEnd>, ServeError> {
     match ReadError::from(error) {
         ReadError::OutOfMemory => Err(ServeError::OutOfMemory),
-        other => Ok(StreamEnd::Unread(other)),
+        other => Ok(Some(StreamEnd::Unread(other))),
     }
 }

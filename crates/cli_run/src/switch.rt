@@ -1,18 +1,22 @@
 //! The plant of the switch, one transaction after the other.
 
-ghost use Rattle.cli_run.specs.Answered.{IsFresh};
+ghost use Rattle.std.specs.Prelude.{◌≡◌, ◌∷◌, [], OnOk};
+ghost use Rattle.tx_journal.specs.Kept.{kept};
+ghost use Rattle.cli_run.specs.Answered.{Acts, IsAllWritten, Serves, offer_of, point, unanswered};
+ghost use Rattle.cli_run.specs.Requests.{request_of};
 
-use crate::console::Console;
 use crate::error::ServeError;
+use crate::given::{last_above, text_above};
+use crate::told::Told;
+use cli_io::write_out;
 use flow_asm::Code;
 use sqlite::Alter;
 use std::alloc::Global;
 use std::io::Write;
 use sw_context::Context;
-use sw_participant::{Station, Text};
+use sw_participant::Text;
 use sw_seating::SeatingError;
 use tx_engine::Engine;
-use tx_journal::Journal;
 use tx_plant::{Outcome, Plant, PlantError, Turn};
 
 /// A history of so many entries is cut between two transactions: half of what it may have.
@@ -20,9 +24,6 @@ const MANY_ENTRIES: usize = 524_288;
 
 /// More steps than a transaction has: 1,000 answers and choices, then as many tolds.
 const MAX_STEPS: usize = 2_002;
-
-/// More releases than put anything on the shelf again: each takes one of at most 100 tries.
-pub(crate) const MAX_RELEASES: usize = 101;
 
 /// The plant of the switch over a journal, driven by session 0. After each of its calls all entries are
 /// written, unless it is refused.
@@ -61,16 +62,10 @@ pub(crate) fn cause_of(alloc: Global, code: &Code, error: PlantError) -> ServeEr
 }
 
 impl<S: Alter> Switch<S> {
-    /// Finishes what the journal has unfinished.
-    pub(crate) fn recover(&mut self, alloc: Global) -> Result<(), ServeError>
-        requires fresh { IsFresh self.old.first_id self.old.answered }
-        ensures still_fresh { IsFresh self.new.first_id self.new.answered }
-    {
-        Ok(self.plant.recover(alloc)?)
-    }
-
     /// Its engine.
-    pub(crate) fn engine(&self) -> &Engine {
+    pub(crate) fn engine(&self) -> &Engine
+        ensures { result.now ≡ self.now.plant.running.engine }
+    {
         self.plant.engine()
     }
 
@@ -81,8 +76,12 @@ impl<S: Alter> Switch<S> {
 
     /// Does a turn, and writes its entry.
     pub(crate) fn act(&mut self, alloc: Global, turn: Turn) -> Result<Outcome, ServeError>
-        requires fresh { IsFresh self.old.first_id self.old.answered }
-        ensures still_fresh { IsFresh self.new.first_id self.new.answered }
+        requires written { IsAllWritten self.old.plant.running.engine }
+        ensures acts { OnOk result (Acts (offer_of turn)
+            (point self.old.plant.running.engine self.old.plant.running.seats
+            (kept S.Store self.old.plant.journal) self.old.answered)
+            (point self.new.plant.running.engine self.new.plant.running.seats
+            (kept S.Store self.new.plant.journal) self.new.answered)) }
     {
         let turns = [turn, Turn::Write(None)];
         let outcomes = match self.plant.drive(alloc, &turns) {
@@ -92,27 +91,19 @@ impl<S: Alter> Switch<S> {
         match outcomes.into_iter().next() {
             Some(Outcome::Refused(error)) => Err(ServeError::from(error)),
             Some(outcome) => Ok(outcome),
-            None => Ok(Outcome::Idle),
+            None => unreachable!(),
         }
     }
 
-    // Runs the transaction of a request to its end.
-    fn serve(&mut self, alloc: Global, request: &[u8]) -> Result<(), ServeError>
-        requires fresh { IsFresh self.old.first_id self.old.answered }
-        ensures still_fresh { IsFresh self.new.first_id self.new.answered }
-    {
-        let mut context = Context::new(alloc);
-        if context.put("request", request).is_err() {
-            return Err(ServeError::OutOfMemory);
-        }
-        self.act(alloc, Turn::Offer(context))?;
-        self.serve_next(alloc)
-    }
-
-    /// Runs the transaction of the queue's first context to its end.
-    pub(crate) fn serve_next(&mut self, alloc: Global) -> Result<(), ServeError>
-        requires fresh { IsFresh self.old.first_id self.old.answered }
-        ensures still_fresh { IsFresh self.new.first_id self.new.answered }
+    // Runs the transaction of the queue's first context to its end.
+    fn serve_next(&mut self, alloc: Global) -> Result<(), ServeError>
+        requires written { IsAllWritten self.old.plant.running.engine }
+        ensures acts { OnOk result
+            (Acts []
+            (point self.old.plant.running.engine self.old.plant.running.seats
+            (kept S.Store self.old.plant.journal) self.old.answered)
+            (point self.new.plant.running.engine self.new.plant.running.seats
+            (kept S.Store self.new.plant.journal) self.new.answered)) }
     {
         self.act(alloc, Turn::Take(0))?;
         for _ in 0..MAX_STEPS {
@@ -120,44 +111,68 @@ impl<S: Alter> Switch<S> {
                 return Ok(());
             }
         }
-        Ok(())
+        Err(ServeError::Endless)
     }
 
-    /// Writes the response of the transaction that ended last, if it has one that was not given yet, and
-    /// cuts a long history.
-    pub(crate) fn give_response<O: Write, E: Write>(
-        &mut self,
-        alloc: Global,
-        console: &mut Console<'_, O, E>,
-    ) -> Result<(), ServeError>
-        requires fresh { IsFresh self.old.first_id self.old.answered }
-        ensures still_fresh { IsFresh self.new.first_id self.new.answered }
+    /// Writes the responses that were not given, those of transactions that ended since.
+    pub(crate) fn give<O: Write>(&mut self, alloc: Global, out: &mut O) -> Result<(), ServeError>
+        requires written { IsAllWritten self.old.plant.running.engine }
+        ensures serves { OnOk result (Serves []
+            (point self.old.plant.running.engine self.old.plant.running.seats
+            (kept S.Store self.old.plant.journal) self.old.answered)
+            (O.contents out.old)
+            (point self.new.plant.running.engine self.new.plant.running.seats
+            (kept S.Store self.new.plant.journal) self.new.answered)
+            (O.contents out.new)) }
+        ensures none_left { OnOk result (unanswered
+            (point self.new.plant.running.engine self.new.plant.running.seats
+            (kept S.Store self.new.plant.journal) self.new.answered) ≡ []) }
     {
-        if let Some((id, context)) = self.plant.ended().last_key_value() {
-            if *id > self.answered {
-                self.answered = *id;
-                if let Some(response) = context.get("response") {
-                    console.respond(alloc, response)?;
-                }
-            }
-        }
-        self.cut_long(alloc, console)
+        let text = text_above(alloc, self.plant.ended(), self.answered)?;
+        self.answered = last_above(self.plant.ended(), self.answered);
+        Ok(write_out(out, &text)?)
     }
 
-    // Cuts a long history, its lines written before.
-    fn cut_long<O: Write, E: Write>(
+    // Cuts a long history, its lines told before.
+    fn cut_long<E: Write>(
         &mut self,
         alloc: Global,
-        console: &mut Console<'_, O, E>,
+        told: &mut Told<'_, E>,
     ) -> Result<(), ServeError>
-        requires fresh { IsFresh self.old.first_id self.old.answered }
-        ensures still_fresh { IsFresh self.new.first_id self.new.answered }
+        requires written { IsAllWritten self.old.plant.running.engine }
+        ensures acts { OnOk result
+            (Acts []
+            (point self.old.plant.running.engine self.old.plant.running.seats
+            (kept S.Store self.old.plant.journal) self.old.answered)
+            (point self.new.plant.running.engine self.new.plant.running.seats
+            (kept S.Store self.new.plant.journal) self.new.answered)) }
     {
         if self.engine().history().len() >= MANY_ENTRIES {
-            console.trace(alloc, self.engine())?;
+            told.trace(alloc, self.engine())?;
             self.act(alloc, Turn::Cut)?;
         }
         Ok(())
+    }
+
+    /// Runs the transaction of the queue's first context to its end, and writes its response.
+    pub(crate) fn answer_next<O: Write, E: Write>(
+        &mut self,
+        alloc: Global,
+        out: &mut O,
+        told: &mut Told<'_, E>,
+    ) -> Result<(), ServeError>
+        requires written { IsAllWritten self.old.plant.running.engine }
+        ensures serves { OnOk result (Serves []
+            (point self.old.plant.running.engine self.old.plant.running.seats
+            (kept S.Store self.old.plant.journal) self.old.answered)
+            (O.contents out.old)
+            (point self.new.plant.running.engine self.new.plant.running.seats
+            (kept S.Store self.new.plant.journal) self.new.answered)
+            (O.contents out.new)) }
+    {
+        self.serve_next(alloc)?;
+        self.give(alloc, out)?;
+        self.cut_long(alloc, told)
     }
 
     /// Runs the transaction of a request to its end, and writes its response.
@@ -165,12 +180,23 @@ impl<S: Alter> Switch<S> {
         &mut self,
         alloc: Global,
         request: &[u8],
-        console: &mut Console<'_, O, E>,
+        out: &mut O,
+        told: &mut Told<'_, E>,
     ) -> Result<(), ServeError>
-        requires fresh { IsFresh self.old.first_id self.old.answered }
-        ensures still_fresh { IsFresh self.new.first_id self.new.answered }
+        requires written { IsAllWritten self.old.plant.running.engine }
+        ensures serves { OnOk result (Serves (request_of request.now ∷ [])
+            (point self.old.plant.running.engine self.old.plant.running.seats
+            (kept S.Store self.old.plant.journal) self.old.answered)
+            (O.contents out.old)
+            (point self.new.plant.running.engine self.new.plant.running.seats
+            (kept S.Store self.new.plant.journal) self.new.answered)
+            (O.contents out.new)) }
     {
-        self.serve(alloc, request)?;
-        self.give_response(alloc, console)
+        let mut context = Context::new(alloc);
+        let Ok(()) = context.put("request", request) else {
+            return Err(ServeError::OutOfMemory);
+        };
+        self.act(alloc, Turn::Offer(context))?;
+        self.answer_next(alloc, out, told)
     }
 }

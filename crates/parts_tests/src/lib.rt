@@ -1,7 +1,10 @@
-//! Tests of the multiplexer, the book and the participants of the switch that no subcommand of the program shows: each
-//! once on its happy path and at its refusals, with messages written out by hand.
+//! Tests of the multiplexer, the book and the participants of the switch that no subcommand of
+//! the program shows: each once on its happy path and at its refusals, with messages written out
+//! by hand.
 #![tactic(auto)]
 
+#[cfg(test)]
+mod advices;
 #[cfg(test)]
 mod books;
 #[cfg(test)]

@@ -1,5 +1,6 @@
 -- A book: what the cards have spent, and what is held for open transactions.
-use Rattle.std.specs.Prelude.{◌≡◌, ℕ, ◌+◌, ◌≤◌, Bool, true, false, ◌||◌, nat_lt, List, [], ◌∷◌, Option, Some, None, is_some, if◌then◌else◌}
+use Rattle.std.specs.Prelude.{◌≡◌, ℕ, ◌+◌, ◌≤◌, Bool, true, false, ◌||◌, nat_lt, List, [], ◌∷◌}
+use Rattle.std.specs.Prelude.{Option, Some, None, is_some, if◌then◌else◌}
 use Rattle.std.specs.Map.{lookup, remove_entry, set_value}
 use Rattle.std.specs.Ordering.{nat_cmp}
 use Rattle.std.specs.BTreeMap.{insert_entry, is_at}
@@ -12,7 +13,8 @@ use Rattle.sw_book.specs.declared.item.Totals.{Totals}
 use Rattle.sw_book.specs.declared.item.State.{State}
 use Rattle.sw_book.specs.declared.item.State.TheVariants.{Open, Used, Reversed}
 use Rattle.sw_book.specs.declared.error.BookError.{BookError}
-use Rattle.sw_book.specs.declared.error.BookError.TheVariants.{OutOfMemory, OverLimit, AmountTooLarge, Duplicate}
+use Rattle.sw_book.specs.declared.error.BookError.TheVariants.{OutOfMemory, OverLimit}
+use Rattle.sw_book.specs.declared.error.BookError.TheVariants.{AmountTooLarge, Duplicate}
 
 -- items under their ids, which rise
 abbrev pub Items : Type 0
@@ -50,7 +52,8 @@ held_of item = if is_open item.state then item.amount else 0
 -- the sum over the items of a card
 abbrev pub total : (Item → ℕ) → Card → Items → ℕ
 total weight card [] = 0
-total weight card (e ∷ es) = (if card_eq e.1.card card then weight e.1 else 0) + total weight card es
+total weight card (e ∷ es) =
+    (if card_eq e.1.card card then weight e.1 else 0) + total weight card es
 
 -- what a card has spent: the sum over its used items; what is held for it: over its open ones
 abbrev pub used : Card → Items → ℕ
@@ -83,7 +86,8 @@ abbrev pub without : ℕ → Items → Items
 without id items = remove_entry (is_at (nat_cmp id)) items
 
 abbrev pub in_state : State → Item → Item
-in_state state item = record { card = item.card; key = item.key; amount = item.amount; state = state }
+in_state state item =
+    record { card = item.card; key = item.key; amount = item.amount; state = state }
 
 abbrev pub has_open : Option Item → Bool
 has_open None = false
@@ -96,7 +100,8 @@ has_used (Some item) = is_used item.state
 -- settle: open to used
 abbrev pub settled_by : ℕ → Option Item → Items → Items
 settled_by id None items = items
-settled_by id (Some item) items = if is_open item.state then in_its_place id (in_state Used item) items else items
+settled_by id (Some item) items =
+    if is_open item.state then in_its_place id (in_state Used item) items else items
 
 abbrev pub settled : ℕ → Items → Items
 settled id items = settled_by id (item_at id items) items
@@ -111,7 +116,8 @@ released id items = if is_open_in id items then without id items else items
 -- reverse: used to reversed, and the key stays
 abbrev pub reversed_by : ℕ → Option Item → Items → Items
 reversed_by id None items = items
-reversed_by id (Some item) items = if is_used item.state then in_its_place id (in_state Reversed item) items else items
+reversed_by id (Some item) items =
+    if is_used item.state then in_its_place id (in_state Reversed item) items else items
 
 abbrev pub reversed_at : Option ℕ → Items → Items
 reversed_at None items = items
@@ -132,7 +138,8 @@ abbrev pub is_taken : ℕ → BookKey → Items → Bool
 is_taken id key items = is_some (item_at id items) || is_some (id_of key items)
 
 abbrev pub is_over : PlainBook → Card → ℕ → Bool
-is_over book card amount = nat_lt book.limit (used card book.items + reserved card book.items + amount)
+is_over book card amount =
+    nat_lt book.limit (used card book.items + reserved card book.items + amount)
 
 abbrev pub refusal : PlainBook → ℕ → Card → BookKey → ℕ → Option BookError
 refusal book id card key amount = first_of (

@@ -14,7 +14,8 @@ HaveOwnKeys (e ∷ es) = (id_of e.1.key es ≡ None) × HaveOwnKeys es
 abbrev pub one : Item → ℕ
 one item = 1
 
-pub record IsBook (limit : ℕ) (items : Items) (ids : BookKey → Option ℕ) (totals : Card → Option Totals) : Type 0 where
+pub record IsBook (limit : ℕ) (items : Items)
+    (ids : BookKey → Option ℕ) (totals : Card → Option Totals) : Type 0 where
   pub small : limit ≤ 999999999999999
   pub own : HaveOwnKeys items
   pub found : (key : BookKey) → ids key ≡ id_of key items

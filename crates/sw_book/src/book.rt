@@ -1,13 +1,17 @@
 //! The items of all cards.
 
-ghost use Rattle.std.specs.Prelude.{◌≡◌, ◌+◌, ◌<◌, ◌≤◌, None, [], nat_eq, IfOk, OnOk, OnErr, IfErr, IsOk, IsSome, if◌then◌else◌};
+ghost use Rattle.std.specs.Prelude.{◌≡◌, ◌+◌, ◌<◌, ◌≤◌, None, [], nat_eq, if◌then◌else◌};
+ghost use Rattle.std.specs.Prelude.{IfOk, OnOk, OnErr, IfErr, IsOk, IsSome};
 ghost use Rattle.std.specs.Map.{set_value};
 ghost use Rattle.std.specs.HashMap.{get, spare};
 ghost use Rattle.sw_book.specs.declared.item.BookKey.{BookKey};
 ghost use Rattle.sw_book.specs.declared.item.Card.{Card};
 ghost use Rattle.sw_book.specs.declared.item.State.TheVariants.{Open};
 ghost use Rattle.sw_book.specs.declared.error.BookError.TheVariants.{BadLimit};
-ghost use Rattle.sw_book.specs.Items.{used, reserved, key_eq, card_eq, is_open_in, is_used_in, item_at, with_item, in_its_place, settled, released, reversed, refusal, IsRefusal, totals_in, IsWithinLimit, with_items};
+ghost use Rattle.sw_book.specs.Items.{used, reserved, key_eq, card_eq, is_open_in, is_used_in};
+ghost use Rattle.sw_book.specs.Items.{item_at, with_item, with_items, in_its_place};
+ghost use Rattle.sw_book.specs.Items.{settled, released, reversed};
+ghost use Rattle.sw_book.specs.Items.{refusal, IsRefusal, totals_in, IsWithinLimit};
 
 use crate::error::BookError;
 use crate::item::{BookKey, Card, Item, State, Totals};
@@ -21,8 +25,8 @@ const MOST_LIMIT: u64 = 999_999_999_999_999;
 /// The greatest amount: the 12 digits of field 4.
 const MOST_AMOUNT: u64 = 999_999_999_999;
 
-/// The items of all cards, under one limit that holds for each card. Contracts see the limit, and the
-/// items under their ids, which rise.
+/// The items of all cards, under one limit that holds for each card. Contracts see the limit, and
+/// the items under their ids, which rise.
 #[derive(Drop)]
 pub struct Book {
     limit: u64,
@@ -40,12 +44,13 @@ impl Model for Book {
 
     ghost view = { λ b. record { limit = b.limit; items = b.items.entries } };
 
-    ghost invariant = { λ b. IsBook b.limit b.items.entries (get key_eq b.ids) (get card_eq b.totals) };
+    ghost invariant = { λ b.
+        IsBook b.limit b.items.entries (get key_eq b.ids) (get card_eq b.totals) };
 }
 
 impl Book {
-    /// A book without items. It takes no memory: `alloc` is where items will go. The only refusal is
-    /// `BadLimit`, of a limit over 999,999,999,999,999.
+    /// A book without items. It takes no memory: `alloc` is where items will go. The only refusal
+    /// is `BadLimit`, of a limit over 999,999,999,999,999.
     pub fn new(alloc: Global, limit: u64) -> Result<Book, BookError>
         ensures book { IfOk result (λ b. b ≡ record { limit = limit; items = [] }) }
         ensures accepted { limit ≤ 999999999999999 → IsOk result }
@@ -78,9 +83,9 @@ impl Book {
         totals_of(&self.totals, card).reserved
     }
 
-    /// Holds an amount of a card for a transaction, under the transaction's id and the request's key.
-    /// The refusals, in this order: `AmountTooLarge` over 999,999,999,999, `Duplicate`, `OverLimit`,
-    /// `OutOfMemory`.
+    /// Holds an amount of a card for a transaction, under the transaction's id and the request's
+    /// key. The refusals, in this order: `AmountTooLarge` over 999,999,999,999, `Duplicate`,
+    /// `OverLimit`, `OutOfMemory`.
     pub fn reserve(
         &mut self,
         id: u64,
@@ -155,7 +160,8 @@ impl Book {
         true
     }
 
-    /// What was held under the id is held no more. Answers whether it was held; it takes no memory.
+    /// What was held under the id is held no more. Answers whether it was held; it takes no
+    /// memory.
     pub fn release(&mut self, id: u64) -> bool
         ensures changed { result ≡ is_open_in id self.old.items }
         ensures released { self.new ≡ with_items self.old (released id self.old.items) }

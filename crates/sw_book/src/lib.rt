@@ -1,10 +1,10 @@
 //! What the cards have spent, and what is held for open transactions.
 //!
-//! A [`Book`] is a limit that holds for each card, and a list of items in rising order of their ids:
-//! an amount of a card under a key, which is open (held for a transaction that may commit), used, or
-//! reversed (spent and given back). Contracts see just that. Whatever calls were made, what a card has
-//! used and what is held for it together are never over the limit, and no key stands twice, that of
-//! a reversed item included.
+//! A [`Book`] is a limit that holds for each card, and a list of items in rising order of their
+//! ids: an amount of a card under a key, which is open (held for a transaction that may commit),
+//! used, or reversed (spent and given back). Contracts see just that. Whatever calls were made,
+//! what a card has used and what is held for it together are never over the limit, and no key
+//! stands twice, that of a reversed item included.
 //!
 //! - `Book::reserve` opens an item, or answers the first of its refusals and changes nothing.
 //! - `Book::settle` turns an open item into a used one, `Book::release` takes an open one out, and

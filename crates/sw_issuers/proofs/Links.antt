@@ -7,7 +7,7 @@ use Rattle.iso_codec.specs.Reads.{read}
 use Rattle.sw_mux.specs.Keys.{key}
 use Rattle.sw_parts.specs.declared.route.Routing.{Routing}
 use Rattle.sw_parts.specs.Queries.{Sending, Receiving}
-use Rattle.sw_parts.specs.Requests.{ok_of}
+use Rattle.sw_messages.specs.Requests.{ok_of}
 use Rattle.sw_parts.specs.Routes.{route_of}
 use Rattle.sw_issuers.specs.Delivery.{Delivers}
 use Rattle.sw_issuers.specs.declared.sender.GroupLink.{GroupLink}

@@ -1,31 +1,44 @@
 -- What the simulated issuer answers.
-use Rattle.std.specs.Prelude.{◌≡◌, ℕ, Bool, ◌||◌, List, [], ◌∷◌, ◌++◌, drop, Option, Some, None, option_map, slice_get, if◌then◌else◌, codes}
+use Rattle.std.specs.Prelude.{◌≡◌, ℕ, Bool, ◌||◌, List, [], ◌∷◌, ◌++◌, drop, slice_get, codes}
+use Rattle.std.specs.Prelude.{Option, Some, None, option_map, if◌then◌else◌}
 use Rattle.std.specs.Str.{bytes_eq}
 use Rattle.std.specs.Coded.{coded_bool, coded_ℕ, coded_list, coded×}
 use Rattle.iso_msg.specs.Messages.{PlainMessage, value_at}
 use Rattle.iso_codec.specs.Spelling.{spelling}
 use Rattle.sw_participant.specs.Shown.{shown}
-use Rattle.sw_parts.specs.Requests.{message_of}
-use Rattle.sw_parts.specs.Responses.{placed, copied}
+use Rattle.sw_messages.specs.Placing.{placed, copied}
+use Rattle.sw_messages.specs.Requests.{message_of, is_authorization}
 use Rattle.sw_issuers.specs.declared.verdict.Verdict.{Verdict}
 use Rattle.sw_issuers.specs.declared.verdict.Verdict.TheVariants.{Approved, Refused, Silent}
 
--- what a response has from its request: card number, processing code, amount, date and time, STAN, terminal, currency
+-- what a response has from its request: card number, processing code, amount, date and time,
+-- STAN, terminal, currency
 abbrev pub copied_numbers : List ℕ
 copied_numbers = 2 ∷ 3 ∷ 4 ∷ 7 ∷ 11 ∷ 41 ∷ 49 ∷ []
 
 -- a response of a type with a code
 abbrev pub response : List ℕ → List ℕ → PlainMessage → PlainMessage
-response mti code m = record { mti = mti; fields = placed 39 (Some code) (copied copied_numbers m.fields []) }
+response mti code m = record {
+  mti = mti;
+  fields = placed 39 (Some code) (copied copied_numbers m.fields []);
+}
 
 -- an approval: code 00, and the STAN as approval code
 abbrev pub approval : PlainMessage → PlainMessage
-approval m = record { mti = codes "0110"; fields = placed 38 (value_at 11 m.fields) (response (codes "0110") (codes "00") m).fields }
+approval m = record {
+  mti = codes "0110";
+  fields = placed 38 (value_at 11 m.fields) (response (codes "0110") (codes "00") m).fields;
+}
 
 -- by the last two digits of the amount
+abbrev pub is_refusal : List ℕ → Bool
+is_refusal ending =
+    bytes_eq ending (codes "05") || (bytes_eq ending (codes "51")
+    || (bytes_eq ending (codes "54") || bytes_eq ending (codes "61")))
+
 abbrev pub verdict_of : List ℕ → Verdict
 verdict_of ending =
-    if bytes_eq ending (codes "05") || (bytes_eq ending (codes "51") || (bytes_eq ending (codes "54") || bytes_eq ending (codes "61"))) then Refused
+    if is_refusal ending then Refused
     else if bytes_eq ending (codes "91") then Silent
     else Approved
 
@@ -40,11 +53,17 @@ authorized None m = Some (approval m)
 authorized (Some amount) m = judged (verdict_of (drop 10 amount)) (drop 10 amount) m
 
 -- the answer to a message, if it has one: advices are accepted, and other messages not answered
+abbrev pub is_authorization_advice : List ℕ → Bool
+is_authorization_advice mti = bytes_eq mti (codes "0120") || bytes_eq mti (codes "0121")
+
+abbrev pub is_reversal_advice : List ℕ → Bool
+is_reversal_advice mti = bytes_eq mti (codes "0420") || bytes_eq mti (codes "0421")
+
 abbrev pub answer_to : PlainMessage → Option PlainMessage
 answer_to m =
-    if bytes_eq m.mti (codes "0100") || bytes_eq m.mti (codes "0101") then authorized (value_at 4 m.fields) m
-    else if bytes_eq m.mti (codes "0120") || bytes_eq m.mti (codes "0121") then Some (response (codes "0130") (codes "00") m)
-    else if bytes_eq m.mti (codes "0420") || bytes_eq m.mti (codes "0421") then Some (response (codes "0430") (codes "00") m)
+    if is_authorization m.mti then authorized (value_at 4 m.fields) m
+    else if is_authorization_advice m.mti then Some (response (codes "0130") (codes "00") m)
+    else if is_reversal_advice m.mti then Some (response (codes "0430") (codes "00") m)
     else None
 
 abbrev pub answer_by : Option PlainMessage → Option (List ℕ)
@@ -63,14 +82,20 @@ with_answer (Some answer) waiting = waiting ++ answer ∷ []
 abbrev pub answered : Bool → List ℕ → List (List ℕ) → List (List ℕ)
 answered silent bytes waiting = if silent then waiting else with_answer (answer_of bytes) waiting
 
--- an issuer as a list of numbers: whether it is silent, and the answers that wait; no two are shown alike
+-- an issuer as a list of numbers: whether it is silent, and the answers that wait; no two are
+-- shown alike
 abbrev pub shown_issuer : Bool → List (List ℕ) → List ℕ
-shown_issuer silent waiting = shown (coded× coded_bool (coded_list (coded_list coded_ℕ))) (silent, waiting)
+shown_issuer silent waiting =
+    shown (coded× coded_bool (coded_list (coded_list coded_ℕ))) (silent, waiting)
 
 -- sending puts the answer behind those that wait
 abbrev pub Sends : List ℕ → List ℕ → List ℕ → Type 0
-Sends s bytes t = (silent : Bool) × (waiting : List (List ℕ)) × (s ≡ shown_issuer silent waiting) × (t ≡ shown_issuer silent (answered silent bytes waiting))
+Sends s bytes t = (silent : Bool) × (waiting : List (List ℕ))
+    × (s ≡ shown_issuer silent waiting)
+    × (t ≡ shown_issuer silent (answered silent bytes waiting))
 
 -- receiving takes the first of them, if there is one
 abbrev pub Receives : List ℕ → Option (List ℕ) → List ℕ → Type 0
-Receives s answer t = (silent : Bool) × (waiting : List (List ℕ)) × (s ≡ shown_issuer silent waiting) × (answer ≡ slice_get waiting 0) × (t ≡ shown_issuer silent (drop 1 waiting))
+Receives s answer t = (silent : Bool) × (waiting : List (List ℕ))
+    × (s ≡ shown_issuer silent waiting) × (answer ≡ slice_get waiting 0)
+    × (t ≡ shown_issuer silent (drop 1 waiting))

@@ -5,7 +5,7 @@ use Rattle.iso_msg.specs.Messages.{PlainMessage}
 use Rattle.sw_mux.specs.Keys.{key}
 use Rattle.sw_parts.specs.declared.route.Routing.{Routing}
 use Rattle.sw_parts.specs.Queries.{Sending, Receiving}
-use Rattle.sw_parts.specs.Requests.{message_of}
+use Rattle.sw_messages.specs.Requests.{message_of}
 use Rattle.sw_parts.specs.Routes.{route_of}
 use Rattle.sw_issuers.specs.declared.sender.GroupLink.{GroupLink}
 use Rattle.sw_issuers.specs.Delivery.{Delivers}
@@ -34,26 +34,36 @@ repeated _ advice = advice
 abbrev pub Delivering : Type 1
 Delivering = List ℕ → Bool → List ℕ → Type 0
 
-abbrev pub DeliversAt : Delivering → Bool → List ℕ × List ℕ → LinkStates → Bool → LinkStates → (LinkStates → Type 0) → Type 0
-DeliversAt D true l ls accepted ts later = (t : List ℕ) × D l.1 accepted t × (ts ≡ (l.0, t) ∷ ls)
+abbrev pub DeliversAt : Delivering → Bool → List ℕ × List ℕ → LinkStates
+    → Bool → LinkStates → (LinkStates → Type 0) → Type 0
+DeliversAt D true l ls accepted ts later =
+    (t : List ℕ) × D l.1 accepted t × (ts ≡ (l.0, t) ∷ ls)
 DeliversAt D false l ls accepted ts later = (us : LinkStates) × later us × (ts ≡ l ∷ us)
 
--- the first link of the group delivers, and the others stay as they are; without one nothing is sent
+-- the first link of the group delivers, and the others stay as they are; without one nothing is
+-- sent
 abbrev pub DeliversTo : Delivering → List ℕ → LinkStates → Bool → LinkStates → Type 0
 DeliversTo D group [] accepted ts = (accepted ≡ false) × (ts ≡ [])
-DeliversTo D group (l ∷ ls) accepted ts = DeliversAt D (bytes_eq l.0 group) l ls accepted ts (λ us. DeliversTo D group ls accepted us)
+DeliversTo D group (l ∷ ls) accepted ts =
+    DeliversAt D (bytes_eq l.0 group) l ls accepted ts (λ us. DeliversTo D group ls accepted us)
 
-abbrev pub SendsBy : Option Routing → Sending → Receiving → List ℕ → PlainMessage → PlainSender → Bool → PlainSender → Type 0
+-- the sender before, the answer, the sender after
+abbrev pub SenderStep : Type 1
+SenderStep = PlainSender → Bool → PlainSender → Type 0
+
+abbrev pub SendsBy : Option Routing → Sending → Receiving → List ℕ → PlainMessage → SenderStep
 SendsBy None sends receives bytes m s accepted t = (accepted ≡ false) × (t ≡ s)
 SendsBy (Some r) sends receives bytes m s accepted t =
-    DeliversTo (Delivers sends receives bytes (key m)) r.group s.links accepted t.links × (t.routes ≡ s.routes)
+    DeliversTo (Delivers sends receives bytes (key m)) r.group s.links accepted t.links
+    × (t.routes ≡ s.routes)
 
-abbrev pub SendsMessage : Option PlainMessage → Sending → Receiving → List ℕ → PlainSender → Bool → PlainSender → Type 0
+abbrev pub SendsMessage : Option PlainMessage → Sending → Receiving → List ℕ → SenderStep
 SendsMessage None sends receives bytes s accepted t = (accepted ≡ false) × (t ≡ s)
-SendsMessage (Some m) sends receives bytes s accepted t = SendsBy (route_of m s.routes) sends receives bytes m s accepted t
+SendsMessage (Some m) sends receives bytes s accepted t =
+    SendsBy (route_of m s.routes) sends receives bytes m s accepted t
 
--- an advice goes over the link of its card number's route: the advice, whether it is a repeat, the sender before, the
--- answer, the sender after
-abbrev pub SendsAdvice : Sending → Receiving → List ℕ → Bool → PlainSender → Bool → PlainSender → Type 0
+-- an advice goes over the link of its card number's route: the advice, whether it is a repeat,
+-- the sender before, the answer, the sender after
+abbrev pub SendsAdvice : Sending → Receiving → List ℕ → Bool → SenderStep
 SendsAdvice sends receives advice repeat s accepted t =
     SendsMessage (message_of (Some advice)) sends receives (repeated repeat advice) s accepted t

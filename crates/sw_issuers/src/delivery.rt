@@ -6,6 +6,7 @@ ghost use Rattle.sw_issuers.specs.Delivery.{is_accepted, Delivers};
 
 use iso_msg::Message;
 use std::alloc::Global;
+use sw_messages::is_approved;
 use sw_mux::{Mux, MuxError};
 use sw_participant::NoMemory;
 use sw_parts::{Link, hear};
@@ -16,15 +17,12 @@ fn is_accepted(response: &Option<Message>) -> bool
     let Some(message) = response else {
         return false;
     };
-    match message.get(39) {
-        Some(code) => code == b"00".as_slice(),
-        None => false,
-    }
+    is_approved(message.get(39))
 }
 
-/// Sends an advice, which these are the bytes of, over a link, and tells whether a response with its key and response
-/// code 00 came within eight messages. Want of memory before the message is sent is the only refusal, and changes
-/// nothing; after it want of memory counts as no response.
+/// Sends an advice, which these are the bytes of, over a link, and tells whether a response with
+/// its key and response code 00 came within eight messages. Want of memory before the message is
+/// sent is the only refusal, and changes nothing; after it want of memory counts as no response.
 pub fn deliver<L: Link>(
     alloc: Global,
     link: &mut L,

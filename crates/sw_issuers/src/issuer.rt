@@ -2,21 +2,24 @@
 
 ghost use Rattle.std.specs.Prelude.{◌≡◌, [], drop, length, IfOk};
 ghost use Rattle.iso_msg.specs.Messages.{IsMti, value_at};
-ghost use Rattle.sw_issuers.specs.Issuing.{response, approval, authorized, answer_to, answer_of, shown_issuer, Sends, Receives};
+ghost use Rattle.sw_issuers.specs.Issuing.{response, approval, authorized, answer_to, answer_of};
+ghost use Rattle.sw_issuers.specs.Issuing.{shown_issuer, Sends, Receives};
 
 use crate::verdict::{Verdict, verdict_of};
 use iso_codec::{DecodeError, decode, encode};
 use iso_msg::{Message, Mti};
 use std::alloc::Global;
 use std::collections::VecDeque;
+use sw_messages::{copy_fields, place};
 use sw_participant::{Bytes, NoMemory};
-use sw_parts::{Link, copy_fields, place};
+use sw_parts::Link;
 
 /// What a response has from its request.
 const COPIED: [u8; 7] = [2, 3, 4, 7, 11, 41, 49];
 
-/// A link to an issuer that is simulated. It decides an authorization by the last two digits of the amount, accepts
-/// every advice, and answers nothing else. A silent one answers nothing at all.
+/// A link to an issuer that is simulated. It decides an authorization by the last two digits of
+/// the amount, accepts every advice, and answers nothing else. A silent one answers nothing at
+/// all.
 #[derive(Drop)]
 pub struct Issuer {
     alloc: Global,
@@ -103,7 +106,8 @@ fn answer_of(alloc: Global, bytes: &[u8]) -> Result<Option<Bytes>, NoMemory>
 }
 
 impl Issuer {
-    /// An issuer with no answer that waits. It takes no memory: `alloc` is for the messages that it reads and writes.
+    /// An issuer with no answer that waits. It takes no memory: `alloc` is for the messages that
+    /// it reads and writes.
     pub fn new(alloc: Global, silent: bool) -> Issuer
         ensures { ⟦<Issuer as Link>⟧.state result ≡ shown_issuer silent [] }
     {

@@ -23,8 +23,8 @@ pub struct GroupLink<L: Link> {
     pub link: L,
 }
 
-/// Sends advices, each over the link of the group that the route of its card number names. Contracts see the routes,
-/// and each group with the state of its link.
+/// Sends advices, each over the link of the group that the route of its card number names.
+/// Contracts see the routes, and each group with the state of its link.
 #[derive(Drop)]
 pub struct Sender<L: Link> {
     alloc: Global,
@@ -44,7 +44,8 @@ impl<L: Link> Model for Sender<L> {
 }
 
 impl<L: Link> Sender<L> {
-    /// By these routes, over these links. It takes no memory: `alloc` is for the messages that it reads.
+    /// By these routes, over these links. It takes no memory: `alloc` is for the messages that it
+    /// reads.
     pub fn new(alloc: Global, routes: Sequence<Routing>, links: Vec<GroupLink<L>>) -> Sender<L>
         ensures { result ≡ record {
           routes = routes;
@@ -58,10 +59,11 @@ impl<L: Link> Sender<L> {
         }
     }
 
-    /// Sends an advice once, as a repeat where `repeat` says so (the last digit of its type is then 1), and tells
-    /// whether a response with its key and response code 00 came within eight messages. Bytes that are no message, a
-    /// card number without a route and a group without a link answer no, and nothing is sent. Want of memory before the
-    /// message is sent is the only refusal, and changes nothing; after it want of memory counts as no response.
+    /// Sends an advice once, as a repeat where `repeat` says so (the last digit of its type is
+    /// then 1), and tells whether a response with its key and response code 00 came within eight
+    /// messages. Bytes that are no message, a card number without a route and a group without a
+    /// link answer no, and nothing is sent. Want of memory before the message is sent is the only
+    /// refusal, and changes nothing; after it want of memory counts as no response.
     pub fn send(&mut self, advice: &[u8], repeat: bool) -> Result<bool, NoMemory>
         ensures sent { IfOk result (λ accepted.
             SendsAdvice L.sends L.receives advice.now repeat self.old accepted self.new) }
@@ -104,7 +106,8 @@ fn deliver_to<L: Link>(
         DeliversTo (Delivers L.sends L.receives bytes.now (key advice.now)) group.now
         (link_states L.state links.old.items) accepted
         (link_states L.state links.new.items)) }
-    ensures kept { OnErr result (link_states L.state links.new.items ≡ link_states L.state links.old.items) }
+    ensures kept { OnErr result
+        (link_states L.state links.new.items ≡ link_states L.state links.old.items) }
 {
     let mut index = 0;
     while index < links.len() {

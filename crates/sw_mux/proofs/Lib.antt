@@ -3,3 +3,4 @@ pub mod FieldLengths
 mod Numbers
 mod Due
 mod Refusing
+mod Times

@@ -26,7 +26,7 @@ back a b h = by (key_eq b a) refl
     by false e = e
     by true e = absurd (true≢false (sym (same_key a) ∙ ap (λ z. key_eq a z) (sym (one_key b a e)) ∙ h))
 
-rise_reaches : (low next : ℕ) (es : Numbered) → Rise low es next → low ≤ next
+pub rise_reaches : (low next : ℕ) (es : Numbered) → Rise low es next → low ≤ next
 rise_reaches low next [] r = r
 rise_reaches low next (e ∷ es) r = omega (arith, r.0, rise_reaches (e.0 + 1) next es r.1)
 

@@ -1,5 +1,6 @@
 -- The key of a message: what its request and its response have in common.
-use Rattle.std.specs.Prelude.{ℕ, ◌-◌, ◌==◌, List, [], ◌∷◌, ◌++◌, length, take, reverse, replicate, Option, Some, None, if◌then◌else◌, slice_index}
+use Rattle.std.specs.Prelude.{ℕ, ◌-◌, ◌==◌, List, [], ◌∷◌, ◌++◌, length, take, reverse, replicate}
+use Rattle.std.specs.Prelude.{Option, Some, None, if◌then◌else◌, slice_index}
 use Rattle.iso_msg.specs.Messages.{PlainMessage, value_at}
 
 -- the third digit of a message type, a response read as its request: 1 as 0, 3 as 2, 5 as 4
@@ -25,7 +26,8 @@ padded places text = replicate (places - length text) 48 ++ text
 
 -- the key by its parts: type, terminal, STAN
 abbrev pub key_by : List ℕ → List ℕ → List ℕ → List ℕ
-key_by mti terminal stan = take 2 mti ++ request_digit (slice_index mti 2) ∷ padded 16 (trimmed terminal) ++ stan
+key_by mti terminal stan =
+    take 2 mti ++ request_digit (slice_index mti 2) ∷ padded 16 (trimmed terminal) ++ stan
 
 -- field 41 is the terminal, field 11 the STAN; a message without one of them has no key
 abbrev pub key_with : List ℕ → Option (List ℕ) → Option (List ℕ) → Option (List ℕ)

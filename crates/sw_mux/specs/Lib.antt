@@ -2,3 +2,4 @@ pub mod Keys
 pub mod Waiting
 pub mod Outcomes
 pub mod Numbered
+pub mod Times

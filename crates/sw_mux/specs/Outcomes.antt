@@ -8,5 +8,6 @@ use Rattle.sw_mux.specs.Waiting.{Waiting, waits, without, answers}
 
 -- Matched exactly where the message's key waits, which then waits no more; the message comes back
 abbrev pub Answers : PlainMessage → Waiting → Outcome → Waiting → Type 0
-Answers m es (Matched k n) fs = (n ≡ m) × (key m ≡ Some k.bytes) × (waits k.bytes es ≡ true) × (fs ≡ without k.bytes es)
+Answers m es (Matched k n) fs =
+    (n ≡ m) × (key m ≡ Some k.bytes) × (waits k.bytes es ≡ true) × (fs ≡ without k.bytes es)
 Answers m es (Unhandled n) fs = (n ≡ m) × (answers (key m) es ≡ false) × (fs ≡ es)

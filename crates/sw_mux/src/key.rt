@@ -1,7 +1,8 @@
 //! What a request and its response have in common.
 
 ghost use Rattle.std.specs.Prelude.{◌≡◌, ◌≤◌, length, option_map};
-ghost use Rattle.sw_mux.specs.Keys.{key as key_in, request_digit, unspaced, unspaced_end, trimmed, key_by};
+ghost use Rattle.sw_mux.specs.Keys.{key as key_in, key_by, request_digit};
+ghost use Rattle.sw_mux.specs.Keys.{unspaced, unspaced_end, trimmed};
 
 use iso_msg::Message;
 
@@ -11,9 +12,9 @@ const TERMINAL: u8 = 41;
 /// Field 11, the system trace audit number (STAN).
 const STAN: u8 = 11;
 
-/// What a request and its response have in common, in 25 bytes: the first two digits of the message
-/// type, the third as a request has it, the terminal in 16 places, the STAN in 6 (jPOS: the key that
-/// `QMUX` builds of MTI, field 41 and field 11).
+/// What a request and its response have in common, in 25 bytes: the first two digits of the
+/// message type, the third as a request has it, the terminal in 16 places, the STAN in 6 (jPOS:
+/// the key that `QMUX` builds of MTI, field 41 and field 11).
 #[derive(Clone, Copy, Debug, PartialEq, Eq, Hash)]
 pub struct Key {
     /// The 25 bytes.

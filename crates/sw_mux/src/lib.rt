@@ -1,11 +1,13 @@
 //! Which request a response answers (jPOS: `QMUX`).
 //!
-//! A [`Mux`] holds the requests that wait for a response, each under the [`Key`] of its message and
-//! with a deadline. Contracts see it as the list of keys with deadlines, in order of request:
+//! A [`Mux`] holds the requests that wait for a response, each under the [`Key`] of its message
+//! and with a deadline. Contracts see it as the list of keys with deadlines, in order of request:
 //!
 //! - `Mux::request` puts a key last, or refuses a message that has no key or whose key waits.
-//! - `Mux::response` answers `Matched` exactly where the key of the message waits, and takes it out.
-//! - `Mux::expire` takes out exactly the keys whose deadline has come, `Mux::withdraw` the one named.
+//! - `Mux::response` answers `Matched` exactly where the key of the message waits, and takes it
+//!   out.
+//! - `Mux::expire` takes out exactly the keys whose deadline has come, `Mux::withdraw` the one
+//!   named.
 //!
 //! A request and its response cost the same however many requests wait.
 #![tactic(auto)]

@@ -1,11 +1,17 @@
 //! The requests that wait for a response.
 
-ghost use Rattle.std.specs.Prelude.{◌≡◌, ◌<◌, ◌++◌, ◌∷◌, [], Some, None, false, length, IfOk, OnOk, OnErr, IfErr};
+ghost use Rattle.std.specs.Prelude.{◌≡◌, ◌<◌, ◌++◌, ◌∷◌, [], Some, None, false, length};
+ghost use Rattle.std.specs.Prelude.{map, IfOk, OnOk, OnErr, IfErr};
+ghost use Rattle.std.specs.BTreeMap.{IsFromIterResult};
 ghost use Rattle.std.specs.HashMap.{get, spare};
+ghost use Rattle.std.specs.Map.{values_of};
+ghost use Rattle.std.specs.Ordering.{nat_cmp};
 ghost use Rattle.sw_mux.specs.declared.key.Key.{Key};
 ghost use Rattle.sw_mux.specs.Keys.{key};
 ghost use Rattle.sw_mux.specs.Numbered.{key_eq};
-ghost use Rattle.sw_mux.specs.Waiting.{waits, without, without_all, due, later, refusal, IsRefusal};
+ghost use Rattle.sw_mux.specs.Times.{by_number, until, AreUntil};
+ghost use Rattle.sw_mux.specs.Waiting.{waits, without, without_all, due, later};
+ghost use Rattle.sw_mux.specs.Waiting.{refusal, IsRefusal};
 ghost use Rattle.sw_mux.specs.Outcomes.{Answers};
 
 use crate::error::MuxError;
@@ -30,25 +36,29 @@ pub enum Outcome {
 /// transaction; `expire` compares it and nothing else reads it.
 #[derive(Drop)]
 pub struct Mux {
-    // The requests by number, the oldest first, and the number of each key: neither a response nor a
-    // withdrawal moves what stands behind.
+    // The requests by number, the oldest first, and the number of each key: neither a response nor
+    // a withdrawal moves what stands behind. The keys by deadline and number: what is not due is
+    // not looked at.
     requests: BTreeMap<u64, (Key, u64)>,
     numbers: HashMap<Key, u64>,
+    deadlines: BTreeMap<(u64, u64), Key>,
     next: u64,
 }
 
 impl Model for Mux {
     ghost use Rattle.std.specs.Prelude.{ℕ, List};
     ghost use Rattle.std.specs.Map.{values_of};
+    ghost use Rattle.std.specs.BTreeMap.{get as key_at};
     ghost use Rattle.std.specs.HashMap.{get};
     ghost use Rattle.sw_mux.specs.Waiting.{Waiting};
-    ghost use Rattle.sw_mux.specs.Numbered.{IsNumbered, key_eq};
+    ghost use Rattle.sw_mux.specs.Numbered.{IsNumbered, key_eq, pair_cmp};
 
     ghost Value = { Waiting };
 
     ghost view = { λ m. values_of m.requests.entries };
 
-    ghost invariant = { λ m. IsNumbered m.requests.entries (get key_eq m.numbers) m.next };
+    ghost invariant = { λ m. IsNumbered
+        m.requests.entries (get key_eq m.numbers) (key_at pair_cmp m.deadlines) m.next };
 }
 
 impl Mux {
@@ -59,6 +69,7 @@ impl Mux {
         Mux {
             requests: BTreeMap::new(alloc),
             numbers: HashMap::new(alloc),
+            deadlines: BTreeMap::new(alloc),
             next: 0,
         }
     }
@@ -70,8 +81,9 @@ impl Mux {
         self.requests.len()
     }
 
-    /// Lets a request wait, last of all, and answers its key. The refusals, in this order: `NoKey` of
-    /// a message without field 41 or field 11, `DuplicateKey` where the key waits, `OutOfMemory`.
+    /// Lets a request wait, last of all, and answers its key. The refusals, in this order:
+    /// `NoKey` of a message without field 41 or field 11, `DuplicateKey` where the key waits,
+    /// `OutOfMemory`.
     pub fn request(&mut self, message: &Message, deadline: u64) -> Result<Key, MuxError>
         ensures key { IfOk result (λ k. Some k.bytes ≡ key message.now) }
         ensures waits { IfOk result (λ k. self.new ≡ self.old ++ (k, deadline) ∷ []) }
@@ -92,7 +104,11 @@ impl Mux {
         if room(&mut self.numbers).is_err() {
             return Err(MuxError::OutOfMemory);
         }
+        let Ok(_none) = self.deadlines.insert((deadline, self.next), key) else {
+            return Err(MuxError::OutOfMemory);
+        };
         let Ok(_none) = self.requests.insert(self.next, (key, deadline)) else {
+            let _ = self.deadlines.remove(&(deadline, self.next));
             return Err(MuxError::OutOfMemory);
         };
         let Ok(_none) = self.numbers.insert(key, self.next) else {
@@ -111,13 +127,16 @@ impl Mux {
         let Some(number) = self.numbers.remove(key) else {
             return false;
         };
-        let _ = self.requests.remove(&number);
+        let Some((_, deadline)) = self.requests.remove(&number) else {
+            unreachable!()
+        };
+        let _ = self.deadlines.remove(&(deadline, number));
         true
     }
 
-    /// Takes a message from the other side: `Matched` exactly where its key waits, which then waits no
-    /// more; a second response with the key is `Unhandled`. It takes no memory. A message of a
-    /// request's type has the request's own key, and is matched too.
+    /// Takes a message from the other side: `Matched` exactly where its key waits, which then
+    /// waits no more; a second response with the key is `Unhandled`. It takes no memory. A
+    /// message of a request's type has the request's own key, and is matched too.
     pub fn response(&mut self, message: Message) -> Outcome
         ensures { Answers message self.old result self.new }
     {
@@ -137,8 +156,8 @@ impl Mux {
         let _ = self.take(key);
     }
 
-    /// Takes out the keys with a deadline of at most `tick`, and answers them in order of request. The
-    /// only refusal is want of memory, after which all wait as before.
+    /// Takes out the keys with a deadline of at most `tick`, and answers them in order of
+    /// request. The only refusal is want of memory, after which all wait as before.
     pub fn expire(&mut self, alloc: Global, tick: u64) -> Result<Vec<Key>, AllocError>
         ensures due { IfOk result (λ ks. ks.items ≡ due tick self.old) }
         ensures later { OnOk result (self.new ≡ later tick self.old) }
@@ -151,18 +170,37 @@ impl Mux {
         Ok(keys)
     }
 
-    // The keys with a deadline of at most `tick`, in order of request. No key waits twice, so taking
-    // these out leaves the others.
+    // The keys with a deadline of at most `tick`, in order of request. No key waits twice, so
+    // taking these out leaves the others.
     fn due(&self, alloc: Global, tick: u64) -> Result<Vec<Key>, AllocError>
         ensures due { IfOk result (λ ks. ks.items ≡ due tick self.now) }
         ensures others { without_all (due tick self.now) self.now ≡ later tick self.now }
     {
-        self.requests
-            .values()
-            .filter(|(_, deadline)| *deadline <= tick)
-            .map(|(key, _)| *key)
-            .collect(alloc)
+        let by_number = due_by_number(alloc, &self.deadlines, tick)?;
+        keys_of(alloc, &by_number)
     }
+}
+
+fn keys_of(alloc: Global, by_number: &BTreeMap<u64, Key>) -> Result<Vec<Key>, AllocError>
+    ensures { IfOk result (λ keys. keys.items ≡ values_of by_number.now.entries) }
+{
+    by_number.values().copied().collect(alloc)
+}
+
+// The keys with a deadline of at most `tick`, by number. What is due later is not looked at.
+fn due_by_number(
+    alloc: Global,
+    deadlines: &BTreeMap<(u64, u64), Key>,
+    tick: u64,
+) -> Result<BTreeMap<u64, Key>, AllocError>
+    ensures made { IfOk result (λ found.
+        IsFromIterResult nat_cmp (map by_number (until tick deadlines.now.entries)) found) }
+    ensures until { AreUntil tick deadlines.now }
+{
+    deadlines
+        .range(..=(tick, u64::MAX))
+        .map(|((_, number), key)| (*number, *key))
+        .collect(alloc)
 }
 
 // Room for one more key, so that putting it cannot be refused.

@@ -1,41 +1,8 @@
 -- What was heard.
--- for: query::hear, query::answer_in
-use Rattle.std.proofs.Common.{◌≡◌, ℕ, zero, suc, ◌+◌, ◌-◌, ◌<◌, Bool, true, false, cond, List, [], ◌∷◌, Option, Some, None, is_some, Ok, Err, refl, sym, ap, subst, ◌∙◌, inl, inr, arith}
-use Rattle.std.specs.Str.{bytes_eq}
+-- for: query::hear
+use Rattle.std.proofs.Common.{◌≡◌, ℕ, zero, suc, ◌+◌, ◌-◌, ◌<◌, List, Option, Some, None, refl, subst, inl, inr, arith}
 use Rattle.iso_msg.specs.Messages.{PlainMessage}
-use Rattle.iso_codec.specs.Reads.{read}
-use Rattle.iso_codec.specs.declared.error.DecodeError.{DecodeError}
-use Rattle.sw_mux.specs.Keys.{key}
-use Rattle.sw_mux.specs.Waiting.{waits, answers}
-use Rattle.sw_mux.specs.declared.key.Key.{Key}
-use Rattle.sw_parts.specs.Requests.{ok_of}
-use Rattle.sw_parts.specs.Queries.{Receiving, Hears, Came, Taken, answer_in, with_key, has_key}
-
--- whether the one key that waits is a message's
-one_waits : (j k : Key) (d : ℕ) → waits j.bytes ((k, d) ∷ []) ≡ bytes_eq k.bytes j.bytes
-one_waits j k d = by (bytes_eq k.bytes j.bytes)
-  where
-    by : (b : Bool) → is_some (cond b (Some d) None) ≡ b
-    by true = refl
-    by false = refl
-
-pub matched : (bytes : List ℕ) (m : PlainMessage) (j k : Key) (d : ℕ) → read bytes ≡ Ok m → key m ≡ Some j.bytes → waits j.bytes ((k, d) ∷ []) ≡ true → answer_in k.bytes bytes ≡ Some m
-matched bytes m j k d is has w =
-    ap (λ z. with_key k.bytes (ok_of z)) is
-    ∙ ap (λ z. cond (has_key k.bytes z) (Some m) None) has
-    ∙ ap (λ b. cond b (Some m) None) (sym (one_waits j k d) ∙ w)
-
-pub unmatched : (bytes : List ℕ) (m : PlainMessage) (k : Key) (d : ℕ) → read bytes ≡ Ok m → answers (key m) ((k, d) ∷ []) ≡ false → answer_in k.bytes bytes ≡ None
-unmatched bytes m k d is w = ap (λ z. with_key k.bytes (ok_of z)) is ∙ ap (λ b. cond b (Some m) None) (by (key m) w)
-  where
-    by : (o : Option (List ℕ)) → answers o ((k, d) ∷ []) ≡ false → has_key k.bytes o ≡ false
-    by None h = refl
-    by (Some j) h = sym (one_waits (record { bytes = j }) k d) ∙ h
-
-pub unread : (bytes k : List ℕ) (e : DecodeError) → read bytes ≡ Err e → answer_in k bytes ≡ None
-unread bytes k e is = ap (λ z. with_key k (ok_of z)) is
-
--- one receive after the other
+use Rattle.sw_parts.specs.Queries.{Receiving, Hears, Came, Taken, answer_in}
 
 pub stop : (R : Receiving) (n : ℕ) (k s t : List ℕ) → t ≡ s → Hears R n k s None t
 stop R zero k s t e = (refl, e)

@@ -2,7 +2,7 @@
 -- for: limits::key_of
 use Rattle.std.proofs.Common.{◌≡◌, ℕ, List, [], ◌∷◌, ◌++◌, length, drop, refl, ap, subst, ◌∙◌, append-nil, length-append, arith}
 use Rattle.std.specs.Prelude.{replicate}
-use Rattle.sw_parts.specs.Holding.{put_at}
+use Rattle.sw_messages.specs.Placing.{put_at}
 
 pub put_next : (xs r ys : List ℕ) → put_at (length xs) ys (xs ++ r) ≡ (xs ++ ys) ++ drop (length ys) r
 put_next [] r ys = refl

@@ -1,7 +1,8 @@
-pub mod Requests
 pub mod Quiet
 pub mod Checks
+pub mod Asking
 pub mod Holding
+pub mod ShownBooks
 pub mod Responses
 pub mod Queries
 pub mod Reversals

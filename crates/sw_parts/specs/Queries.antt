@@ -1,15 +1,17 @@
--- What is said of a link whose answers are not known: each send and each receive meets the link's own relation.
-use Rattle.std.specs.Prelude.{◌≡◌, ◌⊎◌, ℕ, zero, suc, Bool, false, List, [], Option, Some, None, if◌then◌else◌, codes}
+-- What is said of a link whose answers are not known: each send and each receive meets the link's
+-- own relation.
+use Rattle.std.specs.Prelude.{◌≡◌, ◌⊎◌, ℕ, zero, suc, Bool, false, List, [], Option, Some, None}
+use Rattle.std.specs.Prelude.{if◌then◌else◌, codes}
 use Rattle.std.specs.Str.{bytes_eq}
 use Rattle.iso_msg.specs.Messages.{PlainMessage, value_at}
 use Rattle.iso_codec.specs.Reads.{read}
 use Rattle.sw_context.specs.Pairs.{Pairs, find, without}
 use Rattle.sw_mux.specs.Keys.{key}
-use Rattle.sw_parts.specs.declared.class.Class.{Class}
-use Rattle.sw_parts.specs.declared.class.Class.TheVariants.{Authorization}
-use Rattle.sw_parts.specs.declared.response_code.ResponseCode.TheVariants.{SystemMalfunction}
+use Rattle.sw_messages.specs.declared.class.Class.{Class}
+use Rattle.sw_messages.specs.declared.class.Class.TheVariants.{Authorization}
+use Rattle.sw_messages.specs.declared.response_code.ResponseCode.TheVariants.{SystemMalfunction}
+use Rattle.sw_messages.specs.Requests.{request_in, ok_of, class_of, noted, coded, digits_of}
 use Rattle.sw_parts.specs.Quiet.{passes, refuses, leaves_notes}
-use Rattle.sw_parts.specs.Requests.{request_in, ok_of, class_of, noted, coded, digits_of}
 
 -- what a link may do, by its state before, the message, its state after
 abbrev pub Sending : Type 1
@@ -30,12 +32,14 @@ with_key k (Some m) = if has_key k (key m) then Some m else None
 abbrev pub answer_in : List ℕ → List ℕ → Option PlainMessage
 answer_in k bytes = with_key k (ok_of (read bytes))
 
--- one message came, and then what came after it, if it was not the answer; an answer may be lost for want of memory
+-- one message came, and then what came after it, if it was not the answer; an answer may be lost
+-- for want of memory
 abbrev pub Taken : Option PlainMessage → List ℕ → Option PlainMessage → List ℕ → Type 0 → Type 0
 Taken None u r t later = later
 Taken (Some m) u r t later = ((r ≡ Some m) ⊎ (r ≡ None)) × (t ≡ u)
 
-abbrev pub Came : List ℕ → Option (List ℕ) → List ℕ → Option PlainMessage → List ℕ → Type 0 → Type 0
+abbrev pub Came : List ℕ → Option (List ℕ)
+    → List ℕ → Option PlainMessage → List ℕ → Type 0 → Type 0
 Came k None u r t later = (r ≡ None) × (t ≡ u)
 Came k (Some bytes) u r t later = Taken (answer_in k bytes) u r t later
 
@@ -44,7 +48,8 @@ abbrev pub Hears : Receiving → ℕ → List ℕ → List ℕ → Option PlainM
 Hears receives zero k s r t = (r ≡ None) × (t ≡ s)
 Hears receives (suc n) k s r t =
     ((r ≡ None) × (t ≡ s))
-    ⊎ ((a : Option (List ℕ)) × (u : List ℕ) × receives s a u × Came k a u r t (Hears receives n k u r t))
+    ⊎ ((a : Option (List ℕ)) × (u : List ℕ)
+    × receives s a u × Came k a u r t (Hears receives n k u r t))
 
 -- the context as an answer leaves it: its 39, or 96 without one; its 38; and nothing is late
 abbrev pub or_code : Option (List ℕ) → List ℕ
@@ -56,7 +61,9 @@ noted_if None name x = x
 noted_if (Some value) name x = noted x name value
 
 abbrev pub answered : PlainMessage → Pairs → Pairs
-answered m x = without (codes "late") (noted_if (value_at 38 m.fields) (codes "auth") (noted x (codes "rc") (or_code (value_at 39 m.fields))))
+answered m x = without (codes "late")
+    (noted_if (value_at 38 m.fields) (codes "auth")
+    (noted x (codes "rc") (or_code (value_at 39 m.fields))))
 
 abbrev pub asking : Pairs → Pairs
 asking x = noted (noted x (codes "sent") (codes "1")) (codes "late") (codes "1")
@@ -64,32 +71,45 @@ asking x = noted (noted x (codes "sent") (codes "1")) (codes "late") (codes "1")
 abbrev pub approves : PlainMessage → Bool
 approves m = bytes_eq (or_code (value_at 39 m.fields)) (codes "00")
 
--- 0x41 is PREPARED and NO_JOIN: approved, or unknown; 0x40: refused. Without memory for it an answer is none.
+-- an approval, or unknown, leaves notes, and a refusal refuses; without memory for it an answer
+-- is none
 abbrev pub Ends : Option PlainMessage → Pairs → ℕ → Pairs → Type 0
 Ends None x byte y = (byte ≡ leaves_notes) × (y ≡ x)
-Ends (Some m) x byte y = ((byte ≡ (if approves m then leaves_notes else refuses)) × (y ≡ answered m x)) ⊎ ((byte ≡ leaves_notes) × (y ≡ x))
+Ends (Some m) x byte y =
+    ((byte ≡ (if approves m then leaves_notes else refuses)) × (y ≡ answered m x))
+    ⊎ ((byte ≡ leaves_notes) × (y ≡ x))
+
+-- a preparation over a link: the link's state and the context before, answer byte, state and
+-- context after
+abbrev pub LinkStep : Type 1
+LinkStep = List ℕ → Pairs → ℕ → List ℕ → Pairs → Type 0
 
 -- An authorization with a key is sent once, and an answer with its key is waited for.
-abbrev pub Asks : Sending → Receiving → List ℕ → List ℕ → List ℕ → Pairs → ℕ → List ℕ → Pairs → Type 0
+abbrev pub Asks : Sending → Receiving → List ℕ → List ℕ → LinkStep
 Asks sends receives bytes k s x byte t y =
-    (u : List ℕ) × (r : Option PlainMessage) × sends s bytes u × Hears receives 8 k u r t × Ends r (asking x) byte y
+    (u : List ℕ) × (r : Option PlainMessage)
+    × sends s bytes u × Hears receives 8 k u r t × Ends r (asking x) byte y
 
-abbrev pub AsksByKey : Option (List ℕ) → Sending → Receiving → List ℕ → List ℕ → Pairs → ℕ → List ℕ → Pairs → Type 0
-AsksByKey None sends receives bytes s x byte t y = (byte ≡ refuses) × (t ≡ s) × (y ≡ coded SystemMalfunction x)
+abbrev pub AsksByKey : Option (List ℕ) → Sending → Receiving → List ℕ → LinkStep
+AsksByKey None sends receives bytes s x byte t y =
+    (byte ≡ refuses) × (t ≡ s) × (y ≡ coded SystemMalfunction x)
 AsksByKey (Some k) sends receives bytes s x byte t y = Asks sends receives bytes k s x byte t y
 
-abbrev pub QueriesByClass : Option Class → PlainMessage → Sending → Receiving → List ℕ → List ℕ → Pairs → ℕ → List ℕ → Pairs → Type 0
-QueriesByClass (Some Authorization) m sends receives bytes s x byte t y = AsksByKey (key m) sends receives bytes s x byte t y
+abbrev pub QueriesByClass : Option Class → PlainMessage → Sending → Receiving → List ℕ → LinkStep
+QueriesByClass (Some Authorization) m sends receives bytes s x byte t y =
+    AsksByKey (key m) sends receives bytes s x byte t y
 QueriesByClass _ m sends receives bytes s x byte t y = (byte ≡ passes) × (t ≡ s) × (y ≡ x)
 
-abbrev pub QueriesBy : Option PlainMessage → Sending → Receiving → List ℕ → List ℕ → Pairs → ℕ → List ℕ → Pairs → Type 0
+abbrev pub QueriesBy : Option PlainMessage → Sending → Receiving → List ℕ → LinkStep
 QueriesBy None sends receives bytes s x byte t y = (byte ≡ passes) × (t ≡ s) × (y ≡ x)
-QueriesBy (Some m) sends receives bytes s x byte t y = QueriesByClass (class_of m.mti) m sends receives bytes s x byte t y
+QueriesBy (Some m) sends receives bytes s x byte t y =
+    QueriesByClass (class_of m.mti) m sends receives bytes s x byte t y
 
 abbrev pub bytes_in : Option (List ℕ) → List ℕ
 bytes_in None = []
 bytes_in (Some bytes) = bytes
 
--- query, as it prepares: the link's state and context before, answer byte, state and context after
-abbrev pub Queries : Sending → Receiving → List ℕ → Pairs → ℕ → List ℕ → Pairs → Type 0
-Queries sends receives s x byte t y = QueriesBy (request_in x) sends receives (bytes_in (find (codes "request") x)) s x byte t y
+-- query, as it prepares
+abbrev pub Queries : Sending → Receiving → LinkStep
+Queries sends receives s x byte t y =
+    QueriesBy (request_in x) sends receives (bytes_in (find (codes "request") x)) s x byte t y

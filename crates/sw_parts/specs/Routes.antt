@@ -1,28 +1,31 @@
 -- Which group of the flow asks the issuer of a card.
-use Rattle.std.specs.Prelude.{ℕ, nat_lt, nat_eq, List, [], ◌∷◌, length, Option, Some, None, is_none, if◌then◌else◌, codes, refl}
+use Rattle.std.specs.Prelude.{ℕ, nat_lt, nat_eq, List, [], ◌∷◌, length, codes, refl}
+use Rattle.std.specs.Prelude.{Option, Some, None, is_none, if◌then◌else◌}
 use Rattle.std.specs.Coded.{Coded, code_by, coded_ℕ, coded_list, coded×}
 use Rattle.std.specs.List.{starts_with}
 use Rattle.iso_msg.specs.Messages.{PlainMessage, value_at}
 use Rattle.sw_context.specs.Pairs.{Pairs, find}
 use Rattle.sw_participant.specs.Shown.{shown}
-use Rattle.sw_parts.specs.declared.class.Class.{Class}
-use Rattle.sw_parts.specs.declared.class.Class.TheVariants.{Authorization}
-use Rattle.sw_parts.specs.declared.response_code.ResponseCode.{ResponseCode}
-use Rattle.sw_parts.specs.declared.response_code.ResponseCode.TheVariants.{IssuerInoperative}
+use Rattle.sw_messages.specs.declared.class.Class.{Class}
+use Rattle.sw_messages.specs.declared.class.Class.TheVariants.{Authorization}
+use Rattle.sw_messages.specs.declared.response_code.ResponseCode.{ResponseCode}
+use Rattle.sw_messages.specs.declared.response_code.ResponseCode.TheVariants as rc
+use Rattle.sw_messages.specs.Requests.{request_in, class_of}
 use Rattle.sw_parts.specs.declared.route.Routing.{Routing}
 use Rattle.sw_parts.specs.Checks.{Decided}
-use Rattle.sw_parts.specs.Requests.{request_in, class_of}
 
 -- the one of two with the longer prefix, the first where they are equally long
 abbrev pub longer : Option Routing → Option Routing → Option Routing
 longer None later = later
 longer (Some r) None = Some r
-longer (Some r) (Some q) = if nat_lt (length r.prefix) (length q.prefix) then Some q else Some r
+longer (Some r) (Some q) =
+    if nat_lt (length r.prefix) (length q.prefix) then Some q else Some r
 
 abbrev pub if_prefix : List ℕ → Routing → Option Routing
 if_prefix card r = if starts_with nat_eq card r.prefix then Some r else None
 
--- of the routes whose prefix the card number begins with the one with the longest, the first of equally long ones
+-- of the routes whose prefix the card number begins with the one with the longest, the first of
+-- equally long ones
 abbrev pub route_for : List ℕ → List Routing → Option Routing
 route_for card [] = None
 route_for card (r ∷ rs) = longer (if_prefix card r) (route_for card rs)
@@ -37,7 +40,7 @@ route_of m rs = route_by (value_at 2 m.fields) rs
 
 -- an authorization without a route is refused
 abbrev pub unroutable : Option Routing → Option ResponseCode
-unroutable None = Some IssuerInoperative
+unroutable None = Some rc.IssuerInoperative
 unroutable (Some r) = None
 
 abbrev pub route_fault_class : Option Class → PlainMessage → List Routing → Option ResponseCode
@@ -64,7 +67,8 @@ abbrev pub group_by : Option PlainMessage → List Routing → List ℕ
 group_by None rs = []
 group_by (Some m) rs = group_class (class_of m.mti) m rs
 
--- the group that is selected: of an authorization on which nobody has decided that of its route, else none
+-- the group that is selected: of an authorization on which nobody has decided that of its route,
+-- else none
 abbrev pub chosen_group : List Routing → Pairs → List ℕ
 chosen_group rs x = if is_none (find (codes "rc") x) then group_by (request_in x) rs else []
 

@@ -1,11 +1,12 @@
 -- What the switch decides by itself where the issuer's answer is late.
-use Rattle.std.specs.Prelude.{◌≡◌, ℕ, Bool, false, true, ◌&&◌, nat_le, List, drop, ◌++◌, Option, Some, None, is_some, is_none, codes}
+use Rattle.std.specs.Prelude.{◌≡◌, ℕ, Bool, false, true, ◌&&◌, nat_le, List, drop, ◌++◌}
+use Rattle.std.specs.Prelude.{Option, Some, None, is_some, is_none, codes}
 use Rattle.iso_msg.specs.Messages.{PlainMessage, value_at}
 use Rattle.sw_base.specs.Digits.{number_of}
 use Rattle.sw_context.specs.Pairs.{Pairs, find}
-use Rattle.sw_parts.specs.declared.response_code.ResponseCode.TheVariants.{Approved, IssuerInoperative}
+use Rattle.sw_messages.specs.declared.response_code.ResponseCode.TheVariants as rc
+use Rattle.sw_messages.specs.Requests.{request_in, noted, coded}
 use Rattle.sw_parts.specs.Quiet.{passes, refuses, leaves_notes}
-use Rattle.sw_parts.specs.Requests.{request_in, noted, coded}
 
 -- the issuer's answer is late, and nobody has decided yet
 abbrev pub is_open : Pairs → Bool
@@ -21,15 +22,18 @@ abbrev pub stand_in_code : List ℕ → List ℕ
 stand_in_code stan = codes "SI" ++ drop 2 stan
 
 abbrev pub stood_in : List ℕ → Pairs → Pairs
-stood_in stan x = noted (noted (coded Approved x) (codes "auth") (stand_in_code stan)) (codes "standin") (codes "1")
+stood_in stan x =
+    noted (noted (coded rc.Approved x) (codes "auth") (stand_in_code stan))
+    (codes "standin") (codes "1")
 
 abbrev pub Judged : Bool → List ℕ → Pairs → ℕ → Pairs → Type 0
 Judged true stan x byte y = (byte ≡ leaves_notes) × (y ≡ stood_in stan x)
-Judged false stan x byte y = (byte ≡ refuses) × (y ≡ coded IssuerInoperative x)
+Judged false stan x byte y = (byte ≡ refuses) × (y ≡ coded rc.IssuerInoperative x)
 
 -- a request without amount (4) or STAN (11) is passed over
 abbrev pub StandsInWith : Option (List ℕ) → Option (List ℕ) → Pairs → ℕ → Pairs → Type 0
-StandsInWith (Some amount) (Some stan) x byte y = Judged (is_small (number_of amount)) stan x byte y
+StandsInWith (Some amount) (Some stan) x byte y =
+    Judged (is_small (number_of amount)) stan x byte y
 StandsInWith _ _ x byte y = (byte ≡ passes) × (y ≡ x)
 
 abbrev pub StandsInBy : Option PlainMessage → Pairs → ℕ → Pairs → Type 0

@@ -1,21 +1,20 @@
 //! What is stored to be forwarded.
 
-ghost use Rattle.std.specs.Prelude.{◌≡◌, [], length, IfOk, codes};
-ghost use Rattle.iso_codec.specs.Spelling.{spelling};
+ghost use Rattle.std.specs.Prelude.{◌≡◌, [], IfOk};
+ghost use Rattle.sw_messages.specs.Requests.{request_in};
+ghost use Rattle.sw_parts.specs.Forwards.{forward_byte, forwarded, forwarded_by};
 ghost use Rattle.sw_parts.specs.Quiet.{PassesOver, SelectsNone, StaysQuiet, RestoresNothing};
-ghost use Rattle.sw_parts.specs.Requests.{request_in};
-ghost use Rattle.sw_parts.specs.Forwards.{forward_byte, authorization_advice, reversal_advice, forwarded, forwarded_by};
 
-use crate::build::{encode_as, place};
-use crate::class::{Class, class_of};
-use crate::notes::{APPROVAL, CODE, JOINS, PASSES, STAND_IN, request_in};
+use crate::answers::{JOINS, PASSES};
 use iso_msg::Message;
 use std::alloc::Global;
 use sw_context::Context;
+use sw_messages::{Class, STAND_IN, authorization_advice, class_of, request_in, reversal_advice};
 use sw_participant::{Bytes, NoMemory, Participant, Text};
 
-/// Stores what issuers have to be told later: at commit an authorization advice (0120) of what the switch approved by
-/// itself, with the approval code and the response code, and a reversal advice (0420) of each reversal.
+/// Stores what issuers have to be told later: at commit an authorization advice (0120) of what
+/// the switch approved by itself, with the approval code and the response code, and a reversal
+/// advice (0420) of each reversal.
 #[derive(Drop)]
 pub struct Forward {
     alloc: Global,
@@ -32,19 +31,6 @@ fn answer(request: &Option<Message>) -> u8
         Some(Class::Reversal) => JOINS,
         _ => PASSES,
     }
-}
-
-fn authorization_advice(
-    alloc: Global,
-    request: &Message,
-    context: &Context,
-) -> Result<Bytes, NoMemory>
-    ensures { IfOk result (λ bytes. bytes ≡ spelling (authorization_advice request.now context.now)) }
-{
-    let mut advice = request.copy(alloc)?;
-    place(alloc, &mut advice, 38, context.get(APPROVAL))?;
-    place(alloc, &mut advice, 39, context.get(CODE))?;
-    Ok(Bytes::new(encode_as(alloc, b"0120", &advice)?))
 }
 
 fn forwarded(
@@ -64,14 +50,17 @@ fn forwarded(
             }
             Ok(Some(authorization_advice(alloc, message, context)?))
         }
-        Some(Class::Reversal) => Ok(Some(Bytes::new(encode_as(alloc, b"0420", message)?))),
+        Some(Class::Reversal) => Ok(Some(reversal_advice(alloc, message)?)),
         _ => Ok(None),
     }
 }
 
 impl Forward {
-    /// It keeps nothing, and takes no memory: `alloc` is for the messages that it reads and writes.
-    pub fn new(alloc: Global) -> Forward {
+    /// It keeps nothing, and takes no memory: `alloc` is for the messages that it reads and
+    /// writes.
+    pub fn new(alloc: Global) -> Forward
+        ensures { ⟦<Forward as Participant>⟧.object result ≡ [] }
+    {
         Forward { alloc }
     }
 }
@@ -79,13 +68,15 @@ impl Forward {
 impl Participant for Forward {
     ghost object = { λ _. [] };
 
-    ghost prepares = { λ id o x byte p y. (p ≡ o) × (byte ≡ forward_byte (request_in x)) × (y ≡ x) };
+    ghost prepares = { λ id o x byte p y.
+        (p ≡ o) × (byte ≡ forward_byte (request_in x)) × (y ≡ x) };
 
     ghost prepares_for_abort = { λ id o x byte p y. PassesOver o x byte p y };
 
     ghost selects = { λ id o x text p. SelectsNone o text p };
 
-    ghost commits = { λ id recovering o x advice p y. (p ≡ o) × (advice ≡ forwarded x) × (y ≡ x) };
+    ghost commits = { λ id recovering o x advice p y.
+        (p ≡ o) × (advice ≡ forwarded x) × (y ≡ x) };
 
     ghost aborts = { λ id recovering o x advice p y. StaysQuiet o x advice p y };
 

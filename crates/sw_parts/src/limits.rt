@@ -4,18 +4,19 @@ ghost use Rattle.std.specs.Prelude.{◌≡◌, ◌+◌, ◌≤◌, length, Some,
 ghost use Rattle.sw_base.specs.Digits.{number_of};
 ghost use Rattle.sw_book.specs.Items.{PlainBook};
 ghost use Rattle.sw_book.specs.declared.item.State.TheVariants.{Open};
-ghost use Rattle.sw_parts.specs.Holding.{card_of, key_of, put_at, asked, original, Holds, HoldsBy, HoldsAsked, committed, committed_by, aborted, code_for, shown_book};
+ghost use Rattle.sw_messages.specs.Placing.{put_at};
+ghost use Rattle.sw_parts.specs.Asking.{card_of, key_of, asked, original, code_for};
+ghost use Rattle.sw_parts.specs.Holding.{Holds, HoldsBy, HoldsAsked};
+ghost use Rattle.sw_parts.specs.Holding.{committed, committed_by, aborted};
+ghost use Rattle.sw_parts.specs.ShownBooks.{shown_book};
 ghost use Rattle.sw_parts.specs.Quiet.{PassesOver, SelectsNone, RestoresNothing};
 
-use crate::amount::amount_of;
-use crate::build::put_part;
-use crate::class::{Class, class_of};
-use crate::notes::{JOINS, PASSES, REFUSES, note_code, request_in};
-use crate::response_code::ResponseCode;
+use crate::answers::{JOINS, PASSES, REFUSES};
 use iso_msg::Message;
 use std::alloc::Global;
 use sw_book::{Book, BookError, BookKey, Card, Item, State};
 use sw_context::Context;
+use sw_messages::{Class, ResponseCode, amount_of, class_of, note_code, put_part, request_in};
 use sw_participant::{Bytes, NoMemory, Participant, Text};
 
 /// Holds, spends and gives back the amounts of cards.
@@ -93,7 +94,8 @@ fn code_for(error: BookError) -> ResponseCode
 /// Holds what is asked, or notes why not. The book changes last.
 fn hold(book: &mut Book, id: u64, item: Item, context: &mut Context) -> Result<u8, NoMemory>
     requires { item.state ≡ Open }
-    ensures held { IfOk result (λ byte. HoldsAsked (Some item) id book.old context.old byte book.new context.new) }
+    ensures held { IfOk result (λ byte.
+        HoldsAsked (Some item) id book.old context.old byte book.new context.new) }
     ensures book_kept { OnErr result (book.new ≡ book.old) }
     ensures context_kept { OnErr result (context.new ≡ context.old) }
 {
@@ -113,7 +115,8 @@ fn prepare_book(
     request: &Option<Message>,
     context: &mut Context,
 ) -> Result<u8, NoMemory>
-    ensures held { IfOk result (λ byte. HoldsBy request.now id book.old context.old byte book.new context.new) }
+    ensures held { IfOk result (λ byte.
+        HoldsBy request.now id book.old context.old byte book.new context.new) }
     ensures book_kept { OnErr result (book.new ≡ book.old) }
     ensures context_kept { OnErr result (context.new ≡ context.old) }
 {
@@ -151,7 +154,9 @@ fn commit_book(book: &mut Book, id: u64, request: &Option<Message>)
 
 impl Limits {
     /// With this book.
-    pub fn new(alloc: Global, book: Book) -> Limits {
+    pub fn new(alloc: Global, book: Book) -> Limits
+        ensures { ⟦<Limits as Participant>⟧.object result ≡ shown_book book }
+    {
         Limits { alloc, book }
     }
 }
@@ -159,15 +164,20 @@ impl Limits {
 impl Participant for Limits {
     ghost object = { λ limits. shown_book limits.book };
 
-    ghost prepares = { λ id o x byte p y. (book : PlainBook) × (after : PlainBook) × (o ≡ shown_book book) × (p ≡ shown_book after) × Holds id book x byte after y };
+    ghost prepares = { λ id o x byte p y. (book : PlainBook) × (after : PlainBook)
+        × (o ≡ shown_book book) × (p ≡ shown_book after) × Holds id book x byte after y };
 
     ghost prepares_for_abort = { λ id o x byte p y. PassesOver o x byte p y };
 
     ghost selects = { λ id o x text p. SelectsNone o text p };
 
-    ghost commits = { λ id recovering o x advice p y. (book : PlainBook) × (o ≡ shown_book book) × (p ≡ shown_book (committed id x book)) × (advice ≡ None) × (y ≡ x) };
+    ghost commits = { λ id recovering o x advice p y. (book : PlainBook)
+        × (o ≡ shown_book book) × (p ≡ shown_book (committed id x book))
+        × (advice ≡ None) × (y ≡ x) };
 
-    ghost aborts = { λ id recovering o x advice p y. (book : PlainBook) × (o ≡ shown_book book) × (p ≡ shown_book (aborted id book)) × (advice ≡ None) × (y ≡ x) };
+    ghost aborts = { λ id recovering o x advice p y. (book : PlainBook)
+        × (o ≡ shown_book book) × (p ≡ shown_book (aborted id book))
+        × (advice ≡ None) × (y ≡ x) };
 
     ghost recovers = { λ id commit o x p y. RestoresNothing o x p y };
 

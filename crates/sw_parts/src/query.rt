@@ -1,27 +1,26 @@
 //! Asking an issuer.
 
 ghost use Rattle.std.specs.Prelude.{◌≡◌, [], ◌∷◌, None, MatchOption, IfOk, OnErr, codes};
-ghost use Rattle.sw_mux.specs.Waiting.{without};
-ghost use Rattle.sw_parts.specs.Queries.{Hears, Ends, Asks, Queries, answer_in, asking, answered, approves, or_code, bytes_in};
-ghost use Rattle.sw_context.specs.Pairs.{find};
-ghost use Rattle.sw_parts.specs.Quiet.{PassesOver, SelectsNone, StaysQuiet, RestoresNothing};
 ghost use Rattle.iso_msg.specs.Messages.{value_at};
+ghost use Rattle.sw_context.specs.Pairs.{find};
+ghost use Rattle.sw_mux.specs.Waiting.{without};
+ghost use Rattle.sw_parts.specs.Queries.{Hears, Ends, Asks, Queries};
+ghost use Rattle.sw_parts.specs.Queries.{answer_in, asking, answered, approves, or_code, bytes_in};
+ghost use Rattle.sw_parts.specs.Quiet.{PassesOver, SelectsNone, StaysQuiet, RestoresNothing};
 
-use crate::class::{Class, class_of};
+use crate::answers::{LEAVES_NOTES, PASSES, REFUSES};
 use crate::link::Link;
-use crate::notes::{
-    APPROVAL, CODE, LATE, LEAVES_NOTES, PASSES, REFUSES, REQUEST, SENT, note, note_code, request_in,
-};
-use crate::response_code::ResponseCode;
 use iso_codec::{DecodeError, decode};
 use iso_msg::Message;
 use std::alloc::Global;
 use sw_context::Context;
+use sw_messages::{
+    APPROVAL, CODE, Class, LATE, REQUEST, ResponseCode, SENT, note, note_code, request_in,
+};
 use sw_mux::{Key, Mux, MuxError, Outcome};
 use sw_participant::{Bytes, NoMemory, Participant, Text};
 
 /// The message of these bytes, where it has the key that waits.
-#[tactic(auto, using(crate::proofs::Hearing::matched, crate::proofs::Hearing::unmatched, crate::proofs::Hearing::unread))]
 fn answer_in(
     alloc: Global,
     mux: &mut Mux,
@@ -31,7 +30,8 @@ fn answer_in(
 ) -> Result<Option<Message>, NoMemory>
     requires { mux.old ≡ (key, deadline) ∷ [] }
     ensures answer { IfOk result (λ r. r ≡ answer_in key.bytes bytes.now) }
-    ensures waits { IfOk result (λ r. MatchOption r (mux.new ≡ (key, deadline) ∷ []) (λ _. mux.new ≡ [])) }
+    ensures waits { IfOk result (λ r.
+        MatchOption r (mux.new ≡ (key, deadline) ∷ []) (λ _. mux.new ≡ [])) }
     ensures kept { OnErr result (mux.new ≡ mux.old) }
 {
     match decode(alloc, bytes) {
@@ -44,8 +44,8 @@ fn answer_in(
     }
 }
 
-/// Waits for the answer with the one key that waits, at most 8 messages long. Other messages are dropped, and want of
-/// memory counts as no answer.
+/// Waits for the answer with the one key that waits, at most 8 messages long. Other messages are
+/// dropped, and want of memory counts as no answer.
 pub fn hear<L: Link>(
     alloc: Global,
     mux: &mut Mux,
@@ -143,7 +143,8 @@ fn ask<L: Link>(
     context: &mut Context,
 ) -> Result<u8, NoMemory>
     requires { mux.old ≡ (key, deadline) ∷ [] }
-    ensures asked { IfOk result (λ byte. Asks L.sends L.receives bytes.now key.bytes (L.state link.old) context.old byte (L.state link.new) context.new) }
+    ensures asked { IfOk result (λ byte. Asks L.sends L.receives bytes.now key.bytes
+        (L.state link.old) context.old byte (L.state link.new) context.new) }
     ensures waits { without key.bytes mux.new ≡ [] }
     ensures link_kept { OnErr result (L.state link.new ≡ L.state link.old) }
     ensures context_kept { OnErr result (context.new ≡ context.old) }
@@ -165,7 +166,8 @@ fn query<L: Link>(
     context: &mut Context,
 ) -> Result<u8, NoMemory>
     requires { mux.old ≡ [] }
-    ensures queried { IfOk result (λ byte. Queries L.sends L.receives (L.state link.old) context.old byte (L.state link.new) context.new) }
+    ensures queried { IfOk result (λ byte. Queries L.sends L.receives
+        (L.state link.old) context.old byte (L.state link.new) context.new) }
     ensures idle { mux.new ≡ [] }
     ensures link_kept { OnErr result (L.state link.new ≡ L.state link.old) }
     ensures context_kept { OnErr result (context.new ≡ context.old) }
@@ -173,7 +175,7 @@ fn query<L: Link>(
     let Some(request) = request_in(alloc, context)? else {
         return Ok(PASSES);
     };
-    let Some(Class::Authorization) = class_of(request.mti().digits()) else {
+    let Some(Class::Authorization) = sw_messages::class_of(request.mti().digits()) else {
         return Ok(PASSES);
     };
     let bytes = bytes_in(alloc, context)?;
@@ -212,7 +214,9 @@ pub struct QueryIssuer<L: Link> {
 
 impl<L: Link> QueryIssuer<L> {
     /// Over this link.
-    pub fn new(alloc: Global, link: L) -> QueryIssuer<L> {
+    pub fn new(alloc: Global, link: L) -> QueryIssuer<L>
+        ensures { ⟦<QueryIssuer<L> as Participant>⟧.object result ≡ L.state link }
+    {
         QueryIssuer {
             alloc,
             mux: Mux::new(alloc),

@@ -1,17 +1,17 @@
 //! Which group of the flow asks the issuer of a card.
 
 ghost use Rattle.std.specs.Prelude.{◌≡◌, List, [], IfOk, OnErr, option_map};
+ghost use Rattle.sw_messages.specs.Requests.{request_in};
 ghost use Rattle.sw_parts.specs.declared.route.Routing.{Routing};
 ghost use Rattle.sw_parts.specs.Quiet.{PassesOver, StaysQuiet, RestoresNothing};
-ghost use Rattle.sw_parts.specs.Requests.{request_in};
-ghost use Rattle.sw_parts.specs.Routes.{longer, if_prefix, route_for, route_of, route_fault, ChecksRoute, group_by, chosen_group, shown_routes};
+ghost use Rattle.sw_parts.specs.Routes.{longer, if_prefix, route_for, route_of, route_fault};
+ghost use Rattle.sw_parts.specs.Routes.{ChecksRoute, group_by, chosen_group, shown_routes};
 
-use crate::class::{Class, class_of};
-use crate::notes::{CODE, PASSES, REFUSES, note_code, request_in};
-use crate::response_code::ResponseCode;
+use crate::answers::{PASSES, REFUSES};
 use iso_msg::Message;
 use std::alloc::Global;
 use sw_context::Context;
+use sw_messages::{CODE, Class, ResponseCode, class_of, note_code, request_in};
 use sw_participant::{Bytes, NoMemory, Participant, Sequence, Text};
 
 /// The cards whose numbers begin with a prefix are asked for by a group of the flow.
@@ -23,8 +23,9 @@ pub struct Routing {
     pub group: Text,
 }
 
-/// Chooses the group that asks the issuer of a card: that of the longest prefix of the card number. An authorization
-/// whose card has none of the prefixes is refused with 91, issuer inoperative.
+/// Chooses the group that asks the issuer of a card: that of the longest prefix of the card
+/// number. An authorization whose card has none of the prefixes is refused with 91, issuer
+/// inoperative.
 #[derive(Drop)]
 pub struct Route {
     alloc: Global,
@@ -110,7 +111,9 @@ fn chosen<'a>(request: &Option<Message>, routes: &'a [Routing]) -> &'a str
 
 impl Route {
     /// By these routes. It takes no memory: `alloc` is for the messages that it reads.
-    pub fn new(alloc: Global, routes: Sequence<Routing>) -> Route {
+    pub fn new(alloc: Global, routes: Sequence<Routing>) -> Route
+        ensures { ⟦<Route as Participant>⟧.object result ≡ shown_routes routes }
+    {
         Route { alloc, routes }
     }
 }
@@ -118,11 +121,13 @@ impl Route {
 impl Participant for Route {
     ghost object = { λ route. shown_routes route.routes };
 
-    ghost prepares = { λ id o x byte p y. (rs : List Routing) × (o ≡ shown_routes rs) × (p ≡ o) × ChecksRoute rs x byte y };
+    ghost prepares = { λ id o x byte p y. (rs : List Routing)
+        × (o ≡ shown_routes rs) × (p ≡ o) × ChecksRoute rs x byte y };
 
     ghost prepares_for_abort = { λ id o x byte p y. PassesOver o x byte p y };
 
-    ghost selects = { λ id o x text p. (rs : List Routing) × (o ≡ shown_routes rs) × (p ≡ o) × (text ≡ chosen_group rs x) };
+    ghost selects = { λ id o x text p. (rs : List Routing)
+        × (o ≡ shown_routes rs) × (p ≡ o) × (text ≡ chosen_group rs x) };
 
     ghost commits = { λ id recovering o x advice p y. StaysQuiet o x advice p y };
 

@@ -3,24 +3,24 @@
 ghost use Rattle.std.specs.Prelude.{◌≡◌, ◌≤◌, [], length, IfOk, OnOk, OnErr};
 ghost use Rattle.sw_base.specs.Digits.{number_of};
 ghost use Rattle.sw_parts.specs.Quiet.{PassesOver, SelectsNone, StaysQuiet, RestoresNothing};
-ghost use Rattle.sw_parts.specs.StandIns.{is_open, is_small, stand_in_code, stood_in, Judged, StandsInBy, StandsIn};
+ghost use Rattle.sw_parts.specs.StandIns.{is_open, is_small, stand_in_code, stood_in};
+ghost use Rattle.sw_parts.specs.StandIns.{Judged, StandsInBy, StandsIn};
 
-use crate::amount::amount_of;
-use crate::build::put_part;
-use crate::notes::{
-    APPROVAL, CODE, LATE, LEAVES_NOTES, PASSES, REFUSES, STAND_IN, note, note_code, request_in,
-};
-use crate::response_code::ResponseCode;
+use crate::answers::{LEAVES_NOTES, PASSES, REFUSES};
 use iso_msg::Message;
 use std::alloc::Global;
 use sw_context::Context;
+use sw_messages::{
+    APPROVAL, CODE, LATE, ResponseCode, STAND_IN, amount_of, note, note_code, put_part, request_in,
+};
 use sw_participant::{Bytes, NoMemory, Participant, Text};
 
 /// The greatest amount that the switch approves by itself.
 const MOST_AMOUNT: u64 = 1_000;
 
-/// Decides in the place of an issuer whose answer is late: an amount of at most 1,000 is approved, with an approval code
-/// of `SI` and the last four digits of the STAN, and any other one refused with 91, issuer inoperative.
+/// Decides in the place of an issuer whose answer is late: an amount of at most 1,000 is
+/// approved, with an approval code of `SI` and the last four digits of the STAN, and any other
+/// one refused with 91, issuer inoperative.
 #[derive(Drop)]
 pub struct StandIn {
     alloc: Global,
@@ -98,7 +98,9 @@ fn stand_in(request: &Option<Message>, context: &mut Context) -> Result<u8, NoMe
 
 impl StandIn {
     /// It keeps nothing, and takes no memory: `alloc` is for the messages that it reads.
-    pub fn new(alloc: Global) -> StandIn {
+    pub fn new(alloc: Global) -> StandIn
+        ensures { ⟦<StandIn as Participant>⟧.object result ≡ [] }
+    {
         StandIn { alloc }
     }
 }

@@ -1,6 +1,6 @@
 use Rattle.std.proofs.Common.{ℕ, List, ap, ◌∙◌}
 use Rattle.sw_parts.proofs.KeyParts.{four}
-use Rattle.sw_parts.specs.Holding.{put_at}
+use Rattle.sw_messages.specs.Placing.{put_at}
 use Rattle.sw_book.specs.declared.item.BookKey.{BookKey}
 use Rattle.sw_parts.proofs.limits.key_of.Goals as goal
 

@@ -1,5 +1,5 @@
-use Rattle.cli_run.specs.Answered.{IsFresh}
+use Rattle.cli_run.specs.Answered.{IsAllWritten}
 use Rattle.cli_run.proofs.stream.Requests.serve_all.Given as goal
 
 abbrev pub invariant-loop : goal.invariant-loop
-invariant-loop g l = IsFresh l.switch.first_id l.switch.answered
+invariant-loop g l = IsAllWritten l.switch.plant.running.engine

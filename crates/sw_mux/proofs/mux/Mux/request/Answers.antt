@@ -1,11 +1,14 @@
-use Rattle.std.proofs.Common.{◌≡◌, ℕ, ◌+◌, ◌++◌, ◌∷◌, [], false, cond, is_some, Option, Some, None, refl, sym, ap, subst, ◌∙◌}
+use Rattle.std.proofs.Common.{arith, ◌≡◌, ℕ, ◌+◌, ◌++◌, ◌∷◌, [], false, cond, is_some, Option, Some, None, refl, sym, ap, subst, ◌∙◌}
+use Rattle.std.specs.BTreeMap.{is_at, get as key_at}
 use Rattle.std.specs.HashMap.{get}
-use Rattle.std.specs.Map.{values_of}
+use Rattle.std.specs.Map.{lookup, values_of}
+use Rattle.std.specs.Ordering.{is_eq}
 use Rattle.sw_mux.specs.declared.key.Key.{Key}
 use Rattle.sw_mux.specs.Waiting.{waits}
-use Rattle.sw_mux.specs.Numbered.{Numbered, IsNumbered, Rise, key_eq, number_of}
+use Rattle.sw_mux.specs.Numbered.{Numbered, IsNumbered, Rise, HaveOwnKeys, key_eq, number_of, pair_cmp, request_at, key_by}
 use Rattle.sw_mux.proofs.Numbers.{put_last, rise_last, own_last, number_last, values_last, waits_numbered}
 use Rattle.sw_mux.proofs.Refusing.{free, taken}
+use Rattle.sw_mux.proofs.Times.{timed_put, timed_back, none_at}
 use Rattle.sw_mux.proofs.mux.Mux.request.Goals as goal
 
 none_from : {X : Type 0} (o : Option X) → false ≡ is_some o → o ≡ None
@@ -35,12 +38,13 @@ returns-then-is_err-clause-refused c =
 
 pub invariant_of-self-in_default-insert : goal.invariant_of-self-in_default-insert
 invariant_of-self-in_default-insert c =
-    subst (λ (z : Numbered). IsNumbered z (get key_eq c.room.new.numbers) c.self.inside.next) (sym c.in_default-insert.ensures.err)
-    (record {
+    record {
       rising = c.self.invariant.rising;
       own = c.self.invariant.own;
       found = λ q. c.room.ensures.same q ∙ c.self.invariant.found q;
-    })
+      timed = λ q. ap (lookup (is_at (pair_cmp q))) c.in_default-insert.ensures.err ∙ c.self.invariant.timed q;
+      small = c.self.invariant.small;
+    }
 
 pub returns-in_default-insert-clause-refused : goal.returns-in_default-insert-clause-refused
 returns-in_default-insert-clause-refused c =
@@ -53,19 +57,24 @@ pub invariant_of-self-2 : goal.invariant_of-self-2
 invariant_of-self-2 c =
     let k = c.in-Some.key in
     let n = c.self.inside.next in
-    let v : Key × ℕ = (k, c.args.deadline) in
+    let d = c.args.deadline in
+    let v : Key × ℕ = (k, d) in
     let es = c.self.inside.requests.entries in
     let none : number_of k es ≡ None = none_from _ (c.if-contains_key.ensures ∙ ap is_some (c.self.invariant.found k)) in
     let next : c.in-Some-checked_add.next ≡ n + 1 = c.in-Some-checked_add.ensures.1 in
-    subst (λ (z : Numbered). IsNumbered z (get key_eq c.insert-2.new.self) c.in-Some-checked_add.next)
-    (sym (c.in-Ok.ensures.entries ∙ put_last 0 n v es c.self.invariant.rising))
-    (record {
-      rising = subst (λ z. Rise 0 (es ++ (n, v) ∷ []) z) (sym next) (rise_last 0 n v es c.self.invariant.rising);
-      own = own_last n v es none c.self.invariant.own;
-      found = λ q. c.in-Ok-insert.ensures.updates.0 q
+    let after : c.insert-2.new.self.entries ≡ es ++ (n, v) ∷ [] = c.in-Ok-insert.ensures.entries ∙ put_last 0 n v es c.self.invariant.rising in
+    record {
+      rising = subst (λ (z : Numbered). Rise 0 z c.in-Some-checked_add.next) (sym after) (subst (λ z. Rise 0 (es ++ (n, v) ∷ []) z) (sym next) (rise_last 0 n v es c.self.invariant.rising));
+      own = subst (λ (z : Numbered). HaveOwnKeys z) (sym after) (own_last n v es none c.self.invariant.own);
+      found = λ q. c.in-Ok-insert-2.ensures.updates.0 q
           ∙ ap (λ z. cond (key_eq k q) (Some n) z) (c.room.ensures.same q ∙ c.self.invariant.found q)
-          ∙ sym (number_last q n v es none);
-    })
+          ∙ sym (number_last q n v es none) ∙ ap (number_of q) (sym after);
+      timed = λ q. c.in-Ok.ensures.updates.0 q
+          ∙ ap (λ z. cond (is_eq (pair_cmp (d, n) q)) (Some k) z) (c.self.invariant.timed q)
+          ∙ timed_put d n k q (request_at q.1 es) (none_at n q.1 es c.self.invariant.rising)
+          ∙ ap (key_by q.0) (sym (c.in-Ok-insert.ensures.updates.0 q.1));
+      small = omega (arith, c.in-Some-checked_add.ensures.0, c.in-Some-checked_add.ensures.1);
+    }
 
 pub returns-clause-waits : goal.returns-clause-waits
 returns-clause-waits c =
@@ -73,11 +82,37 @@ returns-clause-waits c =
     let n = c.self.inside.next in
     let v : Key × ℕ = (k, c.args.deadline) in
     let es = c.self.inside.requests.entries in
-    ap values_of (c.in-Ok.ensures.entries ∙ put_last 0 n v es c.self.invariant.rising) ∙ values_last n v es
+    ap values_of (c.in-Ok-insert.ensures.entries ∙ put_last 0 n v es c.self.invariant.rising) ∙ values_last n v es
     ∙ ap (λ z. z ++ v ∷ []) c.self.view_is
 
 pub returns-clause-taken : goal.returns-clause-taken
 returns-clause-taken c =
+    let k = c.in-Some.key in
+    let es = c.self.inside.requests.entries in
+    free c.args.message.now k.bytes c.args.self.now c.in-Some.ensures
+    (sym (ap (waits k.bytes) c.self.view_is) ∙ sym (waits_numbered k es) ∙ ap is_some (sym (c.self.invariant.found k)) ∙ sym c.if-contains_key.ensures)
+
+pub invariant_of-self-in_default-insert-2 : goal.invariant_of-self-in_default-insert-2
+invariant_of-self-in_default-insert-2 c =
+    let k = c.in-Some.key in
+    let n = c.self.inside.next in
+    let d = c.args.deadline in
+    let es = c.self.inside.requests.entries in
+    let none : Option Key = None in
+    subst (λ (z : Numbered). IsNumbered z (get key_eq c.room.new.numbers) (key_at pair_cmp c.remove.new.self) c.self.inside.next) (sym c.in_default-insert-2.ensures.err)
+    (record {
+      rising = c.self.invariant.rising;
+      own = c.self.invariant.own;
+      found = λ q. c.room.ensures.same q ∙ c.self.invariant.found q;
+      timed = λ q. c.remove.ensures.updates.0 q
+          ∙ ap (λ z. cond (is_eq (pair_cmp (d, n) q)) none z)
+          (c.in-Ok.ensures.updates.0 q ∙ ap (λ z. cond (is_eq (pair_cmp (d, n) q)) (Some k) z) (c.self.invariant.timed q))
+          ∙ timed_back d n k q (request_at q.1 es) (none_at n q.1 es c.self.invariant.rising);
+      small = c.self.invariant.small;
+    })
+
+pub returns-in_default-insert-2-clause-refused : goal.returns-in_default-insert-2-clause-refused
+returns-in_default-insert-2-clause-refused c =
     let k = c.in-Some.key in
     let es = c.self.inside.requests.entries in
     free c.args.message.now k.bytes c.args.self.now c.in-Some.ensures

@@ -1,0 +1,183 @@
+-- Deeds one after the other, and what they write.
+-- for: switch::Switch, advices::send_advices, stream::Requests, serving::run
+use Rattle.std.proofs.Common.{◌≡◌, ℕ, ◌+◌, ◌-◌, ◌≤◌, List, [], ◌∷◌, ◌++◌, length, drop, Option, Some, None, Result, Ok, Err, refl, sym, ap, subst, arith, ◌∙◌, append_assoc, append-nil, length-append}
+use Rattle.std.proofs.lemmas.List.{length-drop}
+use Rattle.std.proofs.KnownBytes.{Appends-nil, Appends-trans}
+use Rattle.std.specs.Io.KnownBytes.{Appends}
+use Rattle.std.specs.List.{AllByRecursion}
+use Rattle.std.specs.Prelude.{OnOk}
+use Rattle.sw_context.specs.Pairs.{Pairs}
+use Rattle.sw_frame.specs.Stream.{AreFramed}
+use Rattle.flow_model.specs.declared.flow.Flow.{Flow}
+use Rattle.tx_history.specs.declared.event.Event.{Event}
+use Rattle.tx_history.specs.History.{Start}
+use Rattle.tx_history.specs.Journal.{change, entries}
+use Rattle.tx_engine.specs.World.{World}
+use Rattle.tx_journal.specs.declared.error.JournalError.{JournalError}
+use Rattle.tx_plant.specs.declared.turn.Outcome.{Outcome}
+use Rattle.tx_plant.specs.declared.turn.Outcome.TheVariants as outcome
+use Rattle.tx_plant.specs.declared.turn.Turn.{Turn}
+use Rattle.tx_plant.specs.declared.turn.Turn.TheVariants as turn
+use Rattle.tx_plant.specs.Steps.{Moved}
+use Rattle.tx_plant.specs.Recovery.{IsRecovery}
+use Rattle.tx_plant.specs.Plant.{Driven, GoesOn, Seen, Turned, Whole, Writes, journal_fault, late}
+use Rattle.cli_run.specs.Answered.{Acts, Deed, Drove, Gave, Goes, IsAllWritten, Point, Serves, all_answered, last_id, offer_of, offered, offers_in, responses, unanswered}
+
+goes_append : (ds es : List Deed) (p q r : Point) (xs ys : List ℕ) → Goes ds p xs q → Goes es q ys r → Goes (ds ++ es) p (xs ++ ys) r
+goes_append [] es p q r xs ys (none, same) h =
+    subst (λ (l : List ℕ). Goes es p (l ++ ys) r) (sym none) (subst (λ (z : Point). Goes es z ys r) same h)
+goes_append (Drove ts os ∷ ds) es p q r xs ys (m, w, driven, more) h =
+    (m, w, driven, goes_append ds es (record p { plant = w }) q r xs ys more h)
+goes_append (Gave ∷ ds) es p q r xs ys (text, rest, written, framed, all, more) h =
+    (text, rest ++ ys, written, framed, ap (λ (l : List ℕ). l ++ ys) all ∙ append_assoc text rest ys, goes_append ds es (all_answered p) q r rest ys more h)
+
+offered_append : (ds es : List Deed) → offered (ds ++ es) ≡ offered ds ++ offered es
+offered_append [] es = refl
+offered_append (Drove ts os ∷ ds) es = ap (λ (l : List Pairs). offers_in ts ++ l) (offered_append ds es) ∙ sym (append_assoc (offers_in ts) (offered ds) (offered es))
+offered_append (Gave ∷ ds) es = offered_append ds es
+
+both_offered : (ds es : List Deed) (xs ys : List Pairs) → offered ds ≡ xs → offered es ≡ ys → offered (ds ++ es) ≡ xs ++ ys
+both_offered ds es xs ys a b = offered_append ds es ∙ (ap (λ (l : List Pairs). l ++ offered es) a ∙ ap (λ (l : List Pairs). xs ++ l) b)
+
+pub acts_none : (p : Point) → IsAllWritten p.plant.core.world → Acts [] p p
+acts_none p h = record { deeds = []; goes = (refl, refl); offers_are = refl; written = h }
+
+pub acts_then : (xs ys : List Pairs) (p q r : Point) → Acts xs p q → Acts ys q r → Acts (xs ++ ys) p r
+acts_then xs ys p q r a b = record {
+  deeds = a.deeds ++ b.deeds;
+  goes = goes_append a.deeds b.deeds p q r [] [] a.goes b.goes;
+  offers_are = both_offered a.deeds b.deeds xs ys a.offers_are b.offers_are;
+  written = b.written;
+}
+
+pub serves_none : (p : Point) (o : Option (List ℕ)) → IsAllWritten p.plant.core.world → Serves [] p o p o
+serves_none p o h = record { deeds = []; bytes = []; goes = (refl, refl); offers_are = refl; appends = Appends-nil o; written = h }
+
+pub serves_acts : (xs : List Pairs) (p q : Point) (o : Option (List ℕ)) → Acts xs p q → Serves xs p o q o
+serves_acts xs p q o a = record { deeds = a.deeds; bytes = []; goes = a.goes; offers_are = a.offers_are; appends = Appends-nil o; written = a.written }
+
+pub serves_then : (xs ys : List Pairs) (p q r : Point) (a b c : Option (List ℕ)) → Serves xs p a q b → Serves ys q b r c → Serves (xs ++ ys) p a r c
+serves_then xs ys p q r a b c s t = record {
+  deeds = s.deeds ++ t.deeds;
+  bytes = s.bytes ++ t.bytes;
+  goes = goes_append s.deeds t.deeds p q r s.bytes t.bytes s.goes t.goes;
+  offers_are = both_offered s.deeds t.deeds xs ys s.offers_are t.offers_are;
+  appends = Appends-trans a b c s.bytes t.bytes s.appends t.appends;
+  written = t.written;
+}
+
+-- the responses that were not given are
+pub gave : (p : Point) (a b : Option (List ℕ)) (text : List ℕ) → IsAllWritten p.plant.core.world → AreFramed text (responses (unanswered p)) → Appends a b text → Serves [] p a (all_answered p) b
+gave p a b text written framed appends = record {
+  deeds = Gave ∷ [];
+  bytes = text;
+  goes = (text, [], written, framed, sym (append-nil text), (refl, refl));
+  offers_are = refl;
+  appends = appends;
+  written = written;
+}
+
+-- the same, by the id that is given last
+pub gave_to : (p : Point) (a b : Option (List ℕ)) (text : List ℕ) (last : ℕ) → IsAllWritten p.plant.core.world → AreFramed text (responses (unanswered p)) → last ≡ last_id p.answered (unanswered p) → Appends a b text → Serves [] p a (record p { answered = last }) b
+gave_to p a b text last written framed is appends = subst (λ (z : ℕ). Serves [] p a (record p { answered = z }) b) (sym is) (gave p a b text written framed appends)
+
+pub offers_same : (x y : Pairs) (p q : Point) → x ≡ y → Acts (x ∷ []) p q → Acts (y ∷ []) p q
+offers_same x y p q same acts = subst (λ (z : Pairs). Acts (z ∷ []) p q) same acts
+
+-- what follows of an Ok
+pub on_ok : {T E : Type 0} {P Q : Type 0} (r : Result T E) → (P → Q) → OnOk r P → OnOk r Q
+on_ok (Ok x) f h = f h
+on_ok (Err e) f h = tt
+
+-- after a write of all entries every entry is written
+
+entries_length : (f : Flow) (v : Start) (past : List Event) → length (entries f v past) ≡ length past
+entries_length f v [] = refl
+entries_length f v (e ∷ past) = let h = entries_length f v past in omega (arith, h, length-append (entries f v past) (record { number = length past + 1; event = e; change = change f v (e ∷ past) } ∷ []))
+
+same_outcome : {E : Type 0} (x y : Outcome) → ◌≡◌ {A = Result Outcome E} (Ok x) (Ok y) → x ≡ y
+same_outcome x y e = cc
+
+unfaulted : (R : Result Outcome JournalError → Type 0) (o : Outcome) (x : Result Outcome JournalError) → Ok o ≡ journal_fault x → R x → R (Ok o)
+unfaulted R o (Ok y) same holds = rw (same_outcome o y same) holds
+unfaulted R o (Err e) same holds = cc
+
+wrote_all : (w to : World) (j k : Seen) (o : Outcome) → to.mark ≤ length to.past → Writes None w j (Ok o) to k → IsAllWritten to
+wrote_all w to j k (outcome.Written n) le (n_is, to_is, fresh, tables) =
+    let long = entries_length w.flow w.start w.past in
+    let dropped = length-drop w.mark (entries w.flow w.start w.past) in
+    let mark : to.mark ≡ n = ap (λ (z : World). z.mark) to_is in
+    let past : length to.past ≡ length w.past = ap (λ (z : World). length z.past) to_is in
+    omega (arith, le, n_is, long, dropped, mark, past)
+wrote_all w to j k (outcome.Accepted n) le h = absurd h
+wrote_all w to j k (outcome.Refused n) le h = absurd h
+wrote_all w to j k outcome.Idle le h = absurd h
+wrote_all w to j k outcome.Unwritten le h = absurd h
+wrote_all w to j k (outcome.Held n) le h = absurd h
+wrote_all w to j k (outcome.Restarted n) le h = absurd h
+wrote_all w to j k (outcome.Cut n) le h = absurd h
+
+all_written : (o : Outcome) (m : List Moved) (p q : Whole) → Turned (turn.Write None) (Ok o) m p q → GoesOn (turn.Write None) p q → IsAllWritten q.core.world
+all_written o m p q (none, core, x, same, writes) go =
+    wrote_all p.core.world q.core.world p.journal q.journal o go.engine.marked
+    (unfaulted (λ y. Writes None p.core.world p.journal y q.core.world q.journal) o x same writes)
+
+pub written_alone : (os : List Outcome) (m : List Moved) (p q : Whole) → Driven (turn.Write None ∷ []) os m p q → IsAllWritten q.core.world
+written_alone [] m p q d = absurd d
+written_alone (o ∷ []) m p q (w, first, later, turned, (none, same), all, go) =
+    subst (λ (z : Whole). IsAllWritten z.core.world) (sym same) (all_written o first p w turned go)
+written_alone (o ∷ x ∷ os) m p q (w, first, later, turned, driven, all, go) = absurd driven
+
+-- the outcomes of a turn and of the write behind it
+pub record Two (os : List Outcome) (q : Whole) : Type 0 where
+  pub first : Outcome
+  pub second : Outcome
+  pub both : os ≡ first ∷ second ∷ []
+  pub written : IsAllWritten q.core.world
+
+pub written_behind : (t : Turn) (os : List Outcome) (m : List Moved) (p q : Whole) → Driven (t ∷ turn.Write None ∷ []) os m p q → Two os q
+written_behind t [] m p q d = absurd d
+written_behind t (o ∷ []) m p q (w, first, later, turned, driven, all, go) = absurd driven
+written_behind t (o ∷ u ∷ []) m p q (w, first, later, turned, driven, all, go) = record {
+  first = o;
+  second = u;
+  both = refl;
+  written = written_alone (u ∷ []) later w q driven;
+}
+written_behind t (o ∷ u ∷ x ∷ os) m p q (w, first, later, turned, (v, next, rest, written, driven, more, on), all, go) = absurd driven
+
+-- a turn and the write behind it
+pub drove : (t : Turn) (os : List Outcome) (m : List Moved) (p q : Whole) (id : ℕ) → Driven (t ∷ turn.Write None ∷ []) os m p q → IsAllWritten q.core.world → Acts (offer_of t) (record { plant = p; answered = id }) (record { plant = q; answered = id })
+drove t os m p q id driven h = record {
+  deeds = Drove (t ∷ turn.Write None ∷ []) os ∷ [];
+  goes = (m, q, driven, (refl, refl));
+  offers_are = append-nil (offer_of t ++ []) ∙ append-nil (offer_of t);
+  written = h;
+}
+
+-- a recovery offers nothing
+no_offer : (t : Turn) → IsRecovery t → offer_of t ≡ []
+no_offer (turn.Write most) h = refl
+no_offer (turn.Step s) h = refl
+no_offer (turn.Offer x) h = absurd h
+no_offer (turn.Take s) h = absurd h
+no_offer turn.Release h = absurd h
+no_offer (turn.Ack id place) h = absurd h
+no_offer (turn.Break name) h = absurd h
+no_offer (turn.Clear name) h = absurd h
+no_offer (turn.LetGo s) h = absurd h
+no_offer turn.Stop h = absurd h
+no_offer turn.Cut h = absurd h
+
+no_offers : (ts : List Turn) → AllByRecursion IsRecovery ts → offers_in ts ≡ []
+no_offers [] h = refl
+no_offers (t ∷ ts) h = rw (no_offer t h.0) (no_offers ts h.1)
+
+-- a recovery and the write behind it
+pub recovered : (ts : List Turn) (os vs : List Outcome) (m n : List Moved) (p q r : Whole) (id : ℕ) → AllByRecursion IsRecovery ts → Driven ts os m p q → Driven (turn.Write None ∷ []) vs n q r → Acts [] (record { plant = p; answered = id }) (record { plant = r; answered = id })
+recovered ts os vs m n p q r id own first second = record {
+  deeds = Drove ts os ∷ Drove (turn.Write None ∷ []) vs ∷ [];
+  goes = (m, q, first, (n, r, second, (refl, refl)));
+  offers_are = ap (λ (l : List Pairs). l ++ []) (no_offers ts own);
+  written = written_alone vs n q r second;
+}

@@ -1,0 +1,35 @@
+//! The messages of the switch: what a request is for, and what is made of it.
+//!
+//! - [`Class`] is what a request is for, by its message type; [`ResponseCode`] is its field 39.
+//!   [`fault_of`] tells why a request is none, [`amount_of`] what the digits of field 4 spell.
+//! - A transaction's context carries the request as the entry `request`, which [`request_in`]
+//!   reads. Notes stand beside it ([`note`]): `rc` (response code), `auth` (approval code),
+//!   `sent` and `late` (the request went to an issuer, and its answer has not come), `standin`
+//!   (the switch approved by itself) and `response`.
+//! - [`response_to`], [`reversal_of`], [`authorization_advice`] and [`reversal_advice`] make of a
+//!   request its response, its reversal, and the advices that issuers are told later.
+//!
+//! `specs/` has each of them as a function of the message and the context.
+#![tactic(auto)]
+
+mod advices;
+mod amount;
+mod build;
+mod class;
+mod faults;
+mod notes;
+mod response;
+mod response_code;
+mod reversal;
+
+pub use advices::{authorization_advice, reversal_advice};
+pub use amount::amount_of;
+pub use build::{copy_fields, place, put_part};
+pub use class::{Class, class_of};
+pub use faults::fault_of;
+pub use notes::{
+    APPROVAL, CODE, LATE, REQUEST, RESPONSE, SENT, STAND_IN, note, note_code, request_in,
+};
+pub use response::{response_to, response_type};
+pub use response_code::{ResponseCode, is_approved};
+pub use reversal::reversal_of;

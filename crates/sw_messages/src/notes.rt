@@ -1,0 +1,65 @@
+//! What is read in a context and noted in it.
+
+ghost use Rattle.std.specs.Prelude.{◌≡◌, IfOk, OnOk, OnErr};
+ghost use Rattle.sw_messages.specs.Requests.{request_in, noted, coded};
+
+use crate::response_code::ResponseCode;
+use iso_codec::{DecodeError, decode};
+use iso_msg::Message;
+use std::alloc::Global;
+use sw_context::{Context, ContextError};
+use sw_participant::NoMemory;
+
+/// The entry of the request's bytes.
+pub const REQUEST: &str = "request";
+
+/// The entry of the response code.
+pub const CODE: &str = "rc";
+
+/// The entry of the approval code.
+pub const APPROVAL: &str = "auth";
+
+/// The entry that tells that the request went to an issuer.
+pub const SENT: &str = "sent";
+
+/// The entry that tells that the issuer's answer has not come.
+pub const LATE: &str = "late";
+
+/// The entry that tells that the switch approved in the issuer's place.
+pub const STAND_IN: &str = "standin";
+
+/// The entry of the response's bytes.
+pub const RESPONSE: &str = "response";
+
+/// The request that a context carries, if it is readable.
+pub fn request_in(alloc: Global, context: &Context) -> Result<Option<Message>, NoMemory>
+    ensures { IfOk result (λ m. m ≡ request_in context.now) }
+{
+    let Some(bytes) = context.get(REQUEST) else {
+        return Ok(None);
+    };
+    match decode(alloc, bytes) {
+        Ok(message) => Ok(Some(message)),
+        Err(DecodeError::OutOfMemory) => Err(NoMemory),
+        Err(_) => Ok(None),
+    }
+}
+
+/// Notes a value; a full context stays as it is.
+pub fn note(context: &mut Context, name: &str, value: &[u8]) -> Result<(), NoMemory>
+    ensures noted { OnOk result (context.new ≡ noted context.old name.now value.now) }
+    ensures kept { OnErr result (context.new ≡ context.old) }
+{
+    match context.put(name, value) {
+        Err(ContextError::OutOfMemory) => Err(NoMemory),
+        _ => Ok(()),
+    }
+}
+
+/// Notes a response code.
+pub fn note_code(context: &mut Context, code: ResponseCode) -> Result<(), NoMemory>
+    ensures noted { OnOk result (context.new ≡ coded code context.old) }
+    ensures kept { OnErr result (context.new ≡ context.old) }
+{
+    note(context, CODE, code.digits())
+}
