@@ -5,7 +5,7 @@
 
 Beside it, in the same run, SQLite's C library (through Python's sqlite3) makes the commits of as many transactions in a
 journal of the same tables, WAL and synchronous FULL on the file: the rows of one approved authorization, a commit for
-each of its entries. Then the time and the memory of 1,000, 10,000 and 100,000 requests, in memory.
+each of its entries, by the same statements. Then the time and the memory of 1,000, 10,000 and 100,000 requests, in memory.
 """
 
 import argparse
@@ -28,6 +28,8 @@ CREATE TABLE member (id INTEGER NOT NULL REFERENCES tx ON DELETE CASCADE, place 
     PRIMARY KEY (id, place)) STRICT;
 INSERT INTO meta VALUES (1, 1), (2, 1);
 """
+PUT_ROW = """INSERT INTO tx VALUES (?1, ?2, ?3, ?4, 0, ?5)
+    ON CONFLICT (id) DO UPDATE SET phase = ?2, told = ?3, doing = ?4, tries = 0, context = ?5"""
 # The rows of an approved authorization after each of its entries: phase, members, told, doing.
 ROWS = [
     (0, [], 0, "check"),
@@ -79,11 +81,13 @@ def commits(count, path):
         for place, (phase, members, told, doing) in enumerate(ROWS):
             journal.execute("BEGIN")
             if place == 0:
-                journal.execute("UPDATE meta SET v = ? WHERE k = 2", (number + 1,))
-            journal.execute("DELETE FROM tx WHERE id = ?", (number,))
-            journal.execute("INSERT INTO tx VALUES (?, ?, ?, ?, 0, ?)", (number, phase, told, doing, context))
-            for at, name in enumerate(members):
-                journal.execute("INSERT INTO member VALUES (?, ?, ?)", (number, at, name))
+                journal.execute("DELETE FROM meta WHERE k = 2")
+                journal.execute("INSERT INTO meta VALUES (2, ?)", (number + 1,))
+            journal.execute(PUT_ROW, (number, phase, told, doing, context))
+            if members:
+                last = len(members) - 1
+                journal.execute("DELETE FROM member WHERE id = ? AND place = ?", (number, last))
+                journal.execute("INSERT INTO member VALUES (?, ?, ?)", (number, last, members[-1]))
             journal.execute("COMMIT")
         journal.execute("DELETE FROM tx WHERE id = ?", (number,))
     return time.monotonic() - began

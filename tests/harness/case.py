@@ -9,8 +9,8 @@ import tempfile
 import threading
 from dataclasses import dataclass, field
 
-# Long enough for a transaction with a thousand members on a busy machine: each of its entries writes them all.
-SECONDS = 300
+# Long enough for a transaction with a thousand members on a busy machine.
+SECONDS = 60
 # Prints the tables of a journal's file.
 TABLES = os.path.join(os.path.dirname(os.path.abspath(__file__)), "tables.py")
 

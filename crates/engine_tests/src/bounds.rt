@@ -35,14 +35,26 @@ fn the_last_id(rt: HostRuntime) -> Result<(), Fail> {
 
 const FULL: &str = "\
 offer = 1
-often 1048575 p = 1048576
+spare = 0
+reserve = 0
+reserve = 0
+spare = 2
+offer_reserved = 2
+spare = 1
+often 1048573 p = 1048575
+spare = 1
+reserve = HistoryFull
+offer = 1048576
+spare = 0
 take 0 = HistoryFull
 release = HistoryFull
 go 0 = NotHeld
 break x = NoParticipant
 ack 1 0 = NoAdvice
 write 1048576 = 0
+counts = 3 0 0 1048576 1 0
 cut = 0
+counts = 3 0 0 0 1 0
 take 0 = 1 id 1
 write 1 = 0
 next 0 = held 1 0 Prepare

@@ -1,5 +1,5 @@
-//! Tests of the engine, call by call: worked rows, whose answers were found by hand, as texts of calls
-//! with what each of them answers. What the program's script shows is tested by data.
+//! Tests of the engine, call by call: worked rows, whose answers were found by hand, as texts of
+//! calls with what each of them answers. What the program's script shows is tested by data.
 #![tactic(auto)]
 
 #[cfg(test)]

@@ -1,15 +1,17 @@
 //! Calls of an engine as lines of text, each with what it answers behind ` = `. The helpers have no
 //! contract, so that the proof of a test carries no values.
 //!
-//! `counts` (queued, on the shelf, recovering, entries, next id of the opened journal, its rows), `often N NAME` (so
-//! many breakpoints, as the last answers), `offer`, `take S`, `next S`, `answer S BYTE`, `choose S TEXT`, `restore S`, `tell S`, `advise S` (told, with the
-//! advice `AB`), `ack ID PLACE`, `break NAME`, `clear NAME`, `go S`, `release`, `write MARK`, `cut`, `rest S`. An
-//! event answers its entry's number, `write` and `cut` answer 0, and a refusal its name. Contexts are empty.
+//! `counts` (queued, on the shelf, recovering, entries, next id of the opened journal, its rows),
+//! `often N NAME` (so many breakpoints, as the last answers), `offer`, `reserve`, `spare`,
+//! `offer_reserved`, `take S`, `next S`, `answer S BYTE`, `choose S TEXT`, `restore S`, `tell S`,
+//! `advise S` (told, with the advice `AB`), `ack ID PLACE`, `break NAME`, `clear NAME`, `go S`,
+//! `release`, `write MARK`, `cut`, `rest S`. An event answers its entry's number, `reserve`,
+//! `write` and `cut` answer 0, and a refusal its name. Contexts are empty.
 
 use std::alloc::Global;
 use std::test::Fail;
 use sw_context::Context;
-use tx_engine::{Engine, EngineError, Next};
+use tx_engine::{Engine, EngineError, Next, Offer};
 
 fn number(word: &str) -> Result<usize, Fail> {
     Ok(word.parse::<usize>()?)
@@ -49,6 +51,14 @@ fn zero(answer: Result<(), EngineError>) -> Result<usize, EngineError> {
     }
 }
 
+fn offer_reserved(alloc: Global, engine: &mut Engine) -> Result<usize, Fail> {
+    let offer = Offer::new(&Context::new(alloc))?;
+    if engine.spare() == 0 {
+        return Err(Fail::new("no memory is reserved"));
+    }
+    Ok(engine.offer_reserved(offer))
+}
+
 // A call of no session; `None` where the word is none.
 fn event(
     alloc: Global,
@@ -58,6 +68,9 @@ fn event(
 ) -> Result<Option<Result<usize, EngineError>>, Fail> {
     Ok(match call {
         "offer" => Some(engine.offer(&Context::new(alloc))),
+        "reserve" => Some(zero(engine.reserve_offer())),
+        "spare" => Some(Ok(engine.spare())),
+        "offer_reserved" => Some(Ok(offer_reserved(alloc, engine)?)),
         "release" => Some(engine.release()),
         "break" => Some(engine.set_break(text)),
         "clear" => Some(engine.clear_break(text)),

@@ -161,7 +161,8 @@ fn shelf_of(alloc: Global, rows: &[Cells]) -> Result<Sequence<(u64, Waiting)>, U
 }
 
 fn advices_of(alloc: Global, rows: &[Cells]) -> Result<Sequence<((u64, usize), Bytes)>, Unread>
-    ensures { IfOk result (λ views. views ≡ map (λ r. ((spec.nat_at r 0, spec.nat_at r 1), bytes (column r 2))) rows.now) }
+    ensures { IfOk result (λ views. views
+        ≡ map (λ r. ((spec.nat_at r 0, spec.nat_at r 1), bytes (column r 2))) rows.now) }
 {
     let mut views = Vec::new(alloc);
     for row in rows {

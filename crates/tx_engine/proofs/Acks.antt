@@ -81,9 +81,9 @@ stands place (x ∷ xs) h = stands_at place x xs (stands place xs) (same_place p
 abbrev pub acked_change : ℕ → ℕ → Change
 acked_change id place = record { next_id = None; row = None; shelved = None; emptied = false; advice = Some ((id, place), None) }
 
-pub steps_acked : (f : Flow) (n : ℕ) (v : Start) (es : List Entry) (mark : ℕ) (r : Running) (id place : ℕ) → is_some (advice_at (id, place) (advices f v (past_of es))) ≡ true → Kept (world f n v es mark) es r
+pub steps_acked : (f : Flow) (n : ℕ) (v : Start) (es : List Entry) (mark reserved : ℕ) (r : Running) (id place : ℕ) → is_some (advice_at (id, place) (advices f v (past_of es))) ≡ true → Kept (world f n v es mark reserved) es r
     → Steps f n v (past_of es) (Acked id place) (acked_change id place) r (record r { advices = put_by place_lt (id, place) None r.advices })
-steps_acked f n v es mark r id place here k =
+steps_acked f n v es mark reserved r id place here k =
     let w = stands (id, place) (advices f v (past_of es)) here in
     record {
       accepted = (w.advice, w.index, w.there);

@@ -48,9 +48,9 @@ cleared f v past flags p lt are =
     let len = are.0 in
     (length_set flags p false ∙ len, λ q. flag_set flags p q false (omega arith) ∙ (rw (are.1 q) (cleared_and (p == q) (has_break v past q))))
 
-pub steps_broke : (f : Flow) (n : ℕ) (v : Start) (es : List Entry) (mark : ℕ) (r : Running) (p : ℕ) → p < length (parts_of f) → Kept (world f n v es mark) es r
+pub steps_broke : (f : Flow) (n : ℕ) (v : Start) (es : List Entry) (mark reserved : ℕ) (r : Running) (p : ℕ) → p < length (parts_of f) → Kept (world f n v es mark reserved) es r
     → Steps f n v (past_of es) (Broke p) no_change r (record r { breaks = slice_set r.breaks p true })
-steps_broke f n v es mark r p lt k = record {
+steps_broke f n v es mark reserved r p lt k = record {
   accepted = lt;
   usual = refl;
   takers = λ h. h;
@@ -67,9 +67,9 @@ steps_broke f n v es mark r p lt k = record {
   spent = k.spent;
 }
 
-pub steps_cleared : (f : Flow) (n : ℕ) (v : Start) (es : List Entry) (mark : ℕ) (r : Running) (p : ℕ) → p < length (parts_of f) → Kept (world f n v es mark) es r
+pub steps_cleared : (f : Flow) (n : ℕ) (v : Start) (es : List Entry) (mark reserved : ℕ) (r : Running) (p : ℕ) → p < length (parts_of f) → Kept (world f n v es mark reserved) es r
     → Steps f n v (past_of es) (Cleared p) no_change r (record r { breaks = slice_set r.breaks p false })
-steps_cleared f n v es mark r p lt k = record {
+steps_cleared f n v es mark reserved r p lt k = record {
   accepted = lt;
   usual = refl;
   takers = λ h. h;

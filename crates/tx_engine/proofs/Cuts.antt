@@ -46,8 +46,8 @@ any_slot h (x ∷ xs) n all =
     let later = any_slot h xs (n + 1) (λ s y e. (let same : n + suc s ≡ (n + 1) + s = omega arith in all (suc s) y e ∙ ap (λ (i : ℕ). is_some (h i)) same)) in
     rw (here, later) refl
 
-pub slots_in_use : (f : Flow) (n : ℕ) (v : Start) (es : List Entry) (mark : ℕ) (r : Running) → Kept (world f n v es mark) es r → length r.slots ≡ n → list_any is_holding r.slots ≡ is_in_use (world f n v es mark)
-slots_in_use f n v es mark r k same =
+pub slots_in_use : (f : Flow) (n : ℕ) (v : Start) (es : List Entry) (mark reserved : ℕ) (r : Running) → Kept (world f n v es mark reserved) es r → length r.slots ≡ n → list_any is_holding r.slots ≡ is_in_use (world f n v es mark reserved)
+slots_in_use f n v es mark reserved r k same =
     any_slot (holds f v (past_of es)) r.slots 0 (λ s x e. (let at : s ≡ 0 + s = omega arith in slot_in_use f v (past_of es) s x (k.sessions s x e) ∙ ap (λ (i : ℕ). is_some (holds f v (past_of es) i)) at))
     ∙ ap (λ (m : ℕ). list_any (λ s. is_some (holds f v (past_of es) s)) (range_with_len 0 m)) same
 
@@ -183,12 +183,12 @@ not_recovering : (f : Flow) (v : Start) (past : List Event) (o : Option ℕ) →
 not_recovering f v past None or e free = e
 not_recovering f v past (Some id) or e free = absurd (let some = holds_recovered f v past id or e in cc)
 
-pub start_is : (f : Flow) (n : ℕ) (v : Start) (es : List Entry) (mark : ℕ) (r : Running) → Kept (world f n v es mark) es r → is_in_use (world f n v es mark) ≡ false → parts_start r ≡ after_cut f v (past_of es) (breaks_of f v (past_of es))
-start_is f n v es mark r k free =
+pub start_is : (f : Flow) (n : ℕ) (v : Start) (es : List Entry) (mark reserved : ℕ) (r : Running) → Kept (world f n v es mark reserved) es r → is_in_use (world f n v es mark reserved) ≡ false → parts_start r ≡ after_cut f v (past_of es) (breaks_of f v (past_of es))
+start_is f n v es mark reserved r k free =
     let past : List Event = past_of es in
     let o = k.start.view.ordered in
     let some = k.seats in
-    let idle : (s : ℕ) → s < n → holds f v past s ≡ None = λ s lt. free_sessions (world f n v es mark) s free lt in
+    let idle : (s : ℕ) → s < n → holds f v past s ≡ None = λ s lt. free_sessions (world f n v es mark reserved) s free lt in
     let none : recovering f v past ≡ None = not_recovering f v past (recovering f v past) o refl (idle 0 (omega arith)) in
     let gone = rows_gone f v past n o k.past.sessions k.past.lawful none k.closed idle in
     let set : filter (flag r.breaks) (range_with_len 0 (length r.breaks)) ≡ breaks_of f v past =
@@ -202,13 +202,13 @@ no_session_state f r s = by (s == 0) refl
     by true e = rw e refl
     by false e = rw e refl
 
-pub kept_cut : (f : Flow) (n : ℕ) (v : Start) (es : List Entry) (mark : ℕ) (r : Running) → Kept (world f n v es mark) es r → length r.slots ≡ n → is_in_use (world f n v es mark) ≡ false
-    → Kept (world f n (parts_start r) [] 0) [] (parts_after r)
-kept_cut f n v es mark r k same free =
-    let is = start_is f n v es mark r k free in
+pub kept_cut : (f : Flow) (n : ℕ) (v : Start) (es : List Entry) (mark reserved : ℕ) (r : Running) → Kept (world f n v es mark reserved) es r → length r.slots ≡ n → is_in_use (world f n v es mark reserved) ≡ false
+    → Kept (world f n (parts_start r) [] 0 0) [] (parts_after r)
+kept_cut f n v es mark reserved r k same free =
+    let is = start_is f n v es mark reserved r k free in
     let st : StartFits f (parts_start r) = subst (λ (s : Start). StartFits f s) (sym is) (cut_fits f v (past_of es) (breaks_of f v (past_of es)) n k.flow k.start k.past.few k.past.sessions k.past.spelled k.past.lawful) in
     let o = st.view.ordered in
-    let unused : list_any is_holding r.slots ≡ false = slots_in_use f n v es mark r k same ∙ free in
+    let unused : list_any is_holding r.slots ≡ false = slots_in_use f n v es mark reserved r k same ∙ free in
     let zero_more : r.next_id ≡ r.next_id + 0 = omega arith in
     record {
       seats = k.seats;
@@ -241,23 +241,23 @@ may_cut w h = by (is_in_use w) (nat_lt w.mark (length w.past)) h
 idle_world : (u w : World) → u ≡ w → cut_refusal w ≡ None → is_in_use u ≡ false
 idle_world u w same h = subst (λ (z : World). is_in_use z ≡ false) (sym same) (may_cut w h)
 
-pub cut_kept : (f : Flow) (n : ℕ) (v : Start) (es : List Entry) (mark : ℕ) (r : Running) (w : World) (rows : List (ℕ × Row)) (kept : List (ℕ × Waiting)) (stored : List ((ℕ × ℕ) × List ℕ)) (waiting : List Waiting) (breaks : List ℕ) (left : List Entry)
-    → Kept (world f n v es mark) es r → world f n v es mark ≡ w → length r.slots ≡ n → cut_refusal w ≡ None
+pub cut_kept : (f : Flow) (n : ℕ) (v : Start) (es : List Entry) (mark reserved : ℕ) (r : Running) (w : World) (rows : List (ℕ × Row)) (kept : List (ℕ × Waiting)) (stored : List ((ℕ × ℕ) × List ℕ)) (waiting : List Waiting) (breaks : List ℕ) (left : List Entry)
+    → Kept (world f n v es mark reserved) es r → world f n v es mark reserved ≡ w → length r.slots ≡ n → cut_refusal w ≡ None
     → rows ≡ [] → kept ≡ r.shelf → stored ≡ r.advices → waiting ≡ r.queue → breaks ≡ filter (flag r.breaks) (range_with_len 0 (length r.breaks)) → left ≡ []
-    → Kept (world f n (record { view = record { next_id = r.next_id; rows = rows; shelf = kept; advices = stored }; queue = waiting; breaks = breaks }) left 0) left (parts_after r)
-cut_kept f n v es mark r w rows kept stored waiting breaks left k same many none er ek es' ew eb el =
-    rw (er, ek, es', ew, eb, el) (kept_cut f n v es mark r k many (idle_world (world f n v es mark) w same none))
+    → Kept (world f n (record { view = record { next_id = r.next_id; rows = rows; shelf = kept; advices = stored }; queue = waiting; breaks = breaks }) left 0 0) left (parts_after r)
+cut_kept f n v es mark reserved r w rows kept stored waiting breaks left k same many none er ek es' ew eb el =
+    rw (er, ek, es', ew, eb, el) (kept_cut f n v es mark reserved r k many (idle_world (world f n v es mark reserved) w same none))
 
 -- what contracts see of it
-pub cut_shown : (f : Flow) (n : ℕ) (v : Start) (es : List Entry) (mark : ℕ) (r : Running) (w : World) (rows : List (ℕ × Row)) (kept : List (ℕ × Waiting)) (stored : List ((ℕ × ℕ) × List ℕ)) (waiting : List Waiting) (breaks : List ℕ) (left : List Entry)
-    → Kept (world f n v es mark) es r → world f n v es mark ≡ w → cut_refusal w ≡ None
+pub cut_shown : (f : Flow) (n : ℕ) (v : Start) (es : List Entry) (mark reserved : ℕ) (r : Running) (w : World) (rows : List (ℕ × Row)) (kept : List (ℕ × Waiting)) (stored : List ((ℕ × ℕ) × List ℕ)) (waiting : List Waiting) (breaks : List ℕ) (left : List Entry)
+    → Kept (world f n v es mark reserved) es r → world f n v es mark reserved ≡ w → cut_refusal w ≡ None
     → rows ≡ [] → kept ≡ r.shelf → stored ≡ r.advices → waiting ≡ r.queue → breaks ≡ filter (flag r.breaks) (range_with_len 0 (length r.breaks)) → left ≡ []
-    → world f n (record { view = record { next_id = r.next_id; rows = rows; shelf = kept; advices = stored }; queue = waiting; breaks = breaks }) left 0 ≡ cut_world w
-cut_shown f n v es mark r w rows kept stored waiting breaks left k same none er ek es' ew eb el =
-    let is : parts_start r ≡ after_cut f v (past_of es) (breaks_of f v (past_of es)) = start_is f n v es mark r k (idle_world (world f n v es mark) w same none) in
+    → world f n (record { view = record { next_id = r.next_id; rows = rows; shelf = kept; advices = stored }; queue = waiting; breaks = breaks }) left 0 0 ≡ cut_world w
+cut_shown f n v es mark reserved r w rows kept stored waiting breaks left k same none er ek es' ew eb el =
+    let is : parts_start r ≡ after_cut f v (past_of es) (breaks_of f v (past_of es)) = start_is f n v es mark reserved r k (idle_world (world f n v es mark reserved) w same none) in
     let made : record { view = record { next_id = r.next_id; rows = rows; shelf = kept; advices = stored }; queue = waiting; breaks = breaks } ≡ parts_start r = rw (er, ek, es', ew, eb) refl in
-    rw el (subst (λ (z : World). world f n (record { view = record { next_id = r.next_id; rows = rows; shelf = kept; advices = stored }; queue = waiting; breaks = breaks }) [] 0 ≡ cut_world z) same
-    (ap (λ (s : Start). world f n s [] 0) (made ∙ is)))
+    rw el (subst (λ (z : World). world f n (record { view = record { next_id = r.next_id; rows = rows; shelf = kept; advices = stored }; queue = waiting; breaks = breaks }) [] 0 0 ≡ cut_world z) same
+    (ap (λ (s : Start). world f n s [] 0 0) (made ∙ is)))
 
 pub accepts_cut : (w : World) (done : Unit {0} → Type 0) (same : Type 0) → cut_refusal w ≡ None → done tt → Accepts OutOfMemory (cut_refusal w) (Ok tt) done same
 accepts_cut w done same h d = subst (λ (o : Option EngineError). Accepts OutOfMemory o (Ok tt) done same) (sym h) d

@@ -194,12 +194,12 @@ after_by f v past e s id x advice m number y g (Some k) was put =
 abbrev made : Flow → ℕ → TxState → Option ((ℕ × ℕ) × Option (List ℕ)) → Change
 made f id st advice = record { next_id = None; row = Some (id, row f st); shelved = shelved_change id (shelved f st true); emptied = false; advice = advice }
 
-pub steps_given : (f : Flow) (n : ℕ) (v : Start) (es : List Entry) (mark : ℕ) (r : Running) (s id number : ℕ) (m : Machine) (e : Event) (advice : Option ((ℕ × ℕ) × Option (List ℕ))) (restored : Bool) (y : Slot) (kept : List (ℕ × Waiting)) (stored : List ((ℕ × ℕ) × List ℕ))
-    → Kept (world f n v es mark) es r → length es < 1048576 → number ≡ length es + 1 → Gives (world f n v es mark) s id m e advice restored → IsSlotAfter r.recovering f v.view.rows id m number y
+pub steps_given : (f : Flow) (n : ℕ) (v : Start) (es : List Entry) (mark reserved : ℕ) (r : Running) (s id number : ℕ) (m : Machine) (e : Event) (advice : Option ((ℕ × ℕ) × Option (List ℕ))) (restored : Bool) (y : Slot) (kept : List (ℕ × Waiting)) (stored : List ((ℕ × ℕ) × List ℕ))
+    → Kept (world f n v es mark reserved) es r → length es < 1048576 → number ≡ length es + 1 → Gives (world f n v es mark reserved) s id m e advice restored → IsSlotAfter r.recovering f v.view.rows id m number y
     → kept ≡ put_new (shelved_change id (shelved f (tx_state f m) true)) r.shelf → stored ≡ put_place advice r.advices
     → Steps f n v (past_of es) e (record { next_id = None; row = Some (id, row f (tx_state f m)); shelved = shelved_change id (shelved f (tx_state f m) true); emptied = false; advice = advice }) r
     (record r { slots = slice_set r.slots s y; shelf = kept; advices = stored; restored = restored; recovering = r.recovering && is_holding y })
-steps_given f n v es mark r s id number m e advice restored y kept stored k few is g put shelves stores =
+steps_given f n v es mark reserved r s id number m e advice restored y kept stored k few is g put shelves stores =
     let past : List Event = past_of es in
     let len : length past ≡ length es = length_past es in
     let num : number ≡ length past + 1 = omega arith in
@@ -240,28 +240,28 @@ pub gives_at : (u w : World) (s id : ℕ) (m : Machine) (e : Event) (advice : Op
 gives_at u w s id m e advice restored same g = subst (λ (z : World). Gives z s id m e advice restored) (sym same) g
 
 -- the shelf does not have the transaction
-pub gives_lacks : (f : Flow) (n : ℕ) (v : Start) (es : List Entry) (mark : ℕ) (r : Running) (s id : ℕ) (m : Machine) (e : Event) (advice : Option ((ℕ × ℕ) × Option (List ℕ))) (restored : Bool) → Kept (world f n v es mark) es r → Gives (world f n v es mark) s id m e advice restored
+pub gives_lacks : (f : Flow) (n : ℕ) (v : Start) (es : List Entry) (mark reserved : ℕ) (r : Running) (s id : ℕ) (m : Machine) (e : Event) (advice : Option ((ℕ × ℕ) × Option (List ℕ))) (restored : Bool) → Kept (world f n v es mark reserved) es r → Gives (world f n v es mark reserved) s id m e advice restored
     → look id r.shelf ≡ None
-gives_lacks f n v es mark r s id m e advice restored k g =
+gives_lacks f n v es mark reserved r s id m e advice restored k g =
     let past : List Event = past_of es in
     let w = state_served f v past (serves f v past s) id g.before g.serves in
     let given : IsGiven f v past s id g.item = record { serves = w.0; holds = holds_is f v past s ∙ (rw (g.serves, g.unfinished) refl); due = rw w.1 g.due; unrestored = g.unrestored } in
     let t = turn f v past e s id g.item g.reply given in
     rw k.shelved (shelf_lacks f v past e s id g.item k.start.view.ordered t.gave w.0 (rw w.1 g.unfinished))
 
-pub gives_room : (f : Flow) (n : ℕ) (v : Start) (es : List Entry) (mark s id : ℕ) (m : Machine) (e : Event) (advice : Option ((ℕ × ℕ) × Option (List ℕ))) (restored : Bool) → Gives (world f n v es mark) s id m e advice restored → length es < 1048576
-gives_room f n v es mark s id m e advice restored g = let len = length_past es in let room = g.room in grind (arith, nat_tests)
+pub gives_room : (f : Flow) (n : ℕ) (v : Start) (es : List Entry) (mark reserved s id : ℕ) (m : Machine) (e : Event) (advice : Option ((ℕ × ℕ) × Option (List ℕ))) (restored : Bool) → Gives (world f n v es mark reserved) s id m e advice restored → length es < 1048576
+gives_room f n v es mark reserved s id m e advice restored g = let len = length_past es in let room = g.room in grind (arith, nat_tests)
 
 -- the engine after an item
-pub kept_given : (f : Flow) (n m : ℕ) (v : Start) (es : List Entry) (mark : ℕ) (r : Running) (s id number : ℕ) (x : Machine) (e : Event) (advice : Option ((ℕ × ℕ) × Option (List ℕ))) (restored recovering : Bool) (y : Slot) (entry : Entry) (kept : List (ℕ × Waiting)) (stored : List ((ℕ × ℕ) × List ℕ))
-    → Kept (world f n v es mark) es r → Gives (world f n v es mark) s id x e advice restored → number ≡ length es + 1 → m ≡ n → IsSlotAfter r.recovering f v.view.rows id x number y
+pub kept_given : (f : Flow) (n m : ℕ) (v : Start) (es : List Entry) (mark reserved : ℕ) (r : Running) (s id number : ℕ) (x : Machine) (e : Event) (advice : Option ((ℕ × ℕ) × Option (List ℕ))) (restored recovering : Bool) (y : Slot) (entry : Entry) (kept : List (ℕ × Waiting)) (stored : List ((ℕ × ℕ) × List ℕ))
+    → Kept (world f n v es mark reserved) es r → Gives (world f n v es mark reserved) s id x e advice restored → number ≡ length es + 1 → m ≡ n → IsSlotAfter r.recovering f v.view.rows id x number y
     → entry ≡ record { number = number; event = e; change = item_change f id x advice } → kept ≡ put_new (shelved_change id (shelved f (tx_state f x) true)) r.shelf → stored ≡ put_place advice r.advices → recovering ≡ (r.recovering && is_holding y)
-    → Kept (world f m v (es ++ entry ∷ []) mark) (es ++ entry ∷ []) (record r { slots = slice_set r.slots s y; shelf = kept; advices = stored; restored = restored; recovering = recovering })
-kept_given f n m v es mark r s id number x e advice restored recovering y entry kept stored k g is same put entry_is shelves stores goes =
+    → Kept (world f m v (es ++ entry ∷ []) mark reserved) (es ++ entry ∷ []) (record r { slots = slice_set r.slots s y; shelf = kept; advices = stored; restored = restored; recovering = recovering })
+kept_given f n m v es mark reserved r s id number x e advice restored recovering y entry kept stored k g is same put entry_is shelves stores goes =
     rw (entry_is, goes)
-    (kept_step f n m v es mark r e number (item_change f id x advice) (record r { slots = slice_set r.slots s y; shelf = kept; advices = stored; restored = restored; recovering = r.recovering && is_holding y }) k
-    (gives_room f n v es mark s id x e advice restored g) is same
-    (steps_given f n v es mark r s id number x e advice restored y kept stored k (gives_room f n v es mark s id x e advice restored g) is g put shelves stores))
+    (kept_step f n m v es mark reserved r e number (item_change f id x advice) (record r { slots = slice_set r.slots s y; shelf = kept; advices = stored; restored = restored; recovering = r.recovering && is_holding y }) k
+    (gives_room f n v es mark reserved s id x e advice restored g) is same
+    (steps_given f n v es mark reserved r s id number x e advice restored y kept stored k (gives_room f n v es mark reserved s id x e advice restored g) is g put shelves stores))
 
 pub same_entry : (entry : Entry) (number : ℕ) (e : Event) (c : Change) → entry.number ≡ number → entry.event ≡ e → entry.change ≡ c → entry ≡ record { number = number; event = e; change = c }
 same_entry entry number e c n i h = let same : record { number = entry.number; event = entry.event; change = entry.change } ≡ record { number = number; event = e; change = c } = rw (n, i, h) refl in same

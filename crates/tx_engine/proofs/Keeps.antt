@@ -51,10 +51,10 @@ pub record Steps (f : Flow) (n : ℕ) (v : Start) (past : List Event) (e : Event
 pub in_turn : (f : Flow) (v : Start) (past : List Event) (e : Event) → IsAccepted f v past e → closes e ≡ false → length (to_close f v.view.rows) ≤ length past → length past < 1048576 → IsLawful f v past → IsLawful f v (e ∷ past)
 in_turn f v past e a usual closed few law = rw usual (a, (closed, few), law)
 
-pub kept_step : (f : Flow) (n m : ℕ) (v : Start) (es : List Entry) (mark : ℕ) (r : Running) (e : Event) (number : ℕ) (ch : Change) (to : Running)
-    → Kept (world f n v es mark) es r → length es < 1048576 → number ≡ length es + 1 → m ≡ n → Steps f n v (past_of es) e ch r to
-    → Kept (world f m v (es ++ record { number = number; event = e; change = ch } ∷ []) mark) (es ++ record { number = number; event = e; change = ch } ∷ []) to
-kept_step f n m v es mark r e number ch to k few is same t =
+pub kept_step : (f : Flow) (n m : ℕ) (v : Start) (es : List Entry) (mark reserved : ℕ) (r : Running) (e : Event) (number : ℕ) (ch : Change) (to : Running)
+    → Kept (world f n v es mark reserved) es r → length es < 1048576 → number ≡ length es + 1 → m ≡ n → Steps f n v (past_of es) e ch r to
+    → Kept (world f m v (es ++ record { number = number; event = e; change = ch } ∷ []) mark reserved) (es ++ record { number = number; event = e; change = ch } ∷ []) to
+kept_step f n m v es mark reserved r e number ch to k few is same t =
     let past : List Event = past_of es in
     let len : length past ≡ length es = length_past es in
     let num : number ≡ length past + 1 = omega arith in
@@ -177,8 +177,8 @@ length_set (x ∷ xs) (suc s) y = ap (λ n. suc n) (length_set xs s y)
 
 -- the mark
 
-pub kept_mark : (f : Flow) (n : ℕ) (v : Start) (es : List Entry) (mark to : ℕ) (r : Running) → Kept (world f n v es mark) es r → to ≤ length es → Kept (world f n v es to) es r
-kept_mark f n v es mark to r k le =
+pub kept_mark : (f : Flow) (n : ℕ) (v : Start) (es : List Entry) (mark reserved to : ℕ) (r : Running) → Kept (world f n v es mark reserved) es r → to ≤ length es → Kept (world f n v es to reserved) es r
+kept_mark f n v es mark reserved to r k le =
     let len : length (past_of es) ≡ length es = length_past es in
     record {
       seats = k.seats;

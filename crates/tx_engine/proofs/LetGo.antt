@@ -36,9 +36,9 @@ slot_gone : (f : Flow) (v : Start) (past : List Event) (s : ℕ) (x : Slot) → 
 slot_gone f v past s Free k = k
 slot_gone f v past s (Holding h) k = record { serves = k.serves; unfinished = k.unfinished; sound = k.sound; last = k.last; gone = rw (same_yes s) refl }
 
-pub steps_let_go : (f : Flow) (n : ℕ) (v : Start) (es : List Entry) (mark : ℕ) (r : Running) (s : ℕ) (x : Slot) → is_held f v (past_of es) s ≡ true → SlotIs f v (past_of es) s x → Kept (world f n v es mark) es r
+pub steps_let_go : (f : Flow) (n : ℕ) (v : Start) (es : List Entry) (mark reserved : ℕ) (r : Running) (s : ℕ) (x : Slot) → is_held f v (past_of es) s ≡ true → SlotIs f v (past_of es) s x → Kept (world f n v es mark reserved) es r
     → Steps f n v (past_of es) (LetGo s) no_change r (record r { slots = slice_set r.slots s (slot_let_go x) })
-steps_let_go f n v es mark r s x held here k = record {
+steps_let_go f n v es mark reserved r s x held here k = record {
   accepted = held;
   usual = refl;
   takers = λ h. h;

@@ -100,7 +100,7 @@ opened_parts f j n x =
     }
 
 pub kept_opened : (f : Flow) (j : JournalView) (n m : ℕ) (es : List Entry) (x : Slot) → FlowFits f → StartFits f (first_start j) → 1 ≤ n → n ≤ 16 → m ≡ n → es ≡ entries f (first_start j) (opened f (first_start j)) → IsNextSlot f j.rows 0 x
-    → Kept (world f m (first_start j) es 0) es (opened_parts f j n x)
+    → Kept (world f m (first_start j) es 0 0) es (opened_parts f j n x)
 kept_opened f j n m es x fits st some few same is next =
     let v : Start = first_start j in
     let ids : List ℕ = to_close f j.rows in
@@ -116,7 +116,7 @@ kept_opened f j n m es x fits st some few same is next =
     row_holding f (next_row f j.rows 0) x next ∙ sym (ap (λ (r : Option ℕ). is_some r) (closes_same (λ p. recovering f v p) (λ id p. refl) ids [] ∙ recovering_first f j o)) in
     let len = length_closes ids [] in
     let last = st.view.last in
-    subst (λ (p : List Event). Kept (record { flow = f; sessions = m; start = v; past = p; mark = 0 }) es (opened_parts f j n x)) (sym events)
+    subst (λ (p : List Event). Kept (record { flow = f; sessions = m; start = v; past = p; mark = 0; reserved = 0 }) es (opened_parts f j n x)) (sym events)
     (rw same (record {
       seats = some;
       flow = fits;
@@ -139,7 +139,7 @@ kept_opened f j n m es x fits st some few same is next =
     }))
 
 -- what contracts see of it
-pub world_opened : (f : Flow) (j : JournalView) (n m : ℕ) (es : List Entry) → m ≡ n → es ≡ entries f (first_start j) (opened f (first_start j)) → world f m (first_start j) es 0 ≡ opened_world f j n
+pub world_opened : (f : Flow) (j : JournalView) (n m : ℕ) (es : List Entry) → m ≡ n → es ≡ entries f (first_start j) (opened f (first_start j)) → world f m (first_start j) es 0 0 ≡ opened_world f j n
 world_opened f j n m es same is =
     let events : past_of es ≡ opened f (first_start j) = ap past_of is ∙ past_entries f (first_start j) (opened f (first_start j)) in
     rw (same, events) refl
@@ -151,6 +151,6 @@ sessions_are n x = length_set (replicate n Free) 0 x ∙ length_replicate n Free
 pub kept_made : (f g : Flow) (j k : JournalView) (n m : ℕ) (es : List Entry) (x : Slot) (q : List Waiting) (b : List ℕ) (slots : List Slot) (waiting : List Waiting) (kept : List (ℕ × Waiting)) (stored : List ((ℕ × ℕ) × List ℕ)) (breaks : List Bool) (busy : Bool)
     → FlowFits f → StartFits f (first_start j) → 1 ≤ n → n ≤ 16 → es ≡ entries f (first_start j) (opened f (first_start j)) → IsNextSlot f j.rows 0 x
     → g ≡ f → k ≡ j → m ≡ n → q ≡ [] → b ≡ [] → slots ≡ slice_set (replicate n Free) 0 x → waiting ≡ [] → kept ≡ j.shelf → stored ≡ j.advices → breaks ≡ replicate (length (parts_of f)) false → busy ≡ is_holding x
-    → Kept (world g m (record { view = k; queue = q; breaks = b }) es 0) es (record { slots = slots; queue = waiting; shelf = kept; advices = stored; breaks = breaks; next_id = j.next_id; restored = false; recovering = busy })
+    → Kept (world g m (record { view = k; queue = q; breaks = b }) es 0 0) es (record { slots = slots; queue = waiting; shelf = kept; advices = stored; breaks = breaks; next_id = j.next_id; restored = false; recovering = busy })
 kept_made f g j k n m es x q b slots waiting kept stored breaks busy fits st some few is next eg ek em eq eb es' ew ek' et er ey =
     rw (eg, ek, eq, eb, es', ew, ek', et, er, ey) (kept_opened f j n m es x fits st some few em is next)

@@ -35,9 +35,9 @@ touched_is f v past s c (Holding h) number is k =
       gone = rw (same_yes s) refl;
     }
 
-pub steps_recovered : (f : Flow) (n : ℕ) (v : Start) (es : List Entry) (mark : ℕ) (r : Running) (s : ℕ) (c : List ℕ) (h : Hold) (x : Slot) (number : ℕ) → Kept (world f n v es mark) es r → Allows (world f n v es mark) s kind.Recovered h → IsSpelled c → SlotIs f v (past_of es) s x
+pub steps_recovered : (f : Flow) (n : ℕ) (v : Start) (es : List Entry) (mark reserved : ℕ) (r : Running) (s : ℕ) (c : List ℕ) (h : Hold) (x : Slot) (number : ℕ) → Kept (world f n v es mark reserved) es r → Allows (world f n v es mark reserved) s kind.Recovered h → IsSpelled c → SlotIs f v (past_of es) s x
     → number ≡ length es + 1 → Steps f n v (past_of es) (Recovered s c) no_change r (record r { slots = slice_set r.slots s (touched x number); restored = true })
-steps_recovered f n v es mark r s c h x number k a sp here is =
+steps_recovered f n v es mark reserved r s c h x number k a sp here is =
     let past : List Event = past_of es in
     let len : length past ≡ length es = length_past es in
     let o : IsOrdered v.view = k.start.view.ordered in
@@ -62,5 +62,5 @@ steps_recovered f n v es mark r s c h x number k a sp here is =
       spent = k.spent;
     }
 
-pub room_of : (f : Flow) (n : ℕ) (v : Start) (es : List Entry) (mark : ℕ) → is_full (world f n v es mark) ≡ false → length es < 1048576
-room_of f n v es mark h = let len = length_past es in grind (arith, nat_tests)
+pub room_of : (f : Flow) (n : ℕ) (v : Start) (es : List Entry) (mark reserved : ℕ) → is_full (world f n v es mark reserved) ≡ false → length es < 1048576
+room_of f n v es mark reserved h = let len = length_past es in grind (arith, nat_tests)

@@ -64,11 +64,11 @@ pub record CanTake (f : Flow) (n : ℕ) (v : Start) (es : List Entry) (s : ℕ) 
   pub more : next_id v (past_of es) ≢ 9223372036854775807
   pub few : length es < 1048576
 
-pub steps_taken : (f : Flow) (n : ℕ) (v : Start) (es : List Entry) (mark : ℕ) (r : Running) (s number : ℕ) (w : Waiting) (m : Machine) (y : Slot) → Kept (world f n v es mark) es r → CanTake f n v es s w
+pub steps_taken : (f : Flow) (n : ℕ) (v : Start) (es : List Entry) (mark reserved : ℕ) (r : Running) (s number : ℕ) (w : Waiting) (m : Machine) (y : Slot) → Kept (world f n v es mark reserved) es r → CanTake f n v es s w
     → number ≡ length es + 1 → IsSound f m → tx_state f m ≡ opening f w.tries w.context → y ≡ slot_of f m r.next_id number
     → Steps f n v (past_of es) (Taken s) (record { next_id = Some (r.next_id + 1); row = Some (r.next_id, row f (tx_state f m)); shelved = None; emptied = false; advice = None }) r
     (record r { slots = slice_set r.slots s y; queue = drop 1 r.queue; next_id = r.next_id + 1 })
-steps_taken f n v es mark r s number w m y k can is sound begins put =
+steps_taken f n v es mark reserved r s number w m y k can is sound begins put =
     let past : List Event = past_of es in
     let len : length past ≡ length es = length_past es in
     let o : IsOrdered v.view = k.start.view.ordered in
@@ -137,9 +137,9 @@ all_false false false false true e g h = absurd (cc)
 all_false false false false false true g h = absurd (cc)
 all_false false false false false false true h = absurd (cc)
 
-pub can_take : (f : Flow) (n : ℕ) (v : Start) (es : List Entry) (mark : ℕ) (w : World) (s : ℕ) (x : Waiting) → world f n v es mark ≡ w → IsFirst w s x → CanTake f n v es s x
-can_take f n v es mark w s x same h =
-    let u : World = world f n v es mark in
+pub can_take : (f : Flow) (n : ℕ) (v : Start) (es : List Entry) (mark reserved : ℕ) (w : World) (s : ℕ) (x : Waiting) → world f n v es mark reserved ≡ w → IsFirst w s x → CanTake f n v es s x
+can_take f n v es mark reserved w s x same h =
+    let u : World = world f n v es mark reserved in
     let i : IsFirst u s x = subst (λ (z : World). IsFirst z s x) (sym same) h in
     let len : length (past_of es) ≡ length es = length_past es in
     let all = all_false (no_session u s) (is_some (recovering f v (past_of es))) (is_some (holds f v (past_of es) s)) (length (queue f v (past_of es)) == 0) (next_id v (past_of es) == 9223372036854775807) (nat_le 1048576 (length (past_of es))) i.allowed in

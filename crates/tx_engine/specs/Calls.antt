@@ -1,6 +1,6 @@
 -- Which calls the engine accepts, and what it answers.
 use Rattle.std.specs.Prelude.{if◌then◌else◌}
-use Rattle.std.specs.Prelude.{◌≡◌, ℕ, ◌<◌, ◌==◌, Bool, true, false, List, [], ◌∷◌, length, slice_get, option_map, Option, Some, None, is_some, nat_le, nat_lt, not, ◌||◌, Result, Ok, Err, filter}
+use Rattle.std.specs.Prelude.{◌≡◌, ℕ, ◌+◌, ◌-◌, ◌<◌, ◌==◌, Bool, true, false, List, [], ◌∷◌, length, slice_get, option_map, Option, Some, None, is_some, nat_le, nat_lt, min, not, ◌||◌, Result, Ok, Err, filter}
 use Rattle.std.specs.Map.{lookup}
 use Rattle.sw_base.specs.Refusals.{refused_if, first_of}
 use Rattle.sw_context.specs.Spelling.{bytes_of}
@@ -107,6 +107,17 @@ take_refusal w s =
     ∷ refused_if (length (waits w) == 0) error.Empty
     ∷ refused_if (next_id w.start w.past == 9223372036854775807) error.IdsSpent
     ∷ refused_if (is_full w) error.HistoryFull ∷ [])
+
+-- memory may be reserved for as many offers as the history has entries left
+abbrev pub reserve_refusal : World → Option EngineError
+reserve_refusal w = refused_if (nat_le 1048576 (length w.past + w.reserved)) error.HistoryFull
+
+-- how many offers can be made in reserved memory before the history is full
+abbrev pub spare_of : World → ℕ
+spare_of w = min w.reserved (1048576 - length w.past)
+
+abbrev pub with_reserved : World → ℕ → World
+with_reserved w n = record w { reserved = n }
 
 -- the queue's first, which the session may take
 pub record IsFirst (w : World) (s : ℕ) (first : Waiting) : Type 0 where

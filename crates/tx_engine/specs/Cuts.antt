@@ -23,7 +23,8 @@ cut_refusal w = first_of (refused_if (is_in_use w) InUse ∷ refused_if (nat_lt 
 abbrev pub breaks_of : Flow → Start → List Event → List ℕ
 breaks_of f v past = filter (has_break v past) (range_with_len 0 (length (parts_of f)))
 
--- the engine after a cut: an empty history, which begins from the journal, the queue and the breakpoints
+-- the engine after a cut: an empty history, which begins from the journal, the queue and the breakpoints, and no offer
+-- has reserved memory
 abbrev pub cut_world : World → World
 cut_world w =
     record {
@@ -32,4 +33,5 @@ cut_world w =
       start = after_cut w.flow w.start w.past (breaks_of w.flow w.start w.past);
       past = [];
       mark = 0;
+      reserved = 0;
     }

@@ -143,8 +143,8 @@ touched (Holding h) number = Holding (record h { last = number; let_go = false }
 abbrev pub past_of : List Entry → List Event
 past_of es = reverse (map (λ e. e.event) es)
 
-abbrev pub world : Flow → ℕ → Start → List Entry → ℕ → World
-world f n v es mark = record { flow = f; sessions = n; start = v; past = past_of es; mark = mark }
+abbrev pub world : Flow → ℕ → Start → List Entry → ℕ → ℕ → World
+world f n v es mark reserved = record { flow = f; sessions = n; start = v; past = past_of es; mark = mark; reserved = reserved }
 
 -- each participant's flag says whether it has a breakpoint
 abbrev pub AreBreaks : Flow → Start → List Event → List Bool → Type 0

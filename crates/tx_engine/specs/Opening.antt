@@ -28,7 +28,7 @@ first_start j = record { view = j; queue = []; breaks = [] }
 
 -- the engine after its opening: its history has the closing entries
 abbrev pub opened_world : Flow → JournalView → ℕ → World
-opened_world f j n = record { flow = f; sessions = n; start = first_start j; past = opened f (first_start j); mark = 0 }
+opened_world f j n = record { flow = f; sessions = n; start = first_start j; past = opened f (first_start j); mark = 0; reserved = 0 }
 
 -- the first of these names that no participant of the flow has
 abbrev pub unknown_in : Flow → ℕ → List (List ℕ) → Option EngineError

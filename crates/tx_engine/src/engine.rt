@@ -10,18 +10,18 @@ mod replies;
 mod restores;
 
 use crate::error::EngineError;
+use crate::reserved::Lists;
 use crate::slot::Slot;
 use flow_asm::Code;
 pub use queue::TakenTx;
-use queue::spelled;
-use std::collections::{BTreeMap, VecDeque};
+use std::collections::BTreeMap;
 use std::marker::Model;
 use sw_participant::{Bytes, Sequence};
-use tx_history::{Entry, JournalView, Waiting};
+use tx_history::{JournalView, Waiting};
 
-/// A transaction engine: sessions that take transactions from one queue. Contracts see its flow, its
-/// number of sessions, what its history began from, the history and the written mark; all that it
-/// keeps beside them is a function of these.
+/// A transaction engine: sessions that take transactions from one queue. Contracts see its flow,
+/// its number of sessions, what its history began from, the history, the written mark, and for how
+/// many offers memory is reserved; all that it keeps beside them is a function of these.
 #[derive(Debug, Drop)]
 pub struct Engine {
     code: Code,
@@ -29,10 +29,9 @@ pub struct Engine {
     first: JournalView,
     first_queue: Sequence<Waiting>,
     first_breaks: Sequence<usize>,
-    entries: Vec<Entry>,
+    lists: Lists,
     mark: usize,
     slots: Vec<Slot>,
-    queue: VecDeque<Waiting>,
     shelf: BTreeMap<u64, Waiting>,
     advices: BTreeMap<(u64, usize), Bytes>,
     // Whether the participant of the number has a breakpoint.
@@ -54,16 +53,16 @@ impl Model for Engine {
 
     ghost view = { λ e. world e.code (length e.slots.items)
         (record { view = e.first; queue = e.first_queue; breaks = e.first_breaks })
-        e.entries.items e.mark };
+        e.lists.entries.items e.mark e.lists.reserved };
 
     ghost invariant = { λ e. Kept
         (world e.code (length e.slots.items)
         (record { view = e.first; queue = e.first_queue; breaks = e.first_breaks })
-        e.entries.items e.mark)
-        e.entries.items
+        e.lists.entries.items e.mark e.lists.reserved)
+        e.lists.entries.items
         (record {
           slots = e.slots.items;
-          queue = e.queue.items;
+          queue = e.lists.queue.items;
           shelf = e.shelf.entries;
           advices = e.advices.entries;
           breaks = e.breaks.items;

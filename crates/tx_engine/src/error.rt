@@ -8,13 +8,14 @@ use sw_participant::Text;
 use thiserror::Error;
 
 /// Why a call is refused. It has then changed nothing. The numbers of the refusals are: 1
-/// `UnknownParticipant`, 2 `BadSessions`, 3 `Busy`, 4 `Empty`, 5 `Recovering`, 6 `IdsSpent`, 7 `NotDue`,
-/// 8 `NoAdvice`, 9 `NoParticipant`, 10 `NotHeld`, 11 `BadMark`, 12 `NoSession`, 13 `HistoryFull`,
-/// 14 `OutOfMemory`, 15 `InUse`, 16 `NotWritten`.
+/// `UnknownParticipant`, 2 `BadSessions`, 3 `Busy`, 4 `Empty`, 5 `Recovering`, 6 `IdsSpent`, 7
+/// `NotDue`, 8 `NoAdvice`, 9 `NoParticipant`, 10 `NotHeld`, 11 `BadMark`, 12 `NoSession`, 13
+/// `HistoryFull`, 14 `OutOfMemory`, 15 `InUse`, 16 `NotWritten`.
 #[derive(Debug, Drop, Error)]
 pub enum EngineError {
     /// The row of this transaction names a participant that the flow does not have.
-    #[error("transaction {id}: the journal names a participant that the flow does not have")]
+    #[error("transaction {id}: the journal names participant {}, which the flow does not have; expected \
+        the flow that the journal was written with", .name.as_str())]
     UnknownParticipant { id: u64, name: Text },
     #[error("bad number of sessions: expected 1 to 16")]
     BadSessions,

@@ -1,6 +1,7 @@
 //! Transactions of the journal.
 
-ghost use Rattle.std.specs.Prelude.{◌≡◌, ◌<◌, ◌≤◌, ◌++◌, ◌&&◌, IfOk, OnOk, length, map, nat_lt, not};
+ghost use Rattle.std.specs.Prelude.{◌≡◌, ◌<◌, ◌≤◌, ◌++◌, ◌&&◌, IfOk, OnOk};
+ghost use Rattle.std.specs.Prelude.{length, map, nat_lt, not};
 ghost use Rattle.std.specs.List.{All};
 ghost use Rattle.flow_model.specs.declared.flow.Flow.{Flow};
 ghost use Rattle.flow_model.specs.Places.{parts_of};
@@ -18,7 +19,8 @@ use tx_machine::{Machine, Phase};
 
 // Adds the numbers of these participants.
 fn add_numbers(numbers: &mut Vec<usize>, code: &Code, names: &[Text]) -> Result<(), AllocError>
-    ensures { OnOk result (numbers.new.items ≡ numbers.old.items ++ map (number_of code.now) names.now) }
+    ensures { OnOk result (numbers.new.items
+        ≡ numbers.old.items ++ map (number_of code.now) names.now) }
 {
     for name in names {
         numbers.push(number_of(code.participants(), name.as_str()))?;
@@ -80,8 +82,9 @@ pub(crate) fn open_behind(rows: &[(u64, Row)], id: u64) -> usize
     count
 }
 
-/// The machine of a transaction of the journal before its first outcome is told: its members are told
-/// on, or, where it was not committing, from its first one. The only refusal is want of memory.
+/// The machine of a transaction of the journal before its first outcome is told: its members are
+/// told on, or, where it was not committing, from its first one. The only refusal is want of
+/// memory.
 pub fn reopened(alloc: Global, code: &Code, row: &Row) -> Result<Machine, AllocError>
     requires { All (λ n. number_of code.now n < length (parts_of code.now))
         (to_tell row.now row.now.doing) }

@@ -123,8 +123,8 @@ pub(crate) fn at_slot(code: &Code, first: u64, restored: bool, slot: &Slot) -> O
     })
 }
 
-/// What a session with this slot is to do. Ids below `first` are those of transactions of the journal;
-/// `restored` says whether the context was restored since the last outcome.
+/// What a session with this slot is to do. Ids below `first` are those of transactions of the
+/// journal; `restored` says whether the context was restored since the last outcome.
 pub(crate) fn next_at(
     code: &Code,
     first: u64,

@@ -2,7 +2,8 @@
 ghost use Rattle.std.specs.Prelude.{◌≡◌, [], ◌∷◌, ◌++◌, IsTrue, Some, None, codes};
 ghost use Rattle.std.specs.Fmt.{decimal};
 ghost use Rattle.sqlite_value.specs.Keys.{plain};
-ghost use Rattle.journal_tables.specs.Schema.{advice, advice_key, base, journal_schema, member, member_key, meta, needed, shelf, to_tx, tx};
+ghost use Rattle.journal_tables.specs.Schema.{advice, advice_key, base, journal_schema, member, member_key};
+ghost use Rattle.journal_tables.specs.Schema.{meta, needed, shelf, to_tx, tx};
 ghost use Rattle.tx_journal.specs.Making.{no_schema};
 ghost use Rattle.sqlite_schema.specs.declared.schema.Kind.TheVariants.{Blob, Integer, Text};
 

@@ -33,7 +33,8 @@ fn create_tx<S: Alter>(tx: &mut Transaction<'_, S>) -> Result<usize, Error>
         (state S.Store tx.old.conn.now) (state S.Store tx.new.conn.now) }
 {
     tx.execute(
-        "CREATE TABLE tx (id INTEGER NOT NULL PRIMARY KEY, phase INTEGER NOT NULL, told INTEGER NOT NULL, doing TEXT NOT NULL, tries INTEGER NOT NULL, context BLOB NOT NULL) STRICT",
+        "CREATE TABLE tx (id INTEGER NOT NULL PRIMARY KEY, phase INTEGER NOT NULL, \
+told INTEGER NOT NULL, doing TEXT NOT NULL, tries INTEGER NOT NULL, context BLOB NOT NULL) STRICT",
         &[],
     )
 }
@@ -46,7 +47,8 @@ fn create_member<S: Alter>(tx: &mut Transaction<'_, S>) -> Result<usize, Error>
         (state S.Store tx.old.conn.now) (state S.Store tx.new.conn.now) }
 {
     tx.execute(
-        "CREATE TABLE member (id INTEGER NOT NULL REFERENCES tx (id) ON DELETE CASCADE, place INTEGER NOT NULL, name TEXT NOT NULL, PRIMARY KEY (id, place)) STRICT",
+        "CREATE TABLE member (id INTEGER NOT NULL REFERENCES tx (id) ON DELETE CASCADE, \
+place INTEGER NOT NULL, name TEXT NOT NULL, PRIMARY KEY (id, place)) STRICT",
         &[],
     )
 }
@@ -59,7 +61,8 @@ fn create_shelf<S: Alter>(tx: &mut Transaction<'_, S>) -> Result<usize, Error>
         (state S.Store tx.old.conn.now) (state S.Store tx.new.conn.now) }
 {
     tx.execute(
-        "CREATE TABLE shelf (id INTEGER NOT NULL PRIMARY KEY, tries INTEGER NOT NULL, context BLOB NOT NULL) STRICT",
+        "CREATE TABLE shelf (id INTEGER NOT NULL PRIMARY KEY, tries INTEGER NOT NULL, \
+context BLOB NOT NULL) STRICT",
         &[],
     )
 }
@@ -72,7 +75,8 @@ fn create_advice<S: Alter>(tx: &mut Transaction<'_, S>) -> Result<usize, Error>
         (state S.Store tx.old.conn.now) (state S.Store tx.new.conn.now) }
 {
     tx.execute(
-        "CREATE TABLE advice (id INTEGER NOT NULL, place INTEGER NOT NULL, body BLOB NOT NULL, PRIMARY KEY (id, place)) STRICT",
+        "CREATE TABLE advice (id INTEGER NOT NULL, place INTEGER NOT NULL, body BLOB NOT NULL, \
+PRIMARY KEY (id, place)) STRICT",
         &[],
     )
 }

@@ -8,8 +8,8 @@ use crate::tracer::Tracer;
 use std::alloc::{AllocError, Global};
 use tx_engine::Engine;
 
-/// The line of the entry of this number, without a line feed; none where there is no such entry. The
-/// only refusal is want of memory.
+/// The line of the entry of this number, without a line feed; none where there is no such entry.
+/// The only refusal is want of memory.
 ///
 /// It goes through the entries before: for all lines in turn take a [`Tracer`].
 pub fn line(alloc: Global, engine: &Engine, number: usize) -> Result<Option<String>, AllocError>

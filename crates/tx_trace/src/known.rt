@@ -1,6 +1,7 @@
 //! The known names of a selection.
 
-ghost use Rattle.std.specs.Prelude.{◌≡◌, Some, IfOk, OnOk, IfSome, IfNone, filter, ◌++◌, ◌∷◌, [], true, false};
+ghost use Rattle.std.specs.Prelude.{◌≡◌, Some, IfOk, OnOk, IfSome, IfNone};
+ghost use Rattle.std.specs.Prelude.{filter, ◌++◌, ◌∷◌, [], true, false};
 ghost use Rattle.flow_model.specs.Check.{is_named};
 ghost use Rattle.tx_trace.specs.Starts.{is_start};
 ghost use Rattle.tx_trace.specs.Trace.{comma_list, known, list_text, texts_of};

@@ -7,8 +7,8 @@ ghost use Rattle.tx_engine.specs.World.{World, happened};
 ghost use Rattle.tx_trace.specs.declared.tracer.Tracer.{Tracer};
 ghost use Rattle.tx_trace.specs.Follow.{Follows};
 
-/// A tracer of an engine is one of it still when the engine has taken further entries, or its mark has
-/// moved.
+/// A tracer of an engine is one of it still when the engine has taken further entries, or its mark
+/// has moved.
 pub fn tracers_go_on()
     ensures entry { (w : World) (t : Tracer) (e : Event) → Follows w t → Follows (happened w e) t }
     ensures mark { (w : World) (t : Tracer) (n : ℕ) → Follows w t → Follows (after_mark w n) t }

@@ -3,7 +3,8 @@
 //! Promised here, byte by byte, by the definitions in `specs/Trace.antt` and `specs/Lines.antt`:
 //! - [`Tracer::next`] is the line of the next entry, for every kind of event;
 //! - [`line`] is the line of the entry of a number, and there is none where there is no such entry;
-//! - [`whereis`] and [`rest`] are where the transaction of a session stands, and what is still to come;
+//! - [`whereis`] and [`rest`] are where the transaction of a session stands, and what is still to
+//!   come;
 //! - [`step_line`] is the line of an answer, a choice or a told that leads from one state of a
 //!   transaction to the next.
 #![tactic(auto)]

@@ -72,7 +72,8 @@ impl Point<'_> {
     }
 }
 
-// What an event adds behind its call, with what the transaction told before it and whether the bound is met after it.
+// What an event adds behind its call, with what the transaction told before it and whether the
+// bound is met after it.
 fn event_detail(
     alloc: Global,
     code: &Code,
@@ -141,8 +142,8 @@ pub(crate) fn moved_line(
 }
 
 /// The line of an answer, a choice or a told that leads the transaction `id` from `before` to
-/// `after`, without a line feed; the transaction does not come from the journal. The only refusal is
-/// want of memory.
+/// `after`, without a line feed; the transaction does not come from the journal. The only refusal
+/// is want of memory.
 pub fn step_line(
     alloc: Global,
     id: u64,

@@ -8,9 +8,9 @@ use sw_participant::Call;
 use tx_engine::{At, Engine};
 use tx_machine::Phase;
 
-/// Where a transaction stands: its due call, the step of the code that asks for it (a preparation's
-/// `Call`, a selection's `Pick`), and the entry's group and index. The last three are none while members
-/// are told the outcome.
+/// Where a transaction stands: its due call, the step of the code that asks for it (a
+/// preparation's `Call`, a selection's `Pick`), and the entry's group and index. The last three
+/// are none while members are told the outcome.
 #[derive(Clone, Copy, Debug, PartialEq, Eq)]
 pub struct Place {
     pub id: u64,

@@ -2,7 +2,8 @@
 
 ghost use Rattle.std.specs.Prelude.{◌≡◌, ◌<◌, Some, ◌++◌, codes, if◌then◌else◌, map};
 ghost use Rattle.sw_participant.specs.Answers.{is_bad, is_readonly, stays_out};
-ghost use Rattle.tx_trace.specs.Trace.{answer_text, bound_text, call_text, comma_list, due_text, head_text, hex_digit};
+ghost use Rattle.tx_trace.specs.Trace.{answer_text, bound_text, call_text, comma_list};
+ghost use Rattle.tx_trace.specs.Trace.{due_text, head_text, hex_digit};
 ghost use Rattle.tx_trace.specs.Trace.{hex_text, phase_text, spot_text, told_text, word_if};
 
 use crate::names::Names;

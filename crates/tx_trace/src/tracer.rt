@@ -6,7 +6,8 @@ ghost use Rattle.std.specs.Prelude.{is_some, not, ◌&&◌, option_map, string_b
 ghost use Rattle.tx_machine.specs.Contract.{IsSound, tx_state};
 ghost use Rattle.tx_machine.specs.Due.{due_of};
 ghost use Rattle.tx_machine.specs.Table.{next, opening};
-ghost use Rattle.tx_machine.specs.declared.values.Item.TheVariants.{Answer, Choice, Told as ToldOne};
+ghost use Rattle.tx_machine.specs.declared.values.Item.TheVariants.{Answer, Choice};
+ghost use Rattle.tx_machine.specs.declared.values.Item.TheVariants.{Told as ToldOne};
 ghost use Rattle.tx_history.specs.declared.event.Event.{Event as Happening};
 ghost use Rattle.tx_history.specs.Keys.{look};
 ghost use Rattle.tx_history.specs.History.{is_over, is_restored, marked, outcome_of, reopened_at};
@@ -14,9 +15,12 @@ ghost use Rattle.tx_history.specs.Journal.{row as row_of};
 ghost use Rattle.tx_history.specs.Views.{StartFits};
 ghost use Rattle.tx_engine.specs.Kept.{AreKnown};
 ghost use Rattle.tx_trace.specs.Lines.{debug_line, line_in, plain_line};
-ghost use Rattle.tx_trace.specs.Follow.{AreFound, Concerns, Follows, IsBegun, IsLeft, IsNext, IsSubject};
-ghost use Rattle.tx_trace.specs.Follow.{IsTraced, IsUnderWay, PutsMove, StandsFor, Tracks, is_given};
-ghost use Rattle.tx_trace.specs.Follow.{count_of, earlier, led_by, next_recovered, over_after, shelved_after};
+ghost use Rattle.tx_trace.specs.Follow.{AreFound, Concerns, Follows, IsBegun};
+ghost use Rattle.tx_trace.specs.Follow.{IsLeft, IsNext, IsSubject};
+ghost use Rattle.tx_trace.specs.Follow.{IsTraced, IsUnderWay, PutsMove};
+ghost use Rattle.tx_trace.specs.Follow.{StandsFor, Tracks, is_given};
+ghost use Rattle.tx_trace.specs.Follow.{count_of, earlier, led_by};
+ghost use Rattle.tx_trace.specs.Follow.{next_recovered, over_after, shelved_after};
 
 use crate::moves::{Point, moved_line};
 use crate::names::Names;
@@ -35,8 +39,8 @@ use tx_machine::{Due, Machine};
 pub struct Tracer {
     // How many entries it has gone through.
     done: usize,
-    // The machines of the transactions that are not finished, by their ids. Of those of the journal only
-    // the ones that had an entry.
+    // The machines of the transactions that are not finished, by their ids. Of those of the
+    // journal only the ones that had an entry.
     machines: BTreeMap<u64, Machine>,
     // How many contexts are on the shelf.
     shelved: usize,
@@ -215,8 +219,8 @@ impl Tracer {
         Ok(line)
     }
 
-    /// The line of the next entry, without a line feed; none where it has gone through all. The only
-    /// refusal is want of memory, and the entry is then still the next one.
+    /// The line of the next entry, without a line feed; none where it has gone through all. The
+    /// only refusal is want of memory, and the entry is then still the next one.
     ///
     /// The engine is the one that the tracer was made for, or goes on from what it was then: more
     /// entries may have come, but it was neither opened anew nor cut.
@@ -225,7 +229,8 @@ impl Tracer {
         ensures line { IfOk result (λ line.
             option_map string_bytes line ≡ line_in engine.now (count_of self.old + 1)) }
         ensures on { IfOk result (λ line.
-            count_of self.new ≡ (if is_some line then count_of self.old + 1 else count_of self.old)) }
+            count_of self.new
+            ≡ (if is_some line then count_of self.old + 1 else count_of self.old)) }
         ensures kept { OnErr result (count_of self.new ≡ count_of self.old) }
         ensures follows { Follows engine.now self.new }
     {
@@ -237,8 +242,8 @@ impl Tracer {
         Ok(Some(line))
     }
 
-    /// The line of the entry of this number, which it has not gone through; none where there is no such
-    /// entry. It goes on up to it. The only refusal is want of memory.
+    /// The line of the entry of this number, which it has not gone through; none where there is no
+    /// such entry. It goes on up to it. The only refusal is want of memory.
     ///
     /// The engine is as in [`Tracer::next`].
     pub fn line_at(
@@ -302,7 +307,8 @@ fn reopened_at(
 ) -> Result<Machine, AllocError>
     requires { AreFound code.now rows.now }
     ensures sound { IfOk result (IsSound code.now) }
-    ensures state { IfOk result (λ m. tx_state code.now m ≡ reopened_at code.now (look id rows.now)) }
+    ensures state { IfOk result (λ m. tx_state code.now m
+        ≡ reopened_at code.now (look id rows.now)) }
 {
     match find_row(rows, id) {
         Some(row) => reopened(alloc, code, row),

@@ -25,16 +25,17 @@ impl Engine {
         self.allow_entry()
     }
 
-    /// The advice that the member of this number of the transaction gave was forwarded: it is stored
-    /// no more. Answers the entry's number. Refuses, in this order, `NoAdvice` and `HistoryFull`.
+    /// The advice that the member of this number of the transaction gave was forwarded: it is
+    /// stored no more. Answers the entry's number. Refuses, in this order, `NoAdvice` and
+    /// `HistoryFull`.
     pub fn acked(&mut self, id: u64, place: usize) -> Result<usize, EngineError>
         ensures { Accepts EngineError.OutOfMemory (ack_refusal self.old (id, place)) result
             (λ n. Recorded self.old (Event.Acked id place) n self.new)
             (self.new ≡ self.old) }
     {
         self.allow_ack((id, place))?;
-        let number = self.entries.len() + 1;
-        self.entries.push(Entry {
+        let number = self.lists.entries.len() + 1;
+        self.lists.push(Entry {
             number,
             event: Event::Acked { id, place },
             change: no_advice_at(id, place),

@@ -38,8 +38,8 @@ impl Engine {
             (self.new ≡ self.old) }
     {
         let participant = self.allow_break(name)?;
-        let number = self.entries.len() + 1;
-        self.entries.push(Entry {
+        let number = self.lists.entries.len() + 1;
+        self.lists.push(Entry {
             number,
             event: Event::Broke { participant },
             change: no_change(),
@@ -57,8 +57,8 @@ impl Engine {
             (self.new ≡ self.old) }
     {
         let participant = self.allow_break(name)?;
-        let number = self.entries.len() + 1;
-        self.entries.push(Entry {
+        let number = self.lists.entries.len() + 1;
+        self.lists.push(Entry {
             number,
             event: Event::Cleared { participant },
             change: no_change(),
@@ -90,8 +90,8 @@ impl Engine {
             (self.new ≡ self.old) }
     {
         self.allow_let_go(s)?;
-        let number = self.entries.len() + 1;
-        self.entries.push(Entry {
+        let number = self.lists.entries.len() + 1;
+        self.lists.push(Entry {
             number,
             event: Event::LetGo { session: s },
             change: no_change(),

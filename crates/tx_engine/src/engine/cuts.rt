@@ -31,16 +31,16 @@ impl Engine {
         if self.is_in_use() {
             return Err(EngineError::InUse);
         }
-        if self.mark < self.entries.len() {
+        if self.mark < self.lists.entries.len() {
             return Err(EngineError::NotWritten);
         }
         Ok(())
     }
 
-    /// The history begins anew, with no entry, from the journal as it is now: that is what `opened`
-    /// gives from then on, and it has no unfinished transaction. Queue, shelf, advices, breakpoints and
-    /// next id stay. Refuses, in this order, `InUse` while a session holds a transaction, and
-    /// `NotWritten` while an entry is above the mark.
+    /// The history begins anew, with no entry, from the journal as it is now: that is what
+    /// `opened` gives from then on, and it has no unfinished transaction. Queue, shelf, advices,
+    /// breakpoints and next id stay. Refuses, in this order, `InUse` while a session holds a
+    /// transaction, and `NotWritten` while an entry is above the mark.
     pub fn cut(&mut self, alloc: Global) -> Result<(), EngineError>
         ensures cut { Accepts EngineError.OutOfMemory (cut_refusal self.old) result
             (λ _. self.new ≡ cut_world self.old)
@@ -54,12 +54,12 @@ impl Engine {
             shelf: Sequence::new(shelf_items(alloc, &self.shelf)?),
             advices: Sequence::new(advice_items(alloc, &self.advices)?),
         };
-        let queue = queue_items(alloc, &self.queue)?;
+        let queue = queue_items(alloc, &self.lists.queue)?;
         let breaks = set_numbers(alloc, self.breaks.as_slice())?;
         self.first = view;
         self.first_queue = Sequence::new(queue);
         self.first_breaks = Sequence::new(breaks);
-        self.entries = Vec::new(alloc);
+        self.lists.clear_entries(alloc);
         self.mark = 0;
         self.restored = false;
         self.recovering = false;

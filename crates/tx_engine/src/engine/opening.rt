@@ -15,11 +15,12 @@ ghost use Rattle.tx_engine.specs.declared.slot.Slot.TheVariants.{Free};
 use super::Engine;
 use crate::error::EngineError;
 use crate::recovery::{is_over, next_slot};
+use crate::reserved::Lists;
 use crate::slot::{Slot, is_holding};
 use flow_asm::Code;
 use flow_model::number_of;
 use std::alloc::{AllocError, Global};
-use std::collections::{BTreeMap, VecDeque};
+use std::collections::BTreeMap;
 use sw_participant::{Bytes, Sequence, Text};
 use tx_history::{Change, Entry, Event, JournalView, Row, Waiting};
 
@@ -29,9 +30,9 @@ const MOST_SESSIONS: usize = 16;
 impl Engine {
     /// An engine on a journal's view, with so many sessions, which hold nothing: its history has a
     /// closing entry for each row with nobody to tell, and session 0 is to tell on the first other
-    /// one. The queue is empty, and no breakpoint is set. Refuses, in this order, `BadSessions` unless
-    /// there are 1 to 16, and `UnknownParticipant` of the least id, its members in order and then who
-    /// is doing.
+    /// one. The queue is empty, and no breakpoint is set. Refuses, in this order, `BadSessions`
+    /// unless there are 1 to 16, and `UnknownParticipant` of the least id, its members in order
+    /// and then who is doing.
     pub fn open(
         alloc: Global,
         code: &Code,
@@ -59,10 +60,9 @@ impl Engine {
             first: view.copy(alloc)?,
             first_queue: Sequence::new(Vec::new(alloc)),
             first_breaks: Sequence::new(Vec::new(alloc)),
-            entries: closings(alloc, rows)?,
+            lists: Lists::new(alloc, closings(alloc, rows)?),
             mark: 0,
             slots,
-            queue: VecDeque::new(alloc),
             shelf: shelf_of(alloc, view.shelf.as_slice(), view.next_id)?,
             advices: advices_of(alloc, view.advices.as_slice(), view.next_id)?,
             breaks: no_breaks(alloc, code.participants().len())?,

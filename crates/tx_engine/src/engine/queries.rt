@@ -55,10 +55,9 @@ impl Engine {
             first: _,
             first_queue: _,
             first_breaks: _,
-            entries: _,
+            lists: _,
             mark: _,
             slots: _,
-            queue: _,
             shelf: _,
             advices: _,
             breaks: _,
@@ -90,7 +89,7 @@ impl Engine {
         ensures start { StartFits self.now.flow self.now.start }
         ensures flow { FlowFits self.now.flow }
     {
-        self.entries.as_slice()
+        self.lists.entries.as_slice()
     }
 
     /// How many entries are written.
@@ -106,7 +105,7 @@ impl Engine {
         ensures { result.now
             ≡ drop self.now.mark (entries self.now.flow self.now.start self.now.past) }
     {
-        &self.entries[self.mark..]
+        &self.lists.entries[self.mark..]
     }
 
     /// The mark becomes `mark`. Refuses `BadMark` unless it is from the old mark to the number of
@@ -115,7 +114,7 @@ impl Engine {
         ensures answer { result ≡ refused (mark_refusal self.old mark) }
         ensures world { self.new ≡ after_mark self.old mark }
     {
-        if mark < self.mark || self.entries.len() < mark {
+        if mark < self.mark || self.lists.entries.len() < mark {
             return Err(EngineError::BadMark);
         }
         self.mark = mark;
@@ -134,7 +133,7 @@ impl Engine {
     pub fn queued(&self) -> usize
         ensures { result ≡ length (queue self.now.flow self.now.start self.now.past) }
     {
-        self.queue.len()
+        self.lists.queue.len()
     }
 
     /// How many contexts are on the shelf.
@@ -164,8 +163,8 @@ impl Engine {
         }
     }
 
-    /// The id and the saved context of the transaction that the session holds: the context of its last
-    /// answer that was not read-only. Refuses `NoSession`.
+    /// The id and the saved context of the transaction that the session holds: the context of its
+    /// last answer that was not read-only. Refuses `NoSession`.
     pub fn saved(&self, alloc: Global, s: usize) -> Result<Option<(u64, Context)>, EngineError>
         ensures { Accepts EngineError.OutOfMemory (next_refusal self.now s) result
             (λ saved. option_map (λ held. (held.0, bytes_of held.1)) saved ≡ saved_of self.now s)
@@ -199,8 +198,9 @@ impl Engine {
         )
     }
 
-    /// The places (group, index) of the entries to come of the transaction that the session holds, the
-    /// next one first; none for an idle or unknown session. The only refusal is want of memory.
+    /// The places (group, index) of the entries to come of the transaction that the session holds,
+    /// the next one first; none for an idle or unknown session. The only refusal is want of
+    /// memory.
     pub fn rest(&self, alloc: Global, s: usize) -> Result<Vec<(usize, usize)>, AllocError>
         ensures { IfOk result (λ places. places.items ≡ rest_of self.now s) }
     {

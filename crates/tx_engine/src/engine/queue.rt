@@ -1,34 +1,22 @@
 //! The queue and the shelf: offers, takes and releases.
 
-ghost use Rattle.std.specs.Prelude.{◌≡◌, ◌+◌, ◌++◌, ◌∷◌, ◌≤◌, [], ℕ, true, false, ◌<◌, Some, None};
-ghost use Rattle.std.specs.Prelude.{IfOk, MatchResult, length, map, slice_get};
-ghost use Rattle.std.specs.VecDeque.{deque_len, deque_capacity};
-ghost use Rattle.std.specs.BTreeMap.{btree_map_len};
+ghost use Rattle.std.specs.Prelude.{◌≡◌, ◌+◌, ◌-◌, ◌≤◌, true, false, ◌<◌, Some, None, MatchResult};
+ghost use Rattle.std.specs.Prelude.{length};
 ghost use Rattle.sw_base.specs.Refusals.{Accepts};
-ghost use Rattle.sw_context.specs.Spelling.{bytes_of, IsSpelled};
-ghost use Rattle.tx_history.specs.declared.journal.Waiting.{Waiting as Waits};
+ghost use Rattle.sw_context.specs.Spelling.{bytes_of};
 ghost use Rattle.tx_engine.specs.World.{Recorded};
-ghost use Rattle.tx_engine.specs.Calls.{IsFirst, Takes, is_full, offer_refusal, take_refusal};
+ghost use Rattle.tx_engine.specs.Calls.{IsFirst, Takes, is_full, offer_refusal, reserve_refusal};
+ghost use Rattle.tx_engine.specs.Calls.{spare_of, take_refusal, with_reserved};
 
 use super::{Engine, LAST_ID, MOST_ENTRIES};
 use crate::error::EngineError;
+use crate::prepared::Offer;
 use crate::rows::{no_change, row_of};
 use crate::slot::{is_holding, slot_for};
-use std::alloc::{AllocError, Global};
-use std::collections::{BTreeMap, VecDeque};
+use std::alloc::Global;
 use sw_context::Context;
-use sw_participant::Bytes;
 use tx_history::{Change, Entry, Event, Row, Waiting};
 use tx_machine::Machine;
-
-/// The context's bytes. That they are those of a context is known by its length.
-pub(super) fn spelled(context: &Context) -> Result<Bytes, AllocError>
-    ensures bytes { IfOk result (λ b. b ≡ bytes_of context.now) }
-    ensures spelled { IsSpelled (bytes_of context.now) }
-{
-    let _names = context.len();
-    Ok(Bytes::new(context.to_bytes()?))
-}
 
 /// A transaction as it is taken: contracts see its context's entries.
 #[derive(Debug, Drop)]
@@ -43,39 +31,86 @@ pub struct TakenTx {
 impl Engine {
     // Refuses where the history is full.
     pub(super) fn allow_entry(&self) -> Result<(), EngineError>
-        ensures { MatchResult result (λ _. offer_refusal self.now ≡ None) (λ e. offer_refusal self.now ≡ Some e) }
+        ensures { MatchResult result
+            (λ _. offer_refusal self.now ≡ None)
+            (λ e. offer_refusal self.now ≡ Some e) }
     {
-        if self.entries.len() < MOST_ENTRIES {
+        if self.lists.entries.len() < MOST_ENTRIES {
             Ok(())
         } else {
             Err(EngineError::HistoryFull)
         }
     }
 
-    /// Puts a context at the end of the queue, with the flow's retries as tries left, and answers the
-    /// entry's number. Refuses `HistoryFull`.
+    /// Puts a context at the end of the queue, with the flow's retries as tries left, and answers
+    /// the entry's number. Refuses `HistoryFull`.
     pub fn offer(&mut self, context: &Context) -> Result<usize, EngineError>
         ensures { Accepts EngineError.OutOfMemory (offer_refusal self.old) result
             (λ n. Recorded self.old (Event.Offered (bytes_of context.now)) n self.new)
             (self.new ≡ self.old) }
     {
         self.allow_entry()?;
-        let number = self.entries.len() + 1;
+        let offer = Offer::new(context)?;
+        self.lists.reserve_offer()?;
+        Ok(self.offer_reserved(offer))
+    }
+
+    // Refuses where as many offers have memory as the history has entries left.
+    fn allow_reserve(&self) -> Result<(), EngineError>
+        ensures { MatchResult result
+            (λ _. reserve_refusal self.now ≡ None)
+            (λ e. reserve_refusal self.now ≡ Some e) }
+    {
+        if self.lists.entries.len() + self.lists.reserved < MOST_ENTRIES {
+            Ok(())
+        } else {
+            Err(EngineError::HistoryFull)
+        }
+    }
+
+    /// Reserves memory for one offer more, to be made by `offer_reserved`. The history does not
+    /// change. Refuses `HistoryFull` where as many offers have memory as the history has entries
+    /// left.
+    pub fn reserve_offer(&mut self) -> Result<(), EngineError>
+        ensures { Accepts EngineError.OutOfMemory (reserve_refusal self.old) result
+            (λ _. self.new ≡ with_reserved self.old (self.old.reserved + 1))
+            (self.new ≡ self.old) }
+    {
+        self.allow_reserve()?;
+        self.lists.reserve_offer()?;
+        Ok(())
+    }
+
+    /// How many offers can be made by `offer_reserved`. Other calls leave the memory reserved, but
+    /// each entry that they add is one that the history has no longer left.
+    pub fn spare(&self) -> usize
+        ensures { result ≡ spare_of self.now }
+    {
+        self.lists
+            .reserved
+            .min(MOST_ENTRIES.saturating_sub(self.lists.entries.len()))
+    }
+
+    /// Puts a context at the end of the queue, as `offer` does, in reserved memory: it cannot be
+    /// refused. Answers the entry's number.
+    pub fn offer_reserved(&mut self, offer: Offer) -> usize
+        requires { 1 ≤ spare_of self.old }
+        ensures { Recorded (with_reserved self.old (self.old.reserved - 1)) (Event.Offered offer)
+            result self.new }
+    {
+        let number = self.lists.entries.len() + 1;
+        let (event, waiting) = offer.into_parts();
+        let entry = Entry {
+            number,
+            event: Event::Offered { context: event },
+            change: no_change(),
+        };
         let waiting = Waiting {
             tries: self.code.retries(),
-            context: spelled(context)?,
+            context: waiting,
         };
-        let event = Event::Offered {
-            context: spelled(context)?,
-        };
-        self.queue.try_reserve(1)?;
-        self.entries.push(Entry {
-            number,
-            event,
-            change: no_change(),
-        })?;
-        self.queue.push_back_reserved(waiting);
-        Ok(number)
+        self.lists.push_offer(entry, waiting);
+        number
     }
 }
 
@@ -84,7 +119,7 @@ impl Engine {
     pub(super) fn is_full(&self) -> bool
         ensures { result ≡ is_full self.now }
     {
-        self.entries.len() >= MOST_ENTRIES
+        self.lists.entries.len() >= MOST_ENTRIES
     }
 
     // The queue's first context, where the session may take it.
@@ -102,7 +137,7 @@ impl Engine {
         if is_holding(&self.slots[s]) {
             return Err(EngineError::Busy);
         }
-        let Some(first) = self.queue.front() else {
+        let Some(first) = self.lists.queue.front() else {
             return Err(EngineError::Empty);
         };
         if self.next_id == LAST_ID {
@@ -129,14 +164,14 @@ impl Engine {
         let saved = first.context.copy()?;
         let machine = Machine::start(alloc, &self.code, tries, saved.into_vec());
         let id = self.next_id;
-        let number = self.entries.len() + 1;
+        let number = self.lists.entries.len() + 1;
         let row = row_of(alloc, &self.code, &machine)?;
-        self.entries.push(Entry {
+        self.lists.push(Entry {
             number,
             event: Event::Taken { session: s },
             change: taken_change(id, row),
         })?;
-        self.queue.pop_front();
+        self.lists.pop_first();
         self.next_id = id + 1;
         self.slots[s] = slot_for(&self.code, id, machine, number);
         Ok(TakenTx {
@@ -146,22 +181,21 @@ impl Engine {
         })
     }
 
-    /// Moves the whole shelf to the end of the queue, ids rising, and answers the entry's number. An
-    /// empty shelf is released too. Refuses `HistoryFull`.
+    /// Moves the whole shelf to the end of the queue, ids rising, and answers the entry's number.
+    /// An empty shelf is released too. Refuses `HistoryFull`.
     pub fn release(&mut self) -> Result<usize, EngineError>
         ensures { Accepts EngineError.OutOfMemory (offer_refusal self.old) result
             (λ n. Recorded self.old Event.Released n self.new)
             (self.new ≡ self.old) }
     {
         self.allow_entry()?;
-        let number = self.entries.len() + 1;
-        self.queue.try_reserve(self.shelf.len())?;
-        self.entries.push(Entry {
+        let number = self.lists.entries.len() + 1;
+        let entry = Entry {
             number,
             event: Event::Released,
             change: emptied_shelf(),
-        })?;
-        move_all(&mut self.shelf, &mut self.queue);
+        };
+        self.lists.release(&mut self.shelf, entry)?;
         Ok(number)
     }
 }
@@ -188,7 +222,13 @@ fn taken_change(id: u64, row: Option<Row>) -> Change
 
 // The change of a release.
 fn emptied_shelf() -> Change
-    ensures { result ≡ record { next_id = None; row = None; shelved = None; emptied = true; advice = None } }
+    ensures { result ≡ record {
+      next_id = None;
+      row = None;
+      shelved = None;
+      emptied = true;
+      advice = None;
+    } }
 {
     Change {
         next_id: None,
@@ -196,16 +236,5 @@ fn emptied_shelf() -> Change
         shelved: None,
         emptied: true,
         advice: None,
-    }
-}
-
-// Moves all of a shelf to the end of a queue that has room.
-fn move_all(shelf: &mut BTreeMap<u64, Waiting>, queue: &mut VecDeque<Waiting>)
-    requires { deque_len queue.old + btree_map_len shelf.old ≤ deque_capacity queue.old }
-    ensures queue { queue.new.items ≡ queue.old.items ++ map (λ (item : ℕ × Waits). item.1) shelf.old.entries }
-    ensures shelf { shelf.new.entries ≡ [] }
-{
-    while let Some((_, waiting)) = shelf.pop_first() {
-        queue.push_back_reserved(waiting);
     }
 }

@@ -6,7 +6,8 @@ ghost use Rattle.sw_base.specs.Refusals.{Accepts};
 ghost use Rattle.sw_context.specs.Spelling.{bytes_of};
 ghost use Rattle.tx_machine.specs.Contract.{IsSound, tx_state};
 ghost use Rattle.tx_machine.specs.Table.{is_due, next};
-ghost use Rattle.tx_machine.specs.declared.values.Item.TheVariants.{Answer, Choice, Told as ToldOne};
+ghost use Rattle.tx_machine.specs.declared.values.Item.TheVariants.{Answer, Choice};
+ghost use Rattle.tx_machine.specs.declared.values.Item.TheVariants.{Told as ToldOne};
 ghost use Rattle.tx_history.specs.History.{put_advice, shelved};
 ghost use Rattle.tx_history.specs.Journal.{shelved_change};
 ghost use Rattle.tx_engine.specs.World.{Recorded};
@@ -14,10 +15,11 @@ ghost use Rattle.tx_engine.specs.Calls.{is_full, reply_refusal};
 ghost use Rattle.tx_engine.specs.Items.{Allows, Gives, item_change};
 ghost use Rattle.tx_engine.specs.Kept.{AreKnown, IsSlotAfter, is_holding};
 
-use super::{Engine, spelled};
+use super::Engine;
 use crate::error::EngineError;
 use crate::maps::put_both;
 use crate::next::{ReplyKind, is_asked};
+use crate::prepared::spelled;
 use crate::recovery::{Step, slot_after};
 use crate::rows::change_of;
 use crate::slot::{Hold, Slot, is_holding, next_at};
@@ -69,7 +71,8 @@ fn advice_by(change: &Change) -> Result<Option<((u64, usize), Option<Bytes>)>, A
     }
 }
 
-// Whether a transaction of the journal is recovered still, by the slot of the session after a reply.
+// Whether a transaction of the journal is recovered still, by the slot of the session after a
+// reply.
 fn goes_on(recovering: bool, slot: &Slot) -> bool
     ensures { result ≡ (recovering && is_holding slot.now) }
 {
@@ -228,17 +231,17 @@ impl Engine {
     {
         let session = given.session;
         let restored = given.restored;
-        let number = self.entries.len() + 1;
+        let number = self.lists.entries.len() + 1;
         let rows = self.first.rows.as_slice();
         let ready = make_ready(alloc, &self.code, rows, self.recovering, number, given)?;
-        self.entries.try_reserve(1)?;
+        self.lists.reserve_entry()?;
         put_both(
             &mut self.shelf,
             &mut self.advices,
             ready.shelved,
             ready.advice,
         )?;
-        self.entries.push_reserved(ready.entry);
+        self.lists.push_reserved(ready.entry);
         self.recovering = goes_on(self.recovering, &ready.slot);
         self.restored = restored;
         self.slots[session] = ready.slot;
@@ -309,7 +312,8 @@ impl Engine {
         advice: Option<&[u8]>,
     ) -> Result<usize, EngineError>
         ensures { Accepts EngineError.OutOfMemory (reply_refusal ReplyKind.Told self.old s) result
-            (λ n. Recorded self.old (Event.Told s (option_map (λ a. a.now) advice.entry)) n self.new)
+            (λ n. Recorded self.old
+            (Event.Told s (option_map (λ a. a.now) advice.entry)) n self.new)
             (self.new ≡ self.old) }
     {
         let hold = self.allow_reply(s, ReplyKind::Told)?;

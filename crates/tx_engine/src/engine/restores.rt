@@ -7,9 +7,10 @@ ghost use Rattle.tx_engine.specs.World.{Recorded};
 ghost use Rattle.tx_engine.specs.Calls.{reply_refusal};
 ghost use Rattle.tx_engine.specs.Kept.{touched};
 
-use super::{Engine, spelled};
+use super::Engine;
 use crate::error::EngineError;
 use crate::next::ReplyKind;
+use crate::prepared::spelled;
 use crate::rows::no_change;
 use crate::slot::Slot;
 use sw_context::Context;
@@ -30,17 +31,18 @@ impl Engine {
     /// left as given here; the journal keeps the saved one. Answers the entry's number; refuses
     /// `NoSession`, `NotDue` and `HistoryFull`.
     pub fn recovered(&mut self, s: usize, context: &Context) -> Result<usize, EngineError>
-        ensures { Accepts EngineError.OutOfMemory (reply_refusal ReplyKind.Recovered self.old s) result
+        ensures { Accepts EngineError.OutOfMemory
+            (reply_refusal ReplyKind.Recovered self.old s) result
             (λ n. Recorded self.old (Event.Recovered s (bytes_of context.now)) n self.new)
             (self.new ≡ self.old) }
     {
         let _hold = self.allow_reply(s, ReplyKind::Recovered)?;
-        let number = self.entries.len() + 1;
+        let number = self.lists.entries.len() + 1;
         let event = Event::Recovered {
             session: s,
             context: spelled(context)?,
         };
-        self.entries.push(Entry {
+        self.lists.push(Entry {
             number,
             event,
             change: no_change(),

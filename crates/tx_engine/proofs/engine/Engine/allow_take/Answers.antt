@@ -16,7 +16,7 @@ returns-then-is_holding c =
 pub returns-in_default : goal.returns-in_default
 returns-in_default c =
     let lt : c.args.s < length c.self.inside.slots.items = omega arith in
-    let d : deque_len c.self.inside.queue ≡ length c.self.inside.queue.items = omega arith in
+    let d : deque_len c.self.inside.lists.queue ≡ length c.self.inside.lists.queue.items = omega arith in
     let empty = empty_queue c.front.result _ _ c.in_default.is d c.front.ensures.variant.1 in
     take_refused (the_view c.self.inside) _ _ _ c.args.s _ c.self.invariant c.self.view_is refl refl lt c.index.ensures
     ∙ (rw (c.if-self.false, ← c.is_holding.ensures, c.if-is_holding.false, empty) refl)
@@ -24,7 +24,7 @@ returns-in_default c =
 pub returns-then-self-eq-LAST_ID : goal.returns-then-self-eq-LAST_ID
 returns-then-self-eq-LAST_ID c =
     let lt : c.args.s < length c.self.inside.slots.items = omega arith in
-    let d : deque_len c.self.inside.queue ≡ length c.self.inside.queue.items = omega arith in
+    let d : deque_len c.self.inside.lists.queue ≡ length c.self.inside.lists.queue.items = omega arith in
     let some = there_queue c.front.result _ _ _ c.in-Some.is d c.front.ensures.variant.0 in
     let spent : (c.self.inside.next_id == 9223372036854775807) ≡ true = grind (arith, nat_tests) in
     take_refused (the_view c.self.inside) _ _ _ c.args.s _ c.self.invariant c.self.view_is refl refl lt c.index.ensures
@@ -33,7 +33,7 @@ returns-then-self-eq-LAST_ID c =
 pub returns-then-is_full : goal.returns-then-is_full
 returns-then-is_full c =
     let lt : c.args.s < length c.self.inside.slots.items = omega arith in
-    let d : deque_len c.self.inside.queue ≡ length c.self.inside.queue.items = omega arith in
+    let d : deque_len c.self.inside.lists.queue ≡ length c.self.inside.lists.queue.items = omega arith in
     let some = there_queue c.front.result _ _ _ c.in-Some.is d c.front.ensures.variant.0 in
     let more : (c.self.inside.next_id == 9223372036854775807) ≡ false = grind (arith, nat_tests) in
     take_refused (the_view c.self.inside) _ _ _ c.args.s _ c.self.invariant c.self.view_is refl refl lt c.index.ensures
@@ -42,10 +42,10 @@ returns-then-is_full c =
 pub returns : goal.returns
 returns c =
     let lt : c.args.s < length c.self.inside.slots.items = omega arith in
-    let d : deque_len c.self.inside.queue ≡ length c.self.inside.queue.items = omega arith in
+    let d : deque_len c.self.inside.lists.queue ≡ length c.self.inside.lists.queue.items = omega arith in
     let some = there_queue c.front.result _ _ _ c.in-Some.is d c.front.ensures.variant.0 in
     let more : (c.self.inside.next_id == 9223372036854775807) ≡ false = grind (arith, nat_tests) in
     let none = take_refused (the_view c.self.inside) _ _ _ c.args.s _ c.self.invariant c.self.view_is refl refl lt c.index.ensures
     ∙ (rw (c.if-self.false, ← c.is_holding.ensures, c.if-is_holding.false, some, more, ← c.is_full.ensures, c.if-is_full.false) refl) in
-    let g = slice_get_read c.self.inside.queue.items _ 0 c.in-Some.first.now d (c.in-Some.ensures.variant.0 refl) c.in-Some.ensures.lookup in
+    let g = slice_get_read c.self.inside.lists.queue.items _ 0 c.in-Some.first.now d (c.in-Some.ensures.variant.0 refl) c.in-Some.ensures.lookup in
     record { allowed = none; first_is = queue_first (the_view c.self.inside) _ _ _ _ c.self.invariant c.self.view_is g }

@@ -1,12 +1,7 @@
-use Rattle.std.proofs.Common.{◌≡◌, ◌<◌, ◌+◌, length, arith, refl}
-use Rattle.tx_engine.specs.contracts.engine.Engine.{the_view}
-use Rattle.tx_engine.proofs.Keeps.{kept_step}
-use Rattle.tx_engine.proofs.Offers.{steps_offered, entry_room}
+use Rattle.tx_engine.proofs.Offers.{kept_reserved}
 use Rattle.tx_engine.proofs.engine.Engine.offer.Goals as goal
 
 pub invariant_of-self-2 : goal.invariant_of-self-2
 invariant_of-self-2 c =
-    let few : length c.self.inside.entries.items < 1048576 = entry_room (the_view c.self.inside) _ _ c.self.view_is refl c.in_ok-allow_entry.ensures in
-    let n : c.len-number.result + 1 ≡ length c.self.inside.entries.items + 1 = omega arith in
-    rw (c.push_back_reserved.ensures.items, c.in_ok-push.ensures.items, c.in_ok-try_reserve.ensures.items, c.in_ok-spelled.ensures.bytes, c.in_ok-spelled-2.ensures.bytes, c.retries.ensures.retries, c.no_change.ensures)
-    (kept_step _ _ _ _ _ _ _ _ _ _ _ c.self.invariant few n refl (steps_offered _ _ _ _ _ _ _ c.spelled.ensures.spelled c.self.invariant))
+    rw (c.in_ok-reserve_offer.ensures.entries, c.in_ok-reserve_offer.ensures.queue, c.in_ok-reserve_offer.ensures.reserved)
+    (kept_reserved _ _ _ _ _ _ _ _ c.self.invariant)

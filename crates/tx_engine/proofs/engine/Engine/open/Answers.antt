@@ -23,12 +23,12 @@ invariant_of-result c =
     let next = rw c.as_slice-rows.ensures at (c.in_ok-first_slot.ensures) in
     let slots : slice_set c.in_ok-slots.slots.items 0 c.in_ok-first_slot.first_slot ≡ slice_set (replicate c.args.sessions Free) 0 c.in_ok-first_slot.first_slot = ap (λ (l : List Slot). slice_set l 0 c.in_ok-first_slot.first_slot) (c.in_ok-slots.ensures) in
     let many : length (slice_set c.in_ok-slots.slots.items 0 c.in_ok-first_slot.first_slot) ≡ c.args.sessions = ap (λ (l : List Slot). length l) slots ∙ sessions_are c.args.sessions c.in_ok-first_slot.first_slot in
-    kept_made c.args.code.now _ c.args.view.now _ c.args.sessions _ _ c.in_ok-first_slot.first_slot _ _ _ _ _ _ _ _ fits st some few is next
-    (c.in_ok-copy.ensures) (c.in_ok-copy-2.ensures) many (c.new-2.ensures ∙ c.new.ensures.items) (c.new-4.ensures ∙ c.new-3.ensures.items) slots c.new-5.ensures.items
-    (c.in_ok-shelf_of.ensures ∙ c.as_slice.ensures) (c.in_ok-advices_of.ensures ∙ c.as_slice-2.ensures) (c.in_ok-no_breaks.ensures ∙ ap (λ (ps : List Part). replicate (length ps) false) c.participants.ensures.participants) c.is_holding-recovering.ensures
+    rw c.new-5.ensures.reserved (kept_made c.args.code.now _ c.args.view.now _ c.args.sessions _ _ c.in_ok-first_slot.first_slot _ _ _ _ _ _ _ _ fits st some few (c.new-5.ensures.entries ∙ is) next
+    (c.in_ok-copy.ensures) (c.in_ok-copy-2.ensures) many (c.new-2.ensures ∙ c.new.ensures.items) (c.new-4.ensures ∙ c.new-3.ensures.items) slots c.new-5.ensures.queue
+    (c.in_ok-shelf_of.ensures ∙ c.as_slice.ensures) (c.in_ok-advices_of.ensures ∙ c.as_slice-2.ensures) (c.in_ok-no_breaks.ensures ∙ ap (λ (ps : List Part). replicate (length ps) false) c.participants.ensures.participants) c.is_holding-recovering.ensures)
 
 pub returns-clause-opened : goal.returns-clause-opened
 returns-clause-opened c =
     let is = rw c.as_slice-rows.ensures at (c.in_ok-closings.ensures c.args.code.now (first_start c.args.view.now)) in
-    rw (c.in_ok-copy.ensures, c.in_ok-copy-2.ensures, c.new-2.ensures, c.new.ensures.items, c.new-4.ensures, c.new-3.ensures.items, c.in_ok-slots.ensures)
-    (world_opened c.args.code.now c.args.view.now c.args.sessions _ _ (sessions_are c.args.sessions c.in_ok-first_slot.first_slot) is)
+    rw (c.in_ok-copy.ensures, c.in_ok-copy-2.ensures, c.new-2.ensures, c.new.ensures.items, c.new-4.ensures, c.new-3.ensures.items, c.in_ok-slots.ensures, c.new-5.ensures.reserved)
+    (world_opened c.args.code.now c.args.view.now c.args.sessions _ _ (sessions_are c.args.sessions c.in_ok-first_slot.first_slot) (c.new-5.ensures.entries ∙ is))

@@ -1,0 +1,110 @@
+//! Drives an engine, for bench/engine.py to time: `engine_bench COUNT` runs so many transactions
+//! of two participants, one after the other, six entries each, with every entry written before the
+//! next call. Without words it does nothing.
+#![tactic(auto)]
+
+use flow_asm::{Code, assemble};
+use flow_model::{Flow, Group};
+use std::alloc::Global;
+use std::io::Write;
+use std::process::ExitCode;
+use sw_context::Context;
+use sw_participant::{Kind, Sequence};
+use tx_engine::{Engine, EngineError};
+use tx_history::JournalView;
+
+const MEMORY: &str = "out of memory";
+
+/// The answer byte PREPARED.
+const PREPARED: u8 = 1;
+
+fn code_of_two(alloc: Global) -> Result<Code, &'static str> {
+    let entries = [("check", Kind::PLAIN), ("send", Kind::PLAIN)];
+    let mut groups = Vec::new(alloc);
+    let Ok(group) = Group::of(alloc, "main", &entries) else {
+        return Err(MEMORY);
+    };
+    let Ok(()) = groups.push(group) else {
+        return Err(MEMORY);
+    };
+    let flow = Flow {
+        retries: 0,
+        groups: Sequence::new(groups),
+    };
+    let Ok(()) = flow.check() else {
+        return Err("the flow was refused");
+    };
+    assemble(alloc, &flow).map_err(|_| MEMORY)
+}
+
+// A context with one entry of 64 bytes.
+fn request(alloc: Global) -> Result<Context, &'static str> {
+    let mut context = Context::new(alloc);
+    match context.put("request", &[48; 64]) {
+        Ok(()) => Ok(context),
+        Err(_) => Err(MEMORY),
+    }
+}
+
+fn write_all(engine: &mut Engine) -> Result<(), EngineError> {
+    let entries = engine.history().len();
+    engine.written(entries)
+}
+
+fn run_one(alloc: Global, engine: &mut Engine, context: &Context) -> Result<(), EngineError> {
+    engine.offer(context)?;
+    let _taken = engine.take(alloc, 0)?;
+    write_all(engine)?;
+    for _ in 0..2 {
+        engine.answered(alloc, 0, PREPARED, context)?;
+        write_all(engine)?;
+    }
+    for _ in 0..2 {
+        engine.told(alloc, 0, None)?;
+        write_all(engine)?;
+    }
+    Ok(())
+}
+
+fn run(alloc: Global, count: u64) -> Result<(), &'static str> {
+    let code = code_of_two(alloc)?;
+    let context = request(alloc)?;
+    let Ok(mut engine) = Engine::open(alloc, &code, &JournalView::blank(alloc), 1) else {
+        return Err("the engine was not opened");
+    };
+    for _ in 0..count {
+        if run_one(alloc, &mut engine, &context).is_err() {
+            return Err("the engine refused a call");
+        }
+    }
+    Ok(())
+}
+
+fn run_words(alloc: Global, words: &[String]) -> Result<(), &'static str> {
+    match words {
+        [_] => Ok(()),
+        [_, count] => match count.parse::<u64>() {
+            Ok(count) => run(alloc, count),
+            Err(_) => Err("expected a number"),
+        },
+        _ => Err("expected: engine_bench COUNT"),
+    }
+}
+
+fn main(rt: HostRuntime) -> ExitCode {
+    let words = match std::env::args(&rt) {
+        Ok(words) => words.collect::<Vec<String>>(rt.alloc()),
+        Err(_) => return ExitCode::from(2),
+    };
+    let Ok(words) = words else {
+        return ExitCode::from(2);
+    };
+    match run_words(rt.alloc(), words.as_slice()) {
+        Ok(()) => ExitCode::from(0),
+        Err(text) => {
+            let mut err = rt.stderr();
+            let _told = writeln!(err, "engine_bench: {text}");
+            ExitCode::from(1)
+        }
+    }
+}

@@ -1,0 +1,59 @@
+//! Offers that are prepared before they are made.
+
+ghost use Rattle.std.specs.Prelude.{◌≡◌, IfOk};
+ghost use Rattle.sw_context.specs.Spelling.{bytes_of, IsSpelled};
+
+use std::alloc::AllocError;
+use std::marker::Model;
+use sw_context::Context;
+use sw_participant::Bytes;
+
+/// The context's bytes. That they are those of a context is known by its length.
+pub(crate) fn spelled(context: &Context) -> Result<Bytes, AllocError>
+    ensures bytes { IfOk result (λ b. b ≡ bytes_of context.now) }
+    ensures spelled { IsSpelled (bytes_of context.now) }
+{
+    let _names = context.len();
+    Ok(Bytes::new(context.to_bytes()?))
+}
+
+/// A context to be offered, in the memory that the history and the queue keep it in: so offering it
+/// takes none. Contracts see the context's bytes.
+#[derive(Debug, Drop)]
+pub struct Offer {
+    pub(crate) event: Bytes,
+    pub(crate) waiting: Bytes,
+}
+
+impl Model for Offer {
+    ghost use Rattle.std.specs.Prelude.{◌≡◌, ℕ, List};
+    ghost use Rattle.sw_context.specs.Spelling.{IsSpelled};
+
+    ghost Value = { List ℕ };
+
+    ghost view = { λ o. o.event };
+
+    ghost invariant = { λ o. (o.waiting ≡ o.event) × IsSpelled o.event };
+}
+
+impl Offer {
+    /// Of this context. The only refusal is want of memory.
+    pub fn new(context: &Context) -> Result<Offer, AllocError>
+        ensures { IfOk result (λ offer. offer ≡ bytes_of context.now) }
+    {
+        Ok(Offer {
+            event: spelled(context)?,
+            waiting: spelled(context)?,
+        })
+    }
+
+    // The two copies, and that they are a context's.
+    pub(crate) fn into_parts(self) -> (Bytes, Bytes)
+        ensures event { result.0 ≡ self }
+        ensures waiting { result.1 ≡ self }
+        ensures spelled { IsSpelled self }
+    {
+        let Offer { event, waiting } = self;
+        (event, waiting)
+    }
+}
