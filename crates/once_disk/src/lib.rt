@@ -1,8 +1,8 @@
-//! Two disks whose calls are counted together: one of them fails, once; for tests of what a fault
-//! leaves.
+//! Two disks whose calls are counted together: one of them fails, once or with all that follow; for
+//! tests of what a fault leaves.
 //!
 //! Of both disks holds what `sqlite_disk` asks of a disk, and they begin as the disks that they are over
-//! ([`pair`]). Which call fails no contract says.
+//! ([`pair`]), which they give back ([`Once::into_inner`]). Which call fails no contract says.
 #![tactic(auto)]
 
 ghost use Rattle.std.specs.Prelude.{◌≡◌, ◌+◌, ◌&&◌, not, false, IfOk, IsErr};
@@ -18,27 +18,37 @@ use std::sync::Arc;
 use std::sync::atomic::{AtomicU64, Ordering};
 use std::thread::yield_now;
 
-/// It passes each call on, but for the one that finds the counter at 0.
+/// What comes of the call that finds the counter at 0.
+#[derive(Clone, Copy)]
+pub enum Fault {
+    /// It fails, after so many yields, and those that follow do not.
+    Once { yields: u64 },
+    /// It fails and all that follow do, until a crash: the machine has stopped. (The calls come from
+    /// one thread.)
+    Stop,
+}
+
+/// It passes each call on, but for those that its fault lets fail.
 #[derive(Drop)]
 pub struct Once<D: Disk> {
     inner: D,
     calls_left: Arc<AtomicU64>,
-    yields: u64,
+    fault: Fault,
     refused: u64,
     sync_refused: bool,
 }
 
 /// Two disks over these two, with one counter: of their calls together the one after `calls` others
-/// fails, after so many yields.
+/// meets the fault.
 pub fn pair<D: Disk + Drop>(
     alloc: Global,
     first: D,
     second: D,
     calls: u64,
-    yields: u64,
+    fault: Fault,
 ) -> Result<(Once<D>, Once<D>), AllocError>
-    ensures first { IfOk result (λ disks. IsOver disks.0 first yields) }
-    ensures second { IfOk result (λ disks. IsOver disks.1 second yields) }
+    ensures first { IfOk result (λ disks. IsOver disks.0 first fault) }
+    ensures second { IfOk result (λ disks. IsOver disks.1 second fault) }
     ensures counter { IfOk result (λ disks.
         arc_value disks.0.calls_left ≡ arc_value disks.1.calls_left) }
 {
@@ -48,27 +58,48 @@ pub fn pair<D: Disk + Drop>(
         Once {
             inner: first,
             calls_left: counter,
-            yields,
+            fault,
             refused: 0,
             sync_refused: false,
         },
         Once {
             inner: second,
             calls_left: other,
-            yields,
+            fault,
             refused: 0,
             sync_refused: false,
         },
     ))
 }
 
-fn spend(calls_left: &AtomicU64, yields: u64, refused: &mut u64) -> io::Result<()>
+impl<D: Disk> Once<D> {
+    /// The disk that it is over.
+    pub fn into_inner(self) -> D
+        ensures { result ≡ self.inner }
+    {
+        let Once {
+            inner,
+            calls_left: _,
+            fault: _,
+            refused: _,
+            sync_refused: _,
+        } = self;
+        inner
+    }
+}
+
+fn spend(calls_left: &AtomicU64, fault: Fault, refused: &mut u64) -> io::Result<()>
     ensures faults { CountsFault result refused.old refused.new }
     ensures kind { finds_no_room result ≡ false }
 {
     if calls_left.fetch_sub(1, Ordering::Relaxed) == 0 {
-        for _ in 0..yields {
-            yield_now();
+        match fault {
+            Fault::Once { yields } => {
+                for _ in 0..yields {
+                    yield_now();
+                }
+            }
+            Fault::Stop => calls_left.store(0, Ordering::Relaxed),
         }
         *refused = refused.saturating_add(1);
         return Err(io::Error::other("the call is refused"));
@@ -118,32 +149,32 @@ impl<D: Disk> Disk for Once<D> {
     }
 
     fn len(&mut self) -> io::Result<usize> {
-        spend(&self.calls_left, self.yields, &mut self.refused)?;
+        spend(&self.calls_left, self.fault, &mut self.refused)?;
         self.inner.len()
     }
 
     fn read_at(&mut self, at: usize, buf: &mut [u8]) -> io::Result<()> {
-        spend(&self.calls_left, self.yields, &mut self.refused)?;
+        spend(&self.calls_left, self.fault, &mut self.refused)?;
         self.inner.read_at(at, buf)
     }
 
     fn read_checked(&mut self, key: u64, want: u64, at: usize, buf: &mut [u8]) -> io::Result<()> {
-        spend(&self.calls_left, self.yields, &mut self.refused)?;
+        spend(&self.calls_left, self.fault, &mut self.refused)?;
         self.inner.read_checked(key, want, at, buf)
     }
 
     fn write_at(&mut self, at: usize, bytes: &[u8]) -> io::Result<()> {
-        spend(&self.calls_left, self.yields, &mut self.refused)?;
+        spend(&self.calls_left, self.fault, &mut self.refused)?;
         self.inner.write_at(at, bytes)
     }
 
     fn set_len(&mut self, len: usize) -> io::Result<()> {
-        spend(&self.calls_left, self.yields, &mut self.refused)?;
+        spend(&self.calls_left, self.fault, &mut self.refused)?;
         self.inner.set_len(len)
     }
 
     fn sync(&mut self) -> io::Result<()> {
-        if let Err(error) = spend(&self.calls_left, self.yields, &mut self.refused) {
+        if let Err(error) = spend(&self.calls_left, self.fault, &mut self.refused) {
             self.sync_refused = true;
             return Err(error);
         }
