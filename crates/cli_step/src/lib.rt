@@ -16,4 +16,4 @@ mod shown;
 mod turns;
 
 pub use error::StepError;
-pub use script::run_script;
+pub use script::{run_actions, run_script};

@@ -23,8 +23,9 @@ fn flush<W: Write>(out: &mut W) -> Result<(), WriteError> {
     Ok(out.flush()?)
 }
 
-// Runs the lines behind the settings, each with the text that it prints.
-fn run_actions<S: Alter, W: Write>(
+/// Runs the lines behind the settings over a plant, and writes what each prints. Where it ends early,
+/// what the lines before printed stands.
+pub fn run_actions<S: Alter, W: Write>(
     alloc: Global,
     plant: &mut Plant<S>,
     tracer: &mut Tracer,
