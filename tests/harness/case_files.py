@@ -4,13 +4,14 @@ import os
 import re
 
 from harness.case import Begins, Case, Exactly, Lines
+from model.stops import Runs
 
 ESCAPES = {b"n": b"\n", b"t": b"\t", b"r": b"\r", b"s": b" ", b"\\": b"\\", b".": b""}
 SPELLED = {"escaped", "repeated"}
 # The words that may follow the name of a section; a file has those of SPELLED.
 KNOWN = {
     "stdin": SPELLED | {"framed", "cut"},
-    "stdout": SPELLED | {"begins", "lines"},
+    "stdout": SPELLED | {"begins", "lines", "runs"},
     "stderr": SPELLED | {"begins", "lines"},
     "rows": {"stdout", "stderr", "begins", "framed"},
 }
@@ -122,6 +123,8 @@ def case_of(name, lines):
             case.stdin = bytes_of(section, content)
             if "cut" in section.split():
                 case.pieces = []
+        elif section == "stdout runs":
+            case.stdout = Runs(case.files["script"])
         elif kind in ("stdout", "stderr"):
             setattr(case, kind, check_of(section, content))
         elif kind == "status":

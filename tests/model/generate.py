@@ -3,6 +3,8 @@
 from harness.case import Begins, Case, Exactly
 from model import flows, messages, requests, script, texts
 from model.flows import Entry, Flow, Group, Kind
+from model.law import unlawful
+from model.stops import Runs
 
 NAMES = ["main", "g", "h", "alpha", "beta", "a.b-c_D9", "x" * 32]
 PARTICIPANTS = ["check", "limits", "route", "p", "q", "r", "s", "P", "standin", "y" * 32]
@@ -465,36 +467,42 @@ class Lawful(Exactly):
         return super().wrong(name, came) or unlawful(came.decode().splitlines())
 
 
-def unlawful(lines):
-    """What calls of a trace break the outcome law, or None: by id, which outcome was told, and at how many stops."""
-    outcomes, prepared, stops = {}, {}, 0
-    for line in lines:
-        words = line.split(" ")
-        stops += words[0] == "restart"
-        if len(words) < 4 or words[1] not in ("P", "A", "C", "U"):
-            continue
-        number, call = words[0], words[2]
-        if call in ("commit", "abort"):
-            if outcomes.setdefault(number, call) != call:
-                return f"transaction {number} is told to commit and to abort"
-        elif call != "recover":
-            if number in outcomes:
-                return f"transaction {number} is prepared after its outcome"
-            if prepared.setdefault(number, stops) != stops:
-                return f"transaction {number} is prepared on behind a stop"
-    return None
-
-
-def whole_script(random):
-    """A script of all lines over a checked flow."""
+def whole_script(random, sizes=(5, 20, 60, 200)):
+    """A script of all lines over a checked flow, of so many lines behind the settings."""
     made, sessions = flow(random), random.choice([1, 2, 2, 3, 16])
     names = [entry.participant for entry in made.participants()] or ["nobody"]
     lines = [f"retries {made.retries}", f"sessions {sessions}", *map(group_line, made.groups)]
     lines += queues(random, made)
-    lines += [event(random, names, sessions) for _ in range(random.choice([5, 20, 60, 200]))]
+    lines += [event(random, names, sessions) for _ in range(random.choice(sizes))]
     if random.random() < 0.05:
         lines.insert(random.randint(0, len(lines)), random.choice(SPOILT + SPOILT_ACTIONS))
     return "".join(f"{line}\n" for line in lines).encode()
+
+
+STOPPED = "for cut in power kill refusal; do stopped_switch $cut < script || exit; done"
+
+
+def stopped_case(random, name):
+    """The runs of a script that is right, cut at each call of the journal's disks."""
+    text = b"auto"
+    while not is_played(text):
+        text = whole_script(random, (5, 10, 20))
+    return stopped(name, text)
+
+
+def is_played(text):
+    """Whether a script is right and has a line that is no setting."""
+    printed, _, status = script.step(text)
+    return printed != "" and status == 0
+
+
+def stopped(name, text):
+    if not is_played(text):
+        # (fewer lines of a failing script, which show nothing)
+        return Case(name, "true")
+    case = Case(name, STOPPED, files={"script": text}, stdout=Runs(text), stderr=Exactly(b""))
+    case.remake, case.parts = lambda other: stopped(name, other), text.splitlines(keepends=True)
+    return case
 
 
 # Streams
@@ -620,6 +628,8 @@ def cases(random, count, is_every=False):
     kinds = [("step", step_case)] * 4 + [("whole", whole_case)] * 4
     kinds += [("asm", asm_case)] * 2 + [("list", list_case)] * 2 + [("decode", decode_case)]
     kinds += [("run", requests.run_case)] * 2
+    for number in range(count // 200):
+        yield stopped_case(random, f"random/stops {number}")
     for number in range(count):
         word, made = kinds[number % len(kinds)]
         yield made(random, f"random/{word} {number}")

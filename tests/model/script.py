@@ -121,7 +121,7 @@ class Script:
         act = act(words)
         self.begin()
         if word == "auto":
-            return list(self.engine.auto())
+            return self.engine.auto()
         try:
             return [act(self.engine)]
         except Refused as refused:
@@ -135,7 +135,10 @@ class Script:
             flows.check(flow)
             if not 1 <= self.sessions <= 16:
                 raise flows.Fault("BadSessions")
-            self.engine = Engine(flow, self.sessions, self.replies)
+            self.engine = self.made(flow)
+
+    def made(self, flow):
+        return Engine(flow, self.sessions, self.replies)
 
     def set_retries(self, words):
         need(len(words) == 1)
@@ -216,7 +219,7 @@ ACTIONS = {
     "go": ((1,), by_number(Engine.go)),
     "call": ((1,), by_number(Engine.call)),
     "write": ((0, 1), written),
-    "stop": ((0,), lambda words: Engine.stop),
+    "stop": ((0,), lambda words: lambda engine: engine.stop()),
     "cut": ((0,), lambda words: Engine.cut),
     "where": ((1,), by_number(Engine.where)),
     "rest": ((1,), by_number(Engine.rest)),

@@ -1,0 +1,42 @@
+//! Why the program ends early.
+
+use cli_io::{ReadError, WriteError};
+use cli_script::ScriptError;
+use cli_step::StepError;
+use std::alloc::{AllocError, AllocFailed};
+use thiserror::Error;
+use tx_journal::JournalError;
+use tx_plant::PlantError;
+
+/// Why the program ends early. That the disks are cut is no such case.
+#[derive(Debug, Drop, Error)]
+pub enum StopError {
+    #[error("expected: stopped_switch power|kill [twice], or stopped_switch refusal")]
+    Words,
+    #[error("{0}")]
+    Read(#[from] ReadError),
+    #[error("{0}")]
+    Script(#[from] ScriptError),
+    #[error("{0}")]
+    Step(#[from] StepError),
+    #[error("{0}")]
+    Plant(#[from] PlantError),
+    #[error("{0}")]
+    Journal(#[from] JournalError),
+    #[error("the script has no line behind its settings")]
+    NoLine,
+    #[error("the journal was not opened again")]
+    Lost,
+    #[error("a run was still cut after so many calls")]
+    Endless,
+    #[error("writing the output: {0}")]
+    Write(#[from] WriteError),
+    #[error("out of memory")]
+    OutOfMemory(#[from] AllocError),
+}
+
+impl<T: Drop> From<AllocFailed<T>> for StopError {
+    fn from(_error: AllocFailed<T>) -> StopError {
+        StopError::OutOfMemory(AllocError)
+    }
+}

@@ -1,0 +1,76 @@
+//! What a plant does until its journal refuses.
+
+ghost use Rattle.tx_plant.specs.Plant.{IsEngine};
+
+use crate::error::StopError;
+use crate::lines::{write_entries, write_view};
+use cli_script::Actions;
+use cli_step::{StepError, run_actions};
+use sqlite::Alter;
+use std::alloc::Global;
+use std::io::Write;
+use tx_journal::JournalError;
+use tx_plant::{Plant, PlantError, Turn};
+use tx_trace::Tracer;
+
+// Whether the store of the journal has refused. Any other cause is an error.
+fn is_store(cause: JournalError) -> Result<bool, StopError> {
+    match cause {
+        JournalError::Store(_) | JournalError::Failed => Ok(true),
+        other => Err(StopError::Journal(other)),
+    }
+}
+
+/// Whether a plant's journal has refused.
+pub fn is_plant_cut(done: Result<(), PlantError>) -> Result<bool, StopError> {
+    match done {
+        Ok(()) => Ok(false),
+        Err(PlantError::Journal(cause)) => is_store(cause),
+        Err(other) => Err(StopError::Plant(other)),
+    }
+}
+
+fn is_script_cut(done: Result<(), StepError>) -> Result<bool, StopError> {
+    match done {
+        Ok(()) => Ok(false),
+        Err(StepError::Journal { line: _, cause }) => is_store(cause),
+        Err(other) => Err(StopError::Step(other)),
+    }
+}
+
+/// Runs the lines of a script. Whether the journal has refused.
+pub fn play<S: Alter, W: Write>(
+    alloc: Global,
+    plant: &mut Plant<S>,
+    actions: &mut Actions<'_>,
+    out: &mut W,
+) -> Result<bool, StopError>
+    requires { IsEngine plant.old.running.engine }
+{
+    let mut tracer = Tracer::new(alloc, plant.engine());
+    is_script_cut(run_actions(alloc, plant, &mut tracer, actions, out))
+}
+
+/// Writes what the journal had, finishes what it has unfinished, and writes the lines, and what it has
+/// then. Whether it has refused.
+pub fn finish<S: Alter, W: Write>(
+    alloc: Global,
+    plant: &mut Plant<S>,
+    out: &mut W,
+) -> Result<bool, StopError>
+    requires { IsEngine plant.old.running.engine }
+{
+    write_view("found", plant.engine().opened(), out)?;
+    let done = plant.recover(alloc);
+    write_entries(alloc, plant.engine(), out)?;
+    if is_plant_cut(done)? {
+        return Ok(true);
+    }
+    match plant.drive(alloc, &[Turn::Stop]) {
+        Ok(_) => {
+            write_view("left", plant.engine().opened(), out)?;
+            Ok(false)
+        }
+        Err(fault) => is_plant_cut(Err(fault.cause)),
+    }
+}

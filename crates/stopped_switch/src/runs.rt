@@ -1,0 +1,148 @@
+//! The runs of a script, each cut at another call of the disks.
+
+ghost use Rattle.flow_model.specs.Check.{IsChecked};
+
+use crate::disks::{Cut, Machine};
+use crate::error::StopError;
+use crate::lines::{write_calls, write_run};
+use crate::lives::{finish, is_plant_cut, play};
+use cli_script::{Script, open_script};
+use flow_asm::assemble;
+use sqlite::Alter;
+use std::alloc::{AllocError, Global};
+use std::io::Write;
+use sw_participant::Station;
+use sw_scripted::Scripted;
+use tx_journal::Journal;
+use tx_plant::Plant;
+
+/// More calls than any run makes.
+const MOST_CALLS: u64 = 100_000;
+
+// Makes a plant with a participant by the script for each one of the flow, and runs the script's lines,
+// or recovers. Whether the journal has refused. (It hands no station out, so that contracts know of
+// every participant whose it is.)
+fn live<S: Alter + Drop, W: Write>(
+    alloc: Global,
+    script: Script<'_>,
+    is_first: bool,
+    journal: Journal<S>,
+    out: &mut W,
+) -> Result<(bool, Journal<S>), StopError>
+    requires { IsChecked script.flow }
+{
+    let Script {
+        flow,
+        sessions,
+        replies: mut replies,
+        actions: mut actions,
+    } = script;
+    let code = assemble(alloc, &flow)?;
+    let mut stations = Vec::new(alloc);
+    for part in code.participants() {
+        let name = part.name.as_str();
+        let participant = Scripted::new(alloc, replies.take(alloc, name));
+        // A checked flow has no bad name, so only memory can be wanting.
+        match Station::new(alloc, name, Box::new(alloc, participant)?) {
+            Ok(station) => stations.push(station)?,
+            Err(_) => return Err(StopError::OutOfMemory(AllocError)),
+        }
+    }
+    let mut plant = match Plant::new(alloc, &code, journal, stations, sessions as usize) {
+        Ok(plant) => plant,
+        Err((cause, journal, _)) => return Ok((is_plant_cut(Err(cause))?, journal)),
+    };
+    let is_cut = if is_first {
+        play(alloc, &mut plant, &mut actions, out)?
+    } else {
+        finish(alloc, &mut plant, out)?
+    };
+    let (_, journal, stations) = plant.parts();
+    write_calls(stations.as_slice(), out)?;
+    Ok((is_cut, journal))
+}
+
+// Writes the lines of one plant over the machine's journal. Whether that was cut.
+fn run_part<W: Write>(
+    alloc: Global,
+    script: Script<'_>,
+    is_first: bool,
+    machine: &mut Machine,
+    calls: u64,
+    out: &mut W,
+) -> Result<bool, StopError>
+    requires { IsChecked script.flow }
+{
+    let Some(journal) = machine.open(alloc, calls)? else {
+        return Ok(true);
+    };
+    let (is_cut, journal) = live(alloc, script, is_first, journal, out)?;
+    machine.stop(alloc, journal, is_cut);
+    Ok(is_cut)
+}
+
+// Writes `run CALLS ..` with what cuts it, and the lines of that run: those of the script, then those of
+// recoveries. Whether each of these was cut, of which the last may not be.
+fn run_lines<W: Write>(
+    alloc: Global,
+    script: &[u8],
+    cut: Cut,
+    calls: &[u64],
+    out: &mut W,
+) -> Result<Vec<bool>, StopError> {
+    let mut machine = Machine::new(cut);
+    let mut cuts = Vec::new(alloc);
+    write_run(calls, out)?;
+    for count in calls {
+        let Some(script) = open_script(alloc, None, script)? else {
+            return Err(StopError::NoLine);
+        };
+        let is_first = cuts.is_empty();
+        let is_cut = run_part(alloc, script, is_first, &mut machine, *count, out)?;
+        cuts.push(is_cut)?;
+    }
+    match cuts.last() {
+        Some(true) => Err(StopError::Lost),
+        _ => Ok(cuts),
+    }
+}
+
+// The runs that are cut after so many calls, and then at each call of the recovery, up to one that
+// is recovered without a cut. Whether the script was cut.
+fn run_each_second<W: Write>(
+    alloc: Global,
+    script: &[u8],
+    cut: Cut,
+    first: u64,
+    out: &mut W,
+) -> Result<bool, StopError> {
+    for second in 0..MOST_CALLS {
+        let cuts = run_lines(alloc, script, cut, &[first, second, u64::MAX], out)?;
+        if cuts.get(1) != Some(&true) {
+            return Ok(cuts.first() == Some(&true));
+        }
+    }
+    Err(StopError::Endless)
+}
+
+/// Runs the script again and again, each time cut at the next call of the disks, up to a run that is
+/// not cut; with `is_twice` the recovery of each is cut too, at each of its calls.
+pub fn run_each<W: Write>(
+    alloc: Global,
+    script: &[u8],
+    cut: Cut,
+    is_twice: bool,
+    out: &mut W,
+) -> Result<(), StopError> {
+    for first in 0..MOST_CALLS {
+        let was_cut = if is_twice {
+            run_each_second(alloc, script, cut, first, out)?
+        } else {
+            run_lines(alloc, script, cut, &[first, u64::MAX], out)?.first() == Some(&true)
+        };
+        if !was_cut {
+            return Ok(());
+        }
+    }
+    Err(StopError::Endless)
+}
