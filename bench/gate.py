@@ -3,14 +3,15 @@
 
     bench/gate.py [--cores 0,1] [COMMAND ..]        the command is ./test where none is given
 
-The prover's processes are looked at four times a second while the gate runs. The last lines are a
-table in Markdown, the sum, the minutes by the clock, and the longest chain of crates that stand on one
+The prover's processes are looked at four times a second while the gate runs. Ctrl-C ends it, and what was seen until
+then is told. The last lines are a table in Markdown, the sum, the minutes by the clock, and the longest chain of crates that stand on one
 another, whose proofs no number of cores can run side by side.
 """
 
 import os
 import re
 import resource
+import signal
 import subprocess
 import sys
 import threading
@@ -90,10 +91,14 @@ def main():
     if cores:
         command = ["taskset", "-c", cores, *command]
     seen, done, begin = {}, threading.Event(), time.monotonic()
-    process = subprocess.Popen(command, cwd=ROOT)
+    process = subprocess.Popen(command, cwd=ROOT, start_new_session=True)
     watcher = threading.Thread(target=watch, args=(seen, done, process.pid))
     watcher.start()
-    status = process.wait()
+    try:
+        status = process.wait()
+    except KeyboardInterrupt:
+        os.killpg(process.pid, signal.SIGKILL)
+        status = process.wait()
     done.set()
     watcher.join()
     clock = (time.monotonic() - begin) / 60

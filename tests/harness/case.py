@@ -13,7 +13,9 @@ from dataclasses import dataclass, field
 SECONDS = 60
 # Prints the tables of a journal's file.
 TABLES = os.path.join(os.path.dirname(os.path.abspath(__file__)), "tables.py")
-STOPPED = os.path.join(os.path.dirname(TABLES), "..", "..", "crates", "stopped_switch", "out", "stopped_switch")
+CRATES = os.path.join(os.path.dirname(TABLES), "..", "..", "crates")
+# The programs for tests that stand on PATH beside cardswitch.
+BESIDE = ("silent_switch", "stopped_switch")
 
 
 class Exactly:
@@ -168,7 +170,8 @@ class Program:
         os.makedirs(f"{self.room}/empty")
         os.symlink(self.path, f"{self.room}/bin/cardswitch")
         os.symlink(TABLES, f"{self.room}/bin/tables")
-        os.symlink(STOPPED, f"{self.room}/bin/stopped_switch")
+        for name in BESIDE:
+            os.symlink(os.path.join(CRATES, name, "out", name), f"{self.room}/bin/{name}")
         self.environment = {"PATH": f"{self.room}/bin:/usr/local/bin:/usr/bin:/bin", "LANG": "C.UTF-8"}
         resource.setrlimit(resource.RLIMIT_CORE, (0, 0))
         return self

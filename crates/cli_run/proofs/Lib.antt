@@ -1,3 +1,3 @@
 mod Ended
-mod Deeds
+mod Legs
 mod Readings

@@ -1,14 +1,29 @@
--- Which of a stream's messages are requests.
--- for: stream::serve_messages
-use Rattle.std.proofs.Common.{◌≡◌, ◌<◌, ℕ, ◌+◌, List, [], ◌∷◌, ◌++◌, length, map, take, get_or, refl, sym, ap, ◌∙◌, append_assoc, append-nil}
-use Rattle.std.proofs.lemmas.List.{map-append, take_more}
+-- What is read of a stream of frames, and which of its messages are requests.
+-- for: stream::serve, stream::serve_messages, stream::Requests
+use Rattle.std.proofs.Common.{◌≡◌, ◌<◌, ◌≤◌, ℕ, ◌+◌, List, [], ◌∷◌, ◌++◌, length, map, take, get_or, Option, Some, None, Result, Ok, Err, refl, sym, ap, subst, arith, ◌∙◌, inl, inr, append_assoc, append-nil}
+use Rattle.std.proofs.KnownBytes.{Consumes-kept, Consumes-nil, Consumes-trans}
+use Rattle.std.proofs.lemmas.List.{length-append, length-take-le, map-append, take_more}
+use Rattle.std.specs.Io.KnownBytes.{Consumes, Keeps}
 use Rattle.std.specs.Global.{Vec}
 use Rattle.sw_context.specs.Pairs.{Pairs}
-use Rattle.sw_frame.specs.Feeds.{messages}
+use Rattle.sw_frame.specs.declared.error.FrameError.{FrameError}
+use Rattle.sw_frame.specs.declared.error.FrameError.TheVariants as frame
+use Rattle.sw_frame.specs.Feeds.{StreamGoesOnFrom, messages}
+use Rattle.sw_frame.specs.Stream.{State, Stream, blank}
+use Rattle.iso_msg.specs.Messages.{PlainMessage}
+use Rattle.iso_codec.specs.declared.error.DecodeError.{DecodeError}
 use Rattle.iso_codec.specs.Reads.{read}
-use Rattle.cli_run.specs.Requests.{if_read, readable, request_of, requests}
+use Rattle.cli_run.proofs.Legs.{serves_then}
+use Rattle.cli_run.specs.Answered.{Point, Serves}
+use Rattle.cli_run.specs.Requests.{FramesIn, Reads, ReadsOn, if_read, readable, request_of, requests}
 
 -- requests
+
+pub is_request : (r : Result PlainMessage DecodeError) (m : PlainMessage) (bytes : List ℕ) → r ≡ Ok m → map request_of (if_read r bytes) ≡ request_of bytes ∷ []
+is_request r m bytes is = rw is refl
+
+pub is_none : (r : Result PlainMessage DecodeError) (e : DecodeError) (bytes : List ℕ) → r ≡ Err e → map request_of (if_read r bytes) ≡ []
+is_none r e bytes is = rw is refl
 
 readable_append : (ms ns : List (List ℕ)) → readable (ms ++ ns) ≡ readable ms ++ readable ns
 readable_append [] ns = refl
@@ -27,3 +42,43 @@ pub requests_next : (list : List (Vec ℕ)) (i : ℕ) (m : Vec ℕ) (bytes : Lis
 requests_next list i m bytes lt at is =
     let more : take (i + 1) list ≡ take i list ++ m ∷ [] = take_more list i m lt ∙ ap (λ (v : Vec ℕ). take i list ++ v ∷ []) (sym at) in
     rw (is, more, map-append) (requests_more (messages (take i list)) m.items)
+
+-- streams
+
+pub no_more_frames : (piece : List ℕ) (s t : State) (e : FrameError) → (e ≡ frame.OutOfMemory → ⊥) → StreamGoesOnFrom piece (Err e) s t → FramesIn piece [] s t
+no_more_frames piece s t frame.OutOfMemory differs goes = absurd (differs refl)
+no_more_frames piece s t frame.BadLength differs goes = λ before frames stream. rw append-nil (goes before frames stream)
+no_more_frames piece s t frame.TooLong differs goes = λ before frames stream. rw append-nil (goes before frames stream)
+
+pub reads_piece : (left then : Option (List ℕ)) (piece : List ℕ) (more : List (List ℕ)) (s t : State) → Consumes left then piece → FramesIn piece more s t → ReadsOn left s more then t
+reads_piece left then piece more s t consumes adds = λ before frames reads. record {
+  taken = reads.taken ++ piece;
+  consumes = Consumes-trans before left then reads.taken piece reads.consumes consumes;
+  stream = adds reads.taken frames reads.stream;
+}
+
+pub reads_nothing : (left then : Option (List ℕ)) (s : State) → Keeps left then → ReadsOn left s [] then s
+reads_nothing left then s keeps = λ before frames reads. record {
+  taken = reads.taken;
+  consumes = Consumes-kept before left then reads.taken reads.consumes keeps;
+  stream = rw append-nil reads.stream;
+}
+
+pub nothing_read : (left : Option (List ℕ)) (s : State) → s ≡ blank → Reads left left [] s
+nothing_read left s same = rw same (record {
+  taken = [];
+  consumes = Consumes-nil left;
+  stream = record { text = []; rest = []; whole = refl; frames = refl; ends = inl (inl (omega arith), refl) };
+})
+
+-- the requests of more frames are served behind those of the first ones
+pub serves_frames : (frames more : List (List ℕ)) (p q r : Point) (a b c : Option (List ℕ)) → Serves (requests frames) p a q b → Serves (requests more) q b r c → Serves (requests (frames ++ more)) p a r c
+serves_frames frames more p q r a b c s t =
+    subst (λ (l : List Pairs). Serves l p a r c) (sym (requests_append frames more)) (serves_then (requests frames) (requests more) p q r a b c s t)
+
+-- a buffer keeps its length while it is read into
+pub still_room : (n : ℕ) (xs ys : List ℕ) → 0 < n → n ≤ length xs → 0 < length (take n (xs ++ ys))
+still_room n xs ys some le =
+    let whole = length-append xs ys in
+    let taken = length-take-le n (xs ++ ys) (omega (arith, le, whole)) in
+    omega (arith, some, taken)

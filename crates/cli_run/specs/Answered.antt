@@ -1,11 +1,13 @@
 -- What a run has written: the responses of the transactions that ended, one after the other.
-use Rattle.std.specs.Prelude.{◌≡◌, ℕ, List, [], ◌∷◌, ◌++◌, length, Option, Some, None, codes}
+use Rattle.std.specs.Prelude.{◌≡◌, ℕ, ◌-◌, List, [], ◌∷◌, ◌++◌, length, Option, Some, None, codes}
 use Rattle.std.specs.Io.KnownBytes.{Appends}
 use Rattle.std.specs.Ordering.{nat_cmp}
 use Rattle.std.specs.BTreeMap.Range.{entries_between}
 use Rattle.std.specs.declared.ops.Bound.TheVariants.{Excluded, Unbounded}
 use Rattle.sw_context.specs.Pairs.{Pairs, find}
 use Rattle.sw_frame.specs.Stream.{AreFramed}
+use Rattle.flow_model.specs.declared.flow.Flow.{Flow}
+use Rattle.tx_history.specs.declared.journal.JournalView.{JournalView}
 use Rattle.tx_engine.specs.World.{World}
 use Rattle.tx_journal.specs.Kept.{JournalState}
 use Rattle.tx_plant.specs.declared.seat.Seats.{Seats}
@@ -13,7 +15,7 @@ use Rattle.tx_plant.specs.declared.turn.Outcome.{Outcome}
 use Rattle.tx_plant.specs.declared.turn.Turn.{Turn}
 use Rattle.tx_plant.specs.declared.turn.Turn.TheVariants as turn
 use Rattle.tx_plant.specs.Steps.{Moved}
-use Rattle.tx_plant.specs.Plant.{Driven, Whole, seen, whole}
+use Rattle.tx_plant.specs.Plant.{Driven, Opened, Seen, Whole, seen, whole}
 
 -- a switch between two calls of its plant: the plant, and the id of the last transaction whose response was given
 pub record Point : Type 0 where
@@ -57,13 +59,13 @@ abbrev pub all_answered : Point → Point
 all_answered p = record p { answered = last_id p.answered (unanswered p) }
 
 -- turns were done, or the responses that were not given are
-pub data Deed : Type 0 where
-  Drove : (turns : List Turn) → (outcomes : List Outcome) → Deed
-  Gave : Deed
+pub data Leg : Type 0 where
+  Drove : (turns : List Turn) → (outcomes : List Outcome) → Leg
+  Gave : Leg
 
 -- One after the other, with what they write. Turns write nothing. Responses are given as frames, ids rising, and only when
 -- every entry of the history is written.
-abbrev pub Goes : List Deed → Point → List ℕ → Point → Type 0
+abbrev pub Goes : List Leg → Point → List ℕ → Point → Type 0
 Goes [] p bytes q = (bytes ≡ []) × (q ≡ p)
 Goes (Drove turns outcomes ∷ ds) p bytes q = (m : List Moved) × (w : Whole) × Driven turns outcomes m p.plant w × Goes ds (record p { plant = w }) bytes q
 Goes (Gave ∷ ds) p bytes q = (text : List ℕ) × (rest : List ℕ) × IsAllWritten p.plant.core.world × AreFramed text (responses (unanswered p)) × (bytes ≡ text ++ rest) × Goes ds (all_answered p) rest q
@@ -77,23 +79,33 @@ abbrev pub offers_in : List Turn → List Pairs
 offers_in [] = []
 offers_in (t ∷ ts) = offer_of t ++ offers_in ts
 
-abbrev pub offered : List Deed → List Pairs
+abbrev pub offered : List Leg → List Pairs
 offered [] = []
 offered (Drove turns outcomes ∷ ds) = offers_in turns ++ offered ds
 offered (Gave ∷ ds) = offered ds
 
 -- what was done from one point to the next: these contexts were offered, and nothing written
 pub record Acts (offers : List Pairs) (p q : Point) : Type 0 where
-  pub deeds : List Deed
-  pub goes : Goes deeds p [] q
-  pub offers_are : offered deeds ≡ offers
+  pub legs : List Leg
+  pub goes : Goes legs p [] q
+  pub offers_are : offered legs ≡ offers
   pub written : IsAllWritten q.plant.core.world
 
 -- the same with what an output holds before and after, where that is known
 pub record Serves (offers : List Pairs) (p : Point) (before : Option (List ℕ)) (q : Point) (after : Option (List ℕ)) : Type 0 where
-  pub deeds : List Deed
+  pub legs : List Leg
   pub bytes : List ℕ
-  pub goes : Goes deeds p bytes q
-  pub offers_are : offered deeds ≡ offers
+  pub goes : Goes legs p bytes q
+  pub offers_are : offered legs ≡ offers
   pub appends : Appends before after bytes
   pub written : IsAllWritten q.plant.core.world
+
+-- A whole run over a journal: a plant is opened on its view, these contexts are offered, and at the end no response is left
+-- to give of a transaction that began in it.
+pub record Ran (f : Flow) (sessions : ℕ) (j : Seen) (offers : List Pairs) (before after : Option (List ℕ)) : Type 0 where
+  pub view : JournalView
+  pub made : Whole
+  pub opened : Opened f sessions view j made.core made.journal
+  pub end : Point
+  pub serves : Serves offers (record { plant = made; answered = made.core.world.start.view.next_id - 1 }) before end after
+  pub all : unanswered end ≡ []

@@ -1,15 +1,16 @@
 //! The whole run.
 
-ghost use Rattle.std.specs.Prelude.{[], OnOk};
+ghost use Rattle.std.specs.Prelude.{◌≡◌, ℕ, List, [], IfOk, IfSome, OnOk};
 ghost use Rattle.tx_journal.specs.Kept.{kept};
-ghost use Rattle.tx_plant.specs.Plant.{IsEngine};
-ghost use Rattle.cli_run.specs.Answered.{Acts, IsAllWritten, Serves, point};
+ghost use Rattle.tx_plant.specs.Plant.{IsEngine, seen};
+ghost use Rattle.cli_run.specs.Answered.{Acts, IsAllWritten, Ran, Serves, point, unanswered};
+ghost use Rattle.cli_run.specs.Requests.{ReadTo, requests};
 
 use crate::advices::send_advices;
 use crate::error::ServeError;
 use crate::issuers::{Issuers, routes, sender_over};
 use crate::stream::{Requests, StreamEnd};
-use crate::switch::{Switch, cause_of};
+use crate::switch::{Switch, cause_of, last_before};
 use crate::told::{Told, write_lines};
 use cli_io::WriteError;
 use flow_asm::Code;
@@ -103,6 +104,18 @@ impl<S: Alter> Switch<S> {
         told: &mut Told<'_, E>,
     ) -> Result<StreamEnd, ServeError>
         requires written { IsAllWritten self.old.plant.running.engine }
+        ensures serves { IfOk result (λ end. (frames : List (List ℕ))
+            × ReadTo end (R.remaining input) frames
+            × Serves (requests frames)
+            (point self.old.plant.running.engine self.old.plant.running.seats
+            (kept S.Store self.old.plant.journal) self.old.answered)
+            (O.contents out.old)
+            (point self.new.plant.running.engine self.new.plant.running.seats
+            (kept S.Store self.new.plant.journal) self.new.answered)
+            (O.contents out.new)
+            × (unanswered
+            (point self.new.plant.running.engine self.new.plant.running.seats
+            (kept S.Store self.new.plant.journal) self.new.answered) ≡ [])) }
     {
         let mut input = input;
         let mut requests = Requests::new(alloc);
@@ -148,7 +161,12 @@ pub fn run<S: Alter + Drop, R: Read + Drop, O: Write, E: Write>(
     input: Option<R>,
     out: &mut O,
     told: &mut Told<'_, E>,
-) -> Result<StreamEnd, ServeError> {
+) -> Result<StreamEnd, ServeError>
+    ensures ran { IfOk result (λ end. IfSome input (λ reader. (frames : List (List ℕ))
+        × ReadTo end (R.remaining reader) frames
+        × Ran code.now setup.sessions (seen (kept S.Store journal)) (requests frames)
+        (O.contents out.old) (O.contents out.new))) }
+{
     let Setup {
         book,
         queried,
@@ -174,11 +192,11 @@ pub fn run<S: Alter + Drop, R: Read + Drop, O: Write, E: Write>(
         Ok(plant) => plant,
         Err((error, _, _)) => return Err(cause_of(alloc, code, error)),
     };
-    let first_id = plant.engine().opened().next_id;
+    let before = last_before(plant.engine());
     let mut switch = Switch {
         plant,
-        answered: first_id.saturating_sub(1),
-        first_id,
+        answered: before,
+        before,
     };
     switch.recover(alloc)?;
     let Some(input) = input else {

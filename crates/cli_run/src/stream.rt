@@ -1,11 +1,17 @@
 //! The frames of a stream, answered as they come.
 
-ghost use Rattle.std.specs.Prelude.{OnOk, map};
+ghost use Rattle.std.specs.Prelude.{◌≡◌, ◌<◌, ℕ, List, IfOk, IfSome, OnOk, Option, Some};
+ghost use Rattle.std.specs.Prelude.{length, map};
+ghost use Rattle.std.specs.Io.KnownBytes.{IsAtEnd};
+ghost use Rattle.cli_io.specs.declared.error.ReadError.{ReadError};
+ghost use Rattle.sw_frame.specs.declared.error.FrameError.TheVariants as FrameError;
 ghost use Rattle.sw_frame.specs.Feeds.{messages};
+ghost use Rattle.sw_frame.specs.Stream.{blank};
 ghost use Rattle.iso_codec.specs.Reads.{read};
 ghost use Rattle.tx_journal.specs.Kept.{kept};
 ghost use Rattle.cli_run.specs.Answered.{IsAllWritten, Serves, point};
-ghost use Rattle.cli_run.specs.Requests.{if_read, request_of, requests};
+ghost use Rattle.cli_run.specs.Requests.{EndsAs, FramesIn, ReadTo, ReadsOn, if_read, request_of, requests};
+ghost use Rattle.cli_run.specs.declared.stream.StreamEnd.TheVariants.{Unread};
 
 use crate::error::ServeError;
 use crate::switch::Switch;
@@ -106,7 +112,9 @@ fn serve_messages<S: Alter, O: Write, E: Write>(
 }
 
 impl Requests {
-    pub(crate) fn new(alloc: Global) -> Requests {
+    pub(crate) fn new(alloc: Global) -> Requests
+        ensures { result.framer ≡ blank }
+    {
         Requests {
             framer: Framer::new(alloc),
             count: 0,
@@ -123,7 +131,15 @@ impl Requests {
         told: &mut Told<'_, E>,
     ) -> Result<(), ServeError>
         requires written { IsAllWritten switch.old.plant.running.engine }
-        ensures still_written { OnOk result (IsAllWritten switch.new.plant.running.engine) }
+        ensures serves { OnOk result ((more : List (List ℕ))
+            × FramesIn piece.now more self.old.framer self.new.framer
+            × Serves (requests more)
+            (point switch.old.plant.running.engine switch.old.plant.running.seats
+            (kept S.Store switch.old.plant.journal) switch.old.answered)
+            (O.contents out.old)
+            (point switch.new.plant.running.engine switch.new.plant.running.seats
+            (kept S.Store switch.new.plant.journal) switch.new.answered)
+            (O.contents out.new)) }
     {
         match self.framer.feed(piece) {
             Ok(list) => serve_messages(alloc, switch, &mut self.count, &list, out, told),
@@ -132,7 +148,10 @@ impl Requests {
     }
 
     // How the stream ended, where a read gave so many bytes last, if it did.
-    fn end_after(&self, count: usize) -> Option<StreamEnd> {
+    fn end_after(&self, count: usize) -> Option<StreamEnd>
+        ensures { (left : Option (List ℕ)) → (count ≡ 0 → IsAtEnd left)
+            → IfSome result (λ end. EndsAs end self.now.framer left) }
+    {
         if self.framer.failed() {
             return Some(StreamEnd::BadLength);
         }
@@ -156,7 +175,19 @@ impl Requests {
         told: &mut Told<'_, E>,
     ) -> Result<Option<StreamEnd>, ServeError>
         requires written { IsAllWritten switch.old.plant.running.engine }
-        ensures still_written { OnOk result (IsAllWritten switch.new.plant.running.engine) }
+        requires room { 0 < length buf.old }
+        ensures room { length buf.new ≡ length buf.old }
+        ensures serves { IfOk result (λ end. (more : List (List ℕ))
+            × ReadsOn (R.remaining input.old) self.old.framer more
+            (R.remaining input.new) self.new.framer
+            × Serves (requests more)
+            (point switch.old.plant.running.engine switch.old.plant.running.seats
+            (kept S.Store switch.old.plant.journal) switch.old.answered)
+            (O.contents out.old)
+            (point switch.new.plant.running.engine switch.new.plant.running.seats
+            (kept S.Store switch.new.plant.journal) switch.new.answered)
+            (O.contents out.new)
+            × IfSome end (λ e. EndsAs e self.new.framer (R.remaining input.new))) }
     {
         let count = match input.read(buf) {
             Ok(count) => count,
@@ -177,7 +208,16 @@ impl Requests {
         told: &mut Told<'_, E>,
     ) -> Result<StreamEnd, ServeError>
         requires written { IsAllWritten switch.old.plant.running.engine }
-        ensures still_written { OnOk result (IsAllWritten switch.new.plant.running.engine) }
+        requires fresh { self.old.framer ≡ blank }
+        ensures serves { IfOk result (λ end. (frames : List (List ℕ))
+            × ReadTo end (R.remaining input.old) frames
+            × Serves (requests frames)
+            (point switch.old.plant.running.engine switch.old.plant.running.seats
+            (kept S.Store switch.old.plant.journal) switch.old.answered)
+            (O.contents out.old)
+            (point switch.new.plant.running.engine switch.new.plant.running.seats
+            (kept S.Store switch.new.plant.journal) switch.new.answered)
+            (O.contents out.new)) }
     {
         let mut buf = vec![in alloc; 0u8; PIECE]?;
         // More reads than any run makes.
@@ -192,7 +232,9 @@ impl Requests {
 }
 
 // Want of memory ends the run. At any other error the framer has failed, and says so.
-fn stop_on_memory(error: &FrameError) -> Result<(), ServeError> {
+fn stop_on_memory(error: &FrameError) -> Result<(), ServeError>
+    ensures { OnOk result (error.now ≡ FrameError.OutOfMemory → ⊥) }
+{
     match error {
         FrameError::OutOfMemory => Err(ServeError::OutOfMemory),
         _ => Ok(()),
@@ -200,7 +242,9 @@ fn stop_on_memory(error: &FrameError) -> Result<(), ServeError> {
 }
 
 // A read failed. Want of memory ends the run, any other error the stream.
-fn unread(error: io::Error) -> Result<Option<StreamEnd>, ServeError> {
+fn unread(error: io::Error) -> Result<Option<StreamEnd>, ServeError>
+    ensures { IfOk result (λ end. (e : ReadError) × (end ≡ Some (Unread e))) }
+{
     match ReadError::from(error) {
         ReadError::OutOfMemory => Err(ServeError::OutOfMemory),
         other => Ok(Some(StreamEnd::Unread(other))),

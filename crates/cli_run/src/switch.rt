@@ -1,6 +1,6 @@
 //! The plant of the switch, one transaction after the other.
 
-ghost use Rattle.std.specs.Prelude.{◌≡◌, ◌∷◌, [], OnOk};
+ghost use Rattle.std.specs.Prelude.{◌≡◌, ◌-◌, ◌∷◌, [], OnOk};
 ghost use Rattle.tx_journal.specs.Kept.{kept};
 ghost use Rattle.cli_run.specs.Answered.{Acts, IsAllWritten, Serves, offer_of, point, unanswered};
 ghost use Rattle.cli_run.specs.Requests.{request_of};
@@ -31,8 +31,8 @@ pub(crate) struct Switch<S: Alter> {
     pub(crate) plant: Plant<S>,
     /// The id of the last transaction whose response was given.
     pub(crate) answered: u64,
-    /// The journal's next id as the switch was made.
-    pub(crate) first_id: u64,
+    /// The last id before the journal's next one, as the switch was made.
+    pub(crate) before: u64,
 }
 
 impl<S: Alter + Drop> Drop for Switch<S> {
@@ -40,7 +40,7 @@ impl<S: Alter + Drop> Drop for Switch<S> {
         let Switch {
             plant: _,
             answered: _,
-            first_id: _,
+            before: _,
         } = self;
     }
 }
@@ -61,6 +61,13 @@ pub(crate) fn cause_of(alloc: Global, code: &Code, error: PlantError) -> ServeEr
     }
 }
 
+/// The last id before those that an engine gives.
+pub(crate) fn last_before(engine: &Engine) -> u64
+    ensures { result ≡ engine.now.start.view.next_id - 1 }
+{
+    engine.opened().next_id.saturating_sub(1)
+}
+
 impl<S: Alter> Switch<S> {
     /// Its engine.
     pub(crate) fn engine(&self) -> &Engine
@@ -71,7 +78,7 @@ impl<S: Alter> Switch<S> {
 
     /// Whether the transaction of this id began before the switch was made.
     pub(crate) fn is_old(&self, id: u64) -> bool {
-        id < self.first_id
+        id <= self.before
     }
 
     /// Does a turn, and writes its entry.

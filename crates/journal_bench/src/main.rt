@@ -1,5 +1,6 @@
-//! Writes a journal, for bench/journal.py to time: `journal_bench PATH COMMITS ENTRIES` makes so many commits of so many
-//! entries each in the file at the path, or in memory where the path is `memory`. Without words it does nothing.
+//! Writes a journal, for bench/journal.py to time: `journal_bench PATH COMMITS ENTRIES` makes so many
+//! commits of so many entries each in the file at the path, or in memory where the path is `memory`.
+//! Without words it does nothing.
 #![tactic(auto)]
 
 ghost use Rattle.std.specs.Prelude.{◌<◌, ◌≤◌, ◌+◌, All, IfOk};

@@ -1,5 +1,5 @@
 use Rattle.std.proofs.Common.{[]}
-use Rattle.cli_run.proofs.Deeds.{acts_then}
+use Rattle.cli_run.proofs.Legs.{acts_then}
 use Rattle.cli_run.proofs.advices.send_advices.Goals as goal
 
 pub loop-stored-preserved : goal.loop-stored-preserved

@@ -2,7 +2,7 @@ use Rattle.std.proofs.Common.{◌∙◌, ap, map, take, sym}
 use Rattle.sw_frame.specs.Feeds.{messages}
 use Rattle.iso_codec.specs.Reads.{read}
 use Rattle.cli_run.specs.Requests.{if_read, request_of, requests}
-use Rattle.cli_run.proofs.Deeds.{serves_then}
+use Rattle.cli_run.proofs.Legs.{serves_then}
 use Rattle.cli_run.proofs.Readings.{requests_next}
 use Rattle.cli_run.proofs.stream.serve_messages.Goals as goal
 

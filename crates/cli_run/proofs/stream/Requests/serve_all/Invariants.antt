@@ -1,5 +1,13 @@
-use Rattle.cli_run.specs.Answered.{IsAllWritten}
+use Rattle.std.proofs.Common.{ℕ, List, ◌<◌, length}
+use Rattle.tx_journal.specs.Kept.{kept}
+use Rattle.cli_run.specs.Answered.{Serves, point}
+use Rattle.cli_run.specs.Requests.{Reads, requests}
 use Rattle.cli_run.proofs.stream.Requests.serve_all.Given as goal
 
 abbrev pub invariant-loop : goal.invariant-loop
-invariant-loop g l = IsAllWritten l.switch.plant.running.engine
+invariant-loop g l = record {
+  room : 0 < length l.buf.items;
+  frames : List (List ℕ);
+  reads : Reads (g.R.Read.remaining l.fn.input) (g.R.Read.remaining l.input) frames l.self.framer;
+  serves : Serves (requests frames) (point l.fn.switch.plant.running.engine l.fn.switch.plant.running.seats (kept g.S.Store l.fn.switch.plant.journal) l.fn.switch.answered) (g.O.Write.contents l.fn.out) (point l.switch.plant.running.engine l.switch.plant.running.seats (kept g.S.Store l.switch.plant.journal) l.switch.answered) (g.O.Write.contents l.out);
+}

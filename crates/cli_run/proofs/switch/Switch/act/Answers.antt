@@ -1,6 +1,6 @@
 use Rattle.tx_journal.specs.Kept.{kept}
 use Rattle.tx_plant.specs.Plant.{seen, whole}
-use Rattle.cli_run.proofs.Deeds.{drove, written_behind}
+use Rattle.cli_run.proofs.Legs.{drove, written_behind}
 use Rattle.cli_run.proofs.switch.Switch.act.Goals as goal
 
 pub returns-in-Some : goal.returns-in-Some

@@ -2,7 +2,7 @@ use Rattle.std.proofs.Common.{[], ◌∷◌, ◌∙◌, ap}
 use Rattle.std.specs.Prelude.{codes}
 use Rattle.sw_context.specs.Pairs.{with_value}
 use Rattle.cli_run.specs.Requests.{request_of}
-use Rattle.cli_run.proofs.Deeds.{offers_same, on_ok, serves_acts, serves_then}
+use Rattle.cli_run.proofs.Legs.{offers_same, on_ok, serves_acts, serves_then}
 use Rattle.cli_run.proofs.switch.Switch.answer.Goals as goal
 
 pub returns : goal.returns

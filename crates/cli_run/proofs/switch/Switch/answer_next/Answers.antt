@@ -1,5 +1,5 @@
 use Rattle.std.proofs.Common.{[]}
-use Rattle.cli_run.proofs.Deeds.{on_ok, serves_acts, serves_then}
+use Rattle.cli_run.proofs.Legs.{on_ok, serves_acts, serves_then}
 use Rattle.cli_run.proofs.switch.Switch.answer_next.Goals as goal
 
 pub returns : goal.returns

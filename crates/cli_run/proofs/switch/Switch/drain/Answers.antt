@@ -1,5 +1,5 @@
 use Rattle.std.proofs.Common.{[]}
-use Rattle.cli_run.proofs.Deeds.{serves_acts, serves_then}
+use Rattle.cli_run.proofs.Legs.{serves_acts, serves_then}
 use Rattle.cli_run.proofs.switch.Switch.drain.Goals as goal
 
 pub loop-preserved : goal.loop-preserved

@@ -1,7 +1,7 @@
 use Rattle.std.proofs.Common.{[], ◌∙◌, ap, sym}
 use Rattle.tx_journal.specs.Kept.{kept}
 use Rattle.cli_run.specs.Answered.{above, point}
-use Rattle.cli_run.proofs.Deeds.{gave_to}
+use Rattle.cli_run.proofs.Legs.{gave_to}
 use Rattle.cli_run.proofs.switch.Switch.give.Goals as goal
 
 pub returns : goal.returns

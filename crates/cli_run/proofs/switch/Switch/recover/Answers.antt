@@ -1,4 +1,4 @@
-use Rattle.cli_run.proofs.Deeds.{recovered}
+use Rattle.cli_run.proofs.Legs.{recovered}
 use Rattle.cli_run.proofs.switch.Switch.recover.Goals as goal
 
 pub returns-in-Ok : goal.returns-in-Ok

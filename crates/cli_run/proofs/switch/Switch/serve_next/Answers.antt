@@ -1,5 +1,5 @@
 use Rattle.std.proofs.Common.{[]}
-use Rattle.cli_run.proofs.Deeds.{acts_then}
+use Rattle.cli_run.proofs.Legs.{acts_then}
 use Rattle.cli_run.proofs.switch.Switch.serve_next.Goals as goal
 
 pub returns-in-Idle : goal.returns-in-Idle

@@ -1,11 +1,13 @@
--- Deeds one after the other, and what they write.
+-- Legs one after the other, and what they write.
 -- for: switch::Switch, advices::send_advices, stream::Requests, serving::run
 use Rattle.std.proofs.Common.{◌≡◌, ℕ, ◌+◌, ◌-◌, ◌≤◌, List, [], ◌∷◌, ◌++◌, length, drop, Option, Some, None, Result, Ok, Err, refl, sym, ap, subst, arith, ◌∙◌, append_assoc, append-nil, length-append}
 use Rattle.std.proofs.lemmas.List.{length-drop}
 use Rattle.std.proofs.KnownBytes.{Appends-nil, Appends-trans}
 use Rattle.std.specs.Io.KnownBytes.{Appends}
 use Rattle.std.specs.List.{AllByRecursion}
-use Rattle.std.specs.Prelude.{OnOk}
+use Rattle.std.proofs.lemmas.Result.{err_from_is_err_and}
+use Rattle.std.specs.Result.{IsErrAnd}
+use Rattle.std.specs.Prelude.{IfOk, IfSome, OnOk}
 use Rattle.sw_context.specs.Pairs.{Pairs}
 use Rattle.sw_frame.specs.Stream.{AreFramed}
 use Rattle.flow_model.specs.declared.flow.Flow.{Flow}
@@ -21,9 +23,9 @@ use Rattle.tx_plant.specs.declared.turn.Turn.TheVariants as turn
 use Rattle.tx_plant.specs.Steps.{Moved}
 use Rattle.tx_plant.specs.Recovery.{IsRecovery}
 use Rattle.tx_plant.specs.Plant.{Driven, GoesOn, Seen, Turned, Whole, Writes, journal_fault, late}
-use Rattle.cli_run.specs.Answered.{Acts, Deed, Drove, Gave, Goes, IsAllWritten, Point, Serves, all_answered, last_id, offer_of, offered, offers_in, responses, unanswered}
+use Rattle.cli_run.specs.Answered.{Acts, Leg, Drove, Gave, Goes, IsAllWritten, Point, Serves, all_answered, last_id, offer_of, offered, offers_in, responses, unanswered}
 
-goes_append : (ds es : List Deed) (p q r : Point) (xs ys : List ℕ) → Goes ds p xs q → Goes es q ys r → Goes (ds ++ es) p (xs ++ ys) r
+goes_append : (ds es : List Leg) (p q r : Point) (xs ys : List ℕ) → Goes ds p xs q → Goes es q ys r → Goes (ds ++ es) p (xs ++ ys) r
 goes_append [] es p q r xs ys (none, same) h =
     subst (λ (l : List ℕ). Goes es p (l ++ ys) r) (sym none) (subst (λ (z : Point). Goes es z ys r) same h)
 goes_append (Drove ts os ∷ ds) es p q r xs ys (m, w, driven, more) h =
@@ -31,37 +33,37 @@ goes_append (Drove ts os ∷ ds) es p q r xs ys (m, w, driven, more) h =
 goes_append (Gave ∷ ds) es p q r xs ys (text, rest, written, framed, all, more) h =
     (text, rest ++ ys, written, framed, ap (λ (l : List ℕ). l ++ ys) all ∙ append_assoc text rest ys, goes_append ds es (all_answered p) q r rest ys more h)
 
-offered_append : (ds es : List Deed) → offered (ds ++ es) ≡ offered ds ++ offered es
+offered_append : (ds es : List Leg) → offered (ds ++ es) ≡ offered ds ++ offered es
 offered_append [] es = refl
 offered_append (Drove ts os ∷ ds) es = ap (λ (l : List Pairs). offers_in ts ++ l) (offered_append ds es) ∙ sym (append_assoc (offers_in ts) (offered ds) (offered es))
 offered_append (Gave ∷ ds) es = offered_append ds es
 
-both_offered : (ds es : List Deed) (xs ys : List Pairs) → offered ds ≡ xs → offered es ≡ ys → offered (ds ++ es) ≡ xs ++ ys
+both_offered : (ds es : List Leg) (xs ys : List Pairs) → offered ds ≡ xs → offered es ≡ ys → offered (ds ++ es) ≡ xs ++ ys
 both_offered ds es xs ys a b = offered_append ds es ∙ (ap (λ (l : List Pairs). l ++ offered es) a ∙ ap (λ (l : List Pairs). xs ++ l) b)
 
 pub acts_none : (p : Point) → IsAllWritten p.plant.core.world → Acts [] p p
-acts_none p h = record { deeds = []; goes = (refl, refl); offers_are = refl; written = h }
+acts_none p h = record { legs = []; goes = (refl, refl); offers_are = refl; written = h }
 
 pub acts_then : (xs ys : List Pairs) (p q r : Point) → Acts xs p q → Acts ys q r → Acts (xs ++ ys) p r
 acts_then xs ys p q r a b = record {
-  deeds = a.deeds ++ b.deeds;
-  goes = goes_append a.deeds b.deeds p q r [] [] a.goes b.goes;
-  offers_are = both_offered a.deeds b.deeds xs ys a.offers_are b.offers_are;
+  legs = a.legs ++ b.legs;
+  goes = goes_append a.legs b.legs p q r [] [] a.goes b.goes;
+  offers_are = both_offered a.legs b.legs xs ys a.offers_are b.offers_are;
   written = b.written;
 }
 
 pub serves_none : (p : Point) (o : Option (List ℕ)) → IsAllWritten p.plant.core.world → Serves [] p o p o
-serves_none p o h = record { deeds = []; bytes = []; goes = (refl, refl); offers_are = refl; appends = Appends-nil o; written = h }
+serves_none p o h = record { legs = []; bytes = []; goes = (refl, refl); offers_are = refl; appends = Appends-nil o; written = h }
 
 pub serves_acts : (xs : List Pairs) (p q : Point) (o : Option (List ℕ)) → Acts xs p q → Serves xs p o q o
-serves_acts xs p q o a = record { deeds = a.deeds; bytes = []; goes = a.goes; offers_are = a.offers_are; appends = Appends-nil o; written = a.written }
+serves_acts xs p q o a = record { legs = a.legs; bytes = []; goes = a.goes; offers_are = a.offers_are; appends = Appends-nil o; written = a.written }
 
 pub serves_then : (xs ys : List Pairs) (p q r : Point) (a b c : Option (List ℕ)) → Serves xs p a q b → Serves ys q b r c → Serves (xs ++ ys) p a r c
 serves_then xs ys p q r a b c s t = record {
-  deeds = s.deeds ++ t.deeds;
+  legs = s.legs ++ t.legs;
   bytes = s.bytes ++ t.bytes;
-  goes = goes_append s.deeds t.deeds p q r s.bytes t.bytes s.goes t.goes;
-  offers_are = both_offered s.deeds t.deeds xs ys s.offers_are t.offers_are;
+  goes = goes_append s.legs t.legs p q r s.bytes t.bytes s.goes t.goes;
+  offers_are = both_offered s.legs t.legs xs ys s.offers_are t.offers_are;
   appends = Appends-trans a b c s.bytes t.bytes s.appends t.appends;
   written = t.written;
 }
@@ -69,7 +71,7 @@ serves_then xs ys p q r a b c s t = record {
 -- the responses that were not given are
 pub gave : (p : Point) (a b : Option (List ℕ)) (text : List ℕ) → IsAllWritten p.plant.core.world → AreFramed text (responses (unanswered p)) → Appends a b text → Serves [] p a (all_answered p) b
 gave p a b text written framed appends = record {
-  deeds = Gave ∷ [];
+  legs = Gave ∷ [];
   bytes = text;
   goes = (text, [], written, framed, sym (append-nil text), (refl, refl));
   offers_are = refl;
@@ -81,6 +83,9 @@ gave p a b text written framed appends = record {
 pub gave_to : (p : Point) (a b : Option (List ℕ)) (text : List ℕ) (last : ℕ) → IsAllWritten p.plant.core.world → AreFramed text (responses (unanswered p)) → last ≡ last_id p.answered (unanswered p) → Appends a b text → Serves [] p a (record p { answered = last }) b
 gave_to p a b text last written framed is appends = subst (λ (z : ℕ). Serves [] p a (record p { answered = z }) b) (sym is) (gave p a b text written framed appends)
 
+pub serves_after : (xs : List Pairs) (p q r : Point) (a b c : Option (List ℕ)) → Serves xs p a q b → Serves [] q b r c → Serves xs p a r c
+serves_after xs p q r a b c s t = subst (λ (l : List Pairs). Serves l p a r c) (append-nil xs) (serves_then xs [] p q r a b c s t)
+
 pub offers_same : (x y : Pairs) (p q : Point) → x ≡ y → Acts (x ∷ []) p q → Acts (y ∷ []) p q
 offers_same x y p q same acts = subst (λ (z : Pairs). Acts (z ∷ []) p q) same acts
 
@@ -88,6 +93,25 @@ offers_same x y p q same acts = subst (λ (z : Pairs). Acts (z ∷ []) p q) same
 pub on_ok : {T E : Type 0} {P Q : Type 0} (r : Result T E) → (P → Q) → OnOk r P → OnOk r Q
 on_ok (Ok x) f h = f h
 on_ok (Err e) f h = tt
+
+pub if_ok : {T E : Type 0} {P Q : T → Type 0} (r : Result T E) → ((x : T) → P x → Q x) → IfOk r P → IfOk r Q
+if_ok (Ok x) f h = f x h
+if_ok (Err e) f h = tt
+
+-- what a `?` returns is no Ok
+pub if_ok_err : {T E : Type 0} (Q : E → Type 0) (P : T → Type 0) (r : Result T E) → IsErrAnd r Q → IfOk r P
+if_ok_err Q P r h = let p = err_from_is_err_and r h in rw p.1 tt
+
+pub if_some : {T : Type 0} (P : T → Type 0) (o : Option T) (x : T) → o ≡ Some x → IfSome o P → P x
+if_some P o x is h = subst (λ (z : Option _). IfSome z P) is h
+
+pub some_ok : {T : Type 0} (P : T → Type 0) (o : Option T) (x : T) → o ≡ Some x → P x → IfSome o P
+some_ok P o x is h = subst (λ (z : Option _). IfSome z P) (sym is) h
+
+-- what is served behind a recovery, from the id that the view gives
+pub recovers_first : (xs : List Pairs) (w : Whole) (n m : ℕ) (q r : Point) (a b : Option (List ℕ)) → n ≡ m → Acts [] (record { plant = w; answered = n }) q → Serves xs q a r b → Serves xs (record { plant = w; answered = m }) a r b
+recovers_first xs w n m q r a b is acts serves =
+    subst (λ (z : ℕ). Serves xs (record { plant = w; answered = z }) a r b) is (serves_then [] xs (record { plant = w; answered = n }) q r a a b (serves_acts [] (record { plant = w; answered = n }) q a acts) serves)
 
 -- after a write of all entries every entry is written
 
@@ -149,7 +173,7 @@ written_behind t (o ∷ u ∷ x ∷ os) m p q (w, first, later, turned, (v, next
 -- a turn and the write behind it
 pub drove : (t : Turn) (os : List Outcome) (m : List Moved) (p q : Whole) (id : ℕ) → Driven (t ∷ turn.Write None ∷ []) os m p q → IsAllWritten q.core.world → Acts (offer_of t) (record { plant = p; answered = id }) (record { plant = q; answered = id })
 drove t os m p q id driven h = record {
-  deeds = Drove (t ∷ turn.Write None ∷ []) os ∷ [];
+  legs = Drove (t ∷ turn.Write None ∷ []) os ∷ [];
   goes = (m, q, driven, (refl, refl));
   offers_are = append-nil (offer_of t ++ []) ∙ append-nil (offer_of t);
   written = h;
@@ -176,7 +200,7 @@ no_offers (t ∷ ts) h = rw (no_offer t h.0) (no_offers ts h.1)
 -- a recovery and the write behind it
 pub recovered : (ts : List Turn) (os vs : List Outcome) (m n : List Moved) (p q r : Whole) (id : ℕ) → AllByRecursion IsRecovery ts → Driven ts os m p q → Driven (turn.Write None ∷ []) vs n q r → Acts [] (record { plant = p; answered = id }) (record { plant = r; answered = id })
 recovered ts os vs m n p q r id own first second = record {
-  deeds = Drove ts os ∷ Drove (turn.Write None ∷ []) vs ∷ [];
+  legs = Drove ts os ∷ Drove (turn.Write None ∷ []) vs ∷ [];
   goes = (m, q, first, (n, r, second, (refl, refl)));
   offers_are = ap (λ (l : List Pairs). l ++ []) (no_offers ts own);
   written = written_alone vs n q r second;

@@ -1,0 +1,43 @@
+use Rattle.std.proofs.Common.{◌≡◌, ◌<◌, ◌≤◌, [], ◌++◌, length, drop, arith}
+use Rattle.cli_run.specs.Requests.{EndsAs}
+use Rattle.cli_run.proofs.Legs.{if_some, serves_none}
+use Rattle.cli_run.proofs.Readings.{nothing_read, serves_frames, still_room}
+use Rattle.cli_run.proofs.stream.Requests.serve_all.Goals as goal
+
+pub loop-init : goal.loop-init
+loop-init g c = record {
+  room = let l : c.in_ok-buf.buf.len ≡ 65536 = c.in_ok-buf.ensures.len in omega (arith, l, c.in_ok-buf.buf.ok.0);
+  frames = [];
+  reads = nothing_read (g.R.Read.remaining c.args.input.now) c.args.self.now.framer c.requires.fresh;
+  serves = serves_none _ _ c.requires.written;
+}
+
+pub returns-in-Some : goal.returns-in-Some
+returns-in-Some g c =
+    let (more, adds, serves, ends) = c.in_ok-end.ensures.serves in
+    record {
+      serves = (
+        c.loop.invariant.frames ++ more,
+        record {
+          left = g.R.Read.remaining c.serve_read.new.input;
+          state = c.serve_read.new.self.framer;
+          reads = adds (g.R.Read.remaining c.args.input.now) c.loop.invariant.frames c.loop.invariant.reads;
+          ends = if_some (λ e. EndsAs e c.serve_read.new.self.framer (g.R.Read.remaining c.serve_read.new.input)) c.in_ok-end.end c.in-Some.end c.in-Some.is ends;
+        },
+        serves_frames c.loop.invariant.frames more _ _ _ _ _ _ c.loop.invariant.serves serves,
+      );
+    }
+
+pub loop-preserved : goal.loop-preserved
+loop-preserved g c =
+    let (more, adds, serves, ends) = c.in_ok-end.ensures.serves in
+    let len : length c.as_mut_slice.result.now ≡ c.loop.buf.len = c.as_mut_slice.ensures.len in
+    let some : 0 < c.loop.buf.len = omega (arith, c.loop.invariant.room, c.loop.buf.ok.0) in
+    let le : c.loop.buf.len ≤ length c.serve_read.new.buf = omega (arith, len, c.in_ok-end.ensures.room) in
+    let room = still_room c.loop.buf.len c.serve_read.new.buf (drop (length c.serve_read.new.buf) c.loop.buf.items) some le in
+    record {
+      room = room;
+      frames = c.loop.invariant.frames ++ more;
+      reads = adds (g.R.Read.remaining c.args.input.now) c.loop.invariant.frames c.loop.invariant.reads;
+      serves = serves_frames c.loop.invariant.frames more _ _ _ _ _ _ c.loop.invariant.serves serves;
+    }

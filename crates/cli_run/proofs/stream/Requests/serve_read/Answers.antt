@@ -1,0 +1,29 @@
+use Rattle.std.proofs.Common.{[], take, arith}
+use Rattle.cli_run.proofs.Legs.{if_ok, serves_none}
+use Rattle.cli_run.proofs.Readings.{reads_nothing, reads_piece}
+use Rattle.cli_run.proofs.stream.Requests.serve_read.Goals as goal
+
+pub returns-in-Err-clause-serves : goal.returns-in-Err-clause-serves
+returns-in-Err-clause-serves g c = (
+  [],
+  reads_nothing (g.R.Read.remaining c.args.input.now) (g.R.Read.remaining c.read.new.self) c.args.self.now.framer c.in-Err.ensures.bytes,
+  serves_none _ _ c.requires.written,
+  tt,
+)
+
+pub returns-in-Err-2-clause-serves : goal.returns-in-Err-2-clause-serves
+returns-in-Err-2-clause-serves g c = if_ok c.unread.result (λ end is. (
+  [],
+  reads_nothing (g.R.Read.remaining c.args.input.now) (g.R.Read.remaining c.read.new.self) c.args.self.now.framer c.in-Err.ensures.bytes,
+  serves_none _ _ c.requires.written,
+  rw is.1 tt,
+)) c.unread.ensures
+
+pub returns-clause-serves : goal.returns-clause-serves
+returns-clause-serves g c =
+    let (more, adds, serves) = c.in_ok-serve_piece.ensures.serves in (
+      more,
+      reads_piece (g.R.Read.remaining c.args.input.now) (g.R.Read.remaining c.read.new.self) (take c.in-Ok.count c.read.new.buf) more c.args.self.now.framer c.serve_piece.new.self.framer c.in-Ok.ensures.bytes.0 adds,
+      serves,
+      c.end_after.ensures (g.R.Read.remaining c.read.new.self) (λ none. c.in-Ok.ensures.bytes.1 none (omega (arith, c.requires.room, c.read.auto.buf))),
+    )
