@@ -1,6 +1,6 @@
 //! The journal: its tables in a connection, written whole and read whole.
 
-ghost use Rattle.std.specs.Prelude.{◌≡◌, ◌≤◌, ◌⊎◌, All, Err, IfErr, IfOk, IsTrue, OnErr, OnOk, false, true};
+ghost use Rattle.std.specs.Prelude.{◌≡◌, ◌≤◌, ◌⊎◌, [], All, Err, IfErr, IfOk, IsTrue, Ok, OnErr, OnOk, false, true};
 ghost use Rattle.sqlite.specs.Held.{state};
 ghost use Rattle.sqlite_trees.specs.View.{doubt};
 ghost use Rattle.journal_rows.specs.Law.{changes_of};
@@ -65,12 +65,14 @@ impl<S: Alter + Drop> Drop for Journal<S> {
 }
 
 impl<S: Alter> Journal<S> {
-    /// Makes the changes of all entries in one transaction, or none. `Failed` comes of a failed journal alone and does
+    /// Makes the changes of all entries in one transaction, or none; no entry touches nothing. `Failed` comes of a failed journal alone and does
     /// nothing; where the store refuses, the journal is failed, and a stop leaves all changes made or
     /// none.
     pub fn write(&mut self, entries: &[Entry]) -> Result<(), JournalError>
         requires small { All IsEntrySmall entries.now }
         ensures failed { IsTrue self.old.failed → (result ≡ Err JournalError.Failed) × (self.new ≡ self.old) }
+        ensures none { self.old.failed ≡ false → entries.now ≡ []
+            → (result ≡ Ok tt) × (self.new ≡ self.old) }
         ensures clean { doubt (kept S.Store self.old).is_clean ≤ doubt (kept S.Store self.new).is_clean }
         ensures ok { OnOk result (self.new.failed ≡ false) }
         ensures err { OnErr result (self.new.failed ≡ true) }
@@ -85,6 +87,9 @@ impl<S: Alter> Journal<S> {
     {
         if self.failed {
             return Err(JournalError::Failed);
+        }
+        if entries.is_empty() {
+            return Ok(());
         }
         match write_all(&mut self.conn, entries) {
             Ok(()) => Ok(()),
