@@ -9,8 +9,8 @@ import tempfile
 import threading
 from dataclasses import dataclass, field
 
-# Long enough for a transaction with a thousand members on a busy machine.
-SECONDS = 60
+# Long enough for recoveries that are cut at each of their calls, on a busy machine.
+SECONDS = 300
 # Prints the tables of a journal's file.
 TABLES = os.path.join(os.path.dirname(os.path.abspath(__file__)), "tables.py")
 CRATES = os.path.join(os.path.dirname(TABLES), "..", "..", "crates")
