@@ -65,9 +65,9 @@ impl<S: Alter + Drop> Drop for Journal<S> {
 }
 
 impl<S: Alter> Journal<S> {
-    /// Makes the changes of all entries in one transaction, or none; no entry touches nothing. `Failed` comes of a failed journal alone and does
-    /// nothing; where the store refuses, the journal is failed, and a stop leaves all changes made or
-    /// none.
+    /// Makes the changes of all entries in one transaction, or none. An empty list touches nothing.
+    /// `Failed` comes of a failed journal alone and does nothing; where the store refuses, the journal is
+    /// failed, and a stop leaves all changes made or none.
     pub fn write(&mut self, entries: &[Entry]) -> Result<(), JournalError>
         requires small { All IsEntrySmall entries.now }
         ensures failed { IsTrue self.old.failed → (result ≡ Err JournalError.Failed) × (self.new ≡ self.old) }
