@@ -1,5 +1,6 @@
 -- What the journal's tables hold, and what a change makes of them.
 use Rattle.std.specs.Prelude.{ℤ, ℕ, ◌+◌, pos, Bool, ◌&&◌, not, List, [], ◌∷◌, filter, Option, Some, None, if◌then◌else◌}
+use Rattle.std.specs.List.{list_any}
 use Rattle.std.specs.Ordering.{is_eq}
 use Rattle.sqlite.specs.declared.types.Value.TheVariants.{Null, Int, Text, Blob}
 use Rattle.sqlite_value.specs.Order.{Row, column, value_cmp}
@@ -44,6 +45,10 @@ is_of id row = is_eq (value_cmp (column row 1) (Int id))
 abbrev pub is_at : ℤ → ℤ → Row → Bool
 is_at id place row = is_of id row && is_eq (value_cmp (column row 2) (Int place))
 
+-- whether a row stands under this id and place
+abbrev pub has_at : ℤ → ℤ → List Row → Bool
+has_at id place rows = list_any (is_at id place) rows
+
 -- what one statement makes
 
 abbrev pub with_meta : ℤ → ℤ → Tables → Tables
@@ -58,11 +63,9 @@ with_tx id phase told doing tries context t = record t { tx = put_row (tx_row id
 abbrev pub without_tx : ℤ → Tables → Tables
 without_tx id t = record t { tx = without_rowid id t.tx; member = filter (λ r. not (is_of id r)) t.member }
 
+-- a member, unless one stands at its place
 abbrev pub with_member : ℤ → ℤ → List ℕ → Tables → Tables
-with_member id place name t = record t { member = put_row (member_row (next_rowid t.member) id place name) t.member }
-
-abbrev pub without_member : ℤ → ℤ → Tables → Tables
-without_member id place t = record t { member = filter (λ r. not (is_at id place r)) t.member }
+with_member id place name t = record t { member = if has_at id place t.member then t.member else put_row (member_row (next_rowid t.member) id place name) t.member }
 
 abbrev pub with_shelf : ℤ → ℤ → List ℕ → Tables → Tables
 with_shelf id tries context t = record t { shelf = put_row (shelf_row id tries context) t.shelf }
@@ -91,10 +94,10 @@ abbrev pub text_of : Option (List ℕ) → List ℕ
 text_of None = []
 text_of (Some name) = name
 
--- the last of the names, the first of which is at this place, over what stands at its own
+-- the last of the names, the first of which is at this place
 abbrev pub with_last : ℕ → ℕ → List (List ℕ) → Tables → Tables
 with_last id place [] t = t
-with_last id place (name ∷ []) t = with_member (pos id) (pos place) name (without_member (pos id) (pos place) t)
+with_last id place (name ∷ []) t = with_member (pos id) (pos place) name t
 with_last id place (name ∷ next ∷ names) t = with_last id (place + 1) (next ∷ names) t
 
 -- a row, and of its members the last one

@@ -5,5 +5,6 @@ pub mod StepLemmas
 pub mod CascadeLemmas
 pub mod DropRowLemmas
 pub mod PutRowLemmas
+pub mod PutMemberLemmas
 pub mod ChainLemmas
 pub mod Types

@@ -29,11 +29,11 @@ use Rattle.sqlite_trees.proofs.TreeLemmas.{IsShaped-put_row, IsShaped-filter}
 use Rattle.sqlite_keyed.proofs.ListLemmas.{filter_none, all_of}
 use Rattle.sqlite.specs.declared.error.Error.{Error}
 use Rattle.sqlite.specs.State.{State, ExecutesInside}
-use Rattle.journal_rows.specs.Tables.{Tables, tables_of, is_at, shelf_row, advice_row, without_meta, with_shelf, without_shelf, no_shelf, with_advice, without_advice, meta_row, member_row, with_meta, with_member, without_member}
+use Rattle.journal_rows.specs.Tables.{Tables, tables_of, is_at, shelf_row, advice_row, without_meta, with_shelf, without_shelf, no_shelf, with_advice, without_advice, meta_row, with_meta}
 use Rattle.journal_tables.specs.Schema.{meta, member, shelf, advice, to_tx, journal_schema}
 use Rattle.journal_tables.specs.Steps.{IsReady, Steps}
-use Rattle.journal_tables.specs.Texts.{add_member_text, drop_member_text, add_meta_text, drop_meta_text, add_shelf_text, drop_shelf_text, clear_shelf_text, add_advice_text, drop_advice_text}
-use Rattle.journal_tables.proofs.TextMeanings.{add_member_is, add_member_plain, drop_member_is, drop_member_plain, add_meta_is, add_meta_plain, by_key, by_place, drop_meta_is, drop_meta_plain, add_shelf_is, add_shelf_plain, drop_shelf_is, drop_shelf_plain, clear_shelf_is, clear_shelf_plain, add_advice_is, add_advice_plain, drop_advice_is, drop_advice_plain}
+use Rattle.journal_tables.specs.Texts.{add_meta_text, drop_meta_text, add_shelf_text, drop_shelf_text, clear_shelf_text, add_advice_text, drop_advice_text}
+use Rattle.journal_tables.proofs.TextMeanings.{add_meta_is, add_meta_plain, by_key, by_place, drop_meta_is, drop_meta_plain, add_shelf_is, add_shelf_plain, drop_shelf_is, drop_shelf_plain, clear_shelf_is, clear_shelf_plain, add_advice_is, add_advice_plain, drop_advice_is, drop_advice_plain}
 use Rattle.journal_tables.proofs.WriteLemmas.{inserts}
 use Rattle.journal_tables.proofs.DropLemmas.{Pair, whole, key, HasEdited, deletes}
 
@@ -98,9 +98,6 @@ free_meta olds = ap (λ key. cons_option (work_by 0 0 (pairs olds []) member to_
 
 free_shelf : (olds : List Row) → works journal_schema Enforced 0 4 olds [] ≡ []
 free_shelf olds = ap (λ key. cons_option (work_by 0 4 (pairs olds []) member to_tx (Some Delete) key) [] ++ []) key_is
-
-free_member : (olds : List Row) → works journal_schema Enforced 0 2 olds [] ≡ []
-free_member olds = ap (λ key. cons_option (work_by 0 2 (pairs olds []) member to_tx (Some Delete) key) [] ++ []) key_is
 
 free_advice : (olds : List Row) → works journal_schema Enforced 0 5 olds [] ≡ []
 free_advice olds = ap (λ key. cons_option (work_by 0 5 (pairs olds []) member to_tx (Some Delete) key) [] ++ []) key_is
@@ -170,14 +167,6 @@ drops_advice old new id place (Ok count) ready h =
     let edit = deletes journal_schema 4 advice refl by_place drop_advice_text drop_advice_is drop_advice_plain free_advice (λ trees. refl) old new (Int id ∷ Int place ∷ []) (is_at id place) count (place_test id place) ready.now.schema shaped h.0 in
     steps_of 5 (filter p) (without_advice id place) (IsShaped-filter Table p) (λ a b e o. only_advice a b (filter p (a 5)) e o) old new ready shaped edit h.1.mode h.1.committed_is h.1.is_open
 
-pub drops_member : (old new : State) (id place : ℤ) (r : Result ℕ Error) → IsReady old → ExecutesInside 0 drop_member_text (Int id ∷ Int place ∷ []) old new r → OnOk r (Steps (without_member id place) old new)
-drops_member old new id place (Err e) ready h = tt
-drops_member old new id place (Ok count) ready h =
-    let shaped = ready.now.shaped.1.1.0 in
-    let p = λ (r : Row). not (is_at id place r) in
-    let edit = deletes journal_schema 2 member refl by_place drop_member_text drop_member_is drop_member_plain free_member (λ trees. refl) old new (Int id ∷ Int place ∷ []) (is_at id place) count (place_test id place) ready.now.schema shaped h.0 in
-    steps_of 2 (filter p) (without_member id place) (IsShaped-filter Table p) (λ a b e o. only_member a b (filter p (a 2)) e o) old new ready shaped edit h.1.mode h.1.committed_is h.1.is_open
-
 pub adds_shelf : (old new : State) (id tries : ℤ) (context : List ℕ) (r : Result ℕ Error) → IsReady old → ExecutesInside 0 add_shelf_text (Int id ∷ Int tries ∷ Blob context ∷ []) old new r
     → OnOk r (Steps (with_shelf id tries context) old new)
 adds_shelf old new id tries context (Err e) ready h = tt
@@ -212,15 +201,3 @@ adds_meta old new k v (Ok count) ready h =
     let f = put_row (meta_row k v) in
     let edit : HasEdited journal_schema 0 f old.now new.now = record { schema_is = put.schema_is; sound = put.sound; rows = put.rows ∙ ap (λ r. put_row (with_rowid Chosen (old.now.trees 0) r) (old.now.trees 0)) row; others = put.others } in
     steps_of 0 f (with_meta k v) (λ rows s. IsShaped-put_row (meta_row k v) rows refl s) (λ a b e o. only_meta a b (f (a 0)) e o) old new ready shaped edit h.1.mode h.1.committed_is h.1.is_open
-
-pub adds_member : (old new : State) (id place : ℤ) (name : List ℕ) (r : Result ℕ Error) → IsReady old → ExecutesInside 0 add_member_text (Int id ∷ Int place ∷ Text name ∷ []) old new r
-    → OnOk r (Steps (with_member id place name) old new)
-adds_member old new id place name (Err e) ready h = tt
-adds_member old new id place name (Ok count) ready h =
-    let shaped = ready.now.shaped.1.1.0 in
-    let source = Null ∷ Int id ∷ Int place ∷ Text name ∷ [] in
-    let put = inserts journal_schema 2 member refl refl _ 4 add_member_text add_member_is add_member_plain old new (Int id ∷ Int place ∷ Text name ∷ []) source count ready.now.schema refl h.0 in
-    let row : cast_row member source ≡ source = λ i. cast_null i ∷ cast_int id i ∷ cast_int place i ∷ Text name ∷ [] in
-    let f = λ (rows : List Row). put_row (member_row (next_rowid rows) id place name) rows in
-    let edit : HasEdited journal_schema 2 f old.now new.now = record { schema_is = put.schema_is; sound = put.sound; rows = put.rows ∙ ap (λ r. put_row (with_rowid Chosen (old.now.trees 2) r) (old.now.trees 2)) row; others = put.others } in
-    steps_of 2 f (with_member id place name) (λ rows s. IsShaped-put_row (member_row (next_rowid rows) id place name) rows refl s) (λ a b e o. only_member a b (f (a 2)) e o) old new ready shaped edit h.1.mode h.1.committed_is h.1.is_open

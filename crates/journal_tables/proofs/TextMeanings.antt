@@ -13,7 +13,7 @@ use Rattle.sqlite_value.specs.declared.keys.Collation.TheVariants.{Binary}
 use Rattle.sqlite_tied.specs.Compute.{everything}
 use Rattle.sqlite.specs.Listing.{understood}
 use Rattle.sqlite.proofs.Callers.{IsPlain, command_of}
-use Rattle.journal_tables.specs.Texts.{shelf_text, advice_text, drop_row_text, add_member_text, drop_member_text, add_meta_text, drop_meta_text, add_shelf_text, drop_shelf_text, clear_shelf_text, add_advice_text, drop_advice_text}
+use Rattle.journal_tables.specs.Texts.{shelf_text, advice_text, drop_row_text, add_meta_text, drop_meta_text, add_shelf_text, drop_shelf_text, clear_shelf_text, add_advice_text, drop_advice_text}
 use Rattle.journal_tables.specs.Schema.{shelf, advice, four_schema, journal_schema}
 
 pub shelf_is : table_defined_by shelf_text ≡ Ok (record shelf { tree = 0 })
@@ -103,14 +103,6 @@ pub drop_row_plain : IsPlain (understood journal_schema drop_row_text)
 unfolding understood everything
 drop_row_plain = (refl, refl)
 
-pub add_member_is : command_of (understood journal_schema add_member_text) ≡ Insert 2 (Values (lit Null ∷ col 0 0 ∷ col 0 1 ∷ col 0 2 ∷ []) 4)
-unfolding understood everything
-add_member_is = refl
-
-pub add_member_plain : IsPlain (understood journal_schema add_member_text)
-unfolding understood everything
-add_member_plain = (refl, refl)
-
 pub add_meta_is : command_of (understood journal_schema add_meta_text) ≡ Insert 0 (Values (col 0 0 ∷ lit Null ∷ col 0 1 ∷ []) 3)
 unfolding understood everything
 add_meta_is = refl
@@ -118,11 +110,3 @@ add_meta_is = refl
 pub add_meta_plain : IsPlain (understood journal_schema add_meta_text)
 unfolding understood everything
 add_meta_plain = (refl, refl)
-
-pub drop_member_is : command_of (understood journal_schema drop_member_text) ≡ Delete 2 (record { lets = []; body = rows_of 2 by_place })
-unfolding understood everything
-drop_member_is = refl
-
-pub drop_member_plain : IsPlain (understood journal_schema drop_member_text)
-unfolding understood everything
-drop_member_plain = (refl, refl)

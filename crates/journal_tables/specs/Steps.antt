@@ -7,7 +7,7 @@ use Rattle.sqlite.specs.declared.error.Error.{Error}
 use Rattle.sqlite_trees.specs.View.{IsShaped}
 use Rattle.sqlite_trees.specs.declared.store.Shape.TheVariants.{Table}
 use Rattle.journal_tables.specs.Schema.{journal_schema}
-use Rattle.journal_rows.specs.Tables.{Tables, tables_of, all_made, with_member, with_tx, without_member, code, text_of}
+use Rattle.journal_rows.specs.Tables.{Tables, tables_of, all_made, with_tx, code, text_of}
 use Rattle.tx_history.specs.declared.journal.Row as own
 use Rattle.tx_history.specs.declared.event.Change.{Change}
 use Rattle.sqlite_trees.specs.Tree.{Trees}
@@ -45,10 +45,6 @@ LeavesNothing old new = Survives old new (λ _. ⊥)
 -- the row of a transaction is put, without its members
 abbrev pub with_cells : ℕ → own.Row → Tables → Tables
 with_cells id r = with_tx (pos id) (pos (code r.phase)) (pos r.told) (text_of r.doing) (pos r.tries) r.context
-
--- a member is put, over what stands at its place
-abbrev pub member_put : ℕ → ℕ → List ℕ → Tables → Tables
-member_put id place name t = with_member (pos id) (pos place) name (without_member (pos id) (pos place) t)
 
 -- all changes were made and committed
 pub record Wrote (changes : List Change) (old new : State) : Type 0 where

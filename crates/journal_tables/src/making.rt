@@ -3,15 +3,15 @@
 ghost use Rattle.std.specs.Prelude.{pos, if◌then◌else◌, ◌≡◌, ◌≤◌, All, length};
 ghost use Rattle.sqlite.specs.Held.{state};
 ghost use Rattle.journal_rows.specs.Tables.{advice_made, all_made, code, made, next_made, no_shelf, row_made};
-ghost use Rattle.journal_rows.specs.Tables.{shelf_made, text_of, with_last};
+ghost use Rattle.journal_rows.specs.Tables.{shelf_made, text_of, with_last, with_member};
 ghost use Rattle.journal_tables.specs.Small.{IsAdviceSmall, IsChangeSmall, IsEntrySmall, IsNextSmall};
 ghost use Rattle.journal_tables.specs.Small.{IsRowChangeSmall, IsRowSmall, IsShelfSmall, IsSmall};
 ghost use Rattle.journal_rows.specs.Law.{changes_of};
-ghost use Rattle.journal_tables.specs.Steps.{Goes, LeavesNothing, member_put, with_cells};
+ghost use Rattle.journal_tables.specs.Steps.{Goes, LeavesNothing, with_cells};
 
 use crate::statements::{
-    add_advice, add_member, add_meta, add_shelved, clear_shelf, drop_advice, drop_member,
-    drop_meta, drop_row, drop_shelved, put_row,
+    add_advice, add_meta, add_shelved, clear_shelf, drop_advice, drop_meta, drop_row, drop_shelved,
+    put_member, put_row,
 };
 use sqlite::{Alter, Error, Transaction};
 use sw_participant::{Bytes, Text};
@@ -117,8 +117,8 @@ fn text_of(name: &Option<Text>) -> &[u8]
     }
 }
 
-// The member at this place, over the one that stands there.
-fn put_member<S: Alter>(
+// The member at this place, unless one stands there: numbers of the journal are numbers of the store.
+fn put_name<S: Alter>(
     tx: &mut Transaction<'_, S>,
     id: u64,
     place: usize,
@@ -127,13 +127,12 @@ fn put_member<S: Alter>(
     requires small { IsSmall id }
     requires near { IsSmall place }
     ensures same_reference { tx.new.conn.ghost_name ≡ tx.old.conn.ghost_name }
-    ensures steps { Goes (member_put id place name.now)
+    ensures steps { Goes (with_member (pos id) (pos place) name.now)
         (state S.Store tx.old.conn.now) (state S.Store tx.new.conn.now) result }
     ensures survives { LeavesNothing
         (state S.Store tx.old.conn.now) (state S.Store tx.new.conn.now) }
 {
-    drop_member(tx, id as i64, place as i64)?;
-    add_member(tx, id as i64, place as i64, name.as_str().as_bytes())?;
+    put_member(tx, id as i64, place as i64, name.as_str().as_bytes())?;
     Ok(())
 }
 
@@ -150,7 +149,7 @@ fn put_last<S: Alter>(tx: &mut Transaction<'_, S>, id: u64, names: &[Text]) -> R
     let Some((last, before)) = names.split_last() else {
         return Ok(());
     };
-    put_member(tx, id, before.len(), last)
+    put_name(tx, id, before.len(), last)
 }
 
 fn put_cells<S: Alter>(tx: &mut Transaction<'_, S>, id: u64, row: &Row) -> Result<(), Error>

@@ -6,7 +6,7 @@
 ghost use Rattle.std.specs.Prelude.{◌≡◌};
 ghost use Rattle.sqlite.specs.Held.{state};
 ghost use Rattle.journal_rows.specs.Tables.{with_meta, with_tx, without_tx, without_meta};
-ghost use Rattle.journal_rows.specs.Tables.{with_member, without_member};
+ghost use Rattle.journal_rows.specs.Tables.{with_member};
 ghost use Rattle.journal_rows.specs.Tables.{with_shelf, without_shelf, no_shelf, with_advice, without_advice};
 ghost use Rattle.journal_tables.specs.Steps.{Runs, LeavesNothing};
 
@@ -157,24 +157,8 @@ ON CONFLICT (id) DO UPDATE SET phase = ?2, told = ?3, doing = ?4, tries = ?5, co
     )
 }
 
-pub fn drop_member<S: Alter>(
-    tx: &mut Transaction<'_, S>,
-    id: i64,
-    place: i64,
-) -> Result<usize, Error>
-    ensures same_reference { tx.new.conn.ghost_name ≡ tx.old.conn.ghost_name }
-    ensures steps { Runs (without_member id place)
-        (state S.Store tx.old.conn.now) (state S.Store tx.new.conn.now) result }
-    ensures survives { LeavesNothing
-        (state S.Store tx.old.conn.now) (state S.Store tx.new.conn.now) }
-{
-    tx.execute(
-        "DELETE FROM member WHERE id = ?1 AND place = ?2",
-        &[ValueRef::Int(id), ValueRef::Int(place)],
-    )
-}
-
-pub fn add_member<S: Alter>(
+/// Puts a member, unless one stands at its place.
+pub fn put_member<S: Alter>(
     tx: &mut Transaction<'_, S>,
     id: i64,
     place: i64,
@@ -187,7 +171,7 @@ pub fn add_member<S: Alter>(
         (state S.Store tx.old.conn.now) (state S.Store tx.new.conn.now) }
 {
     tx.execute(
-        "INSERT INTO member (id, place, name) VALUES (?1, ?2, ?3)",
+        "INSERT INTO member (id, place, name) VALUES (?1, ?2, ?3) ON CONFLICT (id, place) DO NOTHING",
         &[
             ValueRef::Int(id),
             ValueRef::Int(place),
