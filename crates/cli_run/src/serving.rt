@@ -147,6 +147,43 @@ pub struct Setup {
     pub sessions: usize,
 }
 
+// A run over the stations that were made.
+fn run_over<S: Alter + Drop, L: Link, R: Read + Drop, O: Write, E: Write>(
+    alloc: Global,
+    code: &Code,
+    journal: Journal<S>,
+    stations: Vec<Station>,
+    sessions: usize,
+    sender: &mut Sender<L>,
+    input: Option<R>,
+    out: &mut O,
+    told: &mut Told<'_, E>,
+) -> Result<StreamEnd, ServeError>
+    ensures ran { IfOk result (λ end. IfSome input (λ reader. (frames : List (List ℕ))
+        × ReadTo end (R.remaining reader) frames
+        × Ran code.now sessions (seen (kept S.Store journal)) (requests frames)
+        (O.contents out.old) (O.contents out.new))) }
+{
+    let plant = match Plant::new(alloc, code, journal, stations, sessions) {
+        Ok(plant) => plant,
+        Err((error, _, _)) => return Err(cause_of(alloc, code, error)),
+    };
+    let before = last_before(plant.engine());
+    let mut switch = Switch {
+        plant,
+        answered: before,
+        before,
+    };
+    switch.recover(alloc)?;
+    let Some(input) = input else {
+        print(alloc, switch.engine(), out)?;
+        return Ok(StreamEnd::Whole);
+    };
+    let served = switch.serve_to_end(alloc, sender, input, out, told);
+    told.trace(alloc, switch.engine())?;
+    served
+}
+
 /// Recovers what the journal has unfinished. Without an input the lines of that are printed, and that is all.
 /// Else it answers the requests of an input as they come, then what is on the shelf, and sends the stored
 /// advices. At the end, also where it ends early, the lines of the trace are written. Where the stream of
@@ -188,22 +225,15 @@ pub fn run<S: Alter + Drop, R: Read + Drop, O: Write, E: Write>(
     stations.push(Station::new(alloc, "forward", Box::new(alloc, Forward::new(alloc))?)?)?;
     stations.push(Station::new(alloc, "respond", Box::new(alloc, Respond::new(alloc))?)?)?;
     let mut sender = sender_over(alloc, advised)?;
-    let plant = match Plant::new(alloc, code, journal, stations, sessions) {
-        Ok(plant) => plant,
-        Err((error, _, _)) => return Err(cause_of(alloc, code, error)),
-    };
-    let before = last_before(plant.engine());
-    let mut switch = Switch {
-        plant,
-        answered: before,
-        before,
-    };
-    switch.recover(alloc)?;
-    let Some(input) = input else {
-        print(alloc, switch.engine(), out)?;
-        return Ok(StreamEnd::Whole);
-    };
-    let served = switch.serve_to_end(alloc, &mut sender, input, out, told);
-    told.trace(alloc, switch.engine())?;
-    served
+    run_over(
+        alloc,
+        code,
+        journal,
+        stations,
+        sessions,
+        &mut sender,
+        input,
+        out,
+        told,
+    )
 }
