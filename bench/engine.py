@@ -1,8 +1,8 @@
 #!/usr/bin/env python3
 """Events a second of the engine at 10,000, 100,000 and 1,000,000 entries of one history, and what an entry keeps.
 
-Run from the top of the repository after `(cd crates/engine_bench && rt run)`, which leaves the program in
-crates/engine_bench/out/engine_bench. Beside it stands a plain C program (bench/engine.c, compiled here) that keeps the same
+Run from the top of the repository after `(cd crates/switch_bench && rt run)`, which leaves the program in
+crates/switch_bench/out/switch_bench. Beside it stands a plain C program (bench/engine.c, compiled here) that keeps the same
 queue, history and rows with the same copies: what somebody would write who wants an engine and no proof. No journal is
 written on either side; bench/journal.py times that. All runs are pinned to one core where the machine has taskset, and
 take turns; the best of each counts, less a run without transactions. What an entry keeps is the growth of the most memory
@@ -15,7 +15,7 @@ import sys
 import tempfile
 import time
 
-PROGRAM = "crates/engine_bench/out/engine_bench"
+PROGRAM = "crates/switch_bench/out/switch_bench"
 ROUNDS = 5
 COUNTS = (10_000, 100_000, 1_000_000)
 # A transaction of two participants: offered, taken, answered twice, told twice.
@@ -24,7 +24,7 @@ ENTRIES = 6
 
 def run(program, count):
     """Seconds, and the most memory in bytes, of so many transactions."""
-    command = [program, str(count)]
+    command = [*program, str(count)]
     if shutil.which("taskset"):
         command = ["taskset", "-c", "0", *command]
     start = time.perf_counter()
@@ -33,7 +33,7 @@ def run(program, count):
     took = time.perf_counter() - start
     child.returncode = os.waitstatus_to_exitcode(status)
     if child.returncode != 0:
-        sys.exit(f"{program} ended with {child.returncode}")
+        sys.exit(f"{program[0]} ended with {child.returncode}")
     return took, usage.ru_maxrss * 1024
 
 
@@ -49,11 +49,11 @@ def measure(programs, transactions):
 
 def main():
     if not os.access(PROGRAM, os.X_OK):
-        sys.exit(f"there is no program {PROGRAM}: build it by `(cd crates/engine_bench && rt run)`")
+        sys.exit(f"there is no program {PROGRAM}: build it by `(cd crates/switch_bench && rt run)`")
     with tempfile.TemporaryDirectory() as room:
         plain = os.path.join(room, "engine")
         subprocess.run(["gcc", "-O2", "-o", plain, "bench/engine.c"], check=True)
-        programs = {"engine": PROGRAM, "plain C": plain}
+        programs = {"engine": [PROGRAM, "engine"], "plain C": [plain]}
         found = []
         for count in COUNTS:
             entries = count // ENTRIES * ENTRIES

@@ -1,15 +1,11 @@
-//! Writes a journal, for bench/journal.py to time: `journal_bench PATH COMMITS ENTRIES` makes so many
-//! commits of so many entries each in the file at the path, or in memory where the path is `memory`.
-//! Without words it does nothing.
-#![tactic(auto)]
+//! Commits of a journal.
 
 ghost use Rattle.std.specs.Prelude.{◌<◌, ◌≤◌, ◌+◌, All, IfOk};
 ghost use Rattle.journal_tables.specs.Small.{IsEntrySmall, IsRowSmall};
 
+use crate::words::MEMORY;
 use sqlite::{Alter, Connection};
 use std::alloc::{AllocError, Global};
-use std::io::Write;
-use std::process::ExitCode;
 use sw_participant::{Bytes, Sequence, Text};
 use tx_history::{Change, Entry, Event, Row};
 use tx_journal::Journal;
@@ -69,9 +65,9 @@ fn entries(alloc: Global, from: u64, count: u64) -> Result<Vec<Entry>, AllocErro
 
 /// What is written: so many commits of so many entries each.
 #[derive(Clone, Copy)]
-struct Load {
-    commits: u64,
-    entries: u64,
+pub struct Load {
+    pub commits: u64,
+    pub entries: u64,
 }
 
 fn write_load<S: Alter + Drop>(
@@ -90,7 +86,7 @@ fn write_load<S: Alter + Drop>(
             return Err("too many entries: expected at most 900,000,000");
         }
         let Ok(list) = entries(alloc, from, load.entries) else {
-            return Err("out of memory");
+            return Err(MEMORY);
         };
         if journal.write(list.as_slice()).is_err() {
             return Err("the journal was not written");
@@ -100,11 +96,8 @@ fn write_load<S: Alter + Drop>(
     Ok(())
 }
 
-fn number(word: &str) -> Result<u64, &'static str> {
-    word.parse::<u64>().map_err(|_| "expected a number")
-}
-
-fn run(rt: &HostRuntime, path: &str, load: Load) -> Result<(), &'static str> {
+/// Writes a journal in the file at the path, or in memory.
+pub fn run(rt: &HostRuntime, path: &str, load: Load) -> Result<(), &'static str> {
     if load.entries > 1000 {
         return Err("too many entries in a commit: expected at most 1,000");
     }
@@ -112,43 +105,11 @@ fn run(rt: &HostRuntime, path: &str, load: Load) -> Result<(), &'static str> {
     if path == "memory" {
         return match Connection::open_in_memory(alloc) {
             Ok(conn) => write_load(alloc, conn, load),
-            Err(_) => Err("out of memory"),
+            Err(_) => Err(MEMORY),
         };
     }
     match Connection::open(rt, path) {
         Ok(conn) => write_load(alloc, conn, load),
         Err(_) => Err("the file was not opened"),
-    }
-}
-
-fn run_words(rt: &HostRuntime, words: &[String]) -> Result<(), &'static str> {
-    match words {
-        [_] => Ok(()),
-        [_, path, commits, entries] => {
-            let load = Load {
-                commits: number(commits.as_str())?,
-                entries: number(entries.as_str())?,
-            };
-            run(rt, path.as_str(), load)
-        }
-        _ => Err("expected: journal_bench PATH COMMITS ENTRIES"),
-    }
-}
-
-fn main(rt: HostRuntime) -> ExitCode {
-    let words = match std::env::args(&rt) {
-        Ok(words) => words.collect::<Vec<String>>(rt.alloc()),
-        Err(_) => return ExitCode::from(2),
-    };
-    let Ok(words) = words else {
-        return ExitCode::from(2);
-    };
-    match run_words(&rt, words.as_slice()) {
-        Ok(()) => ExitCode::from(0),
-        Err(text) => {
-            let mut err = rt.stderr();
-            let _told = writeln!(err, "journal_bench: {text}");
-            ExitCode::from(1)
-        }
     }
 }

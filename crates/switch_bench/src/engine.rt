@@ -1,19 +1,13 @@
-//! Drives an engine, for bench/engine.py to time: `engine_bench COUNT` runs so many transactions
-//! of two participants, one after the other, six entries each, with every entry written before the
-//! next call. Without words it does nothing.
-#![tactic(auto)]
+//! Transactions of an engine.
 
+use crate::words::MEMORY;
 use flow_asm::{Code, assemble};
 use flow_model::{Flow, Group};
 use std::alloc::Global;
-use std::io::Write;
-use std::process::ExitCode;
 use sw_context::Context;
 use sw_participant::{Kind, Sequence};
 use tx_engine::{Engine, EngineError};
 use tx_history::JournalView;
-
-const MEMORY: &str = "out of memory";
 
 /// The answer byte PREPARED.
 const PREPARED: u8 = 1;
@@ -66,7 +60,8 @@ fn run_one(alloc: Global, engine: &mut Engine, context: &Context) -> Result<(), 
     Ok(())
 }
 
-fn run(alloc: Global, count: u64) -> Result<(), &'static str> {
+/// Runs so many transactions, one after the other.
+pub fn run(alloc: Global, count: u64) -> Result<(), &'static str> {
     let code = code_of_two(alloc)?;
     let context = request(alloc)?;
     let Ok(mut engine) = Engine::open(alloc, &code, &JournalView::blank(alloc), 1) else {
@@ -78,33 +73,4 @@ fn run(alloc: Global, count: u64) -> Result<(), &'static str> {
         }
     }
     Ok(())
-}
-
-fn run_words(alloc: Global, words: &[String]) -> Result<(), &'static str> {
-    match words {
-        [_] => Ok(()),
-        [_, count] => match count.parse::<u64>() {
-            Ok(count) => run(alloc, count),
-            Err(_) => Err("expected a number"),
-        },
-        _ => Err("expected: engine_bench COUNT"),
-    }
-}
-
-fn main(rt: HostRuntime) -> ExitCode {
-    let words = match std::env::args(&rt) {
-        Ok(words) => words.collect::<Vec<String>>(rt.alloc()),
-        Err(_) => return ExitCode::from(2),
-    };
-    let Ok(words) = words else {
-        return ExitCode::from(2);
-    };
-    match run_words(rt.alloc(), words.as_slice()) {
-        Ok(()) => ExitCode::from(0),
-        Err(text) => {
-            let mut err = rt.stderr();
-            let _told = writeln!(err, "engine_bench: {text}");
-            ExitCode::from(1)
-        }
-    }
 }

@@ -1,16 +1,10 @@
-//! Requests and responses of a multiplexer, for bench/mux.py to time: `mux_bench WHAT KEYS
-//! ROUNDS` lets so many keys wait, and then, so many times, lets one more wait and takes the
-//! response to the oldest. WHAT is `mux`, or `map`: a hash map of keys as it is used without a
-//! multiplexer, or `ticks`: a multiplexer in which the oldest comes to its deadline instead.
-//! Without words it does nothing.
-#![tactic(auto)]
+//! Requests and responses of a multiplexer.
 
+use crate::words::MEMORY;
 use iso_codec::decode;
 use iso_msg::Message;
 use std::alloc::Global;
 use std::collections::{HashMap, VecDeque};
-use std::io::Write;
-use std::process::ExitCode;
 use sw_mux::{Key, Mux, Outcome, key_of};
 
 const REQUEST: &[u8] = b"01000020000000800000000000TERM0001";
@@ -61,9 +55,7 @@ impl Waiting {
             }
         }
     }
-}
 
-impl Waiting {
     // One key comes to its deadline.
     fn expire(&mut self, alloc: Global, tick: u64) -> Result<(), &'static str> {
         let Waiting::Mux(mux) = self else {
@@ -72,7 +64,7 @@ impl Waiting {
         match mux.expire(alloc, tick) {
             Ok(keys) if keys.len() == 1 => Ok(()),
             Ok(_) => Err("not one key was due"),
-            Err(_) => Err("out of memory"),
+            Err(_) => Err(MEMORY),
         }
     }
 }
@@ -98,7 +90,7 @@ fn messages(alloc: Global, bytes: &[u8], count: u64) -> Result<VecDeque<Message>
             return Err("a STAN was not taken");
         }
         if list.push_back(message).is_err() {
-            return Err("out of memory");
+            return Err(MEMORY);
         }
     }
     Ok(list)
@@ -116,7 +108,7 @@ fn next_request(
     waiting.request(&message, round)?;
     match requests.push_back(message) {
         Ok(()) => Ok(()),
-        Err(_) => Err("out of memory"),
+        Err(_) => Err(MEMORY),
     }
 }
 
@@ -130,11 +122,16 @@ fn next_response(
     let message = waiting.response(message)?;
     match responses.push_back(message) {
         Ok(()) => Ok(()),
-        Err(_) => Err("out of memory"),
+        Err(_) => Err(MEMORY),
     }
 }
 
-fn run(alloc: Global, waiting: Waiting, keys: u64, rounds: u64) -> Result<(), &'static str> {
+fn run_matched(
+    alloc: Global,
+    waiting: Waiting,
+    keys: u64,
+    rounds: u64,
+) -> Result<(), &'static str> {
     let mut waiting = waiting;
     if keys > 999_999 {
         return Err("too many keys: expected at most 999,999");
@@ -167,40 +164,12 @@ fn run_ticks(alloc: Global, keys: u64, rounds: u64) -> Result<(), &'static str> 
     Ok(())
 }
 
-fn number(word: &str) -> Result<u64, &'static str> {
-    word.parse::<u64>().map_err(|_| "expected a number")
-}
-
-fn run_words(alloc: Global, words: &[String]) -> Result<(), &'static str> {
-    match words {
-        [_] => Ok(()),
-        [_, what, keys, rounds] => {
-            let (keys, rounds) = (number(keys.as_str())?, number(rounds.as_str())?);
-            match what.as_str() {
-                "mux" => run(alloc, Waiting::Mux(Mux::new(alloc)), keys, rounds),
-                "map" => run(alloc, Waiting::Map(HashMap::new(alloc)), keys, rounds),
-                "ticks" => run_ticks(alloc, keys, rounds),
-                _ => Err("expected mux, map or ticks"),
-            }
-        }
-        _ => Err("expected: mux_bench WHAT KEYS ROUNDS"),
-    }
-}
-
-fn main(rt: HostRuntime) -> ExitCode {
-    let words = match std::env::args(&rt) {
-        Ok(words) => words.collect::<Vec<String>>(rt.alloc()),
-        Err(_) => return ExitCode::from(2),
-    };
-    let Ok(words) = words else {
-        return ExitCode::from(2);
-    };
-    match run_words(rt.alloc(), words.as_slice()) {
-        Ok(()) => ExitCode::from(0),
-        Err(text) => {
-            let mut err = rt.stderr();
-            let _told = writeln!(err, "mux_bench: {text}");
-            ExitCode::from(1)
-        }
+/// Lets so many keys wait, and one more so many times.
+pub fn run(alloc: Global, what: &str, keys: u64, rounds: u64) -> Result<(), &'static str> {
+    match what {
+        "mux" => run_matched(alloc, Waiting::Mux(Mux::new(alloc)), keys, rounds),
+        "map" => run_matched(alloc, Waiting::Map(HashMap::new(alloc)), keys, rounds),
+        "ticks" => run_ticks(alloc, keys, rounds),
+        _ => Err("expected mux, map or ticks"),
     }
 }
