@@ -1,13 +1,13 @@
 -- Reading lines one after the other, as a loop does.
--- for: forms::read_items, words::name_of
-use Rattle.std.proofs.Common.{◌≡◌, ℕ, suc, ◌-◌, ◌+◌, ◌≤◌, ◌<◌, List, [], ◌∷◌, ◌++◌, Result, Ok, Err, refl, sym, ap, ◌∙◌, append_assoc, arith}
+-- for: forms::read_items, item_at, read_lines, reader::read_image
+use Rattle.std.proofs.Common.{◌≡◌, ℕ, suc, ◌-◌, ◌+◌, ◌≤◌, ◌<◌, List, [], ◌∷◌, ◌++◌, Result, Ok, Err, refl, sym, ap, ◌∙◌, subst, append_assoc, arith}
 use Rattle.std.proofs.lemmas.List.{append-nil}
 use Rattle.flow_load.specs.declared.error.LoadError.{LoadError}
 use Rattle.flow_load.specs.declared.error.LoadError.TheVariants.{OutOfMemory, BadHeader, BadLine, BadNumber, BadTarget, NoReturn, Flow}
-use Rattle.flow_load.specs.Reads.{◌>>=◌, Fails}
+use Rattle.flow_load.specs.Reads.{◌>>=◌, Exactly, Fails, Gives}
 use Rattle.flow_load.specs.Forms.{line_at, items_at}
 
-pub fails_same : (Y : Type 0) (e : LoadError) → Fails {Y = Y} e (Err e)
+fails_same : (Y : Type 0) (e : LoadError) → Fails {Y = Y} e (Err e)
 fails_same Y OutOfMemory = tt
 fails_same Y BadHeader = refl
 fails_same Y (BadLine n) = refl
@@ -15,6 +15,14 @@ fails_same Y (BadNumber n) = refl
 fails_same Y (BadTarget n) = refl
 fails_same Y (NoReturn n) = refl
 fails_same Y (Flow f) = refl
+
+pub fails_when : {Y : Type 0} (e : LoadError) (read : Result Y LoadError) → read ≡ Err e → Fails e read
+fails_when {Y = Y} e read is = subst (λ (r : Result Y LoadError). Fails e r) (sym is) (fails_same Y e)
+
+-- what takes no memory is never refused it
+pub gives_exactly : {X Y : Type 0} (view : X → Y) (r : Result X LoadError) (read : Result Y LoadError) → Exactly view r read → Gives view r read
+gives_exactly view (Ok x) read h = h
+gives_exactly view (Err e) read h = fails_when e read h
 
 -- what was read before, and what is still read
 abbrev pub with_front : {A : Type 0} → List A → Result (List A × List ℕ) LoadError → Result (List A × List ℕ) LoadError

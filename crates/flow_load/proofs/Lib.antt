@@ -1,6 +1,8 @@
 mod LinesPrinted
 mod Conjunctions
 mod ItemLoop
+mod LookLoop
+mod LookedOver
 mod Doubles
 mod LineSpelling
 mod StepsRead

@@ -23,7 +23,7 @@ use Rattle.flow_load.specs.declared.lines.Lines.{Lines}
 use Rattle.flow_load.specs.Image.{Text, kind_text, part_text, group_text, step_text, lines_text, header_text, spelled}
 use Rattle.flow_load.specs.Reads.{◌>>=◌, found}
 use Rattle.flow_load.specs.Words.{cut, value_on, is_plain, number, kinds, is_spelled, kind_of, word_at, number_of, number_at, word_is, name_of, name_at, is_within}
-use Rattle.flow_load.specs.Forms.{part_form, group_form, step_named, step_of, step_form, is_header, header_form, header_at, line_at, items_at, lines_in}
+use Rattle.flow_load.specs.Forms.{ended, part_form, group_form, step_named, step_of, step_form, is_header, header_form, header_at, line_at, items_at, lines_in}
 
 abbrev okay : {A : Type 0} → A → Result A LoadError
 okay x = Ok x
@@ -310,5 +310,6 @@ lines_ok bytes l h =
     with_bind _ (items_at part_form x.0.parts 0 2 x.1) _ l (λ ps is2 more2.
     with_bind _ (items_at group_form x.0.groups 0 (2 + x.0.parts) ps.1) _ l (λ gs is3 more3.
     with_bind _ (items_at step_form x.0.steps 0 (2 + x.0.parts + x.0.groups) gs.1) _ l (λ ss is4 more4.
-    let last = if_ok (length ss.1 == 0) (Ok (record { version = x.0.version; retries = x.0.retries; parts = ps.0; starts = gs.0; steps = ss.0 })) _ l more4 in
-    lines_done bytes x ps gs ss l (header_at_ok bytes x is) (items_ok part_form part_text part_ok x.0.parts 0 2 x.1 ps is2) (items_ok group_form group_text group_ok x.0.groups 0 (2 + x.0.parts) ps.1 gs is3) (items_ok step_form step_text step_ok x.0.steps 0 (2 + x.0.parts + x.0.groups) gs.1 ss is4) (nothing_left ss.1 last.0) last.1) more3) more2) more) h
+    with_bind _ (ended x.0 ss.1) _ l (λ u whole last.
+    let end = if_ok (length ss.1 == 0) (Ok tt) _ u whole in
+    lines_done bytes x ps gs ss l (header_at_ok bytes x is) (items_ok part_form part_text part_ok x.0.parts 0 2 x.1 ps is2) (items_ok group_form group_text group_ok x.0.groups 0 (2 + x.0.parts) ps.1 gs is3) (items_ok step_form step_text step_ok x.0.steps 0 (2 + x.0.parts + x.0.groups) gs.1 ss is4) (nothing_left ss.1 end.0) last) more4) more3) more2) more) h

@@ -8,10 +8,19 @@ use Rattle.flow_asm.specs.declared.code.Step.TheVariants.{Call, Pick, Return}
 use Rattle.flow_load.specs.declared.error.LoadError.{LoadError}
 use Rattle.flow_load.specs.declared.error.LoadError.TheVariants.{BadHeader, BadLine, BadNumber}
 use Rattle.flow_load.specs.declared.lines.ImageHeader.{ImageHeader}
+use Rattle.flow_load.specs.declared.lines.PartWords.{PartWords}
+use Rattle.flow_load.specs.declared.lines.GroupWords.{GroupWords}
 use Rattle.flow_load.specs.declared.lines.Lines.{Lines}
 use Rattle.flow_load.specs.Image.{Text}
 use Rattle.flow_load.specs.Reads.{◌>>=◌, found}
 use Rattle.flow_load.specs.Words.{cut, kind_of, name_at, number_at, number_of, word_at, word_is}
+
+-- what a line says that was read without memory
+abbrev pub part_said : PartWords → ℕ × Part
+part_said p = (p.number, record { name = p.name.now; kind = p.kind })
+
+abbrev pub group_said : GroupWords → ℕ × GroupStart
+group_said g = (g.number, record { name = g.name.now; first = g.first })
 
 -- `part N NAME KIND`. Each form has the fault of the line that it stands on.
 unfoldable pub part_form : LoadError → Text → Result (ℕ × Part) LoadError
@@ -82,6 +91,10 @@ module _ {A : Type 0} (form : LoadError → Text → Result (ℕ × A) LoadError
   items_at zero n at text = Ok ([], text)
   items_at (suc left) n at text = line_at n at text >>= λ x. items_at left (n + 1) (at + 1) x.1 >>= λ xs. Ok (x.0 ∷ xs.0, xs.1)
 
+-- nothing stands behind the lines that the header counts
+abbrev pub ended : ImageHeader → Text → Result (Unit {0}) LoadError
+ended h text = if length text == 0 then Ok tt else Err (BadLine (2 + h.parts + h.groups + h.steps))
+
 -- what the lines say: the header, then as many participants, groups and steps as it counts, and nothing more
 unfoldable pub lines_in : Text → Result Lines LoadError
 lines_in text = do
@@ -89,5 +102,5 @@ lines_in text = do
   ps ← items_at part_form h.0.parts 0 2 h.1
   gs ← items_at group_form h.0.groups 0 (2 + h.0.parts) ps.1
   ss ← items_at step_form h.0.steps 0 (2 + h.0.parts + h.0.groups) gs.1
-  if length ss.1 == 0 then Ok (record { version = h.0.version; retries = h.0.retries; parts = ps.0; starts = gs.0; steps = ss.0 })
-      else Err (BadLine (2 + h.0.parts + h.0.groups + h.0.steps))
+  whole ← ended h.0 ss.1
+  Ok (record { version = h.0.version; retries = h.0.retries; parts = ps.0; starts = gs.0; steps = ss.0 })

@@ -4,4 +4,5 @@ pub mod Words
 pub mod Forms
 pub mod Groups
 pub mod Load
+pub mod LookOver
 pub mod Bounds

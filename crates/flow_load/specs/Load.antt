@@ -1,5 +1,5 @@
 -- The flow whose image some bytes are, or their first fault.
-use Rattle.std.specs.Prelude.{ℕ, ◌+◌, ◌==◌, List, [], ◌∷◌, Option, Some, None, Result, Ok, Err, if◌then◌else◌}
+use Rattle.std.specs.Prelude.{ℕ, ◌+◌, ◌==◌, Bool, List, [], ◌∷◌, Option, Some, None, Result, Ok, Err, if◌then◌else◌}
 use Rattle.flow_model.specs.declared.flow.Flow as flow
 use Rattle.flow_model.specs.declared.numbering.Part.{Part}
 use Rattle.flow_model.specs.declared.error.FlowError.{FlowError}
@@ -8,15 +8,19 @@ use Rattle.flow_load.specs.declared.error.LoadError.{LoadError}
 use Rattle.flow_load.specs.declared.error.LoadError.TheVariants.{BadHeader, BadLine, Flow}
 use Rattle.flow_load.specs.declared.lines.Lines.{Lines}
 use Rattle.flow_load.specs.Image.{Text}
-use Rattle.flow_load.specs.Reads.{◌>>=◌}
+use Rattle.flow_load.specs.Reads.{◌>>=◌, fault_of}
 use Rattle.sw_base.specs.Refusals.{refused}
 use Rattle.flow_load.specs.Forms.{lines_in}
 use Rattle.flow_load.specs.Groups.{flow_in}
 
--- the line of the first participant that recovers, from that line on
+-- the line of the first item with this mark, where the first item is on that line
+abbrev pub first_marked : {A : Type 0} → (A → Bool) → ℕ → List A → Option ℕ
+first_marked mark at [] = None
+first_marked mark at (x ∷ xs) = if mark x then Some at else first_marked mark (at + 1) xs
+
+-- the line of the first participant that recovers, where the first participant is on that line
 abbrev pub first_recovering : ℕ → List Part → Option ℕ
-first_recovering at [] = None
-first_recovering at (p ∷ ps) = if p.kind.recovers then Some at else first_recovering (at + 1) ps
+first_recovering at parts = first_marked (λ p. p.kind.recovers) at parts
 
 -- where no participant recovers the version is 1, and else 2
 abbrev pub misversioned : ℕ → Option ℕ → Option LoadError
@@ -25,6 +29,10 @@ misversioned version (Some at) = if version == 2 then None else Some (BadLine at
 
 abbrev pub version_fault : Lines → Option LoadError
 version_fault l = misversioned l.version (first_recovering 2 l.parts)
+
+-- The first fault of a line by itself, else of the version: what is told without memory.
+abbrev pub line_fault : Text → Option LoadError
+line_fault bytes = fault_of (lines_in bytes >>= λ l. refused (version_fault l))
 
 -- a flow, unless its check refuses it
 abbrev pub sound : flow.Flow → Option FlowError → Result flow.Flow LoadError

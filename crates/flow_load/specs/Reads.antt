@@ -13,7 +13,17 @@ abbrev pub found : {A : Type 0} → LoadError → Option A → Result A LoadErro
 found e None = Err e
 found e (Some x) = Ok x
 
--- What a function answered, seen by view, is what the reading gives, unless memory ran out.
+-- why nothing was read
+abbrev pub fault_of : {A : Type 0} → Result A LoadError → Option LoadError
+fault_of (Ok x) = None
+fault_of (Err e) = Some e
+
+-- What a function that takes no memory answered, seen by view, is what the reading gives.
+abbrev pub Exactly : {X Y : Type 0} → (X → Y) → Result X LoadError → Result Y LoadError → Type 0
+Exactly view (Ok x) read = read ≡ Ok (view x)
+Exactly view (Err e) read = read ≡ Err e
+
+-- The same, unless memory ran out.
 abbrev pub Fails : {Y : Type 0} → LoadError → Result Y LoadError → Type 0
 Fails OutOfMemory read = Unit {0}
 Fails e read = read ≡ Err e

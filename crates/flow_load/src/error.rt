@@ -8,7 +8,9 @@ use thiserror::Error;
 /// from 1, groups from 0.
 #[derive(Clone, Copy, Debug, PartialEq, Eq, Error)]
 pub enum LoadError {
-    /// An allocation failed, which says nothing of the image.
+    /// An allocation failed. Each line by itself and the version are without fault (`BadHeader`,
+    /// `BadLine`, `BadNumber`), which is told without memory; the lines together and the flow may have
+    /// one, since those are told of lines that are kept.
     #[error("out of memory")]
     OutOfMemory,
     /// The first line is missing, not of its form, of a version other than 1 and 2, or counts more

@@ -1,26 +1,45 @@
 //! The lines of an image, one after the other.
 
-ghost use Rattle.std.specs.Prelude.{ℕ, List, Result, ◌≡◌, ◌+◌, ◌<◌, ◌^◌, length, IfOk, true};
+ghost use Rattle.std.specs.Prelude.{ℕ, List, Result, Bool, ◌≡◌, ◌+◌, ◌<◌, ◌^◌, length, IfOk, true, false};
 ghost use Rattle.flow_load.specs.declared.error.LoadError.{LoadError};
-ghost use Rattle.flow_load.specs.Reads.{Gives};
+ghost use Rattle.flow_load.specs.Reads.{Exactly, Gives};
+ghost use Rattle.flow_load.specs.LookOver.{form_over};
 ghost use Rattle.flow_load.specs.Forms as spec;
 ghost use Rattle.flow_load.specs.Bounds.{IsSmall};
 
 use crate::error::LoadError;
-use crate::lines::{ImageHeader, Lines};
+use crate::lines::{GroupWords, ImageHeader, Lines, PartWords};
 use crate::words::{kind_at, line_at, name_at, number_at, number_of, word_at, word_is};
 use flow_asm::{GroupStart, Step};
 use flow_model::Part;
 use std::alloc::Global;
-use sw_participant::Sequence;
+use sw_participant::{Sequence, Text};
 
 /// A kind of lines behind the first one.
-trait Line: Drop {
+pub(crate) trait Line: Drop {
     ghost form: { LoadError → List ℕ → Result (ℕ × Self) LoadError };
+
+    /// Whether it is a participant that recovers, so that the image is of version 2.
+    ghost recovers: { Self → Bool };
 
     /// What a line says, with its own number in front.
     fn read(alloc: Global, error: LoadError, line: &[u8]) -> Result<(usize, Self), LoadError>
         ensures { Gives (λ p. p) result (form error line.now) };
+
+    /// The line's own number, and whether what it says recovers. This takes no memory.
+    fn look(error: LoadError, line: &[u8]) -> Result<(usize, bool), LoadError>
+        ensures { Exactly (λ p. p) result (form_over form recovers error line.now) };
+}
+
+#[tactic(auto, unfolding(crate::specs::Forms::part_form))]
+fn part_line(error: LoadError, line: &[u8]) -> Result<PartWords<'_>, LoadError>
+    ensures { Exactly spec.part_said result (spec.part_form error line.now) }
+{
+    let rest = word_is(error, b"part", line)?;
+    let (number, rest) = number_at(error, rest)?;
+    let (name, rest) = name_at(error, rest)?;
+    let kind = kind_at(error, rest)?;
+    Ok(PartWords { number, name, kind })
 }
 
 impl Line for Part {
@@ -28,14 +47,40 @@ impl Line for Part {
 
     ghost form = { part_form };
 
-    #[tactic(auto, unfolding(crate::specs::Forms::part_form))]
+    ghost recovers = { λ p. p.kind.recovers };
+
+    #[tactic(auto, using(crate::proofs::ItemLoop::fails_when))]
     fn read(alloc: Global, error: LoadError, line: &[u8]) -> Result<(usize, Part), LoadError> {
-        let rest = word_is(error, b"part", line)?;
-        let (number, rest) = number_at(error, rest)?;
-        let (name, rest) = name_at(alloc, error, rest)?;
-        let kind = kind_at(error, rest)?;
-        Ok((number, Part { name, kind }))
+        let said = part_line(error, line)?;
+        let name = Text::from_str(alloc, said.name)?;
+        Ok((
+            said.number,
+            Part {
+                name,
+                kind: said.kind,
+            },
+        ))
     }
+
+    fn look(error: LoadError, line: &[u8]) -> Result<(usize, bool), LoadError> {
+        let said = part_line(error, line)?;
+        Ok((said.number, said.kind.recovers))
+    }
+}
+
+#[tactic(auto, unfolding(crate::specs::Forms::group_form))]
+fn group_line(error: LoadError, line: &[u8]) -> Result<GroupWords<'_>, LoadError>
+    ensures { Exactly spec.group_said result (spec.group_form error line.now) }
+{
+    let rest = word_is(error, b"group", line)?;
+    let (number, rest) = number_at(error, rest)?;
+    let (name, rest) = name_at(error, rest)?;
+    let first = number_of(error, rest)?;
+    Ok(GroupWords {
+        number,
+        name,
+        first,
+    })
 }
 
 impl Line for GroupStart {
@@ -43,22 +88,33 @@ impl Line for GroupStart {
 
     ghost form = { group_form };
 
-    #[tactic(auto, unfolding(crate::specs::Forms::group_form))]
+    ghost recovers = { λ _. false };
+
+    #[tactic(auto, using(crate::proofs::ItemLoop::fails_when))]
     fn read(
         alloc: Global,
         error: LoadError,
         line: &[u8],
     ) -> Result<(usize, GroupStart), LoadError> {
-        let rest = word_is(error, b"group", line)?;
-        let (number, rest) = number_at(error, rest)?;
-        let (name, rest) = name_at(alloc, error, rest)?;
-        let first = number_of(error, rest)?;
-        Ok((number, GroupStart { name, first }))
+        let said = group_line(error, line)?;
+        let name = Text::from_str(alloc, said.name)?;
+        Ok((
+            said.number,
+            GroupStart {
+                name,
+                first: said.first,
+            },
+        ))
+    }
+
+    fn look(error: LoadError, line: &[u8]) -> Result<(usize, bool), LoadError> {
+        let said = group_line(error, line)?;
+        Ok((said.number, false))
     }
 }
 
 fn step_named(error: LoadError, word: &[u8], participant: usize) -> Result<Step, LoadError>
-    ensures { Gives (λ s. s) result (spec.step_named error word.now participant) }
+    ensures { Exactly (λ s. s) result (spec.step_named error word.now participant) }
 {
     if word == "call".as_bytes() {
         Ok(Step::Call(participant))
@@ -71,7 +127,7 @@ fn step_named(error: LoadError, word: &[u8], participant: usize) -> Result<Step,
 
 #[tactic(auto, unfolding(crate::specs::Forms::step_of))]
 fn step_of(error: LoadError, text: &[u8]) -> Result<Step, LoadError>
-    ensures { Gives (λ s. s) result (spec.step_of error text.now) }
+    ensures { Exactly (λ s. s) result (spec.step_of error text.now) }
 {
     if text == "return".as_bytes() {
         return Ok(Step::Return);
@@ -81,22 +137,36 @@ fn step_of(error: LoadError, text: &[u8]) -> Result<Step, LoadError>
     step_named(error, word, participant)
 }
 
+#[tactic(auto, unfolding(crate::specs::Forms::step_form))]
+fn step_line(error: LoadError, line: &[u8]) -> Result<(usize, Step), LoadError>
+    ensures { Exactly (λ p. p) result (spec.step_form error line.now) }
+{
+    let (number, rest) = number_at(error, line)?;
+    let step = step_of(error, rest)?;
+    Ok((number, step))
+}
+
 impl Line for Step {
     ghost use Rattle.flow_load.specs.Forms.{step_form};
 
     ghost form = { step_form };
 
-    #[tactic(auto, unfolding(crate::specs::Forms::step_form))]
+    ghost recovers = { λ _. false };
+
+    #[tactic(auto, using(crate::proofs::ItemLoop::gives_exactly))]
     fn read(_alloc: Global, error: LoadError, line: &[u8]) -> Result<(usize, Step), LoadError> {
-        let (number, rest) = number_at(error, line)?;
-        let step = step_of(error, rest)?;
-        Ok((number, step))
+        step_line(error, line)
+    }
+
+    fn look(error: LoadError, line: &[u8]) -> Result<(usize, bool), LoadError> {
+        let (number, _) = step_line(error, line)?;
+        Ok((number, false))
     }
 }
 
 #[tactic(auto, unfolding(crate::specs::Forms::header_form))]
 fn header_form(line: &[u8]) -> Result<ImageHeader, LoadError>
-    ensures { Gives (λ h. h) result (spec.header_form line.now) }
+    ensures { Exactly (λ h. h) result (spec.header_form line.now) }
 {
     let rest = word_is(LoadError::BadHeader, b"image", line)?;
     let (version, rest) = number_at(LoadError::BadHeader, rest)?;
@@ -121,8 +191,8 @@ fn is_header(h: ImageHeader) -> bool
 }
 
 #[tactic(auto, unfolding(crate::specs::Forms::header_at))]
-fn header_at(bytes: &[u8]) -> Result<(ImageHeader, &[u8]), LoadError>
-    ensures read { Gives (λ p. (p.0, p.1.now)) result (spec.header_at bytes.now) }
+pub fn header_at(bytes: &[u8]) -> Result<(ImageHeader, &[u8]), LoadError>
+    ensures read { Exactly (λ p. (p.0, p.1.now)) result (spec.header_at bytes.now) }
     ensures limits { IfOk result (λ p. spec.is_header p.0 ≡ true) }
 {
     let (line, rest) = line_at(LoadError::BadHeader, bytes)?;
@@ -135,6 +205,7 @@ fn header_at(bytes: &[u8]) -> Result<(ImageHeader, &[u8]), LoadError>
 }
 
 // The item of this number, on the line of the number `at`, and the text behind it.
+#[tactic(auto, using(crate::proofs::ItemLoop::fails_when))]
 fn item_at<T: Line>(
     alloc: Global,
     number: usize,
@@ -173,8 +244,20 @@ fn read_items<T: Line>(
     Ok((items, rest))
 }
 
+/// Nothing stands behind the last line.
+pub fn test_rest(header: ImageHeader, rest: &[u8]) -> Result<(), LoadError>
+    requires { spec.is_header header ≡ true }
+    ensures { Exactly (λ u. u) result (spec.ended header rest.now) }
+{
+    if rest.is_empty() {
+        Ok(())
+    } else {
+        Err(LoadError::BadLine(2 + header.parts + header.groups + header.steps))
+    }
+}
+
 /// What the lines of an image say, or the first line that is not of its form.
-#[tactic(auto, unfolding(crate::specs::Forms::lines_in))]
+#[tactic(auto, using(crate::proofs::ItemLoop::fails_when), unfolding(crate::specs::Forms::lines_in))]
 pub fn read_lines(alloc: Global, bytes: &[u8]) -> Result<Lines, LoadError>
     ensures read { Gives (λ l. l) result (spec.lines_in bytes.now) }
     ensures small { IfOk result IsSmall }
@@ -183,9 +266,7 @@ pub fn read_lines(alloc: Global, bytes: &[u8]) -> Result<Lines, LoadError>
     let (parts, rest) = read_items(alloc, header.parts, 2, rest)?;
     let (starts, rest) = read_items(alloc, header.groups, 2 + header.parts, rest)?;
     let (steps, rest) = read_items(alloc, header.steps, 2 + header.parts + header.groups, rest)?;
-    if !rest.is_empty() {
-        return Err(LoadError::BadLine(2 + header.parts + header.groups + header.steps));
-    }
+    test_rest(header, rest)?;
     Ok(Lines {
         version: header.version,
         retries: header.retries as u8,

@@ -2,7 +2,7 @@
 
 use flow_asm::{GroupStart, Step};
 use flow_model::Part;
-use sw_participant::Sequence;
+use sw_participant::{Kind, Sequence};
 
 /// The first line.
 #[derive(Clone, Copy)]
@@ -14,6 +14,25 @@ pub(crate) struct ImageHeader {
     pub parts: usize,
     pub groups: usize,
     pub steps: usize,
+}
+
+/// The words of a participant's line.
+#[derive(Clone, Copy)]
+pub(crate) struct PartWords<'a> {
+    /// The line's own number.
+    pub number: usize,
+    pub name: &'a str,
+    pub kind: Kind,
+}
+
+/// The words of a group's line.
+#[derive(Clone, Copy)]
+pub(crate) struct GroupWords<'a> {
+    /// The line's own number.
+    pub number: usize,
+    pub name: &'a str,
+    /// The step that it starts with.
+    pub first: usize,
 }
 
 /// The lines of an image, before they are known to be a flow's.

@@ -1,17 +1,17 @@
 //! From an image to the steps.
 
-ghost use Rattle.std.specs.Prelude.{◌≡◌, Ok, IfOk};
+ghost use Rattle.std.specs.Prelude.{◌≡◌, None, Ok, Err, IfOk};
 ghost use Rattle.flow_model.specs.Check.{IsChecked, first_fault};
 ghost use Rattle.flow_model.specs.declared.flow.Flow.{Flow as Shown};
+ghost use Rattle.flow_load.specs.declared.error.LoadError.TheVariants.{OutOfMemory};
 ghost use Rattle.flow_load.specs.Image.{image_of};
-ghost use Rattle.flow_load.specs.Reads.{Gives};
-ghost use Rattle.sw_base.specs.Refusals.{refused};
+ghost use Rattle.flow_load.specs.Reads.{Fails, Gives};
 ghost use Rattle.flow_load.specs.Load as spec;
 
 use crate::error::LoadError;
 use crate::forms::read_lines;
 use crate::groups::read_flow;
-use crate::lines::Lines;
+use crate::look::{look_over, test_version};
 use flow_asm::{Code, assemble};
 use flow_model::{Flow, Part};
 use std::alloc::Global;
@@ -26,27 +26,6 @@ fn first_recovering(parts: &[Part]) -> Option<usize>
         }
     }
     None
-}
-
-fn test_version(lines: &Lines) -> Result<(), LoadError>
-    ensures { Gives (λ u. u) result (refused (spec.version_fault lines.now)) }
-{
-    match first_recovering(lines.parts.as_slice()) {
-        None => {
-            if lines.version == 1 {
-                Ok(())
-            } else {
-                Err(LoadError::BadHeader)
-            }
-        }
-        Some(line) => {
-            if lines.version == 2 {
-                Ok(())
-            } else {
-                Err(LoadError::BadLine(line))
-            }
-        }
-    }
 }
 
 fn check(alloc: Global, flow: &Flow) -> Result<(), LoadError>
@@ -66,21 +45,50 @@ fn read_image(alloc: Global, bytes: &[u8]) -> Result<Flow, LoadError>
     ensures checked { IfOk result IsChecked }
 {
     let lines = read_lines(alloc, bytes)?;
-    test_version(&lines)?;
+    test_version(lines.version, first_recovering(lines.parts.as_slice()))?;
     let flow = read_flow(alloc, &lines)?;
     check(alloc, &flow)?;
     Ok(flow)
 }
 
-/// The steps of the checked flow whose image the bytes are. Other bytes are refused for their first
-/// fault: first each line by itself, from the first line on (`BadHeader`, `BadLine`, `BadNumber`), then
-/// the version (`BadLine`, `BadHeader`), then the lines together (`BadTarget`, `NoReturn`), at last the
-/// flow (`Flow`). `OutOfMemory` may stand in for any answer and says nothing of the bytes.
-pub fn load(alloc: Global, bytes: &[u8]) -> Result<Code, LoadError>
-    ensures exact { Gives (λ code. code) result (spec.load_of bytes.now) }
-    ensures found { IfOk result (λ code. bytes.now ≡ image_of code) }
-    ensures only { (f : Shown) → IsChecked f → bytes.now ≡ image_of f → Gives (λ code. code) result (Ok f) }
+fn read_code(alloc: Global, bytes: &[u8]) -> Result<Code, LoadError>
+    ensures { Gives (λ code. code) result (spec.load_of bytes.now) }
 {
     let flow = read_image(alloc, bytes)?;
     Ok(assemble(alloc, &flow)?)
+}
+
+// The refusal to tell where reading stopped with this one. Where that was want of memory, the bytes
+// are looked over for a fault that is told without memory.
+fn settled(e: LoadError, bytes: &[u8]) -> LoadError
+    requires { Fails e (spec.load_of bytes.now) }
+    ensures read { Fails result (spec.load_of bytes.now) }
+    ensures last { result ≡ OutOfMemory → spec.line_fault bytes.now ≡ None }
+{
+    match e {
+        LoadError::OutOfMemory => match look_over(bytes) {
+            Ok(()) => LoadError::OutOfMemory,
+            Err(fault) => fault,
+        },
+        fault => fault,
+    }
+}
+
+/// The steps of the checked flow whose image the bytes are. Other bytes are refused for their first
+/// fault: first each line by itself, from the first line on (`BadHeader`, `BadLine`, `BadNumber`), then
+/// the version (`BadLine`, `BadHeader`), then the lines together (`BadTarget`, `NoReturn`), at last the
+/// flow (`Flow`).
+///
+/// `OutOfMemory` is told only where each line by itself and the version are without fault. It may stand
+/// in for a fault of the lines together or of the flow, which is told of lines that are kept.
+pub fn load(alloc: Global, bytes: &[u8]) -> Result<Code, LoadError>
+    ensures exact { Gives (λ code. code) result (spec.load_of bytes.now) }
+    ensures last { result ≡ Err OutOfMemory → spec.line_fault bytes.now ≡ None }
+    ensures found { IfOk result (λ code. bytes.now ≡ image_of code) }
+    ensures only { (f : Shown) → IsChecked f → bytes.now ≡ image_of f → Gives (λ code. code) result (Ok f) }
+{
+    match read_code(alloc, bytes) {
+        Ok(code) => Ok(code),
+        Err(e) => Err(settled(e, bytes)),
+    }
 }

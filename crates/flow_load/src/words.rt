@@ -1,14 +1,13 @@
 //! The words of a line. Where a word is not of its form, the line's fault is answered.
 
 ghost use Rattle.std.specs.Prelude.{◌≡◌, option_map};
-ghost use Rattle.flow_load.specs.Reads.{Gives, found};
+ghost use Rattle.flow_load.specs.Reads.{Exactly, found};
 ghost use Rattle.flow_load.specs.Words as spec;
 
 use crate::error::LoadError;
 use crate::print::kind_word;
-use std::alloc::Global;
 use sw_context::is_name;
-use sw_participant::{Kind, Text};
+use sw_participant::Kind;
 
 /// What stands before the first such byte, and behind it.
 pub fn cut(byte: u8, text: &[u8]) -> Option<(&[u8], &[u8])>
@@ -50,7 +49,7 @@ fn number(word: &[u8]) -> Option<usize>
 
 /// The first word, and what follows its space.
 pub fn word_at(error: LoadError, text: &[u8]) -> Result<(&[u8], &[u8]), LoadError>
-    ensures { Gives (λ p. (p.0.now, p.1.now)) result (spec.word_at error text.now) }
+    ensures { Exactly (λ p. (p.0.now, p.1.now)) result (spec.word_at error text.now) }
 {
     match cut(b' ', text) {
         Some(parts) => Ok(parts),
@@ -60,7 +59,7 @@ pub fn word_at(error: LoadError, text: &[u8]) -> Result<(&[u8], &[u8]), LoadErro
 
 /// The number that the word is.
 pub fn number_of(error: LoadError, word: &[u8]) -> Result<usize, LoadError>
-    ensures { Gives (λ n. n) result (spec.number_of error word.now) }
+    ensures { Exactly (λ n. n) result (spec.number_of error word.now) }
 {
     match number(word) {
         Some(n) => Ok(n),
@@ -70,7 +69,7 @@ pub fn number_of(error: LoadError, word: &[u8]) -> Result<usize, LoadError>
 
 /// The number that the first word is, and what follows it.
 pub fn number_at(error: LoadError, text: &[u8]) -> Result<(usize, &[u8]), LoadError>
-    ensures { Gives (λ p. (p.0, p.1.now)) result (spec.number_at error text.now) }
+    ensures { Exactly (λ p. (p.0, p.1.now)) result (spec.number_at error text.now) }
 {
     let (word, rest) = word_at(error, text)?;
     let n = number_of(error, word)?;
@@ -79,33 +78,27 @@ pub fn number_at(error: LoadError, text: &[u8]) -> Result<(usize, &[u8]), LoadEr
 
 /// What follows the first word, which is to be `word`.
 pub fn word_is<'a>(error: LoadError, word: &[u8], text: &'a [u8]) -> Result<&'a [u8], LoadError>
-    ensures { Gives (λ r. r.now) result (spec.word_is error word.now text.now) }
+    ensures { Exactly (λ r. r.now) result (spec.word_is error word.now text.now) }
 {
     let (first, rest) = word_at(error, text)?;
     if first == word { Ok(rest) } else { Err(error) }
 }
 
-fn name_of(alloc: Global, error: LoadError, word: &[u8]) -> Result<Text, LoadError>
-    ensures { Gives (λ t. t) result (spec.name_of error word.now) }
+fn name_of(error: LoadError, word: &[u8]) -> Result<&str, LoadError>
+    ensures { Exactly (λ t. t.now) result (spec.name_of error word.now) }
 {
     match std::str::from_utf8(word) {
-        Ok(text) => {
-            if is_name(text) {
-                Ok(Text::from_str(alloc, text)?)
-            } else {
-                Err(error)
-            }
-        }
+        Ok(text) => { if is_name(text) { Ok(text) } else { Err(error) } }
         Err(_) => Err(error),
     }
 }
 
 /// The name that the first word is, and what follows it.
-pub fn name_at(alloc: Global, error: LoadError, text: &[u8]) -> Result<(Text, &[u8]), LoadError>
-    ensures { Gives (λ p. (p.0, p.1.now)) result (spec.name_at error text.now) }
+pub fn name_at(error: LoadError, text: &[u8]) -> Result<(&str, &[u8]), LoadError>
+    ensures { Exactly (λ p. (p.0.now, p.1.now)) result (spec.name_at error text.now) }
 {
     let (word, rest) = word_at(error, text)?;
-    let name = name_of(alloc, error, word)?;
+    let name = name_of(error, word)?;
     Ok((name, rest))
 }
 
@@ -124,7 +117,7 @@ fn kind_of(word: &[u8]) -> Option<Kind>
 
 /// The kind that the word spells.
 pub fn kind_at(error: LoadError, word: &[u8]) -> Result<Kind, LoadError>
-    ensures { Gives (λ k. k) result (found error (spec.kind_of word.now)) }
+    ensures { Exactly (λ k. k) result (found error (spec.kind_of word.now)) }
 {
     match kind_of(word) {
         Some(kind) => Ok(kind),
@@ -134,7 +127,7 @@ pub fn kind_at(error: LoadError, word: &[u8]) -> Result<Kind, LoadError>
 
 /// What stands before the first line feed, and behind it.
 pub fn line_at(error: LoadError, text: &[u8]) -> Result<(&[u8], &[u8]), LoadError>
-    ensures { Gives (λ p. (p.0.now, p.1.now)) result (found error (spec.cut 10 text.now)) }
+    ensures { Exactly (λ p. (p.0.now, p.1.now)) result (found error (spec.cut 10 text.now)) }
 {
     match cut(b'\n', text) {
         Some(parts) => Ok(parts),
