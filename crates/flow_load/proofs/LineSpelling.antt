@@ -23,7 +23,7 @@ use Rattle.flow_load.specs.declared.lines.Lines.{Lines}
 use Rattle.flow_load.specs.Image.{Text, kind_text, part_text, group_text, step_text, lines_text, header_text, spelled}
 use Rattle.flow_load.specs.Reads.{◌>>=◌, found}
 use Rattle.flow_load.specs.Words.{cut, value_on, is_plain, number, kinds, is_spelled, kind_of, word_at, number_of, number_at, word_is, name_of, name_at, is_within}
-use Rattle.flow_load.specs.Forms.{ended, part_form, group_form, step_named, step_of, step_form, is_header, header_form, header_at, line_at, items_at, lines_in}
+use Rattle.flow_load.specs.Forms.{ended, in_place, part_form, group_form, step_named, step_of, step_form, is_header, header_form, header_at, line_at, items_at, lines_in}
 
 abbrev okay : {A : Type 0} → A → Result A LoadError
 okay x = Ok x
@@ -271,8 +271,9 @@ module _ {A : Type 0} (form : LoadError → Text → Result (ℕ × A) LoadError
   line_ok each k at bytes z h =
       with_bind _ (found (BadLine at) (cut 10 bytes)) _ z (λ line is more.
       with_bind _ (form (BadLine at) line.0) _ z (λ y formed more2.
-      let last = if_ok (y.0 == k) (Ok (y.1, line.1)) (BadNumber at) z more2 in
-      line_done k bytes line y z (cut_ok 10 bytes line (found_ok (BadLine at) (cut 10 bytes) line is)) (each (BadLine at) line.0 y formed) last.0 last.1) more) h
+      with_bind _ (in_place y.0 k at) _ z (λ u placed last.
+      let own = if_ok (y.0 == k) (Ok tt) (BadNumber at) u placed in
+      line_done k bytes line y z (cut_ok 10 bytes line (found_ok (BadLine at) (cut 10 bytes) line is)) (each (BadLine at) line.0 y formed) own.0 last) more2) more) h
 
   items_more : (k : ℕ) (count : ℕ) (bytes : Text) (x : A × Text) (ys z : List A × Text) → bytes ≡ spell k x.0 ++ 10 ∷ x.1 → (x.1 ≡ lines_text spell (k + 1) ys.0 ++ ys.1) × (length ys.0 ≡ count) → okay (x.0 ∷ ys.0, ys.1) ≡ Ok z
       → (bytes ≡ lines_text spell k z.0 ++ z.1) × (length z.0 ≡ suc count)

@@ -12,7 +12,7 @@ use Rattle.flow_asm.specs.declared.code.Step.TheVariants.{Call, Pick, Return}
 use Rattle.flow_load.specs.Image.{Text}
 use Rattle.flow_load.specs.Reads.{◌>>=◌, found, fault_of, Fails}
 use Rattle.flow_load.specs.Words.{cut, kind_of, name_at, name_of, number, number_at, number_of, word_at, word_is}
-use Rattle.flow_load.specs.Forms.{ended, group_form, header_at, header_form, is_header, items_at, line_at, lines_in, part_form, step_form, step_named, step_of}
+use Rattle.flow_load.specs.Forms.{ended, group_form, header_at, header_form, in_place, is_header, items_at, line_at, lines_in, part_form, step_form, step_named, step_of}
 use Rattle.flow_load.specs.Load.{first_marked, line_fault, load_of, misversioned, version_fault}
 use Rattle.flow_load.specs.LookOver.{lines_over}
 use Rattle.flow_load.proofs.ItemLoop.{fails_when}
@@ -124,7 +124,8 @@ module _ {A : Type 0} (form : LoadError → Text → Result (ℕ × A) LoadError
   clean_line : (n at : ℕ) (text : Text) → Clean (line_at form n at text)
   clean_line n at text =
       clean_bind (found (BadLine at) (cut 10 text)) _ (clean_found (BadLine at) (cut 10 text) tt) (λ line.
-      clean_bind (form (BadLine at) line.0) _ (each (BadLine at) tt line.0) (λ x. clean_if (x.0 == n) (x.1, line.1) (BadNumber at) tt))
+      clean_bind (form (BadLine at) line.0) _ (each (BadLine at) tt line.0) (λ x.
+      clean_bind (in_place x.0 n at) _ (clean_if (x.0 == n) tt (BadNumber at) tt) (λ u. tt)))
 
   clean_items : (left n at : ℕ) (text : Text) → Clean (items_at form left n at text)
   unfolding items_at

@@ -80,11 +80,15 @@ header_at text = do
   h ← header_form line.0
   if is_header h then Ok (h, line.1) else Err BadHeader
 
+-- a line's own number is its place among the lines of its kind
+abbrev pub in_place : ℕ → ℕ → ℕ → Result (Unit {0}) LoadError
+in_place own n at = if own == n then Ok tt else Err (BadNumber at)
+
 module _ {A : Type 0} (form : LoadError → Text → Result (ℕ × A) LoadError) where
   -- the item of number n, on the line of number `at`, and the text behind it
   abbrev pub line_at : ℕ → ℕ → Text → Result (A × Text) LoadError
   line_at n at text =
-      found (BadLine at) (cut 10 text) >>= λ line. form (BadLine at) line.0 >>= λ x. if x.0 == n then Ok (x.1, line.1) else Err (BadNumber at)
+      found (BadLine at) (cut 10 text) >>= λ line. form (BadLine at) line.0 >>= λ x. in_place x.0 n at >>= λ u. Ok (x.1, line.1)
 
   -- so many items, from that number and line on
   unfoldable pub items_at : ℕ → ℕ → ℕ → Text → Result (List A × Text) LoadError

@@ -204,6 +204,17 @@ pub fn header_at(bytes: &[u8]) -> Result<(ImageHeader, &[u8]), LoadError>
     }
 }
 
+/// The line `at` has its place among the lines of its kind for its own number.
+pub fn test_number(own: usize, number: usize, at: usize) -> Result<(), LoadError>
+    ensures { Exactly (λ u. u) result (spec.in_place own number at) }
+{
+    if own == number {
+        Ok(())
+    } else {
+        Err(LoadError::BadNumber(at))
+    }
+}
+
 // The item of this number, on the line of the number `at`, and the text behind it.
 #[tactic(auto, using(crate::proofs::ItemLoop::fails_when))]
 fn item_at<T: Line>(
@@ -216,11 +227,8 @@ fn item_at<T: Line>(
 {
     let (line, rest) = line_at(LoadError::BadLine(at), bytes)?;
     let (own, item) = T::read(alloc, LoadError::BadLine(at), line)?;
-    if own == number {
-        Ok((item, rest))
-    } else {
-        Err(LoadError::BadNumber(at))
-    }
+    test_number(own, number, at)?;
+    Ok((item, rest))
 }
 
 // So many items, from the line of the number `at` on.

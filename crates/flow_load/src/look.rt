@@ -7,7 +7,7 @@ ghost use Rattle.flow_load.specs.LookOver.{items_over, line_over, lines_over};
 ghost use Rattle.sw_base.specs.Refusals.{refused};
 
 use crate::error::LoadError;
-use crate::forms::{Line, header_at, test_rest};
+use crate::forms::{Line, header_at, test_number, test_rest};
 use crate::words::line_at;
 use flow_asm::{GroupStart, Step};
 use flow_model::Part;
@@ -41,11 +41,8 @@ fn look_at<T: Line>(number: usize, at: usize, bytes: &[u8]) -> Result<(bool, &[u
 {
     let (line, rest) = line_at(LoadError::BadLine(at), bytes)?;
     let (own, recovers) = T::look(LoadError::BadLine(at), line)?;
-    if own == number {
-        Ok((recovers, rest))
-    } else {
-        Err(LoadError::BadNumber(at))
-    }
+    test_number(own, number, at)?;
+    Ok((recovers, rest))
 }
 
 // The line of the first of so many items that recovers, and the text behind them.
