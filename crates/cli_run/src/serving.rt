@@ -189,7 +189,7 @@ fn run_over<S: Alter + Drop, L: Link, R: Read + Drop, O: Write, E: Write>(
 /// advices. At the end, also where it ends early, the lines of the trace are written. Where the stream of
 /// frames is refused, what came before is answered, and all else is done.
 ///
-/// The stations are made here and handed to nobody.
+/// The stations are made here; no caller has one of them.
 pub fn run<S: Alter + Drop, R: Read + Drop, O: Write, E: Write>(
     alloc: Global,
     code: &Code,

@@ -45,18 +45,21 @@ impl<S: Alter + Drop> Drop for Switch<S> {
     }
 }
 
-/// Why no plant was made. The participant without a station is told by its name.
+// The participant without a station, told by its name.
+fn no_station(alloc: Global, code: &Code, number: usize) -> ServeError {
+    let Some(part) = code.participants().get(number) else {
+        return ServeError::OutOfMemory;
+    };
+    match Text::from_str(alloc, part.name.as_str()) {
+        Ok(name) => ServeError::NoStation(name),
+        Err(_) => ServeError::OutOfMemory,
+    }
+}
+
+/// Why no plant was made.
 pub(crate) fn cause_of(alloc: Global, code: &Code, error: PlantError) -> ServeError {
     match error {
-        PlantError::Seating(SeatingError::NoStation(number)) => {
-            let Some(part) = code.participants().get(number) else {
-                return ServeError::OutOfMemory;
-            };
-            match Text::from_str(alloc, part.name.as_str()) {
-                Ok(name) => ServeError::NoStation(name),
-                Err(_) => ServeError::OutOfMemory,
-            }
-        }
+        PlantError::Seating(SeatingError::NoStation(number)) => no_station(alloc, code, number),
         other => ServeError::from(other),
     }
 }
