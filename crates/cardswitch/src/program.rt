@@ -2,9 +2,11 @@
 ghost use Rattle.std.specs.Prelude.{◌≡◌, ◌≢◌, IfErr, OnOk, false};
 ghost use Rattle.std.specs.Io.KnownBytes.{Keeps};
 ghost use Rattle.std.specs.IoError.{error_kind};
-ghost use Rattle.cardswitch.specs.Done.{IsDecodeError, IsDone, IsErrorOf, IsFailed, IsQuiet, IsShown};
+ghost use Rattle.cardswitch.specs.Done.{IsAsmError, IsDecodeError, IsDone, IsErrorOf, IsFailed};
+ghost use Rattle.cardswitch.specs.Done.{IsListError, IsQuiet, IsShown};
 ghost use Rattle.cardswitch.specs.Errors.{run_status};
 ghost use Rattle.cli_decode.specs.Decoded.{IsDecodedStream};
+ghost use Rattle.cli_flows.specs.Subcommands.{IsAssembled, IsListed};
 ghost use Rattle.cli_options.specs.Refusal.{status_of};
 
 use crate::error::RunError;
@@ -68,6 +70,32 @@ fn step<R: Read + Drop, O: Write>(
     Ok(run_script(alloc, flow, script.as_slice(), out)?)
 }
 
+fn write_image<R: Read + Drop, O: Write>(
+    alloc: Global,
+    input: R,
+    out: &mut O,
+) -> Result<(), RunError>
+    ensures done { OnOk result (IsAssembled
+        (R.remaining input) (O.contents out.old) (O.contents out.new)) }
+    ensures failed { IfErr result (IsAsmError
+        (R.remaining input) (O.contents out.old) (O.contents out.new)) }
+{
+    Ok(asm(alloc, input, out)?)
+}
+
+fn write_flow<R: Read + Drop, O: Write>(
+    alloc: Global,
+    input: R,
+    out: &mut O,
+) -> Result<(), RunError>
+    ensures done { OnOk result (IsListed
+        (R.remaining input) (O.contents out.old) (O.contents out.new)) }
+    ensures failed { IfErr result (IsListError
+        (R.remaining input) (O.contents out.old) (O.contents out.new)) }
+{
+    Ok(list(alloc, input, out)?)
+}
+
 fn decode<R: Read + Drop, O: Write>(alloc: Global, input: R, out: &mut O) -> Result<(), RunError>
     ensures done { OnOk result (IsDecodedStream
         (R.remaining input) (O.contents out.old) (O.contents out.new) false) }
@@ -96,8 +124,8 @@ fn run_subcommand<R: Read + Drop, O: Write, E: Write>(
 {
     match options {
         Options::Step { flow } => step(alloc, rt, *flow, input, out),
-        Options::Asm => Ok(asm(alloc, input, out)?),
-        Options::List => Ok(list(alloc, input, out)?),
+        Options::Asm => write_image(alloc, input, out),
+        Options::List => write_flow(alloc, input, out),
         Options::Decode => decode(alloc, input, out),
         Options::Recover { flow, journal } => recover(alloc, rt, flow, journal, out),
         Options::Run(options) => answer_requests(alloc, rt, options, input, out, err),
