@@ -1,10 +1,8 @@
-//! The last id, and a history that is full.
+//! The last id, a history that is full, and replies that are not due.
 
-use crate::flows::{fresh, plain};
+use crate::flows::opened;
 use crate::script::played;
 use std::test::Fail;
-use tx_engine::Engine;
-use tx_history::JournalView;
 
 const LAST: &str = "\
 write 1 = BadMark
@@ -16,18 +14,13 @@ take 0 = 3 id 9223372036854775806
 take 0 = Busy
 write 3 = 0
 answer 0 65 = 4
+answer 0 65 = NotDue
 take 0 = IdsSpent
 ";
 
 #[test]
 fn the_last_id(rt: HostRuntime) -> Result<(), Fail> {
-    let alloc = rt.alloc();
-    let code = plain(alloc, &["p"])?;
-    let mut view = JournalView::blank(alloc);
-    view.next_id = 9_223_372_036_854_775_806;
-    let sound = view.ok();
-    assert!(rt; sound);
-    let mut engine = Engine::open(alloc, &code, &view, 1)?;
+    let mut engine = opened(rt.alloc(), 9_223_372_036_854_775_806)?;
     let came = played(rt.alloc(), &mut engine, LAST)?;
     assert_eq!(rt; came.as_str(), LAST);
     Ok(())
@@ -62,7 +55,7 @@ next 0 = held 1 0 Prepare
 
 #[test]
 fn a_full_history_is_cut(rt: HostRuntime) -> Result<(), Fail> {
-    let mut engine = fresh(rt.alloc(), &["p"], 1)?;
+    let mut engine = opened(rt.alloc(), 1)?;
     let came = played(rt.alloc(), &mut engine, FULL)?;
     assert_eq!(rt; came.as_str(), FULL);
     Ok(())

@@ -1,4 +1,4 @@
-//! The flows that are played.
+//! The engine that is played.
 
 use flow_asm::{Code, assemble};
 use flow_model::{Flow, Group};
@@ -8,14 +8,10 @@ use sw_participant::{Kind, Sequence};
 use tx_engine::Engine;
 use tx_history::JournalView;
 
-/// `main` with these participants, all plain.
-pub fn plain(alloc: Global, names: &[&str]) -> Result<Code, Fail> {
-    let mut entries = Vec::new(alloc);
-    for name in names {
-        entries.push((*name, Kind::PLAIN))?;
-    }
+/// `main` with the participant p, which is plain.
+fn plain(alloc: Global) -> Result<Code, Fail> {
     let mut groups = Vec::new(alloc);
-    groups.push(Group::of(alloc, "main", entries.as_slice())?)?;
+    groups.push(Group::of(alloc, "main", &[("p", Kind::PLAIN)])?)?;
     let flow = Flow {
         retries: 0,
         groups: Sequence::new(groups),
@@ -24,8 +20,13 @@ pub fn plain(alloc: Global, names: &[&str]) -> Result<Code, Fail> {
     Ok(assemble(alloc, &flow)?)
 }
 
-/// An engine on an empty journal, with these plain participants.
-pub fn fresh(alloc: Global, names: &[&str], sessions: usize) -> Result<Engine, Fail> {
-    let code = plain(alloc, names)?;
-    Ok(Engine::open(alloc, &code, &JournalView::blank(alloc), sessions)?)
+/// An engine of one session on a journal without rows, whose next transaction has this id.
+pub fn opened(alloc: Global, next_id: u64) -> Result<Engine, Fail> {
+    let code = plain(alloc)?;
+    let mut view = JournalView::blank(alloc);
+    view.next_id = next_id;
+    if !view.ok() {
+        return Err(Fail::new("no journal has this id"));
+    }
+    Ok(Engine::open(alloc, &code, &view, 1)?)
 }

@@ -7,8 +7,4 @@ mod bounds;
 #[cfg(test)]
 mod flows;
 #[cfg(test)]
-mod recovering;
-#[cfg(test)]
 mod script;
-#[cfg(test)]
-mod sessions;

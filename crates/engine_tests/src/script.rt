@@ -1,17 +1,18 @@
-//! Calls of an engine as lines of text, each with what it answers behind ` = `. The helpers have no
-//! contract, so that the proof of a test carries no values.
+//! Calls of an engine as lines of text, each with what it answers behind ` = `. Each call has a helper of its own
+//! without a contract, so that the proof of a test carries no values.
 //!
 //! `counts` (queued, on the shelf, recovering, entries, next id of the opened journal, its rows),
 //! `often N NAME` (so many breakpoints, as the last answers), `offer`, `reserve`, `spare`,
-//! `offer_reserved`, `take S`, `next S`, `answer S BYTE`, `choose S TEXT`, `restore S`, `tell S`,
-//! `advise S` (told, with the advice `AB`), `ack ID PLACE`, `break NAME`, `clear NAME`, `go S`,
-//! `release`, `write MARK`, `cut`, `rest S`. An event answers its entry's number, `reserve`,
-//! `write` and `cut` answer 0, and a refusal its name. Contexts are empty.
+//! `offer_reserved`, `take S`, `next S`, `answer S BYTE`, `ack ID PLACE`, `break NAME`, `go S`, `release`,
+//! `write MARK`, `cut`. An event answers its entry's number, `reserve`, `write` and `cut` answer 0, and a
+//! refusal its name. Contexts are empty.
 
 use std::alloc::Global;
 use std::test::Fail;
 use sw_context::Context;
 use tx_engine::{Engine, EngineError, Next, Offer};
+
+type Answer = Result<usize, EngineError>;
 
 fn number(word: &str) -> Result<usize, Fail> {
     Ok(word.parse::<usize>()?)
@@ -24,71 +25,71 @@ fn cut_word(text: &str) -> (&str, &str) {
     }
 }
 
-// A call of a session; `None` where the word is none.
-fn reply(
-    alloc: Global,
-    engine: &mut Engine,
-    call: &str,
-    session: usize,
-    text: &str,
-) -> Result<Option<Result<usize, EngineError>>, Fail> {
-    let context = Context::new(alloc);
-    Ok(match call {
-        "answer" => Some(engine.answered(alloc, session, text.parse::<u8>()?, &context)),
-        "choose" => Some(engine.chose(alloc, session, text)),
-        "restore" => Some(engine.recovered(session, &context)),
-        "tell" => Some(engine.told(alloc, session, None)),
-        "advise" => Some(engine.told(alloc, session, Some(b"AB"))),
-        "go" => Some(engine.let_go(session)),
-        _ => None,
-    })
-}
-
-fn zero(answer: Result<(), EngineError>) -> Result<usize, EngineError> {
+fn zero(answer: Result<(), EngineError>) -> Answer {
     match answer {
         Ok(()) => Ok(0),
         Err(error) => Err(error),
     }
 }
 
-fn offer_reserved(alloc: Global, engine: &mut Engine) -> Result<usize, Fail> {
+fn offer(alloc: Global, engine: &mut Engine) -> Answer {
+    engine.offer(&Context::new(alloc))
+}
+
+fn reserve(engine: &mut Engine) -> Answer {
+    zero(engine.reserve_offer())
+}
+
+fn spare(engine: &Engine) -> Answer {
+    Ok(engine.spare())
+}
+
+fn offer_reserved(alloc: Global, engine: &mut Engine) -> Answer {
     let offer = Offer::new(&Context::new(alloc))?;
     if engine.spare() == 0 {
-        return Err(Fail::new("no memory is reserved"));
+        return Err(EngineError::OutOfMemory);
     }
     Ok(engine.offer_reserved(offer))
 }
 
-// A call of no session; `None` where the word is none.
-fn event(
-    alloc: Global,
-    engine: &mut Engine,
-    call: &str,
-    text: &str,
-) -> Result<Option<Result<usize, EngineError>>, Fail> {
-    Ok(match call {
-        "offer" => Some(engine.offer(&Context::new(alloc))),
-        "reserve" => Some(zero(engine.reserve_offer())),
-        "spare" => Some(Ok(engine.spare())),
-        "offer_reserved" => Some(Ok(offer_reserved(alloc, engine)?)),
-        "release" => Some(engine.release()),
-        "break" => Some(engine.set_break(text)),
-        "clear" => Some(engine.clear_break(text)),
-        "cut" => Some(zero(engine.cut(alloc))),
-        "write" => Some(zero(engine.written(number(text)?))),
-        "often" => {
-            let (count, name) = cut_word(text);
-            Some(often(engine, number(count)?, name))
-        }
-        "ack" => {
-            let (id, place) = cut_word(text);
-            Some(engine.acked(number(id)? as u64, number(place)?))
-        }
-        _ => None,
-    })
+fn release(engine: &mut Engine) -> Answer {
+    engine.release()
 }
 
-fn shown(alloc: Global, answer: Result<usize, EngineError>) -> Result<String, Fail> {
+fn set_break(engine: &mut Engine, name: &str) -> Answer {
+    engine.set_break(name)
+}
+
+fn cut(alloc: Global, engine: &mut Engine) -> Answer {
+    zero(engine.cut(alloc))
+}
+
+fn write(engine: &mut Engine, mark: usize) -> Answer {
+    zero(engine.written(mark))
+}
+
+fn ack(engine: &mut Engine, id: usize, place: usize) -> Answer {
+    engine.acked(id as u64, place)
+}
+
+fn answer(alloc: Global, engine: &mut Engine, session: usize, byte: usize) -> Answer {
+    engine.answered(alloc, session, (byte & 0xff) as u8, &Context::new(alloc))
+}
+
+fn go(engine: &mut Engine, session: usize) -> Answer {
+    engine.let_go(session)
+}
+
+// Sets a breakpoint so many times.
+fn often(engine: &mut Engine, count: usize, name: &str) -> Answer {
+    let mut number = 0;
+    for _ in 0..count {
+        number = set_break(engine, name)?;
+    }
+    Ok(number)
+}
+
+fn shown(alloc: Global, answer: Answer) -> Result<String, Fail> {
     Ok(match answer {
         Ok(number) => format!(in alloc; "{number}")?,
         Err(error) => format!(in alloc; "{error:?}")?,
@@ -97,16 +98,11 @@ fn shown(alloc: Global, answer: Result<usize, EngineError>) -> Result<String, Fa
 
 fn next(alloc: Global, engine: &Engine, session: usize) -> Result<String, Fail> {
     Ok(match engine.next(session) {
-        Ok(Next::Idle) => format!(in alloc; "idle")?,
-        Ok(Next::Unwritten) => format!(in alloc; "unwritten")?,
         Ok(Next::Held(call)) => format!(in alloc;
             "held {} {} {:?}",
             call.id, call.participant, call.act
         )?,
-        Ok(Next::Due(call)) => format!(in alloc;
-            "due {} {} {:?}",
-            call.id, call.participant, call.act
-        )?,
+        Ok(_) => format!(in alloc; "not held")?,
         Err(error) => format!(in alloc; "{error:?}")?,
     })
 }
@@ -118,56 +114,47 @@ fn take(alloc: Global, engine: &mut Engine, session: usize) -> Result<String, Fa
     })
 }
 
-fn counts(alloc: Global, engine: &Engine) -> Result<String, Fail> {
+// The next id of the opened journal, and how many rows it has.
+fn journal(engine: &Engine) -> (u64, usize) {
     let opened = engine.opened();
-    Ok(format!(in alloc;
-        "{} {} {} {} {} {}",
-        engine.queued(),
-        engine.shelved(),
-        engine.recovering(),
-        engine.history().len(),
-        opened.next_id,
-        opened.rows.as_slice().len()
-    )?)
+    (opened.next_id, opened.rows.as_slice().len())
 }
 
-// Sets a breakpoint so many times.
-fn often(engine: &mut Engine, count: usize, name: &str) -> Result<usize, EngineError> {
-    let mut number = 0;
-    for _ in 0..count {
-        number = engine.set_break(name)?;
-    }
-    Ok(number)
+fn counts(alloc: Global, engine: &Engine) -> Result<String, Fail> {
+    let lists = (engine.queued(), engine.shelved(), engine.recovering());
+    let entries = engine.history().len();
+    let (next_id, rows) = journal(engine);
+    let (queued, shelved, recovering) = lists;
+    Ok(format!(in alloc; "{queued} {shelved} {recovering} {entries} {next_id} {rows}")?)
 }
 
-// What a call of a session answers.
-fn session_call(
-    alloc: Global,
-    engine: &mut Engine,
-    call: &str,
-    text: &str,
-) -> Result<String, Fail> {
-    let (session, text) = cut_word(text);
-    let session = number(session)?;
-    match call {
-        "take" => take(alloc, engine, session),
-        "next" => next(alloc, engine, session),
-        "rest" => Ok(format!(in alloc; "{:?}", engine.rest(alloc, session)?)?),
-        _ => match reply(alloc, engine, call, session, text)? {
-            Some(answer) => shown(alloc, answer),
-            None => Err(Fail::new("a call that there is not")),
-        },
-    }
+// What a call answers that makes an entry, or 0.
+fn event(alloc: Global, engine: &mut Engine, call: &str, text: &str) -> Result<Answer, Fail> {
+    let (first, rest) = cut_word(text);
+    Ok(match call {
+        "offer" => offer(alloc, engine),
+        "reserve" => reserve(engine),
+        "spare" => spare(engine),
+        "offer_reserved" => offer_reserved(alloc, engine),
+        "release" => release(engine),
+        "break" => set_break(engine, text),
+        "cut" => cut(alloc, engine),
+        "write" => write(engine, number(text)?),
+        "often" => often(engine, number(first)?, rest),
+        "ack" => ack(engine, number(first)?, number(rest)?),
+        "answer" => answer(alloc, engine, number(first)?, number(rest)?),
+        "go" => go(engine, number(text)?),
+        _ => return Err(Fail::new("a call that there is not")),
+    })
 }
 
 fn play(alloc: Global, engine: &mut Engine, line: &str) -> Result<String, Fail> {
     let (call, text) = cut_word(line);
-    if call == "counts" {
-        return counts(alloc, engine);
-    }
-    match event(alloc, engine, call, text)? {
-        Some(answer) => shown(alloc, answer),
-        None => session_call(alloc, engine, call, text),
+    match call {
+        "counts" => counts(alloc, engine),
+        "take" => take(alloc, engine, number(text)?),
+        "next" => next(alloc, engine, number(text)?),
+        _ => shown(alloc, event(alloc, engine, call, text)?),
     }
 }
 
