@@ -1,14 +1,13 @@
-//! The advices of an authorization that the switch approved by itself, byte by byte: as they are
-//! stored, as a later run sends them once more, and as the simulated issuer answers them.
+//! The advices of an authorization that the switch approved by itself, byte by byte: as a later run sends
+//! them once more, and as the simulated issuer answers them. As they are stored, `tests/run/silent.cases` shows.
 
 ghost use Rattle.std.specs.Prelude.{[]};
 
 use std::alloc::{AllocError, Global};
 use std::test::Fail;
-use sw_context::Context;
 use sw_issuers::{GroupLink, Issuer, Sender};
-use sw_participant::{NoMemory, Participant, Sequence, Text};
-use sw_parts::{Forward, Link, Reverse, Routing};
+use sw_participant::{NoMemory, Sequence, Text};
+use sw_parts::{Link, Routing};
 
 // Fields 2, 3, 4, 7 and 11.
 const FRONT: &[u8] = b"1640000000000000020000000000000000910102030405000042";
@@ -54,34 +53,6 @@ fn response(alloc: Global, mti: &[u8]) -> Result<Vec<u8>, AllocError> {
     joined(alloc, &[mti, bitmap, FRONT, b"00".as_slice(), BACK])
 }
 
-fn stood_in(alloc: Global) -> Result<Context, Fail> {
-    let bitmap = b"7220000000808000".as_slice();
-    let request = joined(alloc, &[b"0100".as_slice(), bitmap, FRONT, BACK])?;
-    let mut context = Context::new(alloc);
-    context.put("request", &request)?;
-    context.put("sent", b"1")?;
-    context.put("late", b"1")?;
-    context.put("rc", b"00")?;
-    context.put("auth", b"SI0042")?;
-    context.put("standin", b"1")?;
-    Ok(context)
-}
-
-#[test]
-fn a_reversal_and_an_approval_are_stored(rt: HostRuntime) -> Result<(), Fail> {
-    let alloc = rt.alloc();
-    let mut context = stood_in(alloc)?;
-    let Some(first) = Reverse::new(alloc).commit(1, &mut context, false)? else {
-        return Err(Fail::new("no reversal"));
-    };
-    let Some(second) = Forward::new(alloc).commit(1, &mut context, false)? else {
-        return Err(Fail::new("no approval"));
-    };
-    assert!(rt; first.as_slice() == reversal(alloc, b"0420")?.as_slice());
-    assert!(rt; second.as_slice() == approval(alloc, b"0120")?.as_slice());
-    Ok(())
-}
-
 /// A link that answers one message, and nothing else.
 #[derive(Drop)]
 struct OneMessage {
@@ -110,36 +81,57 @@ impl Link for OneMessage {
     }
 }
 
-// Whether the stored advice goes out as this message, and its answer counts.
-fn goes_out(alloc: Global, stored: &[u8], link: OneMessage) -> Result<bool, Fail> {
+fn routes(alloc: Global) -> Result<Sequence<Routing>, AllocError> {
     let routing = Routing {
         prefix: Text::from_str(alloc, "4")?,
         group: Text::from_str(alloc, "alpha")?,
     };
-    let group = GroupLink {
+    Ok(Sequence::new(vec![in alloc; routing]?))
+}
+
+fn group(alloc: Global, link: OneMessage) -> Result<GroupLink<OneMessage>, AllocError> {
+    Ok(GroupLink {
         group: Text::from_str(alloc, "alpha")?,
         link,
+    })
+}
+
+// Whether the stored advice goes out as this message, and its answer counts.
+fn goes_out(alloc: Global, stored: &[u8], message: Vec<u8>, answer: Vec<u8>) -> Result<bool, Fail> {
+    let link = OneMessage {
+        message,
+        answer: Some(answer),
+        has_come: false,
     };
-    let routes = Sequence::new(vec![in alloc; routing]?);
-    let mut sender = Sender::new(alloc, routes, vec![in alloc; group]?);
+    let groups = vec![in alloc; group(alloc, link)?]?;
+    let mut sender = Sender::new(alloc, routes(alloc)?, groups);
     Ok(sender.send(stored, true)?)
+}
+
+fn reversal_goes_out(alloc: Global) -> Result<bool, Fail> {
+    let stored = reversal(alloc, b"0420")?;
+    goes_out(
+        alloc,
+        &stored,
+        reversal(alloc, b"0421")?,
+        response(alloc, b"0430")?,
+    )
+}
+
+fn approval_goes_out(alloc: Global) -> Result<bool, Fail> {
+    let stored = approval(alloc, b"0120")?;
+    goes_out(
+        alloc,
+        &stored,
+        approval(alloc, b"0121")?,
+        response(alloc, b"0130")?,
+    )
 }
 
 #[test]
 fn repeats_go_out_under_their_own_types(rt: HostRuntime) -> Result<(), Fail> {
-    let alloc = rt.alloc();
-    let link = OneMessage {
-        message: reversal(alloc, b"0421")?,
-        answer: Some(response(alloc, b"0430")?),
-        has_come: false,
-    };
-    assert!(rt; goes_out(alloc, &reversal(alloc, b"0420")?, link)?);
-    let link = OneMessage {
-        message: approval(alloc, b"0121")?,
-        answer: Some(response(alloc, b"0130")?),
-        has_come: false,
-    };
-    assert!(rt; goes_out(alloc, &approval(alloc, b"0120")?, link)?);
+    assert!(rt; reversal_goes_out(rt.alloc())?);
+    assert!(rt; approval_goes_out(rt.alloc())?);
     Ok(())
 }
 
@@ -153,12 +145,26 @@ fn answered(alloc: Global, message: &[u8]) -> Result<Vec<u8>, Fail> {
     Ok(answer)
 }
 
+fn is_answered(alloc: Global, message: &[u8], wanted: &[u8]) -> Result<bool, Fail> {
+    Ok(answered(alloc, message)?.as_slice() == wanted)
+}
+
 #[test]
 fn repeats_are_answered(rt: HostRuntime) -> Result<(), Fail> {
     let alloc = rt.alloc();
-    let first = answered(alloc, &reversal(alloc, b"0421")?)?;
-    assert!(rt; first.as_slice() == response(alloc, b"0430")?.as_slice());
-    let second = answered(alloc, &approval(alloc, b"0121")?)?;
-    assert!(rt; second.as_slice() == response(alloc, b"0130")?.as_slice());
+    assert!(rt;
+        is_answered(
+            alloc,
+            &reversal(alloc, b"0421")?,
+            &response(alloc, b"0430")?
+        )?
+    );
+    assert!(rt;
+        is_answered(
+            alloc,
+            &approval(alloc, b"0121")?,
+            &response(alloc, b"0130")?
+        )?
+    );
     Ok(())
 }

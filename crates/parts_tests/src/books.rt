@@ -1,4 +1,5 @@
 //! What a card has spent.
+use std::alloc::Global;
 use std::test::Fail;
 use sw_book::{Book, BookError, BookKey, Card};
 
@@ -12,22 +13,88 @@ fn key(first: u8) -> BookKey {
     BookKey { places }
 }
 
+/// A call of a book by a transaction's number, or by the first byte of a key; a reservation has both, and an amount.
+#[derive(Clone, Copy)]
+enum Act {
+    Reserve(u64, u8, u64),
+    Settle(u64),
+    Reverse(u8),
+    Release(u64),
+}
+
+fn shown(answer: Result<(), BookError>) -> &'static str {
+    match answer {
+        Ok(()) => "yes",
+        Err(BookError::OverLimit) => "over the limit",
+        Err(BookError::Duplicate) => "duplicate",
+        Err(BookError::AmountTooLarge) => "too large",
+        Err(_) => "another refusal",
+    }
+}
+
+fn yes(done: bool) -> &'static str {
+    if done { "yes" } else { "no" }
+}
+
+fn reserve(book: &mut Book, id: u64, first: u8, amount: u64) -> &'static str {
+    shown(book.reserve(id, CARD, key(first), amount))
+}
+
+fn settle(book: &mut Book, id: u64) -> &'static str {
+    yes(book.settle(id))
+}
+
+fn reverse(book: &mut Book, first: u8) -> &'static str {
+    yes(book.reverse(&key(first)))
+}
+
+fn release(book: &mut Book, id: u64) -> &'static str {
+    yes(book.release(id))
+}
+
+fn answer(book: &mut Book, act: Act) -> &'static str {
+    match act {
+        Act::Reserve(id, first, amount) => reserve(book, id, first, amount),
+        Act::Settle(id) => settle(book, id),
+        Act::Reverse(first) => reverse(book, first),
+        Act::Release(id) => release(book, id),
+    }
+}
+
+/// Each call with its answer, and what is reserved and used of the card's limit of 10,000 then.
+const CALLS: [(Act, &str, u64, u64); 13] = [
+    (Act::Reserve(1, 1, 9_999), "yes", 9_999, 0),
+    (Act::Settle(1), "yes", 0, 9_999),
+    (Act::Settle(1), "no", 0, 9_999),
+    (Act::Reserve(2, 2, 1), "yes", 1, 9_999),
+    (Act::Settle(2), "yes", 0, 10_000),
+    (Act::Reserve(3, 3, 1), "over the limit", 0, 10_000),
+    (Act::Reverse(2), "yes", 0, 9_999),
+    (Act::Reverse(2), "no", 0, 9_999),
+    (Act::Reserve(3, 3, 1), "yes", 1, 9_999),
+    (Act::Reserve(4, 2, 0), "duplicate", 1, 9_999),
+    (Act::Reserve(4, 4, 1_000_000_000_000), "too large", 1, 9_999),
+    (Act::Release(3), "yes", 0, 9_999),
+    (Act::Release(3), "no", 0, 9_999),
+];
+
+fn book(alloc: Global, limit: u64) -> Result<Book, BookError> {
+    Book::new(alloc, limit)
+}
+
 #[test]
 fn a_card_stays_within_its_limit(rt: HostRuntime) -> Result<(), Fail> {
-    let alloc = rt.alloc();
-    let mut book = Book::new(alloc, 10_000)?;
-    book.reserve(1, CARD, key(1), 9_999)?;
-    assert!(rt; book.reserved(&CARD) == 9_999 && book.settle(1) && !book.settle(1));
-    book.reserve(2, CARD, key(2), 1)?;
-    assert!(rt; book.settle(2) && book.used(&CARD) == 10_000);
-    assert!(rt; matches!(book.reserve(3, CARD, key(3), 1), Err(BookError::OverLimit)));
-    assert!(rt; book.reverse(&key(2)) && !book.reverse(&key(2)));
-    book.reserve(3, CARD, key(3), 1)?;
-    assert!(rt; matches!(book.reserve(4, CARD, key(2), 0), Err(BookError::Duplicate)));
-    let large = book.reserve(4, CARD, key(4), 1_000_000_000_000);
-    assert!(rt; matches!(large, Err(BookError::AmountTooLarge)));
-    assert!(rt; book.release(3) && book.reserved(&CARD) == 0 && book.used(&CARD) == 9_999);
-    let limit = Book::new(alloc, 1_000_000_000_000_000);
-    assert!(rt; matches!(limit, Err(BookError::BadLimit)));
+    let mut book = book(rt.alloc(), 10_000)?;
+    for (number, (act, wanted, reserved, used)) in CALLS.into_iter().enumerate() {
+        assert_eq!(rt; answer(&mut book, act), wanted, "call {number}");
+        let spent = (book.reserved(&CARD), book.used(&CARD));
+        assert!(rt; spent == (reserved, used), "call {number}");
+    }
     Ok(())
+}
+
+#[test]
+fn a_limit_has_fifteen_digits(rt: HostRuntime) {
+    let refused = book(rt.alloc(), 1_000_000_000_000_000);
+    assert!(rt; matches!(refused, Err(BookError::BadLimit)));
 }

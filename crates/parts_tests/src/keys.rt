@@ -1,8 +1,9 @@
 //! Keys that wait.
 use iso_codec::decode;
+use iso_msg::Message;
 use std::alloc::Global;
 use std::test::Fail;
-use sw_mux::{Mux, MuxError, Outcome};
+use sw_mux::{Key, Mux, MuxError, Outcome};
 
 const REQUEST: &[u8] = b"01000020000000800000000042TERM0001";
 
@@ -12,29 +13,54 @@ const OTHER_RESPONSE: &[u8] = b"04100020000000800000000042TERM0001";
 
 const WITHOUT_TERMINAL: &[u8] = b"01000020000000000000000042";
 
+fn message(alloc: Global, bytes: &[u8]) -> Result<Message, Fail> {
+    Ok(decode(alloc, bytes)?)
+}
+
 fn matches(alloc: Global, mux: &mut Mux, bytes: &[u8]) -> Result<bool, Fail> {
-    let message = decode(alloc, bytes)?;
+    let message = message(alloc, bytes)?;
     Ok(matches!(mux.response(message), Outcome::Matched(_, _)))
+}
+
+fn request(mux: &mut Mux, message: &Message) -> Result<Key, MuxError> {
+    mux.request(message, 5)
+}
+
+/// How many requests end at this moment, and how many wait on.
+fn ends(alloc: Global, mux: &mut Mux, now: u64) -> Result<(usize, usize), Fail> {
+    let ended = mux.expire(alloc, now)?.len();
+    Ok((ended, mux.waiting()))
+}
+
+fn waits_behind(mux: &mut Mux, key: &Key) -> usize {
+    mux.withdraw(key);
+    mux.waiting()
 }
 
 #[test]
 fn a_response_finds_its_request_once(rt: HostRuntime) -> Result<(), Fail> {
     let alloc = rt.alloc();
     let mut mux = Mux::new(alloc);
-    let request = decode(alloc, REQUEST)?;
-    let key = mux.request(&request, 5)?;
+    let message = message(alloc, REQUEST)?;
+    let key = request(&mut mux, &message)?;
     assert!(rt; key.bytes.as_slice() == b"01000000000TERM0001000042".as_slice());
-    assert!(rt; matches!(mux.request(&request, 5), Err(MuxError::DuplicateKey)));
-    assert!(rt; !matches(alloc, &mut mux, OTHER_RESPONSE)?);
-    assert!(rt; matches(alloc, &mut mux, RESPONSE)?);
-    assert!(rt; !matches(alloc, &mut mux, RESPONSE)?);
-    let nameless = decode(alloc, WITHOUT_TERMINAL)?;
-    assert!(rt; matches!(mux.request(&nameless, 5), Err(MuxError::NoKey)));
-    mux.request(&request, 5)?;
-    assert!(rt; mux.expire(alloc, 4)?.is_empty() && mux.waiting() == 1);
-    assert!(rt; mux.expire(alloc, 5)?.len() == 1 && mux.waiting() == 0);
-    mux.request(&request, 5)?;
-    mux.withdraw(&key);
-    assert!(rt; mux.waiting() == 0);
+    assert!(rt; matches!(request(&mut mux, &message), Err(MuxError::DuplicateKey)));
+    for (bytes, wanted) in [(OTHER_RESPONSE, false), (RESPONSE, true), (RESPONSE, false)] {
+        assert!(rt; matches(alloc, &mut mux, bytes)? == wanted);
+    }
+    Ok(())
+}
+
+#[test]
+fn what_waits_ends_at_its_time_or_is_withdrawn(rt: HostRuntime) -> Result<(), Fail> {
+    let alloc = rt.alloc();
+    let mut mux = Mux::new(alloc);
+    let nameless = message(alloc, WITHOUT_TERMINAL)?;
+    assert!(rt; matches!(request(&mut mux, &nameless), Err(MuxError::NoKey)));
+    let message = message(alloc, REQUEST)?;
+    let key = request(&mut mux, &message)?;
+    assert!(rt; ends(alloc, &mut mux, 4)? == (0, 1) && ends(alloc, &mut mux, 5)? == (1, 0));
+    request(&mut mux, &message)?;
+    assert!(rt; waits_behind(&mut mux, &key) == 0);
     Ok(())
 }
