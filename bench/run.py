@@ -30,21 +30,23 @@ INSERT INTO meta VALUES (1, 1), (2, 1);
 """
 PUT_ROW = """INSERT INTO tx VALUES (?1, ?2, ?3, ?4, 0, ?5)
     ON CONFLICT (id) DO UPDATE SET phase = ?2, told = ?3, doing = ?4, tries = 0, context = ?5"""
-# The rows of an approved authorization after each of its entries: phase, members, told, doing.
+# The rows of an approved authorization after each of its entries: phase, members, told, doing, and the bytes of its context.
 ROWS = [
-    (0, [], 0, "check"),
-    (0, [], 0, "limits"),
-    (0, ["limits"], 0, "route"),
-    (0, ["limits"], 0, ""),
-    (0, ["limits"], 0, "reverse"),
-    (0, ["limits", "reverse"], 0, "query_alpha"),
-    (0, ["limits", "reverse"], 0, "standin"),
-    (0, ["limits", "reverse"], 0, "forward"),
-    (0, ["limits", "reverse", "forward"], 0, "respond"),
-    (2, ["limits", "reverse", "forward"], 0, ""),
-    (2, ["limits", "reverse", "forward"], 1, ""),
-    (2, ["limits", "reverse", "forward"], 2, ""),
+    (0, [], 0, "check", 94),
+    (0, [], 0, "limits", 94),
+    (0, ["limits"], 0, "route", 94),
+    (0, ["limits"], 0, "", 94),
+    (0, ["limits"], 0, "reverse", 94),
+    (0, ["limits", "reverse"], 0, "query_alpha", 94),
+    (0, ["limits", "reverse"], 0, "standin", 122),
+    (0, ["limits", "reverse"], 0, "forward", 122),
+    (0, ["limits", "reverse", "forward"], 0, "respond", 122),
+    (2, ["limits", "reverse", "forward"], 0, "", 224),
+    (2, ["limits", "reverse", "forward"], 1, "", 224),
+    (2, ["limits", "reverse", "forward"], 2, "", 224),
 ]
+# Each side takes turns, and the best of each counts.
+ROUNDS = 3
 
 
 def requests(count):
@@ -75,15 +77,14 @@ def commits(count, path):
     journal.execute("PRAGMA synchronous = FULL")
     journal.execute("PRAGMA foreign_keys = ON")
     journal.executescript(TABLES)
-    context = bytes(100)
     began = time.monotonic()
     for number in range(1, count + 1):
-        for place, (phase, members, told, doing) in enumerate(ROWS):
+        for place, (phase, members, told, doing, context) in enumerate(ROWS):
             journal.execute("BEGIN")
             if place == 0:
                 journal.execute("DELETE FROM meta WHERE k = 2")
                 journal.execute("INSERT INTO meta VALUES (2, ?)", (number + 1,))
-            journal.execute(PUT_ROW, (number, phase, told, doing, context))
+            journal.execute(PUT_ROW, (number, phase, told, doing, bytes(context)))
             if members:
                 last = len(members) - 1
                 journal.execute("DELETE FROM member WHERE id = ? AND place = ?", (number, last))
@@ -93,18 +94,24 @@ def commits(count, path):
     return time.monotonic() - began
 
 
+def compare(name, program, count, room):
+    """Prints both sides' authorizations a second, over files of the room or in memory."""
+    ours, theirs = [], []
+    for turn in range(ROUNDS):
+        ours.append(run(program, count, room and f"{room}/ours-{turn}.db"))
+        theirs.append(commits(count, f"{room}/theirs-{turn}.db" if room else ":memory:"))
+    own, other = count / min(ours), count / min(theirs)
+    print(f"{name}: {own:9.0f} authorizations a second, C SQLite's commits {other:9.0f}, ratio {own / other:.2f}")
+
+
 def main():
     parser = argparse.ArgumentParser(description="Times cardswitch run.")
     parser.add_argument("--program", default=BUILT)
     parser.add_argument("--requests", type=int, default=2000)
     given = parser.parse_args()
-    count = given.requests
     with tempfile.TemporaryDirectory(dir=TOP) as room:
-        ours = run(given.program, count, f"{room}/ours.db")
-        theirs = commits(count, f"{room}/theirs.db")
-        print(f"file:   {count / ours:9.0f} authorizations a second, C SQLite's commits {count / theirs:9.0f}, ratio {theirs / ours:.2f}")
-        ours, theirs = run(given.program, count), commits(count, ":memory:")
-        print(f"memory: {count / ours:9.0f} authorizations a second, C SQLite's commits {count / theirs:9.0f}, ratio {theirs / ours:.2f}")
+        compare("file", given.program, given.requests, room)
+    compare("memory", given.program, given.requests, None)
     for count in (1_000, 10_000, 100_000):
         took = run(given.program, count)
         most = resource.getrusage(resource.RUSAGE_CHILDREN).ru_maxrss
