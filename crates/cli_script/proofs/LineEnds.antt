@@ -1,4 +1,5 @@
 -- The end of a line, and what follows it.
+-- for: words::line_end, words::split_line
 use Rattle.std.proofs.Common.{◌≡◌, ◌∙◌, ◌≤◌, ◌+◌, ◌-◌, ℕ, Bool, List, [], Option, Some, None, length, take, drop, unwrap_or, ap, arith, sym, cond, nat_lt}
 use Rattle.std.proofs.Math.ListN.{drop_of_length-le}
 use Rattle.std.proofs.lemmas.Bool.Decides.{nat_tests}

@@ -1,4 +1,5 @@
 -- What is made of a part of a line is answered as the part is.
+-- for: whoever reads a line by its parts
 use Rattle.std.proofs.Common.{Result, Ok, Err, ap, refl}
 use Rattle.cli_script.specs.Forms.{meant}
 use Rattle.cli_script.specs.Grammar.{Answers}

@@ -69,7 +69,7 @@ distinct parts h p x is =
     let high = at_most parts p x is in
     omega (arith, low, high)
 
--- the pick that is select_due
+-- the pick that is due
 abbrev pub owed_steps : Option ℕ → List Step
 owed_steps None = []
 owed_steps (Some q) = Pick q ∷ []

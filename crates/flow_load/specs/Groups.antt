@@ -66,7 +66,7 @@ abbrev pub with_groups : List Group → Walks → Walks
 with_groups gs w = record w { groups = gs ++ w.groups }
 
 module _ (parts : List Part) where
-  -- What a step on that line is, where a pick may be select_due to the call before it, and so many
+  -- What a step on that line is, where a pick may be due to the call before it, and so many
   -- participants were seen.
   abbrev pub role_of : ℕ → Option ℕ → ℕ → Step → Result StepRole LoadError
   role_of here None seen (Call p) = if nat_lt p (length parts) && nat_le p seen then Ok (Calls p) else Err (BadTarget here)
@@ -76,7 +76,7 @@ module _ (parts : List Part) where
   role_of here (Some q) seen (Pick p) = if p == q then Ok Picks else Err (BadTarget (here - 1))
   role_of here (Some q) seen Return = Err (BadTarget (here - 1))
 
-  -- what comes of a step: the walk goes on, with a pick select_due and participants seen, or is done
+  -- what comes of a step: the walk goes on, with a pick due and participants seen, or is done
   abbrev pub after : (Option ℕ → ℕ → Result Walk LoadError) → ℕ → ℕ → List Step → StepRole → Result Walk LoadError
   after goes_on at seen xs (Calls p) = goes_on (wanted p (slice_get parts p)) (max seen (p + 1)) >>= λ w. Ok (with_entries (entry_of (slice_get parts p)) w)
   after goes_on at seen xs Picks = goes_on None seen

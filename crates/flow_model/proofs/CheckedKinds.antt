@@ -1,4 +1,5 @@
 -- In a checked flow each entry has its participant's first kind.
+-- for: whoever has a checked flow, in crates above
 use Rattle.std.proofs.Common.{◌≡◌, ℕ, ◌+◌, Bool, true, false, ◌&&◌, codes, ◌⊎◌, inl, inr, ⊎_elim, List, [], ◌∷◌, ◌++◌, Option, Some, None, refl, sym, ap, ◌∙◌, if◌then◌else◌}
 use Rattle.std.specs.List.{flat_map}
 use Rattle.sw_participant.specs.declared.kind.Kind.{Kind}

@@ -1,4 +1,5 @@
 -- Tests and choices taken apart.
+-- for: the lemmas on fields, and iso_codec's
 use Rattle.std.proofs.Common.{◌≡◌, Bool, true, false, cond, ◌&&◌, ◌||◌, ◌⊎◌, inl, inr, Some, Result, Ok, Err, ℕ, eqb, refl}
 use Rattle.std.proofs.lemmas.Bool.{eqb-true, eqb-false}
 

@@ -1,4 +1,5 @@
 -- Tables in which no row is at fault stand for the journal that is read of them.
+-- for: the laws, and whoever reads a view, in crates above
 use Rattle.std.proofs.Common.{◌≡◌, ℕ, ◌+◌, ℤ, pos, negsuc, Bool, true, false, cond, not, ◌&&◌, int_lt, List, [], ◌∷◌, map, Option, Some, None, refl, sym, ap, subst, ◌∙◌, true≢false, IsTrue, inl, inr}
 use Rattle.std.specs.List.{AllByRecursion}
 use Rattle.std.proofs.lemmas.Bool.{and_parts}

@@ -1,4 +1,5 @@
 -- What DELETE FROM tx makes of the tables: the row goes, and its members with it.
+-- for: statements::drop_row
 use Rattle.std.proofs.Common.{arith, length, length-append, ◌≡◌, inl, inr, ℕ, zero, suc, ℤ, List, [], ◌∷◌, ◌++◌, filter, Bool, true, false, not, ◌&&◌, ◌||◌, if◌then◌else◌, Some, None, Ok, refl, sym, ap, subst, ◌∙◌, is_eq}
 use Rattle.std.specs.List.{list_any, cons_option}
 use Rattle.std.proofs.lemmas.Cmp.{tied_itself}

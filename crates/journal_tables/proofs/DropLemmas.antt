@@ -1,4 +1,5 @@
 -- DELETE from a table that no other refers to.
+-- for: statements::drop_meta and the others that delete
 use Rattle.std.proofs.Common.{◌<ℤ◌, ◌≡◌, ◌≢◌, inl, inr, ℕ, ℤ, List, [], ◌∷◌, map, filter, drop, Bool, true, false, cond, not, ◌||◌, Some, None, Ok, IsTrue, Ordering, Less, Equal, Greater, int_cmp, is_eq, slice_get, refl, sym, ap, subst, ◌∙◌, true≢false}
 use Rattle.std.specs.List.{list_any, list_all, AllByRecursion}
 use Rattle.std.specs.List.Sorted.{IsPermutation}

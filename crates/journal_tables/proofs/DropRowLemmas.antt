@@ -1,4 +1,5 @@
 -- DELETE FROM tx WHERE id = ?1 as a whole.
+-- for: statements::drop_row
 use Rattle.std.proofs.Common.{◌<ℤ◌, ◌≡◌, ◌⊎◌, inl, inr, ℕ, ℤ, List, [], ◌∷◌, map, filter, find, unwrap_or, length, Bool, true, false, not, ◌||◌, cond, Some, None, Ok, Err, Result, OnOk, IsTrue, Equal, int_eq, int_cmp, is_eq, refl, sym, ap, subst, ◌∙◌, true≢false, arith}
 use Rattle.std.specs.List.{list_any, AllByRecursion}
 use Rattle.std.specs.List.Sorted.{IsPermutation}

@@ -1,4 +1,5 @@
 -- What the row of tx that is put, over the one that has its id, makes of the table.
+-- for: statements::put_row
 use Rattle.std.proofs.Common.{◌≡◌, ◌≢◌, ◌⊎◌, inl, inr, ℕ, ℤ, pos, negsuc, List, [], ◌∷◌, ◌++◌, map, filter, true, false, Option, Some, None, Ok, Err, Result, OnOk, IsTrue, int_eq, refl, sym, ap, subst, ◌∙◌}
 use Rattle.std.specs.List.{AllByRecursion}
 use Rattle.std.specs.List.Sorted.{IsPermutation}

@@ -1,4 +1,5 @@
 -- What each statement makes of the journal's tables.
+-- for: the statements, one a function
 use Rattle.std.proofs.Common.{◌≡◌, ◌≢◌, ℕ, ℤ, List, [], ◌∷◌, ◌++◌, filter, Bool, true, false, cond, not, ◌&&◌, Some, Ok, Err, Result, OnOk, IsTrue, eqb, is_eq, refl, sym, ap, subst, ◌∙◌, true≢false}
 use Rattle.std.specs.List.{AllByRecursion, cons_option, list_all}
 use Rattle.std.proofs.lemmas.Bool.Decides.{Decides-eqb}

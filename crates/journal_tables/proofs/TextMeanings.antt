@@ -1,4 +1,5 @@
 -- What the texts of the statements mean under the schema.
+-- for: the statements, whose texts these are
 use Rattle.std.proofs.Common.{◌≡◌, ℕ, pos, negsuc, List, [], ◌∷◌, None, Ok, false, refl}
 use Rattle.sqlite.specs.declared.types.Value.TheVariants.{Null, Int}
 use Rattle.sqlite.specs.Term.{Term, lit, col, op2}

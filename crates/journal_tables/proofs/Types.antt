@@ -1,4 +1,5 @@
 -- The journal's tables have numbers where their columns say so; so a view that is read stands.
+-- for: laws::read_tables_stand
 use Rattle.std.proofs.Common.{◌≡◌, ℕ, List, [], ◌∷◌, true, false, not, None, drop, refl, sym, subst, true≢false, codes}
 use Rattle.std.proofs.lemmas.Bool.{and_parts}
 use Rattle.sqlite.specs.declared.types.Value.{Value}

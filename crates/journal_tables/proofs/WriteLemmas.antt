@@ -1,4 +1,5 @@
 -- What one INSERT of one row makes of the tables.
+-- for: statements::add_meta and the others that insert
 use Rattle.std.proofs.Common.{◌≡◌, ◌≢◌, ◌⊎◌, inl, inr, ℕ, ◌/◌, List, [], ◌∷◌, length, slice_get, if◌then◌else◌, MatchBool, Bool, false, Some, None, Ok, Err, Result, sym, ap, subst, ◌∙◌}
 use Rattle.std.specs.List.{AllByRecursion}
 use Rattle.sqlite_value.specs.Order.{Row}

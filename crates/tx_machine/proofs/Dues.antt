@@ -1,4 +1,5 @@
--- The reply that a due call selects_next for is due.
+-- The reply that a due call asks for is due.
+-- for: machine::Machine::apply
 use Rattle.std.proofs.Common.{◌≡◌, ℕ, Bool, true, false, List, [], ◌∷◌, length, refl, if◌then◌else◌}
 use Rattle.std.specs.Prelude.{nat_lt, slice_index, ◌&&◌}
 use Rattle.flow_model.specs.declared.flow.Flow.{Flow}

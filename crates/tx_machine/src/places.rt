@@ -14,7 +14,7 @@ use crate::walk::Frame;
 use flow_asm::{Code, Step, place};
 use std::alloc::AllocError;
 
-/// The spot of the entry whose participant a step calls or selects_next.
+/// The spot of the entry whose participant a step calls or asks to select.
 pub(crate) fn spot(code: &Code, step: usize, participant: usize) -> Spot
     ensures call { (e : PlacedEntry)
         → slice_get (stages code.now) step ≡ Some (AtCall e) → e.participant ≡ participant

@@ -1,4 +1,3 @@
-pub mod Filters
 pub mod Tables
 mod Earlier
 mod Given
