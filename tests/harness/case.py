@@ -15,7 +15,7 @@ SECONDS = 300
 TABLES = os.path.join(os.path.dirname(os.path.abspath(__file__)), "tables.py")
 CRATES = os.path.join(os.path.dirname(TABLES), "..", "..", "crates")
 # The programs for tests that stand on PATH beside cardswitch.
-BESIDE = ("silent_switch", "stopped_switch")
+BESIDE = ("test_switch",)
 
 
 class Exactly:

@@ -479,7 +479,7 @@ def whole_script(random, sizes=(5, 20, 60, 200)):
     return "".join(f"{line}\n" for line in lines).encode()
 
 
-STOPPED = "for cut in power kill refusal; do stopped_switch $cut < script || exit; done"
+STOPPED = "for cut in power kill refusal; do test_switch stopped $cut < script || exit; done"
 
 
 def stopped_case(random, name):

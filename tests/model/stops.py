@@ -1,4 +1,5 @@
-"""What `stopped_switch` prints of a script: runs that are cut while the journal is opened, read or written, and recovered.
+"""What `test_switch stopped` prints of a script: runs that are cut while the journal is opened, read or written, and
+recovered.
 
 A cut comes at a moment: where the journal is opened or read, and before and behind each write. Which call of the disks
 falls on which moment the model does not know: the runs, each cut a call later than the last, have to be those of moments

@@ -1,14 +1,17 @@
-//! Runs a script while its journal's disks are cut at each of their calls in turn, for tests/stops.
+//! The switch under faults that no subcommand lays into it, for tests. Without words it does nothing.
 //!
-//! `stopped_switch power|kill|refusal < SCRIPT` runs the script of `cardswitch step` again and again over
-//! a journal in memory, cut at the first call of the disks, at the second and so on, up to a run that is
+//! `test_switch silent FLOW JOURNAL` answers the requests of its input as `cardswitch run --flow FLOW --journal
+//! JOURNAL` does, but its issuer alpha is silent.
+//!
+//! `test_switch stopped power|kill|refusal < SCRIPT` runs the script of `cardswitch step` again and again over
+//! a journal in memory, cut at the first call of its disks, at the second and so on, up to a run that is
 //! not cut. Behind each run a new plant opens the journal again and recovers what it has unfinished;
 //! as in a new process its stations are new. With the further word `twice` each recovery is cut at
 //! each of its calls too.
 //!
 //! It prints for each run `run CALLS`, the script's lines up to the cut, `found` with the journal that was
 //! opened again, the lines of the recovery, `left` with the journal behind it, and behind the lines of
-//! each plant `calls NAME COUNT` for each of its stations. Without words it does nothing.
+//! each plant `calls NAME COUNT` for each of its stations.
 #![tactic(auto)]
 
 mod disks;
@@ -16,37 +19,49 @@ mod error;
 mod lines;
 mod lives;
 mod runs;
+mod silent;
 
 use cli_io::{Input, read_input};
 use disks::Cut;
-use error::StopError;
+use error::TestError;
 use runs::run_each;
+use silent::run_silent;
 use std::io::Write;
 use std::process::ExitCode;
 
-fn cut_of(word: &str) -> Result<Cut, StopError> {
+fn cut_of(word: &str) -> Result<Cut, TestError> {
     match word {
         "power" => Ok(Cut::Power),
         "kill" => Ok(Cut::Kill),
         "refusal" => Ok(Cut::Refusal),
-        _ => Err(StopError::Words),
+        _ => Err(TestError::Words),
     }
 }
 
-fn run_words(rt: &HostRuntime, words: &[String]) -> Result<(), StopError> {
-    let (cut, is_twice) = match words {
-        [_] => return Ok(()),
-        [_, word] => (cut_of(word.as_str())?, false),
-        [_, word, twice] if twice.as_str() == "twice" => (cut_of(word.as_str())?, true),
-        _ => return Err(StopError::Words),
-    };
+fn run_stopped(rt: &HostRuntime, cut: Cut, is_twice: bool) -> Result<(), TestError> {
     // (behind a refusal the connection goes on, so that no second one can be laid into its disks)
     if is_twice && matches!(cut, Cut::Refusal) {
-        return Err(StopError::Words);
+        return Err(TestError::Words);
     }
     let alloc = rt.alloc();
     let script = read_input(alloc, &mut Input::new(rt.stdin()))?;
     run_each(alloc, script.as_slice(), cut, is_twice, &mut rt.stdout())
+}
+
+fn run_words(rt: &HostRuntime, words: &[String]) -> Result<(), TestError> {
+    match words {
+        [_] => Ok(()),
+        [_, test, flow, journal] if test.as_str() == "silent" => {
+            run_silent(rt, flow.as_str(), journal.as_str())
+        }
+        [_, test, cut] if test.as_str() == "stopped" => {
+            run_stopped(rt, cut_of(cut.as_str())?, false)
+        }
+        [_, test, cut, twice] if test.as_str() == "stopped" && twice.as_str() == "twice" => {
+            run_stopped(rt, cut_of(cut.as_str())?, true)
+        }
+        _ => Err(TestError::Words),
+    }
 }
 
 fn main(rt: HostRuntime) -> ExitCode {
@@ -60,7 +75,7 @@ fn main(rt: HostRuntime) -> ExitCode {
     match run_words(&rt, words.as_slice()) {
         Ok(()) => ExitCode::from(0),
         Err(error) => {
-            let _told = writeln!(rt.stderr(), "stopped_switch: {error}");
+            let _told = writeln!(rt.stderr(), "test_switch: {error}");
             ExitCode::from(1)
         }
     }

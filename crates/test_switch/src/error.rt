@@ -10,9 +10,15 @@ use tx_plant::PlantError;
 
 /// Why the program ends early. That the disks are cut is no such case.
 #[derive(Debug, Drop, Error)]
-pub enum StopError {
-    #[error("expected: stopped_switch power|kill [twice], or stopped_switch refusal")]
+pub enum TestError {
+    #[error("expected: silent FLOW JOURNAL, stopped power|kill [twice], or stopped refusal")]
     Words,
+    #[error("the flow was refused")]
+    Flow,
+    #[error("the journal's file was not opened")]
+    File,
+    #[error("the run was refused")]
+    Run,
     #[error("{0}")]
     Read(#[from] ReadError),
     #[error("{0}")]
@@ -35,8 +41,8 @@ pub enum StopError {
     OutOfMemory(#[from] AllocError),
 }
 
-impl<T: Drop> From<AllocFailed<T>> for StopError {
-    fn from(_error: AllocFailed<T>) -> StopError {
-        StopError::OutOfMemory(AllocError)
+impl<T: Drop> From<AllocFailed<T>> for TestError {
+    fn from(_error: AllocFailed<T>) -> TestError {
+        TestError::OutOfMemory(AllocError)
     }
 }

@@ -2,7 +2,7 @@
 
 ghost use Rattle.tx_plant.specs.Plant.{IsEngine};
 
-use crate::error::StopError;
+use crate::error::TestError;
 use crate::lines::{write_entries, write_view};
 use cli_script::Actions;
 use cli_step::{StepError, run_actions};
@@ -14,27 +14,27 @@ use tx_plant::{Plant, PlantError, Turn};
 use tx_trace::Tracer;
 
 // Whether the store of the journal has refused. Any other cause is an error.
-fn is_store(cause: JournalError) -> Result<bool, StopError> {
+fn is_store(cause: JournalError) -> Result<bool, TestError> {
     match cause {
         JournalError::Store(_) | JournalError::Failed => Ok(true),
-        other => Err(StopError::Journal(other)),
+        other => Err(TestError::Journal(other)),
     }
 }
 
 /// Whether a plant's journal has refused.
-pub fn is_plant_cut(done: Result<(), PlantError>) -> Result<bool, StopError> {
+pub fn is_plant_cut(done: Result<(), PlantError>) -> Result<bool, TestError> {
     match done {
         Ok(()) => Ok(false),
         Err(PlantError::Journal(cause)) => is_store(cause),
-        Err(other) => Err(StopError::Plant(other)),
+        Err(other) => Err(TestError::Plant(other)),
     }
 }
 
-fn is_script_cut(done: Result<(), StepError>) -> Result<bool, StopError> {
+fn is_script_cut(done: Result<(), StepError>) -> Result<bool, TestError> {
     match done {
         Ok(()) => Ok(false),
         Err(StepError::Journal { line: _, cause }) => is_store(cause),
-        Err(other) => Err(StopError::Step(other)),
+        Err(other) => Err(TestError::Step(other)),
     }
 }
 
@@ -44,9 +44,7 @@ pub fn play<S: Alter, W: Write>(
     plant: &mut Plant<S>,
     actions: &mut Actions<'_>,
     out: &mut W,
-) -> Result<bool, StopError>
-    requires { IsEngine plant.old.running.engine }
-{
+) -> Result<bool, TestError> {
     let mut tracer = Tracer::new(alloc, plant.engine());
     is_script_cut(run_actions(alloc, plant, &mut tracer, actions, out))
 }
@@ -57,7 +55,7 @@ pub fn finish<S: Alter, W: Write>(
     alloc: Global,
     plant: &mut Plant<S>,
     out: &mut W,
-) -> Result<bool, StopError>
+) -> Result<bool, TestError>
     requires { IsEngine plant.old.running.engine }
 {
     write_view("found", plant.engine().opened(), out)?;

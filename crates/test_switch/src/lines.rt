@@ -1,6 +1,6 @@
 //! The lines that the program adds to those of a script.
 
-use crate::error::StopError;
+use crate::error::TestError;
 use cli_io::WriteError;
 use std::alloc::Global;
 use std::io::Write;
@@ -48,7 +48,7 @@ pub fn write_entries<W: Write>(
     alloc: Global,
     engine: &Engine,
     out: &mut W,
-) -> Result<(), StopError> {
+) -> Result<(), TestError> {
     let mut tracer = Tracer::new(alloc, engine);
     for _ in engine.history() {
         let Some(line) = tracer.next(alloc, engine)? else {

@@ -1,13 +1,11 @@
 //! The runs of a script, each cut at another call of the disks.
 
-ghost use Rattle.flow_model.specs.Check.{IsChecked};
-
 use crate::disks::{Cut, Machine};
-use crate::error::StopError;
+use crate::error::TestError;
 use crate::lines::{write_calls, write_run};
 use crate::lives::{finish, is_plant_cut, play};
 use cli_script::{Script, open_script};
-use flow_asm::assemble;
+use flow_asm::{Code, assemble};
 use sqlite::Alter;
 use std::alloc::{AllocError, Global};
 use std::io::Write;
@@ -19,64 +17,74 @@ use tx_plant::Plant;
 /// More calls than any run makes.
 const MOST_CALLS: u64 = 100_000;
 
+// Writes the calls of a plant's stations, and gives its journal back.
+fn end<S: Alter + Drop, W: Write>(plant: Plant<S>, out: &mut W) -> Result<Journal<S>, TestError> {
+    let (_, journal, stations) = plant.parts();
+    write_calls(stations.as_slice(), out)?;
+    Ok(journal)
+}
+
 // Makes a plant with a participant by the script for each one of the flow, and runs the script's lines,
 // or recovers. Whether the journal has refused. (It hands no station out, so that contracts know of
 // every participant whose it is.)
-fn live<S: Alter + Drop, W: Write>(
+fn begin<S: Alter + Drop, W: Write>(
     alloc: Global,
-    script: Script<'_>,
+    code: &Code,
+    script: &mut Script<'_>,
     is_first: bool,
     journal: Journal<S>,
     out: &mut W,
-) -> Result<(bool, Journal<S>), StopError>
-    requires { IsChecked script.flow }
-{
-    let Script {
-        flow,
-        sessions,
-        replies: mut replies,
-        actions: mut actions,
-    } = script;
-    let code = assemble(alloc, &flow)?;
+) -> Result<(bool, Journal<S>), TestError> {
     let mut stations = Vec::new(alloc);
     for part in code.participants() {
         let name = part.name.as_str();
-        let participant = Scripted::new(alloc, replies.take(alloc, name));
+        let participant = Scripted::new(alloc, script.replies.take(alloc, name));
         // A checked flow has no bad name, so only memory can be wanting.
         match Station::new(alloc, name, Box::new(alloc, participant)?) {
             Ok(station) => stations.push(station)?,
-            Err(_) => return Err(StopError::OutOfMemory(AllocError)),
+            Err(_) => return Err(TestError::OutOfMemory(AllocError)),
         }
     }
-    let mut plant = match Plant::new(alloc, &code, journal, stations, sessions as usize) {
+    let mut plant = match Plant::new(alloc, code, journal, stations, script.sessions as usize) {
         Ok(plant) => plant,
         Err((cause, journal, _)) => return Ok((is_plant_cut(Err(cause))?, journal)),
     };
     let is_cut = if is_first {
-        play(alloc, &mut plant, &mut actions, out)?
+        play(alloc, &mut plant, &mut script.actions, out)?
     } else {
         finish(alloc, &mut plant, out)?
     };
-    let (_, journal, stations) = plant.parts();
-    write_calls(stations.as_slice(), out)?;
-    Ok((is_cut, journal))
+    Ok((is_cut, end(plant, out)?))
+}
+
+// Runs the script, or recovers, over this journal.
+fn run_over<S: Alter + Drop, W: Write>(
+    alloc: Global,
+    script: &[u8],
+    is_first: bool,
+    journal: Journal<S>,
+    out: &mut W,
+) -> Result<(bool, Journal<S>), TestError> {
+    let Some(mut script) = open_script(alloc, None, script)? else {
+        return Err(TestError::NoLine);
+    };
+    let code = assemble(alloc, &script.flow)?;
+    begin(alloc, &code, &mut script, is_first, journal, out)
 }
 
 // Writes the lines of one plant over the machine's journal. Whether that was cut.
 fn run_part<W: Write>(
     alloc: Global,
-    script: Script<'_>,
+    script: &[u8],
     is_first: bool,
     machine: &mut Machine,
     calls: u64,
     out: &mut W,
-) -> Result<bool, StopError>
-    requires { IsChecked script.flow }
-{
+) -> Result<bool, TestError> {
     let Some(journal) = machine.open(alloc, calls)? else {
         return Ok(true);
     };
-    let (is_cut, journal) = live(alloc, script, is_first, journal, out)?;
+    let (is_cut, journal) = run_over(alloc, script, is_first, journal, out)?;
     machine.stop(alloc, journal, is_cut);
     Ok(is_cut)
 }
@@ -89,20 +97,17 @@ fn run_lines<W: Write>(
     cut: Cut,
     calls: &[u64],
     out: &mut W,
-) -> Result<Vec<bool>, StopError> {
+) -> Result<Vec<bool>, TestError> {
     let mut machine = Machine::new(cut);
     let mut cuts = Vec::new(alloc);
     write_run(calls, out)?;
     for count in calls {
-        let Some(script) = open_script(alloc, None, script)? else {
-            return Err(StopError::NoLine);
-        };
         let is_first = cuts.is_empty();
         let is_cut = run_part(alloc, script, is_first, &mut machine, *count, out)?;
         cuts.push(is_cut)?;
     }
     match cuts.last() {
-        Some(true) => Err(StopError::Lost),
+        Some(true) => Err(TestError::Lost),
         _ => Ok(cuts),
     }
 }
@@ -115,14 +120,14 @@ fn run_each_second<W: Write>(
     cut: Cut,
     first: u64,
     out: &mut W,
-) -> Result<bool, StopError> {
+) -> Result<bool, TestError> {
     for second in 0..MOST_CALLS {
         let cuts = run_lines(alloc, script, cut, &[first, second, u64::MAX], out)?;
         if cuts.get(1) != Some(&true) {
             return Ok(cuts.first() == Some(&true));
         }
     }
-    Err(StopError::Endless)
+    Err(TestError::Endless)
 }
 
 /// Runs the script again and again, each time cut at the next call of the disks, up to a run that is
@@ -133,7 +138,7 @@ pub fn run_each<W: Write>(
     cut: Cut,
     is_twice: bool,
     out: &mut W,
-) -> Result<(), StopError> {
+) -> Result<(), TestError> {
     for first in 0..MOST_CALLS {
         let was_cut = if is_twice {
             run_each_second(alloc, script, cut, first, out)?
@@ -144,5 +149,5 @@ pub fn run_each<W: Write>(
             return Ok(());
         }
     }
-    Err(StopError::Endless)
+    Err(TestError::Endless)
 }

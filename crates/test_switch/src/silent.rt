@@ -1,14 +1,12 @@
-//! A switch whose issuer alpha is silent, for tests: `silent_switch FLOW JOURNAL` answers the requests of its input as
-//! `cardswitch run --flow FLOW --journal JOURNAL` does. Without words it does nothing.
-#![tactic(auto)]
+//! A run of a switch whose issuer alpha is silent.
 
+use crate::error::TestError;
 use cli_flows::open_flow;
 use cli_run::{Issuers, ServeError, Setup, StreamEnd, Told, run};
 use flow_asm::{Code, assemble};
 use sqlite::{Alter, Connection};
 use std::alloc::Global;
 use std::io::{Read, Write};
-use std::process::ExitCode;
 use sw_book::Book;
 use sw_issuers::Issuer;
 use tx_journal::Journal;
@@ -47,22 +45,15 @@ fn serve<S: Alter + Drop, R: Read + Drop, O: Write, E: Write>(
     }
 }
 
-fn run_words(rt: &HostRuntime, words: &[String]) -> Result<(), &'static str> {
-    let [_, flow, journal] = words else {
-        return match words {
-            [_] => Ok(()),
-            _ => Err("expected: silent_switch FLOW JOURNAL"),
-        };
-    };
+/// Answers the requests of the program's input, over the journal in this file.
+pub fn run_silent(rt: &HostRuntime, flow: &str, journal: &str) -> Result<(), TestError> {
     let alloc = rt.alloc();
-    let Ok(flow) = open_flow(alloc, rt, flow.as_str()) else {
-        return Err("the flow was refused");
+    let Ok(flow) = open_flow(alloc, rt, flow) else {
+        return Err(TestError::Flow);
     };
-    let Ok(code) = assemble(alloc, &flow) else {
-        return Err("out of memory");
-    };
-    let Ok(conn) = Connection::open(rt, journal.as_str()) else {
-        return Err("the journal's file was not opened");
+    let code = assemble(alloc, &flow)?;
+    let Ok(conn) = Connection::open(rt, journal) else {
+        return Err(TestError::File);
     };
     let mut told = Told {
         err: &mut rt.stderr(),
@@ -70,23 +61,6 @@ fn run_words(rt: &HostRuntime, words: &[String]) -> Result<(), &'static str> {
     };
     match serve(alloc, &code, conn, rt.stdin(), &mut rt.stdout(), &mut told) {
         Ok(_) => Ok(()),
-        Err(_) => Err("the run was refused"),
-    }
-}
-
-fn main(rt: HostRuntime) -> ExitCode {
-    let words = match std::env::args(&rt) {
-        Ok(words) => words.collect::<Vec<String>>(rt.alloc()),
-        Err(_) => return ExitCode::from(2),
-    };
-    let Ok(words) = words else {
-        return ExitCode::from(4);
-    };
-    match run_words(&rt, words.as_slice()) {
-        Ok(()) => ExitCode::from(0),
-        Err(message) => {
-            let _told = writeln!(rt.stderr(), "silent_switch: {message}");
-            ExitCode::from(1)
-        }
+        Err(_) => Err(TestError::Run),
     }
 }
