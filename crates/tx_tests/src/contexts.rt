@@ -37,22 +37,42 @@ fn is_at(context: &Context, index: usize, name: &str, value: &[u8]) -> bool {
     context.name_at(index) == Some(name) && context.value_at(index) == Some(value)
 }
 
+fn read(alloc: Global, bytes: &[u8]) -> Result<Context, ContextError> {
+    Context::from_bytes(alloc, bytes)
+}
+
+fn copied(context: &Context) -> Result<Context, AllocError> {
+    context.copy()
+}
+
+fn begins(context: &Context, bytes: &[u8]) -> bool {
+    match context.to_bytes() {
+        Ok(spelled) => spelled.starts_with(bytes),
+        Err(_) => false,
+    }
+}
+
 #[test]
 fn bytes_of_contexts(rt: HostRuntime) -> Result<(), Fail> {
-    let alloc = rt.alloc();
-    assert!(rt; spells(&one(alloc)?, ONE) && spells(&one(alloc)?.copy()?, ONE));
-    assert!(rt; spells(&Context::new(alloc), &[0x00]));
-
-    let read = Context::from_bytes(alloc, ONE)?;
-    assert!(rt; read.len() == 1 && is_at(&read, 0, "v", b"A"));
-    assert!(rt; Context::from_bytes(alloc, &[0x00])?.is_empty());
-
-    // The high byte of a length comes first.
-    let mut context = Context::new(alloc);
-    put(&mut context, "v", &zeros(alloc, 258)?)?;
-    let bytes = context.to_bytes()?;
-    assert!(rt; bytes.starts_with(&[0x01, 0x01, 0x76, 0x01, 0x02, 0x00]));
+    let context = one(rt.alloc())?;
+    assert!(rt; spells(&context, ONE) && spells(&copied(&context)?, ONE));
+    assert!(rt; spells(&Context::new(rt.alloc()), &[0x00]));
+    let again = read(rt.alloc(), ONE)?;
+    assert!(rt; again.len() == 1 && is_at(&again, 0, "v", b"A"));
+    assert!(rt; read(rt.alloc(), &[0x00])?.is_empty());
     Ok(())
+}
+
+#[test]
+fn the_high_byte_of_a_length_comes_first(rt: HostRuntime) -> Result<(), Fail> {
+    let mut context = Context::new(rt.alloc());
+    put(&mut context, "v", &zeros(rt.alloc(), 258)?)?;
+    assert!(rt; begins(&context, &[0x01, 0x01, 0x76, 0x01, 0x02, 0x00]));
+    Ok(())
+}
+
+fn is_bytes(bytes: &[u8]) -> bool {
+    Context::is_bytes(bytes)
 }
 
 #[test]
@@ -66,19 +86,22 @@ fn other_bytes_are_refused(rt: HostRuntime) {
         &[0x02, 0x01, 0x76, 0x00, 0x00, 0x01, 0x76, 0x00, 0x00],
     ];
     for bytes in rows {
-        let read = Context::from_bytes(rt.alloc(), bytes);
-        assert!(rt; matches!(read, Err(ContextError::BadBytes)));
-        assert!(rt; !Context::is_bytes(bytes));
+        let refused = matches!(read(rt.alloc(), bytes), Err(ContextError::BadBytes));
+        assert!(rt; refused && !is_bytes(bytes));
     }
-    assert!(rt; Context::is_bytes(ONE));
+    assert!(rt; is_bytes(ONE));
 }
 
 fn fill(context: &mut Context, alloc: Global, count: usize) -> Result<(), ContextError> {
     for number in 0..count {
         let name = format!(in alloc; "n{number}")?;
-        context.put(name.as_str(), b"")?;
+        put(context, name.as_str(), b"")?;
     }
     Ok(())
+}
+
+fn goes_round(alloc: Global, context: &Context) -> Result<Context, ContextError> {
+    read(alloc, &context.to_bytes()?)
 }
 
 #[test]
@@ -88,9 +111,9 @@ fn the_65th_name_is_refused(rt: HostRuntime) -> Result<(), Fail> {
     assert!(rt; put(&mut context, "n64", b"") == Err(ContextError::Full));
     assert!(rt; put(&mut context, "n0", b"again").is_ok() && has(&context, "n0", b"again"));
 
-    let read = Context::from_bytes(rt.alloc(), &context.to_bytes()?)?;
+    let again = goes_round(rt.alloc(), &context)?;
     assert!(rt;
-        read.len() == 64 && is_at(&read, 0, "n0", b"again") && is_at(&read, 63, "n63", b"")
+        again.len() == 64 && is_at(&again, 0, "n0", b"again") && is_at(&again, 63, "n63", b"")
     );
     Ok(())
 }

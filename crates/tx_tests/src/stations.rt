@@ -1,9 +1,9 @@
 //! Stations: that calls succeed where there is memory, and that the call that is named is the one made.
 
-ghost use Rattle.std.specs.Prelude.{◌≡◌, ◌∷◌, [], OnErr, None};
+ghost use Rattle.std.specs.Prelude.{◌≡◌, [], OnErr};
 
 use crate::stamp::Stamp;
-use std::alloc::Global;
+use std::alloc::{AllocError, Global};
 use std::test::Fail;
 use sw_context::{Context, ContextError};
 use sw_participant::{
@@ -11,7 +11,7 @@ use sw_participant::{
     call_station,
 };
 
-/// Answers alike at all times, and puts the name of each call under `call`.
+/// Answers alike at all times, and puts the name of each call under `call`. It promises nothing.
 #[derive(Drop)]
 struct Scribe {
     alloc: Global,
@@ -28,19 +28,19 @@ fn note(context: &mut Context, call: &str) -> Result<(), NoMemory>
 }
 
 impl Participant for Scribe {
-    ghost object = { λ scribe. scribe.answer ∷ [] };
+    ghost object = { λ _. [] };
 
-    ghost prepares = { λ id o x byte p y. (p ≡ o) × (o ≡ byte ∷ []) };
+    ghost prepares = { λ id o x byte p y. Unit {0} };
 
-    ghost prepares_for_abort = { λ id o x byte p y. (p ≡ o) × (o ≡ byte ∷ []) };
+    ghost prepares_for_abort = { λ id o x byte p y. Unit {0} };
 
-    ghost selects = { λ id o x text p. p ≡ o };
+    ghost selects = { λ id o x text p. Unit {0} };
 
-    ghost commits = { λ id recovering o x advice p y. p ≡ o };
+    ghost commits = { λ id recovering o x advice p y. Unit {0} };
 
-    ghost aborts = { λ id recovering o x advice p y. p ≡ o };
+    ghost aborts = { λ id recovering o x advice p y. Unit {0} };
 
-    ghost recovers = { λ id commit o x p y. p ≡ o };
+    ghost recovers = { λ id commit o x p y. Unit {0} };
 
     fn prepare(&mut self, id: u64, context: &mut Context) -> Result<u8, NoMemory> {
         note(context, "prepare")?;
@@ -102,6 +102,7 @@ fn has(context: &Context, name: &str, value: &str) -> bool {
 fn shown(reply: &Reply) -> &str {
     match reply {
         Reply::Answer(0x41) => "answer",
+        Reply::Answer(0x01) => "prepared",
         Reply::Answer(_) => "another answer",
         Reply::Chosen(text) => text.as_str(),
         Reply::Told(Some(advice)) if advice.as_slice() == b"AB".as_slice() => "advice",
@@ -132,32 +133,52 @@ const CALLS: [(Act, &str, &str); 9] = [
     ),
 ];
 
+fn new_scribe(alloc: Global) -> Scribe {
+    Scribe {
+        alloc,
+        answer: 0x41,
+    }
+}
+
+/// Whether the station of the number gives this reply.
+fn replies(stations: &mut Vec<Station>, call: &Call, context: &mut Context, wanted: &str) -> bool {
+    if usize::from(call.participant) >= stations.len() {
+        return false;
+    }
+    match call_station(stations, call, context) {
+        Ok(reply) => shown(&reply) == wanted,
+        Err(_) => false,
+    }
+}
+
+fn calls(stations: &[Station]) -> u64 {
+    let mut made: u64 = 0;
+    for station in stations {
+        made = made.saturating_add(station.calls());
+    }
+    made
+}
+
 #[test]
 fn each_call_is_the_one_that_is_named(rt: HostRuntime) -> Result<(), Fail> {
     let alloc = rt.alloc();
-    let scribe = Scribe {
-        alloc,
-        answer: 0x41,
-    };
-    let mut station = Station::new(alloc, "scribe", Box::new(alloc, scribe)?)?;
-    let mut context = Context::new(rt.alloc());
+    let station = Station::new(alloc, "scribe", Box::new(alloc, new_scribe(alloc))?)?;
+    let mut stations = Vec::new(alloc);
+    stations.push(station)?;
+    let mut context = Context::new(alloc);
     for (act, reply, noted) in CALLS {
-        let told = station.call(&call(0, act), &mut context)?;
-        assert!(rt;
-            shown(&told) == reply && has(&context, "call", noted),
-            "{noted}"
-        );
+        let is_told = replies(&mut stations, &call(0, act), &mut context, reply);
+        assert!(rt; is_told && has(&context, "call", noted), "{noted}");
     }
-    assert!(rt; station.calls() == 9 && station.name() == "scribe");
+    assert_eq!(rt; calls(&stations), 9);
     Ok(())
 }
 
-fn told(stations: &mut Vec<Station>, call: &Call, context: &mut Context) -> Option<Reply> {
-    if usize::from(call.participant) >= stations.len() {
-        return None;
-    }
-    call_station(stations, call, context).ok()
-}
+/// The stamp's calls, and whether the stamp stands then.
+const STAMPED: [(Act, &str, bool); 2] = [
+    (Act::Prepare, "prepared", true),
+    (Act::Abort { recovering: false }, "told", false),
+];
 
 #[test]
 fn the_station_of_the_number_is_called(rt: HostRuntime) -> Result<(), Fail> {
@@ -166,50 +187,49 @@ fn the_station_of_the_number_is_called(rt: HostRuntime) -> Result<(), Fail> {
         value: Vec::from_slice(alloc, b"A")?,
     };
     let mut stations = Vec::new(alloc);
-    let scribe = Scribe {
-        alloc,
-        answer: 0x41,
-    };
-    stations.push(Station::new(alloc, "scribe", Box::new(alloc, scribe)?)?)?;
+    stations.push(Station::new(alloc, "scribe", Box::new(alloc, new_scribe(alloc))?)?)?;
     stations.push(Station::new(alloc, "stamp", Box::new(alloc, stamp)?)?)?;
     let mut context = Context::new(alloc);
-    let reply = told(&mut stations, &call(1, Act::Prepare), &mut context);
-    assert!(rt; matches!(reply, Some(Reply::Answer(0x01))) && has(&context, "stamp", "A"));
-    let abort = Act::Abort { recovering: false };
-    let reply = told(&mut stations, &call(1, abort), &mut context);
-    assert!(rt; matches!(reply, Some(Reply::Told(None))) && context.is_empty());
-    let reply = told(&mut stations, &call(0, Act::Prepare), &mut context);
-    assert!(rt; matches!(reply, Some(Reply::Answer(0x41))) && has(&context, "call", "prepare"));
-    let mut made: u64 = 0;
-    for station in &stations {
-        made = made.saturating_add(station.calls());
+    for (act, reply, stands) in STAMPED {
+        let is_told = replies(&mut stations, &call(1, act), &mut context, reply);
+        assert!(rt; is_told && has(&context, "stamp", "A") == stands, "{reply}");
     }
-    assert_eq!(rt; made, 3);
+    assert!(rt; context.is_empty() && calls(&stations) == 2);
     Ok(())
 }
 
 #[test]
 fn a_bad_name_is_refused(rt: HostRuntime) -> Result<(), Fail> {
-    let scribe = Scribe {
-        alloc: rt.alloc(),
-        answer: 0,
-    };
-    let refused = Station::new(rt.alloc(), "a b", Box::new(rt.alloc(), scribe)?);
+    let alloc = rt.alloc();
+    let refused = Station::new(alloc, "a b", Box::new(alloc, new_scribe(alloc))?);
     assert!(rt; matches!(refused, Err(StationError::BadName)));
+    let station = Station::new(alloc, "scribe", Box::new(alloc, new_scribe(alloc))?)?;
+    assert_eq!(rt; station.name(), "scribe");
     Ok(())
+}
+
+fn text_comes_back(alloc: Global) -> Result<bool, AllocError> {
+    let text = Text::from_str(alloc, "check")?;
+    Ok(text.copy()?.as_str() == "check" && text.into_string().as_str() == "check")
+}
+
+fn bytes_come_back(alloc: Global) -> Result<bool, AllocError> {
+    let bytes = Bytes::new(Vec::from_slice(alloc, &[1, 2])?);
+    Ok(
+        bytes.copy()?.as_slice() == [1, 2].as_slice()
+            && bytes.into_vec().as_slice() == [1, 2].as_slice(),
+    )
+}
+
+fn items_come_back(alloc: Global) -> Result<bool, AllocError> {
+    let items = Sequence::new(Vec::from_slice(alloc, &[3u16])?);
+    Ok(items.copy()?.as_slice() == [3].as_slice() && items.into_vec().len() == 1)
 }
 
 #[test]
 fn owners_are_given_back(rt: HostRuntime) -> Result<(), Fail> {
-    let alloc = rt.alloc();
-    let text = Text::from_str(alloc, "check")?;
-    assert_eq!(rt; text.copy()?.as_str(), "check");
-    assert_eq!(rt; text.into_string().as_str(), "check");
-    let bytes = Bytes::new(Vec::from_slice(alloc, &[1, 2])?);
-    assert_eq!(rt; bytes.copy()?.as_slice(), [1, 2].as_slice());
-    assert_eq!(rt; bytes.into_vec().as_slice(), [1, 2].as_slice());
-    let items = Sequence::new(Vec::from_slice(alloc, &[3u16])?);
-    assert_eq!(rt; items.copy()?.as_slice(), [3].as_slice());
-    assert_eq!(rt; items.into_vec().len(), 1);
+    assert!(rt; text_comes_back(rt.alloc())?);
+    assert!(rt; bytes_come_back(rt.alloc())?);
+    assert!(rt; items_come_back(rt.alloc())?);
     Ok(())
 }
