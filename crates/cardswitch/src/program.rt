@@ -70,6 +70,7 @@ fn step<R: Read + Drop, O: Write>(
     Ok(run_script(alloc, flow, script.as_slice(), out)?)
 }
 
+// `asm` with this program's errors (apart, so that the proof of `run_subcommand` has its clauses alone).
 fn write_image<R: Read + Drop, O: Write>(
     alloc: Global,
     input: R,
@@ -83,6 +84,7 @@ fn write_image<R: Read + Drop, O: Write>(
     Ok(asm(alloc, input, out)?)
 }
 
+// The same of `list`.
 fn write_flow<R: Read + Drop, O: Write>(
     alloc: Global,
     input: R,

@@ -147,7 +147,7 @@ pub struct Setup {
     pub sessions: usize,
 }
 
-// A run over the stations that were made.
+// A run over the stations that were made (apart, so that its proof does not carry their making).
 fn run_over<S: Alter + Drop, L: Link, R: Read + Drop, O: Write, E: Write>(
     alloc: Global,
     code: &Code,
