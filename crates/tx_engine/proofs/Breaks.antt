@@ -14,7 +14,8 @@ use Rattle.tx_engine.specs.World.{World}
 use Rattle.sw_base.specs.Refusals.{or_else, refused_if}
 use Rattle.tx_engine.specs.declared.error.EngineError.TheVariants.{NoParticipant}
 use Rattle.tx_engine.specs.Calls.{MayBreak, is_participant, offer_refusal}
-use Rattle.tx_engine.specs.Kept.{AreBreaks, Kept, Running, flag, flag_in, past_of, world}
+use Rattle.tx_slots.specs.Slots.{flag, flag_in}
+use Rattle.tx_engine.specs.Kept.{AreBreaks, Kept, Running, past_of, world}
 use Rattle.tx_engine.proofs.Keeps.{Steps, slot_keep, length_set, get_set_other}
 use Rattle.tx_engine.proofs.Offers.{entry_room}
 

@@ -25,11 +25,12 @@ use Rattle.tx_history.proofs.Rows.{as_row, row_unended}
 use Rattle.tx_history.proofs.Sessions.{holds_recovered}
 use Rattle.tx_engine.specs.declared.error.EngineError.{EngineError}
 use Rattle.tx_engine.specs.declared.error.EngineError.TheVariants.{InUse, NotWritten, OutOfMemory}
-use Rattle.tx_engine.specs.declared.slot.Slot.{Slot}
-use Rattle.tx_engine.specs.declared.slot.Slot.TheVariants.{Free, Holding}
+use Rattle.tx_slots.specs.declared.slot.Slot.{Slot}
+use Rattle.tx_slots.specs.declared.slot.Slot.TheVariants.{Free, Holding}
 use Rattle.tx_engine.specs.World.{World}
 use Rattle.tx_engine.specs.Cuts.{breaks_of, cut_refusal, cut_world, is_in_use}
-use Rattle.tx_engine.specs.Kept.{Kept, Running, SlotIs, flag, going_on, is_holding, past_of, world}
+use Rattle.tx_slots.specs.Slots.{flag, is_holding}
+use Rattle.tx_engine.specs.Kept.{Kept, Running, SlotIs, going_on, past_of, world}
 use Rattle.tx_engine.proofs.Keeps.{hold_holds, holds_is}
 
 -- which slots are in use

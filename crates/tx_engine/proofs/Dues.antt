@@ -7,12 +7,13 @@ use Rattle.tx_machine.specs.Contract.{tx_state}
 use Rattle.tx_machine.specs.Due.{due_of, participant_of}
 use Rattle.tx_history.specs.declared.event.Event.{Event}
 use Rattle.tx_history.specs.History.{Start, serves, state_of, holds, has_break, on_break, is_restored}
-use Rattle.tx_engine.specs.declared.next.Next.{Next}
-use Rattle.tx_engine.specs.declared.slot.Slot.{Slot}
-use Rattle.tx_engine.specs.declared.slot.Slot.TheVariants.{Free, Holding}
+use Rattle.tx_slots.specs.declared.next.Next.{Next}
+use Rattle.tx_slots.specs.declared.slot.Slot.{Slot}
+use Rattle.tx_slots.specs.declared.slot.Slot.TheVariants.{Free, Holding}
 use Rattle.tx_engine.specs.World.{World}
 use Rattle.tx_engine.specs.Calls.{answers, next_of, next_refusal}
-use Rattle.tx_engine.specs.Kept.{SlotIs, slot_next, flag, flag_of}
+use Rattle.tx_slots.specs.Slots.{slot_next, flag, flag_of}
+use Rattle.tx_engine.specs.Kept.{SlotIs}
 use Rattle.std.proofs.Common.{subst, [], ◌∷◌, ap, true, false, sym}
 use Rattle.tx_machine.specs.Due.{places_of}
 use Rattle.std.specs.Prelude.{nat_lt, not, ◌&&◌, ◌==◌}
@@ -38,12 +39,14 @@ use Rattle.tx_machine.specs.Table.{TxState}
 use Rattle.tx_machine.proofs.Dues.{reply_due}
 use Rattle.tx_history.specs.History.{restores}
 use Rattle.tx_engine.specs.declared.error.EngineError.TheVariants.{NoSession, NotDue, HistoryFull}
-use Rattle.tx_engine.specs.declared.next.ReplyKind.{ReplyKind}
-use Rattle.tx_engine.specs.declared.next.ReplyKind.TheVariants as kind
-use Rattle.tx_engine.specs.declared.slot.Hold.{Hold}
-use Rattle.tx_engine.specs.Calls.{rest_of, no_session, asks_for, asked, call_with, next_by, reply_refusal, is_full}
+use Rattle.tx_slots.specs.declared.next.ReplyKind.{ReplyKind}
+use Rattle.tx_slots.specs.declared.next.ReplyKind.TheVariants as kind
+use Rattle.tx_slots.specs.declared.slot.Hold.{Hold}
+use Rattle.tx_slots.specs.DueCalls.{asks_for, asked, call_with, next_by}
+use Rattle.tx_engine.specs.Calls.{rest_of, no_session, reply_refusal, is_full}
 use Rattle.tx_engine.specs.Items.{IsAsked, Allows}
-use Rattle.tx_engine.specs.Kept.{HoldIs, restoring}
+use Rattle.tx_slots.specs.Slots.{restoring}
+use Rattle.tx_engine.specs.Kept.{HoldIs}
 use Rattle.tx_engine.proofs.Keeps.{holds_is, hold_holds, state_served}
 
 pub flag_of_is : (v : Start) (past : List Event) (breaks : List Bool) → ((p : ℕ) → flag breaks p ≡ has_break v past p) → (o : Option ℕ) → flag_of breaks o ≡ on_break v past o

@@ -23,11 +23,14 @@ use Rattle.tx_history.proofs.Sessions.{serves_who, served_once, recovered_first,
 use Rattle.tx_history.proofs.SessionStates.{held_given, held_other}
 use Rattle.tx_history.proofs.RecoveryOrder.{recovering_next}
 use Rattle.tx_history.proofs.RecoveredSessions.{none_taken, next_one, next_reopened, session_goes_on, session_goes_to_next, last_of_next}
-use Rattle.tx_engine.specs.declared.slot.Slot.{Slot}
-use Rattle.tx_engine.specs.declared.slot.Slot.TheVariants.{Free, Holding}
+use Rattle.tx_slots.specs.declared.slot.Slot.{Slot}
+use Rattle.tx_slots.specs.declared.slot.Slot.TheVariants.{Free, Holding}
 use Rattle.tx_engine.specs.World.{World}
-use Rattle.tx_engine.specs.Items.{Gives, item_change, advice_of}
-use Rattle.tx_engine.specs.Kept.{Kept, Running, SlotIs, slot_of, is_holding, past_of, world, AreKnown, next_row, IsSlotOfRow, IsSlotAfter, SlotBy, going_on}
+use Rattle.tx_slots.specs.Rows.{item_change}
+use Rattle.tx_engine.specs.Items.{Gives, advice_of}
+use Rattle.tx_slots.specs.Slots.{slot_of, is_holding}
+use Rattle.tx_slots.specs.Rows.{AreKnown, next_row, IsSlotOfRow, IsSlotAfter, SlotBy}
+use Rattle.tx_engine.specs.Kept.{Kept, Running, SlotIs, past_of, world, going_on}
 use Rattle.tx_engine.proofs.Keeps.{Steps, kept_step, slot_keep, slot_made, set_slots, state_served, holds_is, length_past, same_yes, same_no, in_turn}
 use Rattle.tx_engine.proofs.Turns.{Turn, IsGiven, turn, next_is, shelf_lacks}
 

@@ -9,13 +9,14 @@ use Rattle.sw_context.specs.Spelling.{bytes_of}
 use Rattle.tx_machine.specs.Contract.{tx_state}
 use Rattle.tx_history.specs.History.{holds, is_restored, serves, state_of}
 use Rattle.tx_engine.specs.declared.error.EngineError.TheVariants.{OutOfMemory}
-use Rattle.tx_engine.specs.declared.next.At.{At}
-use Rattle.tx_engine.specs.declared.slot.Hold.{Hold}
-use Rattle.tx_engine.specs.declared.slot.Slot.{Slot}
-use Rattle.tx_engine.specs.declared.slot.Slot.TheVariants.{Free, Holding}
+use Rattle.tx_slots.specs.declared.next.At.{At}
+use Rattle.tx_slots.specs.declared.slot.Hold.{Hold}
+use Rattle.tx_slots.specs.declared.slot.Slot.{Slot}
+use Rattle.tx_slots.specs.declared.slot.Slot.TheVariants.{Free, Holding}
 use Rattle.tx_engine.specs.World.{World}
 use Rattle.tx_engine.specs.Calls.{at_in, at_of, held_id, next_refusal, saved_of}
-use Rattle.tx_engine.specs.Kept.{HoldIs, SlotIs, slot_at}
+use Rattle.tx_slots.specs.Slots.{slot_at}
+use Rattle.tx_engine.specs.Kept.{HoldIs, SlotIs}
 use Rattle.tx_engine.proofs.Keeps.{hold_holds, holds_is, state_served}
 
 pub at_slot_is : (w : World) (restored : Bool) (s : ℕ) (x : Slot) → restored ≡ is_restored w.past → SlotIs w.flow w.start w.past s x → slot_at w.flow w.start.view.next_id restored x ≡ at_in w (held_id w s)

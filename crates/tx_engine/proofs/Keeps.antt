@@ -20,10 +20,11 @@ use Rattle.tx_history.specs.Journal.{IsLawful, IsAccepted, to_close, closes, cha
 use Rattle.tx_history.specs.Views.{AreSessions, AreSpelled}
 use Rattle.tx_history.specs.Held.{session_state, state_of_served}
 use Rattle.tx_history.proofs.Changes.{leads}
-use Rattle.tx_engine.specs.declared.slot.Slot.{Slot}
-use Rattle.tx_engine.specs.declared.slot.Slot.TheVariants.{Free, Holding}
-use Rattle.tx_engine.specs.declared.slot.Hold.{Hold}
-use Rattle.tx_engine.specs.Kept.{Kept, Running, HoldIs, SlotIs, IsSoundSlot, going_on, slot_of, AreBreaks, past_of, world}
+use Rattle.tx_slots.specs.declared.slot.Slot.{Slot}
+use Rattle.tx_slots.specs.declared.slot.Slot.TheVariants.{Free, Holding}
+use Rattle.tx_slots.specs.declared.slot.Hold.{Hold}
+use Rattle.tx_slots.specs.Slots.{IsSoundSlot, slot_of}
+use Rattle.tx_engine.specs.Kept.{Kept, Running, HoldIs, SlotIs, going_on, AreBreaks, past_of, world}
 
 pub past_snoc : (es : List Entry) (e : Entry) → past_of (es ++ e ∷ []) ≡ e.event ∷ past_of es
 past_snoc es e = rw (map-append (λ (i : Entry). i.event) es (e ∷ []), reverse-append) refl

@@ -12,13 +12,14 @@ use Rattle.tx_history.specs.declared.event.Event.TheVariants.{LetGo}
 use Rattle.tx_history.specs.declared.event.Entry.{Entry}
 use Rattle.tx_history.specs.History.{Start, serves, state_of, holds, is_held}
 use Rattle.tx_history.specs.Journal.{no_change}
-use Rattle.tx_engine.specs.declared.slot.Slot.{Slot}
-use Rattle.tx_engine.specs.declared.slot.Slot.TheVariants.{Free, Holding}
+use Rattle.tx_slots.specs.declared.slot.Slot.{Slot}
+use Rattle.tx_slots.specs.declared.slot.Slot.TheVariants.{Free, Holding}
 use Rattle.tx_engine.specs.declared.error.EngineError.{EngineError}
 use Rattle.tx_engine.specs.declared.error.EngineError.TheVariants.{NoSession, NotHeld}
 use Rattle.tx_engine.specs.World.{World}
 use Rattle.tx_engine.specs.Calls.{let_go_refusal, no_session, offer_refusal}
-use Rattle.tx_engine.specs.Kept.{AreBreaks, Kept, Running, SlotIs, past_of, slot_held, slot_let_go, world}
+use Rattle.tx_slots.specs.Slots.{slot_held, slot_let_go}
+use Rattle.tx_engine.specs.Kept.{AreBreaks, Kept, Running, SlotIs, past_of, world}
 use Rattle.tx_engine.proofs.Keeps.{Steps, slot_keep, holds_is, hold_holds, state_served, set_slots, slot_there, same_yes, same_no}
 use Rattle.tx_engine.proofs.Breaks.{none_of}
 use Rattle.tx_engine.proofs.Dues.{flag_of_is}

@@ -7,8 +7,6 @@ mod LetGo
 mod Acks
 mod FilledMaps
 mod Closings
-mod Lists
-mod Undone
 pub mod Turns
 pub mod Gives
 mod Opens

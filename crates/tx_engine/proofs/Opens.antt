@@ -22,10 +22,12 @@ use Rattle.tx_history.proofs.NextStarts.{opened_lawful}
 use Rattle.tx_history.proofs.RecoveredSessions.{next_reopened}
 use Rattle.tx_history.proofs.RecoveryOrder.{fresh_items, filter_above}
 use Rattle.tx_history.proofs.Sessions.{recovering_below}
-use Rattle.tx_engine.specs.declared.slot.Slot.{Slot}
-use Rattle.tx_engine.specs.declared.slot.Slot.TheVariants.{Free}
+use Rattle.tx_slots.specs.declared.slot.Slot.{Slot}
+use Rattle.tx_slots.specs.declared.slot.Slot.TheVariants.{Free}
 use Rattle.tx_engine.specs.Opening.{first_start, opened_world}
-use Rattle.tx_engine.specs.Kept.{IsNextSlot, Kept, Running, SlotIs, flag, going_on, is_holding, next_row, past_of, world}
+use Rattle.tx_slots.specs.Rows.{IsNextSlot, next_row}
+use Rattle.tx_slots.specs.Slots.{flag, is_holding}
+use Rattle.tx_engine.specs.Kept.{Kept, Running, SlotIs, going_on, past_of, world}
 use Rattle.tx_engine.proofs.Gives.{next_found, next_going, next_made, row_holding}
 use Rattle.tx_engine.proofs.Keeps.{past_snoc, set_slots, length_set}
 use Rattle.tx_engine.proofs.Turns.{next_is}

@@ -15,12 +15,13 @@ use Rattle.tx_history.specs.Journal.{no_change}
 use Rattle.tx_history.specs.Views.{IsOrdered}
 use Rattle.tx_history.proofs.OwnItems.{is_yes, is_other}
 use Rattle.tx_history.proofs.Sessions.{served_once}
-use Rattle.tx_engine.specs.declared.slot.Slot.{Slot}
-use Rattle.tx_engine.specs.declared.slot.Slot.TheVariants.{Free, Holding}
-use Rattle.tx_engine.specs.declared.slot.Hold.{Hold}
-use Rattle.tx_engine.specs.declared.next.ReplyKind.TheVariants as kind
+use Rattle.tx_slots.specs.declared.slot.Slot.{Slot}
+use Rattle.tx_slots.specs.declared.slot.Slot.TheVariants.{Free, Holding}
+use Rattle.tx_slots.specs.declared.slot.Hold.{Hold}
+use Rattle.tx_slots.specs.declared.next.ReplyKind.TheVariants as kind
 use Rattle.tx_engine.specs.Items.{Allows}
-use Rattle.tx_engine.specs.Kept.{Kept, Running, SlotIs, touched, past_of, world}
+use Rattle.tx_slots.specs.Slots.{touched}
+use Rattle.tx_engine.specs.Kept.{Kept, Running, SlotIs, past_of, world}
 use Rattle.tx_engine.proofs.Keeps.{Steps, slot_keep, set_slots, state_served, hold_holds, length_past, same_yes, same_no}
 
 touched_is : (f : Flow) (v : Start) (past : List Event) (s : ℕ) (c : List ℕ) (x : Slot) (number : ℕ) → number ≡ length past + 1 → SlotIs f v past s x → SlotIs f v (Recovered s c ∷ past) s (touched x number)

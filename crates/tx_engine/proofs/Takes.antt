@@ -21,11 +21,12 @@ use Rattle.tx_history.proofs.OwnItems.{serves_below}
 use Rattle.tx_history.proofs.SoundJournals.{own_none}
 use Rattle.tx_history.proofs.SessionStates.{held_taken}
 use Rattle.tx_engine.specs.declared.error.EngineError.TheVariants.{Busy, Empty, Recovering, IdsSpent, NoSession, HistoryFull}
-use Rattle.tx_engine.specs.declared.slot.Slot.{Slot}
-use Rattle.tx_engine.specs.declared.slot.Slot.TheVariants.{Free, Holding}
+use Rattle.tx_slots.specs.declared.slot.Slot.{Slot}
+use Rattle.tx_slots.specs.declared.slot.Slot.TheVariants.{Free, Holding}
 use Rattle.tx_engine.specs.World.{World}
 use Rattle.tx_engine.specs.Calls.{is_full, no_session, waits, take_refusal, IsFirst}
-use Rattle.tx_engine.specs.Kept.{Kept, Running, SlotIs, slot_of, past_of, world, is_holding}
+use Rattle.tx_slots.specs.Slots.{slot_of, is_holding}
+use Rattle.tx_engine.specs.Kept.{Kept, Running, SlotIs, past_of, world}
 use Rattle.tx_engine.proofs.Keeps.{Steps, slot_keep, slot_made, set_slots, slot_there, state_served, holds_is, hold_holds, length_past, same_yes, same_no}
 
 get_drop : {A : Type 0} (n : ℕ) (xs : List A) → slice_get (drop n xs) 0 ≡ slice_get xs n

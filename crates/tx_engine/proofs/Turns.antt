@@ -18,7 +18,7 @@ use Rattle.tx_history.proofs.GivenItems.{Gave, gave_answered, gave_chose, gave_t
 use Rattle.tx_history.proofs.SoundJournals.{look_gather}
 use Rattle.tx_history.proofs.RecoveryOrder.{behind, fresh_items}
 use Rattle.tx_engine.specs.Items.{IsReply, advice_of}
-use Rattle.tx_engine.specs.Kept.{next_row}
+use Rattle.tx_slots.specs.Rows.{next_row}
 
 pub record Turn (f : Flow) (v : Start) (past : List Event) (e : Event) (s id : ℕ) (x : Item) (advice : Option ((ℕ × ℕ) × Option (List ℕ))) : Type 0 where
   pub accepted : IsAccepted f v past e

@@ -15,12 +15,13 @@ use Rattle.tx_history.proofs.OwnItems.{found}
 use Rattle.tx_history.proofs.RecoveryOrder.{later_none}
 use Rattle.tx_history.proofs.RisingKeys.{look_within}
 use Rattle.tx_history.proofs.Sessions.{holds_recovered}
-use Rattle.tx_engine.specs.declared.slot.Hold.{Hold}
-use Rattle.tx_engine.specs.declared.slot.Slot.{Slot}
-use Rattle.tx_engine.specs.declared.slot.Slot.TheVariants.{Free, Holding}
+use Rattle.tx_slots.specs.declared.slot.Hold.{Hold}
+use Rattle.tx_slots.specs.declared.slot.Slot.{Slot}
+use Rattle.tx_slots.specs.declared.slot.Slot.TheVariants.{Free, Holding}
 use Rattle.tx_engine.specs.World.{World}
 use Rattle.tx_engine.specs.Calls.{unfinished, unfinished_in}
-use Rattle.tx_engine.specs.Kept.{Kept, Running, SlotIs, behind}
+use Rattle.tx_slots.specs.Rows.{behind}
+use Rattle.tx_engine.specs.Kept.{Kept, Running, SlotIs}
 use Rattle.tx_engine.proofs.Keeps.{hold_holds, holds_is}
 
 unfinished_none : (f : Flow) (rows : List (ℕ × Row)) (items : ℕ → List Item) → first_unfinished f rows items ≡ None → unfinished_in f items rows ≡ []

@@ -16,7 +16,7 @@ use Rattle.tx_history.specs.Views.{IsOk, StartFits, WaitingFits}
 use Rattle.tx_engine.specs.declared.error.EngineError.{EngineError}
 use Rattle.tx_engine.specs.declared.error.EngineError.TheVariants as error
 use Rattle.tx_engine.specs.declared.error.EngineError.TheVariants.{UnknownParticipant}
-use Rattle.tx_engine.specs.Kept.{AreKnown}
+use Rattle.tx_slots.specs.Rows.{AreKnown}
 use Rattle.tx_engine.specs.Opening.{IsOpenRefusal, first_start, unknown_in, unknown_of}
 use Rattle.tx_engine.proofs.Breaks.{none_of}
 use Rattle.tx_engine.proofs.FilledMaps.{get_first}

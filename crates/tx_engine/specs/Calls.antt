@@ -1,33 +1,27 @@
 -- Which calls the engine accepts, and what it answers.
 use Rattle.std.specs.Prelude.{if◌then◌else◌}
-use Rattle.std.specs.Prelude.{◌≡◌, ℕ, ◌+◌, ◌-◌, ◌<◌, ◌==◌, Bool, true, false, List, [], ◌∷◌, length, slice_get, option_map, Option, Some, None, is_some, nat_le, nat_lt, min, not, ◌||◌, Result, Ok, Err, filter}
+use Rattle.std.specs.Prelude.{◌≡◌, ℕ, ◌+◌, ◌-◌, ◌<◌, ◌==◌, Bool, List, [], ◌∷◌, length, slice_get, option_map, Option, Some, None, is_some, nat_le, nat_lt, min, not, ◌||◌, Result, Ok, Err, filter}
 use Rattle.std.specs.Map.{lookup}
 use Rattle.sw_base.specs.Refusals.{refused_if, first_of}
 use Rattle.sw_context.specs.Spelling.{bytes_of}
-use Rattle.sw_participant.specs.declared.call.Act.{Act}
-use Rattle.sw_participant.specs.declared.call.Act.TheVariants as act
 use Rattle.sw_participant.specs.declared.call.Call.{Call}
 use Rattle.flow_model.specs.declared.flow.Flow.{Flow}
 use Rattle.flow_model.specs.Places.{parts_of}
-use Rattle.tx_machine.specs.declared.values.Due.{Due}
-use Rattle.tx_machine.specs.declared.values.Due.TheVariants as due
-use Rattle.tx_machine.specs.declared.values.Phase.{Phase}
-use Rattle.tx_machine.specs.declared.values.Spot.{Spot}
-use Rattle.tx_machine.specs.Due.{call_of, due_of, places_of}
+use Rattle.tx_machine.specs.Due.{due_of, places_of}
 use Rattle.tx_machine.specs.declared.values.Item.{Item}
 use Rattle.tx_machine.specs.Bounds.{after_newest}
 use Rattle.tx_history.specs.declared.journal.Row.{Row}
 use Rattle.tx_history.specs.declared.journal.Waiting.{Waiting}
-use Rattle.tx_history.specs.History.{next_id, queue, state_of, holds, last_of, is_held_at, recovering, restores, marked, outcome_of, own_items, is_ended, reopened, number_of, is_held}
+use Rattle.tx_history.specs.History.{next_id, queue, state_of, holds, last_of, is_held_at, recovering, restores, own_items, is_ended, reopened, number_of, is_held}
 use Rattle.tx_history.specs.Keys.{same_place}
 use Rattle.tx_history.specs.Journal.{advices}
 use Rattle.tx_engine.specs.declared.error.EngineError.{EngineError}
 use Rattle.tx_engine.specs.declared.error.EngineError.TheVariants as error
-use Rattle.tx_engine.specs.declared.next.At.{At}
-use Rattle.tx_engine.specs.declared.next.Next.{Next}
-use Rattle.tx_engine.specs.declared.next.Next.TheVariants as next
-use Rattle.tx_engine.specs.declared.next.ReplyKind.{ReplyKind}
-use Rattle.tx_engine.specs.declared.next.ReplyKind.TheVariants as kind
+use Rattle.tx_slots.specs.declared.next.At.{At}
+use Rattle.tx_slots.specs.declared.next.Next.{Next}
+use Rattle.tx_slots.specs.declared.next.Next.TheVariants as next
+use Rattle.tx_slots.specs.declared.next.ReplyKind.{ReplyKind}
+use Rattle.tx_slots.specs.DueCalls.{call_with, next_by, asked, spot_of, at_call}
 use Rattle.tx_engine.specs.World.{World, Recorded}
 use Rattle.tx_engine.specs.declared.engine.queue.TakenTx.{TakenTx}
 use Rattle.tx_history.specs.declared.event.Event.TheVariants.{Taken}
@@ -46,25 +40,9 @@ held_id w s = holds w.flow w.start w.past s
 abbrev pub waits : World → List Waiting
 waits w = queue w.flow w.start w.past
 
--- the due call
-
--- the `recover` call before an outcome
-abbrev pub restored_by : Flow → Due → Option (ℕ × Bool)
-restored_by f d = marked f (outcome_of d)
-
-abbrev pub call_with : ℕ → Bool → Due → Option (ℕ × Bool) → Option Call
-call_with id recovering d (Some r) = Some (record { id = id; participant = r.0; act = act.Recover r.1 })
-call_with id recovering d None = call_of id recovering d
-
 -- a journalled transaction's context is restored before each outcome of a participant that restores contexts
 abbrev pub due_call : World → ℕ → Option Call
 due_call w id = call_with id (nat_lt id w.start.view.next_id) (due_of w.flow (state_of w.flow w.start w.past id)) (restores w.flow w.start w.past id)
-
-abbrev pub next_by : Bool → Bool → Option Call → Next
-next_by unwritten held None = next.Idle
-next_by true held (Some call) = next.Unwritten
-next_by false true (Some call) = next.Held call
-next_by false false (Some call) = next.Due call
 
 -- the transaction's last entry is above the mark
 abbrev pub is_unwritten : World → ℕ → Bool
@@ -77,22 +55,6 @@ next_in w s (Some id) = next_by (is_unwritten w id) (is_held_at w.flow w.start w
 -- what the session is to do
 abbrev pub next_of : World → ℕ → Next
 next_of w s = next_in w s (held_id w s)
-
-abbrev pub asks_for : ReplyKind → Act → Bool
-asks_for kind.Answer act.Prepare = true
-asks_for kind.Answer act.PrepareForAbort = true
-asks_for kind.Choice act.Select = true
-asks_for kind.Told (act.Commit recovering) = true
-asks_for kind.Told (act.Abort recovering) = true
-asks_for kind.Recovered (act.Recover commit) = true
-asks_for _ _ = false
-
--- a call whose reply is of the kind is due, held or not
-abbrev pub asked : ReplyKind → Next → Bool
-asked kind (next.Held call) = asks_for kind call.act
-asked kind (next.Due call) = asks_for kind call.act
-asked kind next.Idle = false
-asked kind next.Unwritten = false
 
 -- refusals in order, want of memory aside
 
@@ -213,20 +175,6 @@ saved_in w (Some id) = Some (id, (state_of w.flow w.start w.past id).saved)
 -- the transaction that the session holds, and its saved context
 abbrev pub saved_of : World → ℕ → Option (ℕ × List ℕ)
 saved_of w s = saved_in w (held_id w s)
-
--- the entry whose call is due; none while members are told
-abbrev pub spot_of : Due → Option Spot
-spot_of (due.Prepare s) = Some s
-spot_of (due.PrepareForAbort s) = Some s
-spot_of (due.Select s) = Some s
-spot_of (due.Commit p) = None
-spot_of (due.Abort p) = None
-spot_of due.Shelve = None
-spot_of due.Done = None
-
-abbrev pub at_call : Option Call → Phase → Option Spot → ℕ → Option At
-at_call None phase spot id = None
-at_call (Some call) phase spot id = Some (record { id = id; phase = phase; call = call; spot = spot })
 
 abbrev pub at_in : World → Option ℕ → Option At
 at_in w None = None

@@ -1,6 +1,5 @@
 -- Replies to a session's due call, as events.
 use Rattle.std.specs.Prelude.{◌≡◌, ◌<◌, ℕ, Bool, true, false, List, [], ◌∷◌, Option, Some, None}
-use Rattle.flow_model.specs.declared.flow.Flow.{Flow}
 use Rattle.tx_machine.specs.declared.machine.Machine.{Machine}
 use Rattle.tx_machine.specs.declared.values.Item.{Item}
 use Rattle.tx_machine.specs.declared.values.Item.TheVariants.{Answer, Choice, Told as ToldOne}
@@ -8,14 +7,12 @@ use Rattle.tx_machine.specs.Contract.{IsSound, tx_state}
 use Rattle.tx_machine.specs.Table.{TxState, is_due, next}
 use Rattle.tx_history.specs.declared.event.Event.{Event}
 use Rattle.tx_history.specs.declared.event.Event.TheVariants.{Answered, Chose, Told}
-use Rattle.tx_history.specs.declared.event.Change.{Change}
-use Rattle.tx_history.specs.Journal.{row, shelved_change}
-use Rattle.tx_history.specs.History.{shelved, is_ended, is_restored, put_advice, restores}
+use Rattle.tx_history.specs.History.{is_ended, is_restored, put_advice, restores}
 use Rattle.tx_history.specs.Views.{AreSpelled}
 use Rattle.tx_history.specs.Held.{session_state}
-use Rattle.tx_engine.specs.declared.next.ReplyKind.{ReplyKind}
-use Rattle.tx_engine.specs.declared.next.ReplyKind.TheVariants as kind
-use Rattle.tx_engine.specs.declared.slot.Hold.{Hold}
+use Rattle.tx_slots.specs.declared.next.ReplyKind.{ReplyKind}
+use Rattle.tx_slots.specs.declared.next.ReplyKind.TheVariants as kind
+use Rattle.tx_slots.specs.declared.slot.Hold.{Hold}
 use Rattle.tx_engine.specs.World.{World}
 use Rattle.tx_engine.specs.Calls.{is_full, reply_refusal}
 use Rattle.tx_engine.specs.Kept.{HoldIs}
@@ -31,10 +28,6 @@ IsReply _ s x = ⊥
 abbrev pub advice_of : Event → ℕ × ℕ → Option ((ℕ × ℕ) × Option (List ℕ))
 advice_of (Told t a) place = put_advice (Some place) a
 advice_of _ place = None
-
--- the change that an item is, of the machine after it
-abbrev pub item_change : Flow → ℕ → Machine → Option ((ℕ × ℕ) × Option (List ℕ)) → Change
-item_change f id m advice = record { next_id = None; row = Some (id, row f (tx_state f m)); shelved = shelved_change id (shelved f (tx_state f m) true); emptied = false; advice = advice }
 
 -- a reply of the kind is due where a transaction stands so, and nothing is to be restored before
 abbrev pub IsAsked : ReplyKind → TxState → Option (ℕ × Bool) → Type 0

@@ -10,14 +10,13 @@ mod replies;
 mod restores;
 
 use crate::error::EngineError;
-use crate::reserved::Lists;
-use crate::slot::Slot;
 use flow_asm::Code;
 pub use queue::TakenTx;
 use std::collections::BTreeMap;
 use std::marker::Model;
 use sw_participant::{Bytes, Sequence};
 use tx_history::{JournalView, Waiting};
+use tx_slots::{Lists, Slot};
 
 /// A transaction engine: sessions that take transactions from one queue. Contracts see its flow,
 /// its number of sessions, what its history began from, the history, the written mark, and for how

@@ -5,16 +5,9 @@
 
 mod engine;
 mod error;
-mod maps;
-mod next;
 mod prepared;
-mod recovery;
-mod reserved;
-mod rows;
-mod slot;
 
 pub use engine::{Engine, TakenTx};
 pub use error::EngineError;
-pub use next::{At, Next, restored_by};
 pub use prepared::Offer;
-pub use recovery::reopened;
+pub use tx_slots::{At, Next, reopened, restored_by};

@@ -24,10 +24,11 @@ use Rattle.tx_history.proofs.OwnItems.{holds_serves}
 use Rattle.tx_history.proofs.Sessions.{holds_recovered}
 use Rattle.tx_journal.specs.declared.error.JournalError.{JournalError}
 use Rattle.tx_engine.specs.declared.error.EngineError.{EngineError}
-use Rattle.tx_engine.specs.declared.next.Next.{Next}
-use Rattle.tx_engine.specs.declared.next.Next.TheVariants as next
+use Rattle.tx_slots.specs.declared.next.Next.{Next}
+use Rattle.tx_slots.specs.declared.next.Next.TheVariants as next
 use Rattle.tx_engine.specs.World.{World, Recorded, happened}
-use Rattle.tx_engine.specs.Calls.{call_with, due_call, held_id, is_unwritten, next_by, next_in, next_of}
+use Rattle.tx_slots.specs.DueCalls.{call_with, next_by}
+use Rattle.tx_engine.specs.Calls.{due_call, held_id, is_unwritten, next_in, next_of}
 use Rattle.tx_plant.specs.declared.seat.Seat.{Seat}
 use Rattle.tx_plant.specs.declared.turn.Outcome.{Outcome}
 use Rattle.tx_plant.specs.declared.turn.Outcome.TheVariants as outcome

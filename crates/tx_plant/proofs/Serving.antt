@@ -13,10 +13,11 @@ use Rattle.sw_participant.proofs.Chains.{chain_called}
 use Rattle.tx_history.specs.declared.journal.JournalView.{JournalView}
 use Rattle.tx_engine.specs.declared.error.EngineError.{EngineError}
 use Rattle.tx_engine.specs.declared.error.EngineError.TheVariants.{OutOfMemory}
-use Rattle.tx_engine.specs.declared.next.Next.{Next}
-use Rattle.tx_engine.specs.declared.next.Next.TheVariants.{Due}
+use Rattle.tx_slots.specs.declared.next.Next.{Next}
+use Rattle.tx_slots.specs.declared.next.Next.TheVariants.{Due}
 use Rattle.tx_engine.specs.World.{World, Recorded}
-use Rattle.tx_engine.specs.Calls.{asks_for, next_of, reply_refusal}
+use Rattle.tx_slots.specs.DueCalls.{asks_for}
+use Rattle.tx_engine.specs.Calls.{next_of, reply_refusal}
 use Rattle.tx_engine.specs.Replies.{kind_of}
 use Rattle.tx_plant.specs.declared.seat.Seat.{Seat}
 use Rattle.tx_plant.specs.declared.turn.Outcome.{Outcome}

@@ -14,11 +14,12 @@ use Rattle.tx_history.specs.declared.journal.JournalView.{JournalView}
 use Rattle.tx_history.specs.History.{state_of}
 use Rattle.tx_engine.specs.declared.error.EngineError.{EngineError}
 use Rattle.tx_engine.specs.declared.error.EngineError.TheVariants.{NotDue, OutOfMemory}
-use Rattle.tx_engine.specs.declared.next.Next.{Next}
-use Rattle.tx_engine.specs.declared.next.Next.TheVariants as next
+use Rattle.tx_slots.specs.declared.next.Next.{Next}
+use Rattle.tx_slots.specs.declared.next.Next.TheVariants as next
 use Rattle.tx_engine.specs.Replies.{kind_of}
 use Rattle.tx_engine.specs.World.{World, Recorded}
-use Rattle.tx_engine.specs.Calls.{asks_for, next_of, reply_refusal}
+use Rattle.tx_slots.specs.DueCalls.{asks_for}
+use Rattle.tx_engine.specs.Calls.{next_of, reply_refusal}
 use Rattle.tx_plant.specs.declared.seat.Seat.{Seat}
 use Rattle.tx_plant.specs.declared.turn.Outcome.{Outcome}
 use Rattle.tx_plant.specs.declared.turn.Outcome.TheVariants as outcome

@@ -4,7 +4,7 @@ ghost use Rattle.std.specs.Prelude.{◌≡◌, ◌<◌, ℕ, List, length, map, 
 ghost use Rattle.sw_base.specs.Refusals.{Accepts};
 ghost use Rattle.sw_participant.specs.Chains.{rule_at};
 ghost use Rattle.sw_participant.specs.Stations.{type_of, name_of, calls_of, object_of, rule_of};
-ghost use Rattle.tx_engine.specs.declared.next.Next.TheVariants.{Due};
+ghost use Rattle.tx_slots.specs.declared.next.Next.TheVariants.{Due};
 ghost use Rattle.tx_engine.specs.World.{Recorded};
 ghost use Rattle.tx_engine.specs.Calls.{next_of, reply_refusal};
 ghost use Rattle.tx_engine.specs.Replies.{kind_of};

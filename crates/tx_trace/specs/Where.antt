@@ -1,7 +1,7 @@
 -- Where a transaction stands, for a debugger.
 use Rattle.std.specs.Prelude.{ℕ, Option, option_map}
 use Rattle.tx_machine.specs.declared.values.Spot.{Spot}
-use Rattle.tx_engine.specs.declared.next.At.{At}
+use Rattle.tx_slots.specs.declared.next.At.{At}
 use Rattle.tx_trace.specs.declared.places.Place.{Place}
 
 -- the due call with its step, group and index, where it is of an entry

@@ -13,7 +13,7 @@ ghost use Rattle.tx_history.specs.Keys.{look};
 ghost use Rattle.tx_history.specs.History.{is_over, is_restored, marked, outcome_of, reopened_at};
 ghost use Rattle.tx_history.specs.Journal.{row as row_of};
 ghost use Rattle.tx_history.specs.Views.{StartFits};
-ghost use Rattle.tx_engine.specs.Kept.{AreKnown};
+ghost use Rattle.tx_slots.specs.Rows.{AreKnown};
 ghost use Rattle.tx_trace.specs.Lines.{debug_line, line_in, plain_line};
 ghost use Rattle.tx_trace.specs.Follow.{AreFound, Concerns, Follows, IsBegun};
 ghost use Rattle.tx_trace.specs.Follow.{IsLeft, IsNext, IsSubject};

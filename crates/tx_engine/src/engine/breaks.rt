@@ -1,6 +1,6 @@
 //! Breakpoints: a due call of a participant that has one is held until its session is let go.
 
-ghost use Rattle.std.specs.Prelude.{◌≡◌, ◌<◌, length, MatchResult, None, Some};
+ghost use Rattle.std.specs.Prelude.{◌≡◌, ◌<◌, MatchResult, None, Some};
 ghost use Rattle.sw_base.specs.Refusals.{Accepts};
 ghost use Rattle.tx_history.specs.History.{number_of};
 ghost use Rattle.tx_engine.specs.World.{Recorded};
@@ -8,10 +8,9 @@ ghost use Rattle.tx_engine.specs.Calls.{MayBreak, break_refusal, let_go_refusal}
 
 use super::Engine;
 use crate::error::EngineError;
-use crate::rows::no_change;
-use crate::slot::{is_held_by, let_slot_go};
 use flow_model::number_of;
 use tx_history::{Entry, Event};
+use tx_slots::{is_held_by, let_slot_go, no_change};
 
 impl Engine {
     // The number of the participant of this name, where a breakpoint may be set on it or cleared.

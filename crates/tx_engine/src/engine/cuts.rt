@@ -4,15 +4,15 @@ ghost use Rattle.std.specs.Prelude.{◌≡◌, [], IfOk, MatchResult, None, OnOk
 ghost use Rattle.std.specs.List.{list_any, range_with_len};
 ghost use Rattle.sw_base.specs.Refusals.{Accepts};
 ghost use Rattle.tx_engine.specs.Cuts.{cut_refusal, cut_world, is_in_use};
-ghost use Rattle.tx_engine.specs.Kept.{flag, is_holding};
+ghost use Rattle.tx_slots.specs.Slots.{flag, is_holding};
 
 use super::Engine;
 use crate::error::EngineError;
-use crate::slot::{Slot, is_holding};
 use std::alloc::{AllocError, Global};
 use std::collections::{BTreeMap, VecDeque};
 use sw_participant::{Bytes, Sequence};
 use tx_history::{JournalView, Waiting};
+use tx_slots::{Slot, is_holding};
 
 impl Engine {
     // Whether a session holds a transaction.

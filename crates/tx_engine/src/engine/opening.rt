@@ -10,19 +10,17 @@ ghost use Rattle.tx_history.specs.Lives.{closes_of};
 ghost use Rattle.tx_history.specs.Views.{IsOk, PlacesRise};
 ghost use Rattle.tx_engine.specs.Opening.{IsOpenRefusal, Tells, closing_entry, open_refusal};
 ghost use Rattle.tx_engine.specs.Opening.{opened_world, unknown_in, unknown_of};
-ghost use Rattle.tx_engine.specs.declared.slot.Slot.TheVariants.{Free};
+ghost use Rattle.tx_slots.specs.declared.slot.Slot.TheVariants.{Free};
 
 use super::Engine;
 use crate::error::EngineError;
-use crate::recovery::{is_over, next_slot};
-use crate::reserved::Lists;
-use crate::slot::{Slot, is_holding};
 use flow_asm::Code;
 use flow_model::number_of;
 use std::alloc::{AllocError, Global};
 use std::collections::BTreeMap;
 use sw_participant::{Bytes, Sequence, Text};
 use tx_history::{Change, Entry, Event, JournalView, Row, Waiting};
+use tx_slots::{Lists, Slot, is_holding, is_over, next_slot};
 
 /// The greatest number of sessions.
 const MOST_SESSIONS: usize = 16;

@@ -1,6 +1,6 @@
 //! What an engine tells of itself, without memory; and the written mark.
 
-ghost use Rattle.std.specs.Prelude.{◌≡◌, ◌≤◌, ⊤, drop, length, map, is_some, option_map, IfOk};
+ghost use Rattle.std.specs.Prelude.{◌≡◌, ◌≤◌, ⊤, drop, length, is_some, option_map, IfOk};
 ghost use Rattle.sw_base.specs.Refusals.{Accepts, refused};
 ghost use Rattle.sw_context.specs.Spelling.{bytes_of};
 ghost use Rattle.tx_history.specs.History.{queue, recovering, shelf};
@@ -11,15 +11,13 @@ ghost use Rattle.tx_engine.specs.Calls.{next_refusal, rest_of, saved_of, unfinis
 
 use super::Engine;
 use crate::error::EngineError;
-use crate::next::{At, Next};
-use crate::recovery::open_behind;
-use crate::slot::{Slot, at_slot, next_at};
 use flow_asm::Code;
 use std::alloc::{AllocError, Global};
 use std::collections::BTreeMap;
 use sw_context::Context;
 use sw_participant::Bytes;
 use tx_history::{Entry, JournalView};
+use tx_slots::{At, Next, Slot, at_slot, next_at, open_behind};
 
 impl Engine {
     /// What the session is to do. Refuses `NoSession`.

@@ -1,7 +1,6 @@
 //! The queue and the shelf: offers, takes and releases.
 
 ghost use Rattle.std.specs.Prelude.{◌≡◌, ◌+◌, ◌-◌, ◌≤◌, true, false, ◌<◌, Some, None, MatchResult};
-ghost use Rattle.std.specs.Prelude.{length};
 ghost use Rattle.sw_base.specs.Refusals.{Accepts};
 ghost use Rattle.sw_context.specs.Spelling.{bytes_of};
 ghost use Rattle.tx_engine.specs.World.{Recorded};
@@ -11,12 +10,11 @@ ghost use Rattle.tx_engine.specs.Calls.{spare_of, take_refusal, with_reserved};
 use super::{Engine, LAST_ID, MOST_ENTRIES};
 use crate::error::EngineError;
 use crate::prepared::Offer;
-use crate::rows::{no_change, row_of};
-use crate::slot::{is_holding, slot_for};
 use std::alloc::Global;
 use sw_context::Context;
 use tx_history::{Change, Entry, Event, Row, Waiting};
 use tx_machine::Machine;
+use tx_slots::{is_holding, no_change, row_of, slot_for};
 
 /// A transaction as it is taken: contracts see its context's entries.
 #[derive(Debug, Drop)]

@@ -5,16 +5,14 @@ ghost use Rattle.sw_base.specs.Refusals.{Accepts};
 ghost use Rattle.sw_context.specs.Spelling.{bytes_of};
 ghost use Rattle.tx_engine.specs.World.{Recorded};
 ghost use Rattle.tx_engine.specs.Calls.{reply_refusal};
-ghost use Rattle.tx_engine.specs.Kept.{touched};
+ghost use Rattle.tx_slots.specs.Slots.{touched};
 
 use super::Engine;
 use crate::error::EngineError;
-use crate::next::ReplyKind;
 use crate::prepared::spelled;
-use crate::rows::no_change;
-use crate::slot::Slot;
 use sw_context::Context;
 use tx_history::{Entry, Event};
+use tx_slots::{ReplyKind, Slot, no_change};
 
 // The slot after an entry that leaves its transaction where it stands.
 fn touch(slot: &mut Slot, number: usize)

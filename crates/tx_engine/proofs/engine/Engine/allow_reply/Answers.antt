@@ -1,9 +1,10 @@
 use Rattle.std.proofs.Common.{◌≡◌, ◌<◌, length, arith, refl, ◌∙◌, subst, true}
 use Rattle.tx_engine.specs.World.{World}
-use Rattle.tx_engine.specs.declared.slot.Slot.{Slot}
-use Rattle.tx_engine.specs.declared.slot.Slot.TheVariants.{Free, Holding}
-use Rattle.tx_engine.specs.Calls.{asked}
-use Rattle.tx_engine.specs.Kept.{SlotIs, slot_next}
+use Rattle.tx_slots.specs.declared.slot.Slot.{Slot}
+use Rattle.tx_slots.specs.declared.slot.Slot.TheVariants.{Free, Holding}
+use Rattle.tx_slots.specs.DueCalls.{asked}
+use Rattle.tx_slots.specs.Slots.{slot_next}
+use Rattle.tx_engine.specs.Kept.{SlotIs}
 use Rattle.tx_engine.specs.contracts.engine.Engine.{the_view}
 use Rattle.tx_engine.proofs.Keeps.{slot_there, slot_sound}
 use Rattle.tx_engine.proofs.Dues.{next_slot, allows_at, reply_refused}

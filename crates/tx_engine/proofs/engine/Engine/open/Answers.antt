@@ -1,8 +1,8 @@
 use Rattle.std.proofs.Common.{◌≡◌, ◌≤◌, ◌∙◌, ap, arith, List, length, replicate, false}
 use Rattle.std.specs.Prelude.{slice_set}
 use Rattle.flow_model.specs.declared.numbering.Part.{Part}
-use Rattle.tx_engine.specs.declared.slot.Slot.{Slot}
-use Rattle.tx_engine.specs.declared.slot.Slot.TheVariants.{Free}
+use Rattle.tx_slots.specs.declared.slot.Slot.{Slot}
+use Rattle.tx_slots.specs.declared.slot.Slot.TheVariants.{Free}
 use Rattle.tx_history.proofs.CheckedFlows.{checked_fits}
 use Rattle.tx_engine.specs.Opening.{first_start}
 use Rattle.tx_engine.proofs.Opens.{kept_made, sessions_are, world_opened}

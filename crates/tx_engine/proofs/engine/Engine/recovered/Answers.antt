@@ -1,6 +1,6 @@
 use Rattle.std.proofs.Common.{◌≡◌, ◌<◌, ◌+◌, length, arith, rules}
 use Rattle.tx_engine.specs.World.{World}
-use Rattle.tx_engine.specs.declared.next.ReplyKind.TheVariants as kind
+use Rattle.tx_slots.specs.declared.next.ReplyKind.TheVariants as kind
 use Rattle.tx_engine.specs.contracts.engine.Engine.{the_view}
 use Rattle.tx_engine.proofs.Keeps.{kept_step, length_set, slot_there}
 use Rattle.tx_engine.proofs.Dues.{allows_of, has_room}

@@ -3,7 +3,7 @@ use Rattle.std.proofs.lemmas.Option.{slice_get_read}
 use Rattle.tx_engine.specs.World.{World}
 use Rattle.tx_engine.specs.contracts.engine.Engine.{the_view}
 use Rattle.tx_engine.specs.Calls.{unfinished}
-use Rattle.tx_engine.specs.Kept.{behind}
+use Rattle.tx_slots.specs.Rows.{behind}
 use Rattle.tx_engine.proofs.Unfinished.{none_unfinished, recovered_held, unfinished_held}
 use Rattle.tx_engine.proofs.engine.Engine.recovering.Goals as goal
 

@@ -1,7 +1,7 @@
 use Rattle.std.proofs.Common.{◌<◌, length, arith, ◌∙◌, subst}
 use Rattle.tx_engine.specs.World.{World}
-use Rattle.tx_engine.specs.declared.slot.Slot.{Slot}
-use Rattle.tx_engine.specs.declared.slot.Slot.TheVariants.{Free, Holding}
+use Rattle.tx_slots.specs.declared.slot.Slot.{Slot}
+use Rattle.tx_slots.specs.declared.slot.Slot.TheVariants.{Free, Holding}
 use Rattle.tx_engine.specs.contracts.engine.Engine.{the_view}
 use Rattle.tx_engine.specs.Kept.{SlotIs}
 use Rattle.tx_engine.proofs.Keeps.{slot_there}

@@ -1,5 +1,5 @@
 use Rattle.std.proofs.Common.{◌∙◌, sym, true, false}
-use Rattle.tx_engine.specs.Kept.{flag}
+use Rattle.tx_slots.specs.Slots.{flag}
 use Rattle.tx_engine.proofs.Cuts.{append_none, filter_next, flag_get}
 use Rattle.tx_engine.proofs.engine.cuts.set_numbers.Goals.{then-set+in_ok-push, else-set}
 use Rattle.tx_engine.proofs.engine.cuts.set_numbers.Goals as goal

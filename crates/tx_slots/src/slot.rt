@@ -3,9 +3,9 @@
 ghost use Rattle.std.specs.Prelude.{◌≡◌};
 ghost use Rattle.tx_machine.specs.Contract.{IsSound};
 ghost use Rattle.tx_machine.specs.Due.{participant_of};
-ghost use Rattle.tx_engine.specs.Kept.{flag, flag_of, hold_call, is_holding, slot_at, slot_held};
-ghost use Rattle.tx_engine.specs.Kept.{slot_let_go, slot_next, slot_of};
-ghost use Rattle.tx_engine.specs.Kept.{IsSoundSlot};
+ghost use Rattle.tx_slots.specs.Slots.{flag, flag_of, hold_call, is_holding, slot_at, slot_held};
+ghost use Rattle.tx_slots.specs.Slots.{slot_let_go, slot_next, slot_of};
+ghost use Rattle.tx_slots.specs.Slots.{IsSoundSlot};
 
 use crate::next::{At, Next, call_of, restored_by, spot_of};
 use flow_asm::Code;
@@ -14,24 +14,26 @@ use tx_machine::{Due, Machine};
 
 /// What a session holds.
 #[derive(Debug, Drop)]
-pub(crate) enum Slot {
+pub enum Slot {
+    /// No transaction.
     Free,
+    /// This one.
     Holding(Hold),
 }
 
 /// The transaction that a session holds.
 #[derive(Debug, Drop)]
-pub(crate) struct Hold {
-    pub(crate) id: u64,
-    pub(crate) machine: Machine,
-    // The number of its last entry, or 0.
-    pub(crate) last: usize,
-    // Whether the session was let go since the call became due.
-    pub(crate) let_go: bool,
+pub struct Hold {
+    pub id: u64,
+    pub machine: Machine,
+    /// The number of its last entry, or 0.
+    pub last: usize,
+    /// Whether the session was let go since the call became due.
+    pub let_go: bool,
 }
 
 /// The slot of a transaction after its entry of this number.
-pub(crate) fn slot_for(code: &Code, id: u64, machine: Machine, last: usize) -> Slot
+pub fn slot_for(code: &Code, id: u64, machine: Machine, last: usize) -> Slot
     requires { IsSound code.now machine }
     ensures { result ≡ slot_of code.now machine id last }
 {
@@ -71,7 +73,7 @@ fn is_stopped(breaks: &[bool], due: Due) -> bool
 }
 
 /// Whether a breakpoint holds the call that is due to a session with this slot.
-pub(crate) fn is_held_by(code: &Code, breaks: &[bool], slot: &Slot) -> bool
+pub fn is_held_by(code: &Code, breaks: &[bool], slot: &Slot) -> bool
     requires { IsSoundSlot code.now slot.now }
     ensures { result ≡ slot_held code.now breaks.now slot.now }
 {
@@ -82,7 +84,7 @@ pub(crate) fn is_held_by(code: &Code, breaks: &[bool], slot: &Slot) -> bool
 }
 
 /// The slot's due call goes on, whatever breakpoint holds it.
-pub(crate) fn let_slot_go(slot: &mut Slot)
+pub fn let_slot_go(slot: &mut Slot)
     ensures { slot.new ≡ slot_let_go slot.old }
 {
     if let Slot::Holding(hold) = slot {
@@ -107,7 +109,7 @@ fn hold_call(code: &Code, first: u64, restored: bool, hold: &Hold) -> Option<Cal
 
 /// Where the transaction of this slot stands. Ids below `first` are those of transactions of the
 /// journal; `restored` says whether the context was restored since the last outcome.
-pub(crate) fn at_slot(code: &Code, first: u64, restored: bool, slot: &Slot) -> Option<At>
+pub fn at_slot(code: &Code, first: u64, restored: bool, slot: &Slot) -> Option<At>
     requires { IsSoundSlot code.now slot.now }
     ensures { result ≡ slot_at code.now first restored slot.now }
 {
@@ -125,7 +127,7 @@ pub(crate) fn at_slot(code: &Code, first: u64, restored: bool, slot: &Slot) -> O
 
 /// What a session with this slot is to do. Ids below `first` are those of transactions of the
 /// journal; `restored` says whether the context was restored since the last outcome.
-pub(crate) fn next_at(
+pub fn next_at(
     code: &Code,
     first: u64,
     restored: bool,
@@ -149,7 +151,8 @@ pub(crate) fn next_at(
     }
 }
 
-pub(crate) fn is_holding(slot: &Slot) -> bool
+/// Whether the session holds a transaction.
+pub fn is_holding(slot: &Slot) -> bool
     ensures { result ≡ is_holding slot.now }
 {
     matches!(slot, Slot::Holding(_))

@@ -7,7 +7,7 @@ ghost use Rattle.flow_model.specs.declared.flow.Flow.{Flow};
 ghost use Rattle.flow_model.specs.Places.{parts_of};
 ghost use Rattle.tx_machine.specs.Contract.{IsSound, tx_state};
 ghost use Rattle.tx_history.specs.History.{is_committing, is_ended, number_of, reopened, to_tell};
-ghost use Rattle.tx_engine.specs.Kept.{AreKnown, IsNextSlot, IsSlotAfter, behind};
+ghost use Rattle.tx_slots.specs.Rows.{AreKnown, IsNextSlot, IsSlotAfter, behind};
 
 use crate::slot::{Slot, is_holding, slot_for};
 use flow_asm::Code;
@@ -51,7 +51,7 @@ fn is_committing(phase: Phase) -> bool
 }
 
 /// Whether nobody is to be told of a transaction of the journal. That is so in every flow.
-pub(crate) fn is_over(row: &Row) -> bool
+pub fn is_over(row: &Row) -> bool
     ensures { (f : Flow) → result ≡ is_ended f (reopened f row.now) }
 {
     let joined = row.joined.as_slice().len();
@@ -69,7 +69,7 @@ fn is_behind(id: u64, next: u64, row: &Row) -> bool
 }
 
 /// How many of these transactions behind an id have somebody to tell. There are at most 16 rows.
-pub(crate) fn open_behind(rows: &[(u64, Row)], id: u64) -> usize
+pub fn open_behind(rows: &[(u64, Row)], id: u64) -> usize
     ensures counted { (f : Flow) → result ≡ length (behind f rows.now id) }
     ensures few { result ≤ length rows.now }
 {
@@ -106,7 +106,7 @@ pub fn reopened(alloc: Global, code: &Code, row: &Row) -> Result<Machine, AllocE
 
 /// The slot of session 0 when the transactions up to this id are over: the first behind it with
 /// somebody to tell. There are at most 16 rows.
-pub(crate) fn next_slot(
+pub fn next_slot(
     alloc: Global,
     code: &Code,
     rows: &[(u64, Row)],

@@ -2,7 +2,7 @@ use Rattle.std.proofs.Common.{◌≡◌, ◌+◌, ◌++◌, ◌≤◌, ℕ, leng
 use Rattle.std.specs.VecDeque.{deque_len, deque_capacity}
 use Rattle.std.specs.BTreeMap.{btree_map_len}
 use Rattle.tx_history.specs.declared.journal.Waiting.{Waiting}
-use Rattle.tx_engine.proofs.reserved.move_all.Given as goal
+use Rattle.tx_slots.proofs.reserved.move_all.Given as goal
 
 abbrev pub invariant-loop-waiting : goal.invariant-loop-waiting
 invariant-loop-waiting l = record {

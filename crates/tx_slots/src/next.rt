@@ -2,8 +2,8 @@
 
 ghost use Rattle.std.specs.Prelude.{◌≡◌, ◌<◌, IfSome, Some};
 ghost use Rattle.tx_machine.specs.Due.{participant_of};
-ghost use Rattle.tx_history.specs.History.{outcome_of, recovers};
-ghost use Rattle.tx_engine.specs.Calls.{asks_for, asked, call_with, restored_by, spot_of};
+ghost use Rattle.tx_history.specs.History.{recovers};
+ghost use Rattle.tx_slots.specs.DueCalls.{asks_for, asked, call_with, restored_by, spot_of};
 
 use flow_asm::Code;
 use sw_participant::{Act, Call};
@@ -34,7 +34,7 @@ pub struct At {
 
 /// A kind of reply.
 #[derive(Clone, Copy, Debug, PartialEq, Eq)]
-pub(crate) enum ReplyKind {
+pub enum ReplyKind {
     Answer,
     Choice,
     Told,
@@ -54,7 +54,7 @@ fn asks_for(kind: ReplyKind, act: Act) -> bool
 }
 
 /// Whether a call whose reply is of this kind is due, held or not.
-pub(crate) fn is_asked(kind: ReplyKind, next: Next) -> bool
+pub fn is_asked(kind: ReplyKind, next: Next) -> bool
     ensures { result ≡ asked kind next }
 {
     match next {

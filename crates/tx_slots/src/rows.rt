@@ -4,7 +4,7 @@ ghost use Rattle.std.specs.Prelude.{◌≡◌, IfOk, map, Some, None, false, tru
 ghost use Rattle.tx_machine.specs.Contract.{IsSound, tx_state};
 ghost use Rattle.tx_history.specs.History.{name_of, shelved};
 ghost use Rattle.tx_history.specs.Journal.{row};
-ghost use Rattle.tx_engine.specs.Items.{item_change};
+ghost use Rattle.tx_slots.specs.Rows.{item_change};
 
 use flow_asm::Code;
 use std::alloc::{AllocError, Global};
@@ -13,7 +13,7 @@ use tx_history::{Change, Row, Waiting};
 use tx_machine::{Due, Machine};
 
 /// The change that leaves the journal as it is.
-pub(crate) fn no_change() -> Change
+pub fn no_change() -> Change
     ensures { result ≡ Rattle.tx_history.specs.Journal.no_change }
 {
     Change {
@@ -46,11 +46,7 @@ fn names_of(alloc: Global, code: &Code, members: &[usize]) -> Result<Vec<Text>, 
 }
 
 /// The journal's row of a transaction; none where it has ended.
-pub(crate) fn row_of(
-    alloc: Global,
-    code: &Code,
-    machine: &Machine,
-) -> Result<Option<Row>, AllocError>
+pub fn row_of(alloc: Global, code: &Code, machine: &Machine) -> Result<Option<Row>, AllocError>
     requires { IsSound code.now machine.now }
     ensures { IfOk result (λ r. r ≡ row code.now (tx_state code.now machine.now)) }
 {

@@ -8,8 +8,8 @@ use std::collections::BTreeMap;
 use sw_participant::Bytes;
 use tx_history::Waiting;
 
-/// Puts an advice or takes it out, where the change says so.
-pub(crate) fn put_advice(
+// Puts an advice or takes it out, where the change says so.
+fn put_advice(
     advices: &mut BTreeMap<(u64, usize), Bytes>,
     change: Option<((u64, usize), Option<Bytes>)>,
 ) -> Result<(), AllocError>
@@ -32,7 +32,7 @@ pub(crate) fn put_advice(
 }
 
 /// Puts both or neither: a context that the shelf does not have yet, and an advice.
-pub(crate) fn put_both(
+pub fn put_both(
     shelf: &mut BTreeMap<u64, Waiting>,
     advices: &mut BTreeMap<(u64, usize), Bytes>,
     shelved: Option<(u64, Waiting)>,

@@ -1,7 +1,7 @@
 use Rattle.std.proofs.Common.{◌≡◌, ◌≤◌, length, take}
 use Rattle.flow_model.specs.declared.flow.Flow.{Flow}
-use Rattle.tx_engine.specs.Kept.{behind}
-use Rattle.tx_engine.proofs.recovery.open_behind.Given as goal
+use Rattle.tx_slots.specs.Rows.{behind}
+use Rattle.tx_slots.proofs.recovery.open_behind.Given as goal
 
 abbrev pub invariant-loop-next : goal.invariant-loop-next
 invariant-loop-next l = record {

@@ -3,8 +3,8 @@ use Rattle.std.specs.Ordering.{nat_cmp}
 use Rattle.tx_history.specs.Keys.{look}
 use Rattle.std.specs.Prelude.{nat_lt}
 use Rattle.tx_history.proofs.MapKeys.{ids_order, insert_put_by}
-use Rattle.tx_engine.proofs.Undone.{undone}
-use Rattle.tx_engine.proofs.maps.put_both.Goals as goal
+use Rattle.tx_slots.proofs.Undone.{undone}
+use Rattle.tx_slots.proofs.maps.put_both.Goals as goal
 
 pub returns-in_default-put_advice-clause-shelf_kept :
     goal.returns-in_default-put_advice-clause-shelf_kept

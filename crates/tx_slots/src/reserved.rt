@@ -12,11 +12,13 @@ use tx_history::{Entry, Waiting};
 
 /// The entries and the queue. An offer adds to both.
 #[derive(Debug, Drop)]
-pub(crate) struct Lists {
-    pub(crate) entries: Vec<Entry>,
-    pub(crate) queue: VecDeque<Waiting>,
-    // For how many offers both have memory.
-    pub(crate) reserved: usize,
+pub struct Lists {
+    /// Oldest first.
+    pub entries: Vec<Entry>,
+    /// First in, first out.
+    pub queue: VecDeque<Waiting>,
+    /// For how many offers both have memory.
+    pub reserved: usize,
     ghost entries_fit: { vec_len entries + reserved ≤ vec_capacity entries },
     ghost queue_fits: { deque_len queue + reserved ≤ deque_capacity queue },
 }
@@ -33,7 +35,7 @@ fn beside(reserved: usize, more: usize) -> Result<usize, AllocError>
 
 impl Lists {
     /// These entries, and an empty queue.
-    pub(crate) fn new(alloc: Global, entries: Vec<Entry>) -> Lists
+    pub fn new(alloc: Global, entries: Vec<Entry>) -> Lists
         ensures entries { result.entries.items ≡ entries.items }
         ensures queue { result.queue.items ≡ [] }
         ensures reserved { result.reserved ≡ 0 }
@@ -46,7 +48,7 @@ impl Lists {
     }
 
     /// Reserves memory for one offer more.
-    pub(crate) fn reserve_offer(&mut self) -> Result<(), AllocError>
+    pub fn reserve_offer(&mut self) -> Result<(), AllocError>
         ensures entries { self.new.entries.items ≡ self.old.entries.items }
         ensures queue { self.new.queue.items ≡ self.old.queue.items }
         ensures reserved { OnOk result (self.new.reserved ≡ self.old.reserved + 1) }
@@ -60,7 +62,7 @@ impl Lists {
     }
 
     /// An offer in reserved memory.
-    pub(crate) fn push_offer(&mut self, entry: Entry, waiting: Waiting)
+    pub fn push_offer(&mut self, entry: Entry, waiting: Waiting)
         requires { 1 ≤ self.old.reserved }
         ensures entries { self.new.entries.items ≡ self.old.entries.items ++ entry ∷ [] }
         ensures queue { self.new.queue.items ≡ self.old.queue.items ++ waiting ∷ [] }
@@ -72,7 +74,7 @@ impl Lists {
     }
 
     /// Makes sure of memory for an entry that is no offer.
-    pub(crate) fn reserve_entry(&mut self) -> Result<(), AllocError>
+    pub fn reserve_entry(&mut self) -> Result<(), AllocError>
         ensures entries { self.new.entries.items ≡ self.old.entries.items }
         ensures queue { self.new.queue.items ≡ self.old.queue.items }
         ensures reserved { self.new.reserved ≡ self.old.reserved }
@@ -84,7 +86,7 @@ impl Lists {
     }
 
     /// Adds an entry that has memory.
-    pub(crate) fn push_reserved(&mut self, entry: Entry)
+    pub fn push_reserved(&mut self, entry: Entry)
         requires { vec_len self.old.entries + self.old.reserved < vec_capacity self.old.entries }
         ensures entries { self.new.entries.items ≡ self.old.entries.items ++ entry ∷ [] }
         ensures queue { self.new.queue.items ≡ self.old.queue.items }
@@ -94,7 +96,7 @@ impl Lists {
     }
 
     /// Adds an entry that is no offer.
-    pub(crate) fn push(&mut self, entry: Entry) -> Result<(), AllocError>
+    pub fn push(&mut self, entry: Entry) -> Result<(), AllocError>
         ensures entries { OnOk result (self.new.entries.items
             ≡ self.old.entries.items ++ entry ∷ []) }
         ensures kept { OnErr result (self.new.entries.items ≡ self.old.entries.items) }
@@ -107,7 +109,7 @@ impl Lists {
     }
 
     /// Takes the queue's first out.
-    pub(crate) fn pop_first(&mut self)
+    pub fn pop_first(&mut self)
         ensures entries { self.new.entries.items ≡ self.old.entries.items }
         ensures queue { self.new.queue.items ≡ drop 1 self.old.queue.items }
         ensures reserved { self.new.reserved ≡ self.old.reserved }
@@ -116,7 +118,7 @@ impl Lists {
     }
 
     /// Adds the entry of a release, and moves all of the shelf to the end of the queue.
-    pub(crate) fn release(
+    pub fn release(
         &mut self,
         shelf: &mut BTreeMap<u64, Waiting>,
         entry: Entry,
@@ -140,7 +142,7 @@ impl Lists {
     }
 
     /// No entry, and nothing reserved. The queue stays.
-    pub(crate) fn clear_entries(&mut self, alloc: Global)
+    pub fn clear_entries(&mut self, alloc: Global)
         ensures entries { self.new.entries.items ≡ [] }
         ensures queue { self.new.queue.items ≡ self.old.queue.items }
         ensures reserved { self.new.reserved ≡ 0 }

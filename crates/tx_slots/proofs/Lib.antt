@@ -1,0 +1,2 @@
+mod MappedLists
+mod Undone

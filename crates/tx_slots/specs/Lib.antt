@@ -1,0 +1,3 @@
+pub mod DueCalls
+pub mod Slots
+pub mod Rows

@@ -1,0 +1,20 @@
+//! What an engine keeps: by session a slot with the machine of its transaction, the call that is due
+//! to it, what a reply adds, the slots that rows of the journal become again; the entries and the
+//! queue; the shelf and the advices.
+#![tactic(auto)]
+
+mod maps;
+mod next;
+mod recovery;
+mod reply;
+mod reserved;
+mod rows;
+mod slot;
+
+pub use maps::put_both;
+pub use next::{At, Next, ReplyKind, is_asked, restored_by};
+pub use recovery::{is_over, next_slot, open_behind, reopened};
+pub use reply::{Given, Ready, after_answer, after_choice, after_told, goes_on, make_ready};
+pub use reserved::Lists;
+pub use rows::{no_change, row_of};
+pub use slot::{Hold, Slot, at_slot, is_held_by, is_holding, let_slot_go, next_at, slot_for};
