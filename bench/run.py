@@ -3,14 +3,15 @@
 
     bench/run.py [--program PATH] [--requests N]
 
-Beside it, in the same run, SQLite's C library (through Python's sqlite3) makes the commits of as many transactions in a
-journal of the same tables, WAL and synchronous FULL on the file: the rows of one approved authorization, a commit for
-each of its entries, by the same statements. Then the time and the memory of 1,000, 10,000 and 100,000 requests, in memory.
+Two flows are timed: the least one (limits, an issuer, the response: five commits an authorization), and that of
+examples/ (thirteen). Beside each, in the same run, SQLite's C library (through Python's sqlite3) makes the commits of as
+many transactions in a journal of the same tables, WAL and synchronous FULL on the file: the rows of one approved
+authorization, a commit for each of its entries, by the same statements. Then the time and the memory of 1,000, 10,000 and
+100,000 requests, in memory.
 """
 
 import argparse
 import os
-import resource
 import sqlite3
 import subprocess
 import sys
@@ -19,7 +20,12 @@ import time
 
 TOP = os.path.dirname(os.path.dirname(os.path.abspath(__file__)))
 BUILT = os.path.join(TOP, "crates", "cardswitch", "out", "cardswitch")
-FLOW = os.path.join(TOP, "examples", "switch.toml")
+EXAMPLE = os.path.join(TOP, "examples", "switch.toml")
+LEAST = """
+[[group]]
+name = "main"
+entry = [{ participant = "limits" }, { participant = "query_alpha" }, { participant = "respond", abort_aware = true }]
+"""
 TABLES = """
 CREATE TABLE meta (k INTEGER PRIMARY KEY NOT NULL, v INTEGER NOT NULL) STRICT;
 CREATE TABLE tx (id INTEGER PRIMARY KEY NOT NULL, phase INTEGER NOT NULL, told INTEGER NOT NULL, doing TEXT NOT NULL,
@@ -30,8 +36,15 @@ INSERT INTO meta VALUES (1, 1), (2, 1);
 """
 PUT_ROW = """INSERT INTO tx VALUES (?1, ?2, ?3, ?4, 0, ?5)
     ON CONFLICT (id) DO UPDATE SET phase = ?2, told = ?3, doing = ?4, tries = 0, context = ?5"""
-# The rows of an approved authorization after each of its entries: phase, members, told, doing, and the bytes of its context.
-ROWS = [
+# The rows of an approved authorization after each of its entries but the last, which drops it: phase, members, told, doing,
+# and the bytes of its context.
+LEAST_ROWS = [
+    (0, [], 0, "limits", 94),
+    (0, ["limits"], 0, "query_alpha", 94),
+    (0, ["limits"], 0, "respond", 122),
+    (2, ["limits"], 0, "", 224),
+]
+EXAMPLE_ROWS = [
     (0, [], 0, "check", 94),
     (0, [], 0, "limits", 94),
     (0, ["limits"], 0, "route", 94),
@@ -59,19 +72,25 @@ def requests(count):
     return b"".join(made)
 
 
-def run(program, count, journal=None):
-    """The seconds and the bytes of memory of a run on so many requests."""
-    command = [program, "run", "--flow", FLOW] + (["--journal", journal] if journal else [])
-    began = time.monotonic()
-    with subprocess.Popen(command, stdin=subprocess.PIPE, stdout=subprocess.PIPE) as process:
-        out, _ = process.communicate(requests(count))
-    took = time.monotonic() - began
-    assert process.returncode == 0 and out.count(b"TERM0001") == count, (process.returncode, out[:200])
-    return took
+def run(program, flow, count, journal=None):
+    """The seconds of a run on so many requests, and the most memory that it had, in kilobytes."""
+    command = [program, "run", "--flow", flow] + (["--journal", journal] if journal else [])
+    with tempfile.TemporaryFile() as given, tempfile.TemporaryFile() as made:
+        given.write(requests(count))
+        given.seek(0)
+        began = time.monotonic()
+        process = subprocess.Popen(command, stdin=given, stdout=made)
+        _, status, used = os.wait4(process.pid, 0)
+        process.returncode = status
+        took = time.monotonic() - began
+        made.seek(0)
+        out = made.read()
+    assert status == 0 and out.count(b"TERM0001") == count, (status, out[:200])
+    return took, used.ru_maxrss
 
 
-def commits(count, path):
-    """The seconds of SQLite's C library for the commits of so many authorizations."""
+def commits(rows, count, path):
+    """The seconds of SQLite's C library for the commits of so many authorizations with these rows."""
     journal = sqlite3.connect(path, isolation_level=None)
     journal.execute("PRAGMA journal_mode = WAL")
     journal.execute("PRAGMA synchronous = FULL")
@@ -79,7 +98,7 @@ def commits(count, path):
     journal.executescript(TABLES)
     began = time.monotonic()
     for number in range(1, count + 1):
-        for place, (phase, members, told, doing, context) in enumerate(ROWS):
+        for place, (phase, members, told, doing, context) in enumerate(rows):
             journal.execute("BEGIN")
             if place == 0:
                 journal.execute("DELETE FROM meta WHERE k = 2")
@@ -94,12 +113,12 @@ def commits(count, path):
     return time.monotonic() - began
 
 
-def compare(name, program, count, room):
+def compare(name, program, flow, rows, count, room):
     """Prints both sides' authorizations a second, over files of the room or in memory."""
     ours, theirs = [], []
     for turn in range(ROUNDS):
-        ours.append(run(program, count, room and f"{room}/ours-{turn}.db"))
-        theirs.append(commits(count, f"{room}/theirs-{turn}.db" if room else ":memory:"))
+        ours.append(run(program, flow, count, room and f"{room}/ours-{turn}.db")[0])
+        theirs.append(commits(rows, count, f"{room}/theirs-{turn}.db" if room else ":memory:"))
     own, other = count / min(ours), count / min(theirs)
     print(f"{name}: {own:9.0f} authorizations a second, C SQLite's commits {other:9.0f}, ratio {own / other:.2f}")
 
@@ -110,12 +129,16 @@ def main():
     parser.add_argument("--requests", type=int, default=2000)
     given = parser.parse_args()
     with tempfile.TemporaryDirectory(dir=TOP) as room:
-        compare("file", given.program, given.requests, room)
-    compare("memory", given.program, given.requests, None)
-    for count in (1_000, 10_000, 100_000):
-        took = run(given.program, count)
-        most = resource.getrusage(resource.RUSAGE_CHILDREN).ru_maxrss
-        print(f"{count:7} requests in memory: {took:7.2f} s, {count / took:8.0f} a second, at most {most / 1024:6.0f} MB")
+        least = os.path.join(room, "least.toml")
+        with open(least, "w", encoding="utf-8") as it:
+            it.write(LEAST)
+        for name, flow, rows in (("five commits", least, LEAST_ROWS), ("thirteen", EXAMPLE, EXAMPLE_ROWS)):
+            with tempfile.TemporaryDirectory(dir=TOP) as files:
+                compare(f"{name}, file  ", given.program, flow, rows, given.requests, files)
+            compare(f"{name}, memory", given.program, flow, rows, given.requests, None)
+            for count in (1_000, 10_000, 100_000):
+                took, most = run(given.program, flow, count)
+                print(f"{count:7} requests in memory: {took:7.2f} s, {count / took:8.0f} a second, at most {most / 1024:6.0f} MB")
 
 
 if __name__ == "__main__":

@@ -104,6 +104,9 @@ def foreign(random, number, value):
 
 def spoilt(random, fields):
     """The fields without one of them, with one of them spoilt, or as they are."""
+    # A message that came before may have lost all of them.
+    if not fields:
+        return fields
     chance, number, fields = random.random(), random.choice(list(fields)), dict(fields)
     if chance < 0.12:
         del fields[number]
