@@ -10,3 +10,14 @@ pub mod Stopping
 pub mod Driving
 pub mod Making
 pub mod Restarts
+mod SessionsStand
+mod SessionItems
+mod DueStands
+mod Reseating
+mod SeatedEntries
+mod SeatedTakes
+mod SeatedSteps
+mod StepRefusals
+mod SeatedStops
+mod SeatedCuts
+mod SeatedTurns

@@ -47,7 +47,7 @@ use Rattle.plant_outcome.proofs.Driving.{all_driven, was_clean_all}
 
 -- as it is made
 
-some_session : (n : ℕ) (b : Bool) (later : Option EngineError) → (nat_lt n 1 || nat_lt 16 n) ≡ b → first_of (refused_if b BadSessions ∷ later ∷ []) ≡ None → 1 ≤ n
+pub some_session : (n : ℕ) (b : Bool) (later : Option EngineError) → (nat_lt n 1 || nat_lt 16 n) ≡ b → first_of (refused_if b BadSessions ∷ later ∷ []) ≡ None → 1 ≤ n
 some_session n true later e h = absurd (cc)
 some_session n false later e h = grind (arith, nat_tests)
 

@@ -1,7 +1,10 @@
 //! The laws. Lists of happenings have the oldest first, those of calls and stops the newest.
 
-ghost use Rattle.std.specs.Prelude.{◌≡◌, ℕ, List, [], Option, Result, false};
+ghost use Rattle.std.specs.Prelude.{◌≡◌, ℕ, List, [], Option, Some, Result, Ok, Err, false};
 ghost use Rattle.flow_model.specs.declared.flow.Flow.{Flow};
+ghost use Rattle.sw_participant.specs.Chains.{rule_at};
+ghost use Rattle.tx_engine.specs.declared.error.EngineError.{EngineError};
+ghost use Rattle.tx_engine.specs.declared.error.EngineError.TheVariants.{HistoryFull};
 ghost use Rattle.tx_outcome.specs.Core.{OutcomeLaw, PlantDeed};
 ghost use Rattle.tx_outcome.specs.Plant.{Plant};
 ghost use Rattle.tx_history.specs.declared.journal.JournalView.{JournalView};
@@ -9,12 +12,16 @@ ghost use Rattle.outcome_history.specs.Looked.{id_view};
 ghost use Rattle.tx_plant.specs.declared.turn.Outcome.{Outcome};
 ghost use Rattle.tx_plant.specs.declared.turn.PlantError.{PlantError};
 ghost use Rattle.tx_plant.specs.declared.turn.Turn.{Turn};
+ghost use Rattle.tx_plant.specs.Recovery.{Recovers};
 ghost use Rattle.tx_plant.specs.Steps.{Moved};
 ghost use Rattle.tx_plant.specs.Plant.{GoesOn, IsClean, IsEngine, Seen, Turned, Whole};
 ghost use Rattle.plant_outcome.specs.Mirrors.{StandsFor};
 ghost use Rattle.plant_outcome.specs.Lives.{AllDriven, Drive, HoldsOf, IsMade, MayLeave, Moves};
 ghost use Rattle.plant_outcome.specs.Lives.{all_calls, blank_view};
 ghost use Rattle.plant_outcome.specs.Decided.{AreDecided};
+ghost use Rattle.plant_outcome.specs.Seated.{Seated, step_refusal};
+
+use sw_participant::Rules;
 
 /// Each turn of a plant, done or not, is a list of small steps of the outcome law's plant that
 /// stands for it: a take, a call, the record of its reply, the write of entries, a stop, a cut, or
@@ -55,4 +62,30 @@ pub fn plants_keep_the_law()
 pub fn restarts_decide()
     ensures { (t : Turn) (r : Result Outcome PlantError) (m : List Moved) (p q : Whole)
         → IsEngine p.core.world → Turned t r m p q → AreDecided p.core.world.start.view m }
+{}
+
+/// Each session that holds a transaction has the seat of that one, with its context, and a reply
+/// that is kept is one that its due call asks for: so it is in a new plant, after each turn, done
+/// or not, and so after any calls of `drive`. Therefore a step is never refused for want of a seat
+/// or for a reply of the wrong kind, but for an unknown session, or by a full history.
+pub fn seats_are_held()
+    ensures made { (f : Flow) (n : ℕ) (view : JournalView) (j : Seen) (p : Whole)
+        → IsMade f n view j p → Seated p.core }
+    ensures turned { (t : Turn) (r : Result Outcome PlantError) (m : List Moved) (p q : Whole)
+        → Seated p.core → GoesOn t p q → Turned t r m p q → Seated q.core }
+    ensures driven { (drives : List Drive) (m : List Moved) (p q : Whole)
+        → Seated p.core → AllDriven drives m p q → Seated q.core }
+    ensures stepped { (s : ℕ) (e : EngineError) (m : List Moved) (p q : Whole)
+        → Seated p.core → Turned (Turn.Step s) (Ok (Outcome.Refused e)) m p q
+        → step_refusal p.core.world s ≡ Some e }
+{}
+
+/// A recovery of such a plant is refused by the engine for a full history alone, whatever the
+/// participants may do.
+pub fn recoveries_refuse_full_histories<K, R: Rules<K>>()
+    ensures { (types : List K) (os ps : List (List ℕ)) (cs ds : List ℕ) (e : EngineError)
+        (p q : Whole)
+        → Seated p.core
+        → Recovers (rule_at R.rule types) os cs p (Err (PlantError.Engine e)) ps ds q
+        → e ≡ HistoryFull }
 {}

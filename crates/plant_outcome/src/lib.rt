@@ -7,9 +7,15 @@
 //! - so the outcome law holds of all calls ever made, and of the journal that the written entries
 //!   make, after every list of turns ([`plants_keep_the_law`]);
 //! - after a restart a transaction that was committing is committed, and each other one aborted
-//!   ([`restarts_decide`]).
+//!   ([`restarts_decide`]);
+//! - each session that holds a transaction has its context, so that a step is refused for an
+//!   unknown session or by a full history alone ([`seats_are_held`]), and a recovery by a full
+//!   history alone ([`recoveries_refuse_full_histories`]).
 #![tactic(auto)]
 
 mod laws;
 
-pub use laws::{plants_keep_the_law, restarts_decide, turns_are_moves};
+pub use laws::{
+    plants_keep_the_law, recoveries_refuse_full_histories, restarts_decide, seats_are_held,
+    turns_are_moves,
+};

@@ -1,7 +1,7 @@
 -- What a new engine begins from: the contexts that the view has saved.
 -- for: restart::waiting_of, restart::view_of, restart::reopen, running::Running::stop, plant::Plant::new
 use Rattle.std.proofs.Common.{◌≡◌, ◌≢◌, ℕ, zero, suc, ◌+◌, ◌*◌, ◌<◌, ◌≤◌, ◌==◌, Bool, true, false, List, [], ◌∷◌, ◌++◌, length, take, drop, Option, Some, None, refl, sym, ap, subst, arith, ◌∙◌, append_assoc, append-nil, get_or, replicate}
-use Rattle.std.specs.Prelude.{Ok, slice_get, option_map, ◌/◌, ◌%◌}
+use Rattle.std.specs.Prelude.{Ok, if◌then◌else◌, slice_get, option_map, ◌/◌, ◌%◌}
 use Rattle.std.specs.List.{flat_map}
 use Rattle.std.specs.Ordering.{nat_cmp}
 use Rattle.std.specs.BTreeMap.{insert_entry}
@@ -73,6 +73,12 @@ abbrev row_in : ℕ × Row → Option (ℕ × Row) → ℕ × Row
 row_in d None = d
 row_in d (Some p) = p
 
+take_all : (rows : List (ℕ × Row)) (k : ℕ) → length rows ≤ k → take k rows ≡ rows
+take_all [] zero le = refl
+take_all [] (suc k) le = refl
+take_all (z ∷ rows) zero le = absurd (omega arith)
+take_all (z ∷ rows) (suc k) le = ap (λ (l : List (ℕ × Row)). z ∷ l) (take_all rows k (omega arith))
+
 rising_look : (rows : List (ℕ × Row)) (n m k id : ℕ) (r : Row) → Rising n m rows → slice_get rows k ≡ Some (id, r) → look id rows ≡ Some r
 rising_look [] n m k id r rise h = absurd (cc)
 rising_look (z ∷ rows) n m zero id r (a, b, rise) h = let yes : (z.0 == z.0) ≡ true = grind (arith, nat_tests) in subst (λ (y : ℕ × Row). look y.0 (z ∷ rows) ≡ Some y.1) (ap (row_in z) h) (rw yes refl)
@@ -82,25 +88,51 @@ rising_look (z ∷ rows) n m (suc k) id r (a, b, rise) h =
     let no : (z.0 == id) ≡ false = grind (arith, nat_tests) in
     rw no later
 
-pub saved_more : (rows : List (ℕ × Row)) (m k : ℕ) (item : ℕ × Row) (es : Pairs) (ws fs : List (ℕ × Pairs)) → Rising 1 m rows → slice_get rows k ≡ Some item → item.1.context ≡ bytes_of es → fs ≡ insert_entry nat_cmp ws item.0 es
-    → ((id : ℕ) (x : Pairs) → find id ws ≡ Some x → saved_in rows id ≡ Some x) → (id : ℕ) (x : Pairs) → find id fs ≡ Some x → saved_in rows id ≡ Some x
-saved_more rows m k item es ws fs rise there e f before id x h = by (id == item.0) refl where
-  row : look item.0 rows ≡ Some item.1
-  row = rising_look rows 1 m k item.0 item.1 rise there
+-- what one row more adds
+either_first : (a b : Bool) (x y o : Option Row) → (a ≡ true → b ≡ true → ⊥) → (if a then x else (if b then y else o)) ≡ (if b then y else (if a then x else o))
+either_first true true x y o apart = absurd (apart refl refl)
+either_first true false x y o apart = refl
+either_first false true x y o apart = refl
+either_first false false x y o apart = refl
 
-  by : (b : Bool) → (id == item.0) ≡ b → saved_in rows id ≡ Some x
+look_next : (rows : List (ℕ × Row)) (n m k id : ℕ) (item : ℕ × Row) → Rising n m rows → slice_get rows k ≡ Some item → look id (take (suc k) rows) ≡ (if item.0 == id then Some item.1 else look id (take k rows))
+look_next [] n m k id item rise h = absurd (cc)
+look_next (z ∷ rows) n m zero id item (a, b, rise) h =
+    let same : z ≡ item = ap (row_in z) h in
+    ap (λ (y : ℕ × Row). if y.0 == id then Some y.1 else None) same
+look_next (z ∷ rows) n m (suc k) id item (a, b, rise) h =
+    let lo = (look_within rows (z.0 + 1) m item.0 item.1 rise (rising_look rows (z.0 + 1) m k item.0 item.1 rise h)).0 in
+    let later = look_next rows (z.0 + 1) m k id item rise h in
+    let apart : (z.0 == id) ≡ true → (item.0 == id) ≡ true → ⊥ = (λ (p : (z.0 == id) ≡ true) (q : (item.0 == id) ≡ true). grind (arith, nat_tests)) in
+    ap (λ (o : Option Row). if z.0 == id then Some z.1 else o) later
+    ∙ either_first (z.0 == id) (item.0 == id) (Some z.1) (Some item.1) (look id (take k rows)) apart
+
+pub saved_more : (rows : List (ℕ × Row)) (m k : ℕ) (item : ℕ × Row) (es : Pairs) (ws fs : List (ℕ × Pairs)) → Rising 1 m rows → slice_get rows k ≡ Some item → item.1.context ≡ bytes_of es → fs ≡ insert_entry nat_cmp ws item.0 es
+    → ((id : ℕ) → find id ws ≡ saved_in (take k rows) id) → (id : ℕ) → find id fs ≡ saved_in (take (k + 1) rows) id
+saved_more rows m k item es ws fs rise there e f before id = by (item.0 == id) refl where
+  one : suc k ≡ k + 1
+  one = omega arith
+
+  next : (b : Bool) → (item.0 == id) ≡ b → saved_in (take (k + 1) rows) id ≡ option_map (λ (r : Row). pairs_of r.context) (if b then Some item.1 else look id (take k rows))
+  next b i = ap (λ (n : ℕ). saved_in (take n rows) id) (sym one) ∙ ap (option_map (λ (r : Row). pairs_of r.context)) (look_next rows 1 m k id item rise there ∙ ap (λ (c : Bool). if c then Some item.1 else look id (take k rows)) i)
+
+  by : (b : Bool) → (item.0 == id) ≡ b → find id fs ≡ saved_in (take (k + 1) rows) id
   by true i =
       let same : id ≡ item.0 = grind (arith, nat_tests) in
-      let is : Some es ≡ Some x = sym (ap (find id) f ∙ (ap (λ (j : ℕ). find j (insert_entry nat_cmp ws item.0 es)) same ∙ find_inserted ws item.0 es)) ∙ h in
-      ap (saved_in rows) same ∙ (ap (option_map (λ (r : Row). pairs_of r.context)) row ∙ (ap Some (ap pairs_of e ∙ pairs_back es) ∙ is))
+      let is : find id fs ≡ Some es = ap (find id) f ∙ (ap (λ (j : ℕ). find j (insert_entry nat_cmp ws item.0 es)) same ∙ find_inserted ws item.0 es) in
+      is ∙ (sym (ap Some (ap pairs_of e ∙ pairs_back es)) ∙ sym (next true i))
   by false i =
-      let d : item.0 ≢ id = (λ z. let w : id ≡ item.0 = sym z in let v : (id == item.0) ≡ true = grind (arith, nat_tests) in absurd (cc)) in
-      before id x (sym (find_other ws item.0 id es d) ∙ (sym (ap (find id) f) ∙ h))
+      let d : item.0 ≢ id = (λ (z : item.0 ≡ id). let v : (item.0 == id) ≡ true = grind (arith, nat_tests) in absurd (cc)) in
+      ap (find id) f ∙ (find_other ws item.0 id es d ∙ (before id ∙ sym (next false i)))
+
+-- all rows are those there are
+pub saved_all : (rows : List (ℕ × Row)) (ws : List (ℕ × Pairs)) (k : ℕ) → length rows ≤ k → ((id : ℕ) → find id ws ≡ saved_in (take k rows) id) → (id : ℕ) → find id ws ≡ saved_in rows id
+saved_all rows ws k le h id = h id ∙ ap (λ (l : List (ℕ × Row)). saved_in l id) (take_all rows k le)
 
 -- the new core
 
 pub opened_core : (flow : Flow) (n : ℕ) (view : JournalView) (j k : Seen) (first q : Core) → IsOk view → first.world ≡ opened_world flow view n → open_refusal flow view n ≡ None → first.seats ≡ replicate n None → first.ended ≡ []
-    → ((id : ℕ) (x : Pairs) → find id first.waiting ≡ Some x → recovered view id ≡ Some x) → Reads j view k → Reseats first q → Opened flow n view j q k
+    → ((id : ℕ) → find id first.waiting ≡ recovered view id) → Reads j view k → Reseats first q → Opened flow n view j q k
 opened_core flow n view j k first q ok world allowed seats ended waiting reads re = record {
   first = first;
   is_fresh = record { ok = ok; world = world; seats = seats; ended = ended; waiting = waiting };
@@ -135,7 +167,7 @@ keeps_fresh : (flow : Flow) (view : JournalView) (n : ℕ) (p : Core) → Fresh 
 keeps_fresh flow view n p f = record {
   place = λ id. placed (find id p.waiting);
   seated = λ s l q. (let none = ap (λ (z : List (Option Seat)). get_or z s None) f.seats ∙ none_seat n s in absurd (no_seat (sym none ∙ q)));
-  waits = λ id x q. (ap placed q, f.waiting id x q);
+  waits = λ id x q. (ap placed q, sym (f.waiting id) ∙ q);
   ended = λ id x q. (let none : find id p.ended ≡ None = ap (find id) f.ended in absurd (no_pairs (sym none ∙ q)));
   fresh = λ id q. (let above = subst (λ (m : ℕ). m ≤ id) (opened_next flow view n p.world f.world) q in
       let none = none_above view.rows view.next_id id f.ok.ordered.rows above (look id view.rows) refl in (nowhere id none (find id p.waiting) refl, none));
@@ -148,7 +180,7 @@ keeps_fresh flow view n p f = record {
 
   nowhere : (id : ℕ) → recovered view id ≡ None → (o : Option Pairs) → find id p.waiting ≡ o → placed (find id p.waiting) ≡ Nowhere
   nowhere id none None e = ap placed e
-  nowhere id none (Some x) e = absurd (no_pairs (sym none ∙ f.waiting id x e))
+  nowhere id none (Some x) e = absurd (no_pairs (sym none ∙ (sym (f.waiting id) ∙ e)))
 
 some_by : (n : ℕ) (b : Bool) (o : Option EngineError) → nat_lt n 1 ≡ b → or_else (refused_if (b || nat_lt 16 n) BadSessions) o ≡ None → 0 < n
 some_by n true o e h = absurd (cc)

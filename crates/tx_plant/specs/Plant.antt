@@ -22,7 +22,6 @@ use Rattle.tx_engine.specs.Calls.{unfinished}
 use Rattle.tx_engine.specs.Opening.{opened_world, open_refusal}
 use Rattle.tx_history.specs.Views.{FlowFits, IsHistory, IsOk, StartFits}
 use Rattle.flow_model.specs.declared.flow.Flow.{Flow}
-use Rattle.sw_context.specs.Pairs.{Pairs}
 use Rattle.tx_plant.specs.declared.seat.Seats.{Seats}
 use Rattle.tx_plant.specs.declared.turn.Outcome.{Outcome}
 use Rattle.tx_plant.specs.declared.turn.Outcome.TheVariants as outcome
@@ -97,14 +96,14 @@ pub record Reads (j : Seen) (view : JournalView) (k : Seen) : Type 0 where
   pub stands : IsClean k → Stands j.tables view
   pub tables : IsClean k → k.tables ≡ j.tables
 
--- The core of a new engine, before session 0 is seated: nothing is held or ended, and the contexts that wait are such as
+-- The core of a new engine, before session 0 is seated: nothing is held or ended, and the contexts that wait are those that
 -- the view has saved.
 pub record Fresh (flow : Flow) (view : JournalView) (n : ℕ) (p : Core) : Type 0 where
   pub ok : IsOk view
   pub world : p.world ≡ opened_world flow view n
   pub seats : p.seats ≡ replicate n None
   pub ended : p.ended ≡ []
-  pub waiting : (id : ℕ) (x : Pairs) → find id p.waiting ≡ Some x → recovered view id ≡ Some x
+  pub waiting : (id : ℕ) → find id p.waiting ≡ recovered view id
 
 -- a new engine was opened on the journal's view
 pub record Opened (flow : Flow) (n : ℕ) (view : JournalView) (j : Seen) (q : Core) (k : Seen) : Type 0 where

@@ -173,8 +173,9 @@ impl<S: Alter> Plant<S> {
 
     /// Writes, and steps session 0, until no transaction of the journal is unfinished and all is
     /// written, or a breakpoint holds the call of session 0. Refuses `Engine` where the engine
-    /// refuses the reply, as a full history does, `Journal` and `OutOfMemory`. What was done by
-    /// then stands, and a reply that could not be recorded is kept, as by `drive`.
+    /// refuses the reply, which only a full history does (`plant_outcome`), `Journal` and
+    /// `OutOfMemory`. What was done by then stands, and a reply that could not be recorded is
+    /// kept, as by `drive`.
     pub fn recover(&mut self, alloc: Global) -> Result<(), PlantError>
         ensures types { map type_of self.new.stations.items ≡ map type_of self.old.stations.items }
         ensures names { map name_of self.new.stations.items ≡ map name_of self.old.stations.items }

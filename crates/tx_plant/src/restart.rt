@@ -1,8 +1,7 @@
 //! A stop: all is given up but the journal and the stations, and an engine is opened on what is
 //! written.
 
-ghost use Rattle.std.specs.Prelude.{◌≡◌, ℕ, [], Some, None, IfErr, IfOk, length, replicate};
-ghost use Rattle.sw_context.specs.Pairs.{Pairs};
+ghost use Rattle.std.specs.Prelude.{◌≡◌, ℕ, [], None, IfErr, IfOk, length, replicate};
 ghost use Rattle.tx_history.specs.Keys.{Rising};
 ghost use Rattle.tx_history.specs.History.{next_id};
 ghost use Rattle.tx_history.specs.Views.{IsOk};
@@ -31,8 +30,8 @@ fn waiting_of(
     next_id: u64,
 ) -> Result<BTreeMap<u64, Context>, AllocError>
     requires { Rising 1 next_id rows.now }
-    ensures { IfOk result (λ waiting. (id : ℕ) (x : Pairs)
-        → find id waiting.entries ≡ Some x → saved_in rows.now id ≡ Some x) }
+    ensures { IfOk result (λ waiting. (id : ℕ)
+        → find id waiting.entries ≡ saved_in rows.now id) }
 {
     let mut waiting = BTreeMap::new(alloc);
     for (id, row) in rows {
@@ -62,8 +61,8 @@ impl Seats {
     fn of_view(alloc: Global, view: &JournalView, sessions: usize) -> Result<Seats, AllocError>
         requires { Rising 1 view.now.next_id view.now.rows }
         ensures seats { IfOk result (λ s. s.by_session.items ≡ replicate sessions None) }
-        ensures waiting { IfOk result (λ s. (id : ℕ) (x : Pairs)
-            → find id s.waiting.entries ≡ Some x → recovered view.now id ≡ Some x) }
+        ensures waiting { IfOk result (λ s. (id : ℕ)
+            → find id s.waiting.entries ≡ recovered view.now id) }
         ensures ended { IfOk result (λ s. s.ended.entries ≡ []) }
         ensures next { IfOk result (λ s. s.next_id ≡ view.now.next_id) }
     {
