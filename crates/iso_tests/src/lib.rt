@@ -1,11 +1,18 @@
-//! Tests of messages, their bytes, frames and streams: what no clause says, and no case under `tests/` shows.
-//! The helpers have no contract, so that the proof of a test carries no values.
+//! Tests of messages, their bytes, frames and streams, of the multiplexer, the book and the participants of the switch:
+//! what no clause says, and no case under `tests/` shows. The helpers have no contract, so that the proof of a test
+//! carries no values.
 #![tactic(auto)]
 
+#[cfg(test)]
+mod advices;
+#[cfg(test)]
+mod books;
 #[cfg(test)]
 mod codec;
 #[cfg(test)]
 mod frames;
+#[cfg(test)]
+mod keys;
 #[cfg(test)]
 mod messages;
 #[cfg(test)]

@@ -1,7 +1,10 @@
-//! Tests of the public functions of flows, contexts, participants, transactions and their machine that no subcommand of
-//! the program shows: each once on its happy path, at its limits, and against bytes worked out by hand.
+//! Tests of the public functions of flows, contexts, participants, transactions, their machine and the engine that no
+//! subcommand of the program shows: each once on its happy path, at its limits, and against bytes and rows worked out
+//! by hand.
 #![tactic(auto)]
 
+#[cfg(test)]
+mod bounds;
 #[cfg(test)]
 mod contexts;
 #[cfg(test)]
@@ -10,6 +13,8 @@ mod flows;
 mod machines;
 #[cfg(test)]
 mod places;
+#[cfg(test)]
+mod script;
 #[cfg(test)]
 mod stamp;
 #[cfg(test)]
