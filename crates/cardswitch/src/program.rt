@@ -13,7 +13,6 @@ use crate::error::RunError;
 use crate::flow_file::flow_at;
 use crate::requests::{answer_requests, recover};
 use cli_decode::decode_stream;
-use cli_flows::{asm, list};
 use cli_io::{Input, WriteError, read_input};
 use cli_options::OptionsError;
 use cli_options::choice::Options;
@@ -39,7 +38,7 @@ pub fn run<R: Read + Drop, O: Write, E: Write>(
     ensures failed { result ≢ 0 → IsFailed options.now
         (R.remaining input) (O.contents out.old) (O.contents out.new) result }
 {
-    match run_subcommand(alloc, rt, options, input, out, err) {
+    match run_subcommand(options, alloc, rt, input, out, err) {
         Ok(()) => 0,
         Err(error) => tell(&error, err),
     }
@@ -71,31 +70,23 @@ fn step<R: Read + Drop, O: Write>(
 }
 
 // `asm` with this program's errors (apart, so that the proof of `run_subcommand` has its clauses alone).
-fn write_image<R: Read + Drop, O: Write>(
-    alloc: Global,
-    input: R,
-    out: &mut O,
-) -> Result<(), RunError>
+fn asm<R: Read + Drop, O: Write>(alloc: Global, input: R, out: &mut O) -> Result<(), RunError>
     ensures done { OnOk result (IsAssembled
         (R.remaining input) (O.contents out.old) (O.contents out.new)) }
     ensures failed { IfErr result (IsAsmError
         (R.remaining input) (O.contents out.old) (O.contents out.new)) }
 {
-    Ok(asm(alloc, input, out)?)
+    Ok(cli_flows::asm(alloc, input, out)?)
 }
 
 // The same of `list`.
-fn write_flow<R: Read + Drop, O: Write>(
-    alloc: Global,
-    input: R,
-    out: &mut O,
-) -> Result<(), RunError>
+fn list<R: Read + Drop, O: Write>(alloc: Global, input: R, out: &mut O) -> Result<(), RunError>
     ensures done { OnOk result (IsListed
         (R.remaining input) (O.contents out.old) (O.contents out.new)) }
     ensures failed { IfErr result (IsListError
         (R.remaining input) (O.contents out.old) (O.contents out.new)) }
 {
-    Ok(list(alloc, input, out)?)
+    Ok(cli_flows::list(alloc, input, out)?)
 }
 
 fn decode<R: Read + Drop, O: Write>(alloc: Global, input: R, out: &mut O) -> Result<(), RunError>
@@ -111,9 +102,9 @@ fn decode<R: Read + Drop, O: Write>(alloc: Global, input: R, out: &mut O) -> Res
 }
 
 fn run_subcommand<R: Read + Drop, O: Write, E: Write>(
+    options: &Options<'_>,
     alloc: Global,
     rt: &HostRuntime,
-    options: &Options<'_>,
     input: R,
     out: &mut O,
     err: &mut E,
@@ -126,8 +117,8 @@ fn run_subcommand<R: Read + Drop, O: Write, E: Write>(
 {
     match options {
         Options::Step { flow } => step(alloc, rt, *flow, input, out),
-        Options::Asm => write_image(alloc, input, out),
-        Options::List => write_flow(alloc, input, out),
+        Options::Asm => asm(alloc, input, out),
+        Options::List => list(alloc, input, out),
         Options::Decode => decode(alloc, input, out),
         Options::Recover { flow, journal } => recover(alloc, rt, flow, journal, out),
         Options::Run(options) => answer_requests(alloc, rt, options, input, out, err),

@@ -7,11 +7,13 @@ use Rattle.iso_codec.specs.declared.error.DecodeError.TheVariants.{FieldNotInPro
 use Rattle.iso_codec.specs.Reads.{◌>>=◌, text_at, content_is, front_at, read}
 use Rattle.cli_decode.specs.Decoded.{line_of, message_text}
 
+-- a text with the line of a value that the field takes, and the bytes after it
+abbrev pub with_value : Form → List ℕ → ℕ → List ℕ × List ℕ → Result (List ℕ × List ℕ) DecodeError
+with_value form text n value = content_is form n value.0 >>= λ ok. Ok (text ++ line_of (Some form) n value.0, value.1)
+
 -- a text with the line of the field at the front, and the bytes after that field
 abbrev pub with_form : Form → List ℕ → ℕ → List ℕ → Result (List ℕ × List ℕ) DecodeError
-with_form form text n bytes =
-    text_at form n bytes >>= λ value. content_is form n value.0
-    >>= λ ok. Ok (text ++ line_of (Some form) n value.0, value.1)
+with_form form text n bytes = text_at form n bytes >>= with_value form text n
 
 abbrev pub with_field : Option Form → List ℕ → ℕ → List ℕ → Result (List ℕ × List ℕ) DecodeError
 with_field None text n bytes = Err (FieldNotInProfile n)

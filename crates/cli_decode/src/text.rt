@@ -7,7 +7,7 @@ ghost use Rattle.iso_codec.specs.Reads.{Gives};
 ghost use Rattle.cli_decode.specs.Decoded.{fault_name as name_of, frame_text, is_refused};
 ghost use Rattle.cli_decode.specs.Decoded.{line_of, refused_text, shown};
 ghost use Rattle.cli_decode.specs.Printing.{paragraph_of, with_field, with_fields};
-ghost use Rattle.cli_decode.specs.Printing.{with_form, with_message};
+ghost use Rattle.cli_decode.specs.Printing.{with_form, with_message, with_value};
 
 use iso_codec::{
     DecodeError, Numbers, check_content, push_hex, read_binary, read_front, read_variable, split,
@@ -42,6 +42,22 @@ fn push_line(text: &mut Vec<u8>, form: Form, number: u8, value: &[u8]) -> Result
     text.extend_from_slice(b"\n")
 }
 
+// Adds the line of a value that the field takes, and answers the bytes after it.
+fn push_checked<'a>(
+    text: &mut Vec<u8>,
+    form: Form,
+    number: u8,
+    value: &[u8],
+    rest: &'a [u8],
+) -> Result<&'a [u8], DecodeError>
+    ensures { Gives (λ rest. (text.new.items, rest.now)) result
+        (with_value form text.old.items number (value.now, rest.now)) }
+{
+    check_content(form, number, value)?;
+    push_line(text, form, number, value)?;
+    Ok(rest)
+}
+
 // Adds the line of a field of this form, and answers the bytes after the field.
 fn push_form<'a>(
     text: &mut Vec<u8>,
@@ -56,9 +72,7 @@ fn push_form<'a>(
     match form {
         Form::Fixed { length, .. } => {
             let (value, rest) = split(bytes, length as usize)?;
-            check_content(form, number, value)?;
-            push_line(text, form, number, value)?;
-            Ok(rest)
+            push_checked(text, form, number, value, rest)
         }
         Form::Variable {
             length_digits,
@@ -66,15 +80,11 @@ fn push_form<'a>(
             ..
         } => {
             let (value, rest) = read_variable(length_digits, max_length, number, bytes)?;
-            check_content(form, number, value)?;
-            push_line(text, form, number, value)?;
-            Ok(rest)
+            push_checked(text, form, number, value, rest)
         }
         Form::Binary => {
             let (value, rest) = read_binary(number, bytes)?;
-            check_content(form, number, &value)?;
-            push_line(text, form, number, &value)?;
-            Ok(rest)
+            push_checked(text, form, number, &value, rest)
         }
     }
 }

@@ -25,7 +25,8 @@ fn with_option<'a>(
     value: &'a str,
     help: &'a str,
 ) -> Result<Command<'a>, AllocError>
-    ensures shape { IfOk result (HasShape (with_rule (app_of command.entry) (option_rule name.entry.now))) }
+    ensures shape { IfOk result
+        (HasShape (with_rule (app_of command.entry) (option_rule name.entry.now))) }
     ensures local { IsLocal command.entry → IfOk result IsLocal }
 {
     let arg = Arg::new(alloc, name)
@@ -35,21 +36,20 @@ fn with_option<'a>(
     command.arg(arg)
 }
 
-/// The command with the option `--NAME VALUE`, which has to be given.
-fn with_needed<'a>(
+/// The command with the option `--NAME PATH`, which has to be given.
+fn with_path<'a>(
     alloc: Global,
     command: Command<'a>,
     name: &'a str,
-    value: &'a str,
     help: &'a str,
 ) -> Result<Command<'a>, AllocError>
-    ensures shape { IfOk result (HasShape
-        (with_rule (app_of command.entry) (needed_rule name.entry.now))) }
+    ensures shape { IfOk result
+        (HasShape (with_rule (app_of command.entry) (needed_rule name.entry.now))) }
     ensures local { IsLocal command.entry → IfOk result IsLocal }
 {
     let arg = Arg::new(alloc, name)
         .long(name)
-        .value_name(value)
+        .value_name("PATH")
         .help(help)
         .required(true);
     command.arg(arg)
@@ -114,8 +114,8 @@ fn recover_command<'a>(alloc: Global) -> Result<Command<'a>, AllocError>
 {
     let about = "Finishes what a journal has unfinished and prints one line for each step";
     let command = subcommand(alloc, "recover", about);
-    let command = with_needed(alloc, command, "flow", "PATH", "The flow file")?;
-    with_needed(alloc, command, "journal", "PATH", "The journal's file")
+    let command = with_path(alloc, command, "flow", "The flow file")?;
+    with_path(alloc, command, "journal", "The journal's file")
 }
 
 fn run_command<'a>(alloc: Global) -> Result<Command<'a>, AllocError>
@@ -124,7 +124,7 @@ fn run_command<'a>(alloc: Global) -> Result<Command<'a>, AllocError>
 {
     let about = "Answers the requests in frames from standard input, in frames of responses";
     let command = subcommand(alloc, "run", about);
-    let command = with_needed(alloc, command, "flow", "PATH", "The flow file")?;
+    let command = with_path(alloc, command, "flow", "The flow file")?;
     let help = "The journal's file; without it the journal is in memory";
     let command = with_option(alloc, command, "journal", "PATH", help)?;
     let help = "The number of sessions, 1 to 16; 1 where nothing is said";

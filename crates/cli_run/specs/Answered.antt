@@ -9,12 +9,14 @@ use Rattle.sw_frame.specs.Stream.{AreFramed}
 use Rattle.flow_model.specs.declared.flow.Flow.{Flow}
 use Rattle.tx_history.specs.declared.journal.JournalView.{JournalView}
 use Rattle.tx_engine.specs.World.{World}
-use Rattle.tx_journal.specs.Kept.{JournalState}
+use Rattle.sqlite_trees.specs.declared.store.Store.{Ghosts}
+use Rattle.tx_journal.specs.Kept.{JournalState, kept}
 use Rattle.tx_plant.specs.declared.seat.Seats.{Seats}
 use Rattle.tx_plant.specs.declared.turn.Outcome.{Outcome}
 use Rattle.tx_plant.specs.declared.turn.Turn.{Turn}
 use Rattle.tx_plant.specs.declared.turn.Turn.TheVariants as turn
 use Rattle.tx_plant.specs.Steps.{Moved}
+use Rattle.cli_run.specs.declared.switch.Switch.{Switch}
 use Rattle.tx_plant.specs.Plant.{Driven, Opened, Seen, Whole, seen, whole}
 
 -- a switch between two calls of its plant: the plant, and the id of the last transaction whose response was given
@@ -25,6 +27,10 @@ pub record Point : Type 0 where
 -- the same of its parts
 abbrev pub point : World → Seats → JournalState → ℕ → Point
 point w seats j id = record { plant = whole w seats (seen j); answered = id }
+
+-- the same of a switch
+abbrev pub point_of : {S : Type 0} {I : Type 0} {D : I → Type 0} → Ghosts S → Switch S I D → Point
+point_of g s = point s.plant.running.engine s.plant.running.seats (kept g s.plant.journal) s.answered
 
 -- every entry is written
 abbrev pub IsAllWritten : World → Type 0

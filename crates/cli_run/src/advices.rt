@@ -1,8 +1,7 @@
 //! The advices that the journal stores.
 
 ghost use Rattle.std.specs.Prelude.{[], OnOk};
-ghost use Rattle.tx_journal.specs.Kept.{kept};
-ghost use Rattle.cli_run.specs.Answered.{Acts, IsAllWritten, point};
+ghost use Rattle.cli_run.specs.Answered.{Acts, IsAllWritten, point_of};
 
 use crate::error::ServeError;
 use crate::switch::Switch;
@@ -43,12 +42,8 @@ fn send_advice<S: Alter, L: Link>(
     stored: &Stored,
 ) -> Result<(), ServeError>
     requires written { IsAllWritten switch.old.plant.running.engine }
-    ensures acts { OnOk result
-        (Acts []
-        (point switch.old.plant.running.engine switch.old.plant.running.seats
-        (kept S.Store switch.old.plant.journal) switch.old.answered)
-        (point switch.new.plant.running.engine switch.new.plant.running.seats
-        (kept S.Store switch.new.plant.journal) switch.new.answered)) }
+    ensures acts { OnOk result (Acts []
+        (point_of S.Store switch.old) (point_of S.Store switch.new)) }
 {
     let repeat = switch.is_old(stored.id);
     if sender.send(stored.advice.as_slice(), repeat)? {
@@ -64,12 +59,8 @@ pub(crate) fn send_advices<S: Alter, L: Link>(
     sender: &mut Sender<L>,
 ) -> Result<(), ServeError>
     requires written { IsAllWritten switch.old.plant.running.engine }
-    ensures acts { OnOk result
-        (Acts []
-        (point switch.old.plant.running.engine switch.old.plant.running.seats
-        (kept S.Store switch.old.plant.journal) switch.old.answered)
-        (point switch.new.plant.running.engine switch.new.plant.running.seats
-        (kept S.Store switch.new.plant.journal) switch.new.answered)) }
+    ensures acts { OnOk result (Acts []
+        (point_of S.Store switch.old) (point_of S.Store switch.new)) }
 {
     let list = advices_of(alloc, switch.engine())?;
     for stored in &list {

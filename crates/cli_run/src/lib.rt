@@ -19,4 +19,4 @@ pub use error::ServeError;
 pub use issuers::Issuers;
 pub use serving::{Setup, run};
 pub use stream::StreamEnd;
-pub use told::Told;
+pub use told::{Told, write_lines};

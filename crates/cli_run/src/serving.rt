@@ -3,7 +3,7 @@
 ghost use Rattle.std.specs.Prelude.{◌≡◌, ℕ, List, [], IfOk, IfSome, OnOk};
 ghost use Rattle.tx_journal.specs.Kept.{kept};
 ghost use Rattle.tx_plant.specs.Plant.{IsEngine, seen};
-ghost use Rattle.cli_run.specs.Answered.{Acts, IsAllWritten, Ran, Serves, point, unanswered};
+ghost use Rattle.cli_run.specs.Answered.{Acts, IsAllWritten, Ran, Serves, point_of, unanswered};
 ghost use Rattle.cli_run.specs.Requests.{ReadTo, requests};
 
 use crate::advices::send_advices;
@@ -20,24 +20,22 @@ use std::io::{Read, Write};
 use sw_book::Book;
 use sw_issuers::Sender;
 use sw_participant::Station;
-use sw_parts::{CheckFields, Forward, Limits, Link, QueryIssuer, Respond, Reverse, Route, StandIn};
+use sw_parts::{
+    Bystander, CheckFields, Forward, Limits, Link, QueryIssuer, Respond, Reverse, Route, StandIn,
+};
 use tx_engine::Engine;
 use tx_journal::Journal;
 use tx_plant::{Plant, Turn};
 
-/// More releases than put anything on the shelf again: each takes one of at most 100 tries.
-const MAX_RELEASES: usize = 101;
+/// More rounds than there are: each release takes one of at most 100 tries.
+const MAX_ROUNDS: u64 = u64::MAX;
 
 impl<S: Alter> Switch<S> {
     // Finishes what the journal has unfinished.
     fn recover(&mut self, alloc: Global) -> Result<(), ServeError>
         requires made { IsEngine self.old.plant.running.engine }
-        ensures acts { OnOk result
-            (Acts []
-            (point self.old.plant.running.engine self.old.plant.running.seats
-            (kept S.Store self.old.plant.journal) self.old.answered)
-            (point self.new.plant.running.engine self.new.plant.running.seats
-            (kept S.Store self.new.plant.journal) self.new.answered)) }
+        ensures acts { OnOk result (Acts []
+            (point_of S.Store self.old) (point_of S.Store self.new)) }
     {
         self.plant.recover(alloc)?;
         match self.plant.drive(alloc, &[Turn::Write(None)]) {
@@ -46,29 +44,7 @@ impl<S: Alter> Switch<S> {
         }
     }
 
-    // Runs all that waits in the queue.
-    fn answer_queue<O: Write, E: Write>(
-        &mut self,
-        alloc: Global,
-        out: &mut O,
-        told: &mut Told<'_, E>,
-    ) -> Result<(), ServeError>
-        requires written { IsAllWritten self.old.plant.running.engine }
-        ensures serves { OnOk result (Serves []
-            (point self.old.plant.running.engine self.old.plant.running.seats
-            (kept S.Store self.old.plant.journal) self.old.answered)
-            (O.contents out.old)
-            (point self.new.plant.running.engine self.new.plant.running.seats
-            (kept S.Store self.new.plant.journal) self.new.answered)
-            (O.contents out.new)) }
-    {
-        for _ in 0..self.engine().queued() {
-            self.answer_next(alloc, out, told)?;
-        }
-        Ok(())
-    }
-
-    // Moves the shelf to the queue and runs what waits there, until nothing is on the shelf.
+    // Runs what waits in the queue, and moves the shelf there where nothing does, until nothing is on the shelf.
     fn drain<O: Write, E: Write>(
         &mut self,
         alloc: Global,
@@ -77,19 +53,18 @@ impl<S: Alter> Switch<S> {
     ) -> Result<(), ServeError>
         requires written { IsAllWritten self.old.plant.running.engine }
         ensures serves { OnOk result (Serves []
-            (point self.old.plant.running.engine self.old.plant.running.seats
-            (kept S.Store self.old.plant.journal) self.old.answered)
-            (O.contents out.old)
-            (point self.new.plant.running.engine self.new.plant.running.seats
-            (kept S.Store self.new.plant.journal) self.new.answered)
-            (O.contents out.new)) }
+            (point_of S.Store self.old) (O.contents out.old)
+            (point_of S.Store self.new) (O.contents out.new)) }
     {
-        for _ in 0..MAX_RELEASES {
+        for _ in 0..MAX_ROUNDS {
+            if self.engine().queued() > 0 {
+                self.answer_next(alloc, told, out)?;
+                continue;
+            }
             if self.engine().shelved() == 0 {
                 return Ok(());
             }
             self.act(alloc, Turn::Release)?;
-            self.answer_queue(alloc, out, told)?;
         }
         Err(ServeError::Endless)
     }
@@ -107,15 +82,9 @@ impl<S: Alter> Switch<S> {
         ensures serves { IfOk result (λ end. (frames : List (List ℕ))
             × ReadTo end (R.remaining input) frames
             × Serves (requests frames)
-            (point self.old.plant.running.engine self.old.plant.running.seats
-            (kept S.Store self.old.plant.journal) self.old.answered)
-            (O.contents out.old)
-            (point self.new.plant.running.engine self.new.plant.running.seats
-            (kept S.Store self.new.plant.journal) self.new.answered)
-            (O.contents out.new)
-            × (unanswered
-            (point self.new.plant.running.engine self.new.plant.running.seats
-            (kept S.Store self.new.plant.journal) self.new.answered) ≡ [])) }
+            (point_of S.Store self.old) (O.contents out.old)
+            (point_of S.Store self.new) (O.contents out.new)
+            × (unanswered (point_of S.Store self.new) ≡ [])) }
     {
         let mut input = input;
         let mut requests = Requests::new(alloc);
@@ -152,10 +121,10 @@ fn run_over<S: Alter + Drop, L: Link, R: Read + Drop, O: Write, E: Write>(
     alloc: Global,
     code: &Code,
     journal: Journal<S>,
+    input: Option<R>,
     stations: Vec<Station>,
     sessions: usize,
     sender: &mut Sender<L>,
-    input: Option<R>,
     out: &mut O,
     told: &mut Told<'_, E>,
 ) -> Result<StreamEnd, ServeError>
@@ -211,28 +180,31 @@ pub fn run<S: Alter + Drop, R: Read + Drop, O: Write, E: Write>(
         sessions,
     } = setup;
     let Issuers { alpha, beta } = queried;
-    let query_alpha = QueryIssuer::new(alloc, alpha);
-    let query_beta = QueryIssuer::new(alloc, beta);
-    let route = Route::new(alloc, routes(alloc)?);
+    let check = Bystander::new(CheckFields::new(alloc));
+    let route = Bystander::new(Route::new(alloc, routes(alloc)?));
+    let query_alpha = Bystander::new(QueryIssuer::new(alloc, alpha));
+    let query_beta = Bystander::new(QueryIssuer::new(alloc, beta));
+    let stand_in = Bystander::new(StandIn::new(alloc));
+    let respond = Bystander::new(Respond::new(alloc));
     let mut stations = Vec::new(alloc);
-    stations.push(Station::new(alloc, "check", Box::new(alloc, CheckFields::new(alloc))?)?)?;
+    stations.push(Station::new(alloc, "check", Box::new(alloc, check)?)?)?;
     stations.push(Station::new(alloc, "limits", Box::new(alloc, Limits::new(alloc, book))?)?)?;
     stations.push(Station::new(alloc, "route", Box::new(alloc, route)?)?)?;
     stations.push(Station::new(alloc, "query_alpha", Box::new(alloc, query_alpha)?)?)?;
     stations.push(Station::new(alloc, "query_beta", Box::new(alloc, query_beta)?)?)?;
     stations.push(Station::new(alloc, "reverse", Box::new(alloc, Reverse::new(alloc))?)?)?;
-    stations.push(Station::new(alloc, "standin", Box::new(alloc, StandIn::new(alloc))?)?)?;
+    stations.push(Station::new(alloc, "standin", Box::new(alloc, stand_in)?)?)?;
     stations.push(Station::new(alloc, "forward", Box::new(alloc, Forward::new(alloc))?)?)?;
-    stations.push(Station::new(alloc, "respond", Box::new(alloc, Respond::new(alloc))?)?)?;
+    stations.push(Station::new(alloc, "respond", Box::new(alloc, respond)?)?)?;
     let mut sender = sender_over(alloc, advised)?;
     run_over(
         alloc,
         code,
         journal,
+        input,
         stations,
         sessions,
         &mut sender,
-        input,
         out,
         told,
     )

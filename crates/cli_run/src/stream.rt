@@ -8,8 +8,7 @@ ghost use Rattle.sw_frame.specs.declared.error.FrameError.TheVariants as FrameEr
 ghost use Rattle.sw_frame.specs.Feeds.{messages};
 ghost use Rattle.sw_frame.specs.Stream.{blank};
 ghost use Rattle.iso_codec.specs.Reads.{read};
-ghost use Rattle.tx_journal.specs.Kept.{kept};
-ghost use Rattle.cli_run.specs.Answered.{IsAllWritten, Serves, point};
+ghost use Rattle.cli_run.specs.Answered.{IsAllWritten, Serves, point_of};
 ghost use Rattle.cli_run.specs.Requests.{EndsAs, FramesIn, ReadTo, ReadsOn, if_read, request_of, requests};
 ghost use Rattle.cli_run.specs.declared.stream.StreamEnd.TheVariants.{Unread};
 
@@ -69,15 +68,11 @@ fn serve<S: Alter, O: Write, E: Write>(
 ) -> Result<(), ServeError>
     requires written { IsAllWritten switch.old.plant.running.engine }
     ensures serves { OnOk result (Serves (map request_of (if_read (read message.now) message.now))
-        (point switch.old.plant.running.engine switch.old.plant.running.seats
-        (kept S.Store switch.old.plant.journal) switch.old.answered)
-        (O.contents out.old)
-        (point switch.new.plant.running.engine switch.new.plant.running.seats
-        (kept S.Store switch.new.plant.journal) switch.new.answered)
-        (O.contents out.new)) }
+        (point_of S.Store switch.old) (O.contents out.old)
+        (point_of S.Store switch.new) (O.contents out.new)) }
 {
     match decode(alloc, message) {
-        Ok(_) => switch.answer(alloc, message, out, told),
+        Ok(_) => switch.answer(alloc, message, told, out),
         Err(DecodeError::OutOfMemory) => Err(ServeError::OutOfMemory),
         Err(error) => {
             told.pass_over(number, &error);
@@ -97,12 +92,8 @@ fn serve_messages<S: Alter, O: Write, E: Write>(
 ) -> Result<(), ServeError>
     requires written { IsAllWritten switch.old.plant.running.engine }
     ensures serves { OnOk result (Serves (requests (messages list.now))
-        (point switch.old.plant.running.engine switch.old.plant.running.seats
-        (kept S.Store switch.old.plant.journal) switch.old.answered)
-        (O.contents out.old)
-        (point switch.new.plant.running.engine switch.new.plant.running.seats
-        (kept S.Store switch.new.plant.journal) switch.new.answered)
-        (O.contents out.new)) }
+        (point_of S.Store switch.old) (O.contents out.old)
+        (point_of S.Store switch.new) (O.contents out.new)) }
 {
     for message in list {
         *count = count.saturating_add(1);
@@ -134,12 +125,8 @@ impl Requests {
         ensures serves { OnOk result ((more : List (List ℕ))
             × FramesIn piece.now more self.old.framer self.new.framer
             × Serves (requests more)
-            (point switch.old.plant.running.engine switch.old.plant.running.seats
-            (kept S.Store switch.old.plant.journal) switch.old.answered)
-            (O.contents out.old)
-            (point switch.new.plant.running.engine switch.new.plant.running.seats
-            (kept S.Store switch.new.plant.journal) switch.new.answered)
-            (O.contents out.new)) }
+            (point_of S.Store switch.old) (O.contents out.old)
+            (point_of S.Store switch.new) (O.contents out.new)) }
     {
         match self.framer.feed(piece) {
             Ok(list) => serve_messages(alloc, switch, &mut self.count, &list, out, told),
@@ -181,12 +168,8 @@ impl Requests {
             × ReadsOn (R.remaining input.old) self.old.framer more
             (R.remaining input.new) self.new.framer
             × Serves (requests more)
-            (point switch.old.plant.running.engine switch.old.plant.running.seats
-            (kept S.Store switch.old.plant.journal) switch.old.answered)
-            (O.contents out.old)
-            (point switch.new.plant.running.engine switch.new.plant.running.seats
-            (kept S.Store switch.new.plant.journal) switch.new.answered)
-            (O.contents out.new)
+            (point_of S.Store switch.old) (O.contents out.old)
+            (point_of S.Store switch.new) (O.contents out.new)
             × IfSome end (λ e. EndsAs e self.new.framer (R.remaining input.new))) }
     {
         let count = match input.read(buf) {
@@ -212,12 +195,8 @@ impl Requests {
         ensures serves { IfOk result (λ end. (frames : List (List ℕ))
             × ReadTo end (R.remaining input.old) frames
             × Serves (requests frames)
-            (point switch.old.plant.running.engine switch.old.plant.running.seats
-            (kept S.Store switch.old.plant.journal) switch.old.answered)
-            (O.contents out.old)
-            (point switch.new.plant.running.engine switch.new.plant.running.seats
-            (kept S.Store switch.new.plant.journal) switch.new.answered)
-            (O.contents out.new)) }
+            (point_of S.Store switch.old) (O.contents out.old)
+            (point_of S.Store switch.new) (O.contents out.new)) }
     {
         let mut buf = vec![in alloc; 0u8; PIECE]?;
         // More reads than any run makes.

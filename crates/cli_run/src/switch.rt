@@ -1,8 +1,7 @@
 //! The plant of the switch, one transaction after the other.
 
 ghost use Rattle.std.specs.Prelude.{◌≡◌, ◌-◌, ◌∷◌, [], OnOk};
-ghost use Rattle.tx_journal.specs.Kept.{kept};
-ghost use Rattle.cli_run.specs.Answered.{Acts, IsAllWritten, Serves, offer_of, point, unanswered};
+ghost use Rattle.cli_run.specs.Answered.{Acts, IsAllWritten, Serves, offer_of, point_of, unanswered};
 ghost use Rattle.cli_run.specs.Requests.{request_of};
 
 use crate::error::ServeError;
@@ -88,10 +87,7 @@ impl<S: Alter> Switch<S> {
     pub(crate) fn act(&mut self, alloc: Global, turn: Turn) -> Result<Outcome, ServeError>
         requires written { IsAllWritten self.old.plant.running.engine }
         ensures acts { OnOk result (Acts (offer_of turn)
-            (point self.old.plant.running.engine self.old.plant.running.seats
-            (kept S.Store self.old.plant.journal) self.old.answered)
-            (point self.new.plant.running.engine self.new.plant.running.seats
-            (kept S.Store self.new.plant.journal) self.new.answered)) }
+            (point_of S.Store self.old) (point_of S.Store self.new)) }
     {
         let turns = [turn, Turn::Write(None)];
         let outcomes = match self.plant.drive(alloc, &turns) {
@@ -108,12 +104,8 @@ impl<S: Alter> Switch<S> {
     // Runs the transaction of the queue's first context to its end.
     fn serve_next(&mut self, alloc: Global) -> Result<(), ServeError>
         requires written { IsAllWritten self.old.plant.running.engine }
-        ensures acts { OnOk result
-            (Acts []
-            (point self.old.plant.running.engine self.old.plant.running.seats
-            (kept S.Store self.old.plant.journal) self.old.answered)
-            (point self.new.plant.running.engine self.new.plant.running.seats
-            (kept S.Store self.new.plant.journal) self.new.answered)) }
+        ensures acts { OnOk result (Acts []
+            (point_of S.Store self.old) (point_of S.Store self.new)) }
     {
         self.act(alloc, Turn::Take(0))?;
         for _ in 0..MAX_STEPS {
@@ -128,15 +120,9 @@ impl<S: Alter> Switch<S> {
     pub(crate) fn give<O: Write>(&mut self, alloc: Global, out: &mut O) -> Result<(), ServeError>
         requires written { IsAllWritten self.old.plant.running.engine }
         ensures serves { OnOk result (Serves []
-            (point self.old.plant.running.engine self.old.plant.running.seats
-            (kept S.Store self.old.plant.journal) self.old.answered)
-            (O.contents out.old)
-            (point self.new.plant.running.engine self.new.plant.running.seats
-            (kept S.Store self.new.plant.journal) self.new.answered)
-            (O.contents out.new)) }
-        ensures none_left { OnOk result (unanswered
-            (point self.new.plant.running.engine self.new.plant.running.seats
-            (kept S.Store self.new.plant.journal) self.new.answered) ≡ []) }
+            (point_of S.Store self.old) (O.contents out.old)
+            (point_of S.Store self.new) (O.contents out.new)) }
+        ensures none_left { OnOk result (unanswered (point_of S.Store self.new) ≡ []) }
     {
         let text = text_above(alloc, self.plant.ended(), self.answered)?;
         self.answered = last_above(self.plant.ended(), self.answered);
@@ -150,12 +136,8 @@ impl<S: Alter> Switch<S> {
         told: &mut Told<'_, E>,
     ) -> Result<(), ServeError>
         requires written { IsAllWritten self.old.plant.running.engine }
-        ensures acts { OnOk result
-            (Acts []
-            (point self.old.plant.running.engine self.old.plant.running.seats
-            (kept S.Store self.old.plant.journal) self.old.answered)
-            (point self.new.plant.running.engine self.new.plant.running.seats
-            (kept S.Store self.new.plant.journal) self.new.answered)) }
+        ensures acts { OnOk result (Acts []
+            (point_of S.Store self.old) (point_of S.Store self.new)) }
     {
         if self.engine().history().len() >= MANY_ENTRIES {
             told.trace(alloc, self.engine())?;
@@ -168,17 +150,13 @@ impl<S: Alter> Switch<S> {
     pub(crate) fn answer_next<O: Write, E: Write>(
         &mut self,
         alloc: Global,
-        out: &mut O,
         told: &mut Told<'_, E>,
+        out: &mut O,
     ) -> Result<(), ServeError>
         requires written { IsAllWritten self.old.plant.running.engine }
         ensures serves { OnOk result (Serves []
-            (point self.old.plant.running.engine self.old.plant.running.seats
-            (kept S.Store self.old.plant.journal) self.old.answered)
-            (O.contents out.old)
-            (point self.new.plant.running.engine self.new.plant.running.seats
-            (kept S.Store self.new.plant.journal) self.new.answered)
-            (O.contents out.new)) }
+            (point_of S.Store self.old) (O.contents out.old)
+            (point_of S.Store self.new) (O.contents out.new)) }
     {
         self.serve_next(alloc)?;
         self.give(alloc, out)?;
@@ -190,23 +168,19 @@ impl<S: Alter> Switch<S> {
         &mut self,
         alloc: Global,
         request: &[u8],
-        out: &mut O,
         told: &mut Told<'_, E>,
+        out: &mut O,
     ) -> Result<(), ServeError>
         requires written { IsAllWritten self.old.plant.running.engine }
         ensures serves { OnOk result (Serves (request_of request.now ∷ [])
-            (point self.old.plant.running.engine self.old.plant.running.seats
-            (kept S.Store self.old.plant.journal) self.old.answered)
-            (O.contents out.old)
-            (point self.new.plant.running.engine self.new.plant.running.seats
-            (kept S.Store self.new.plant.journal) self.new.answered)
-            (O.contents out.new)) }
+            (point_of S.Store self.old) (O.contents out.old)
+            (point_of S.Store self.new) (O.contents out.new)) }
     {
         let mut context = Context::new(alloc);
         let Ok(()) = context.put("request", request) else {
             return Err(ServeError::OutOfMemory);
         };
         self.act(alloc, Turn::Offer(context))?;
-        self.answer_next(alloc, out, told)
+        self.answer_next(alloc, told, out)
     }
 }

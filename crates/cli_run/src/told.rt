@@ -35,7 +35,7 @@ impl<'a, E: Write> Told<'a, E> {
 }
 
 /// Writes the lines of all entries of the engine's history.
-pub(crate) fn write_lines<W: Write>(
+pub fn write_lines<W: Write>(
     alloc: Global,
     engine: &Engine,
     out: &mut W,

@@ -4,16 +4,4 @@
 #![tactic(auto)]
 
 #[cfg(test)]
-mod advices;
-#[cfg(test)]
-mod books;
-#[cfg(test)]
-mod codec;
-#[cfg(test)]
-mod frames;
-#[cfg(test)]
-mod keys;
-#[cfg(test)]
-mod messages;
-#[cfg(test)]
-mod streams;
+mod tests;

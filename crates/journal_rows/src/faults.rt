@@ -8,7 +8,7 @@ ghost use Rattle.journal_rows.specs.Faults.{IsFault, IsFirstBad, IsTx, ShelfFits
 
 use crate::error::{BadRow, JournalTable, RowsError};
 use crate::members::{bad_member, count_of, has_id};
-use crate::reading::{bytes_at, int_at, read_of, value_of};
+use crate::reading::{TableRows, bytes_at, int_at, read_of, value_of};
 use sqlite::Row as Cells;
 use std::alloc::Global;
 use sw_context::{Context, is_name_bytes};
@@ -191,15 +191,17 @@ fn first_of(one: Option<BadRow>, later: Option<BadRow>) -> Option<BadRow>
     }
 }
 
-fn bad_row(
-    meta: &[Cells],
-    tx: &[Cells],
-    members: &[Cells],
-    shelf: &[Cells],
-    advices: &[Cells],
-) -> Option<BadRow>
-    ensures { IsFault meta.now tx.now members.now shelf.now advices.now result }
+fn bad_row(rows: TableRows<'_>) -> Option<BadRow>
+    ensures { IsFault rows.entry.meta.now rows.entry.tx.now rows.entry.members.now
+        rows.entry.shelf.now rows.entry.advices.now result }
 {
+    let TableRows {
+        meta,
+        tx,
+        members,
+        shelf,
+        advices,
+    } = rows;
     let next = value_of(2, meta);
     let in_tx = bad_tx(next, members, tx);
     let in_shelf = bad_shelf(next, tx, shelf);
@@ -212,23 +214,15 @@ fn bad_row(
 }
 
 /// The journal that the rows stand for, or the first row at fault, by the order of the tables and
-/// then by id. The rows are as the queries of the tables give them: `meta` with key and value; `tx`
-/// with id, phase, number told, doing, tries and context; `members` with id, place and name; `shelf`
-/// with id, tries and context; `advices` with id, place and body; each by its key.
-pub fn view_of(
-    alloc: Global,
-    meta: &[Cells],
-    tx: &[Cells],
-    members: &[Cells],
-    shelf: &[Cells],
-    advices: &[Cells],
-) -> Result<JournalView, RowsError>
-    ensures { IsReading meta.now tx.now members.now shelf.now advices.now result }
+/// then by id.
+pub fn view_of(alloc: Global, rows: TableRows<'_>) -> Result<JournalView, RowsError>
+    ensures { IsReading rows.entry.meta.now rows.entry.tx.now rows.entry.members.now
+        rows.entry.shelf.now rows.entry.advices.now result }
 {
-    if let Some(bad) = bad_row(meta, tx, members, shelf, advices) {
+    if let Some(bad) = bad_row(rows) {
         return Err(RowsError::BadRow(bad));
     }
-    match read_of(alloc, meta, tx, members, shelf, advices) {
+    match read_of(alloc, rows) {
         Ok(view) => Ok(view),
         Err(_) => Err(RowsError::OutOfMemory),
     }

@@ -16,3 +16,4 @@ mod reading;
 pub use error::{BadRow, JournalTable, RowsError};
 pub use faults::view_of;
 pub use laws::{rows_lead_on, sound_tables_stay};
+pub use reading::TableRows;

@@ -29,6 +29,21 @@ impl<T: Drop> From<std::alloc::AllocFailed<T>> for Unread {
     }
 }
 
+/// The rows of the journal's tables as their queries give them, each table by its key.
+#[derive(Clone, Copy)]
+pub struct TableRows<'a> {
+    /// Key and value.
+    pub meta: &'a [Cells],
+    /// Id, phase, number told, doing, tries and context.
+    pub tx: &'a [Cells],
+    /// Id, place and name.
+    pub members: &'a [Cells],
+    /// Id, tries and context.
+    pub shelf: &'a [Cells],
+    /// Id, place and body.
+    pub advices: &'a [Cells],
+}
+
 /// The number in a cell, 0 for any other.
 pub fn int_at(row: &Cells, at: usize) -> i64
     ensures { result ≡ spec.int_at row.now at }
@@ -185,20 +200,14 @@ pub fn value_of(key: i64, meta: &[Cells]) -> i64
 }
 
 /// The journal that the rows stand for, faults aside.
-pub fn read_of(
-    alloc: Global,
-    meta: &[Cells],
-    tx: &[Cells],
-    members: &[Cells],
-    shelf: &[Cells],
-    advices: &[Cells],
-) -> Result<JournalView, Unread>
-    ensures { IfOk result (λ v. v ≡ spec.read_of meta.now tx.now members.now shelf.now advices.now) }
+pub fn read_of(alloc: Global, rows: TableRows<'_>) -> Result<JournalView, Unread>
+    ensures { IfOk result (λ v. v ≡ spec.read_of rows.entry.meta.now rows.entry.tx.now
+        rows.entry.members.now rows.entry.shelf.now rows.entry.advices.now) }
 {
     Ok(JournalView {
-        next_id: nat_of(value_of(2, meta)),
-        rows: rows_of(alloc, members, tx)?,
-        shelf: shelf_of(alloc, shelf)?,
-        advices: advices_of(alloc, advices)?,
+        next_id: nat_of(value_of(2, rows.meta)),
+        rows: rows_of(alloc, rows.members, rows.tx)?,
+        shelf: shelf_of(alloc, rows.shelf)?,
+        advices: advices_of(alloc, rows.advices)?,
     })
 }

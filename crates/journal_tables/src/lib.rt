@@ -16,4 +16,5 @@ mod write;
 
 pub use laws::read_tables_stand;
 pub use making::{make, make_all};
+pub use statements::add_meta;
 pub use write::write_all;

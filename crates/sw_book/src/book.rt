@@ -169,18 +169,23 @@ impl Book {
         let Some(found) = self.items.get(&id) else {
             return false;
         };
-        let item = *found;
-        let State::Open = item.state else {
+        let Item {
+            card,
+            key,
+            amount,
+            state,
+        } = *found;
+        let State::Open = state else {
             return false;
         };
-        let totals = totals_of(&self.totals, &item.card);
+        let totals = totals_of(&self.totals, &card);
         let freed = Totals {
             used: totals.used,
-            reserved: totals.reserved - item.amount,
+            reserved: totals.reserved - amount,
         };
         let _ = self.items.remove(&id);
-        let _ = self.ids.remove(&item.key);
-        replace_totals(&mut self.totals, item.card, freed);
+        let _ = self.ids.remove(&key);
+        replace_totals(&mut self.totals, card, freed);
         true
     }
 

@@ -25,6 +25,6 @@ pub use laws::{
     Rules, calls_are_counted, chains_append, chains_widen, others_stay, rules_widen, shown_apart,
     types_decide,
 };
-pub use participant::{NoMemory, Participant};
+pub use participant::{AdviceResult, NoMemory, Participant};
 pub use station::{Station, StationError, call_station};
 pub use values::{Bytes, Sequence, Text};

@@ -10,7 +10,7 @@ use iso_msg::Message;
 use std::alloc::Global;
 use sw_context::Context;
 use sw_messages::{Class, STAND_IN, authorization_advice, class_of, request_in, reversal_advice};
-use sw_participant::{Bytes, NoMemory, Participant, Text};
+use sw_participant::{AdviceResult, Bytes, NoMemory, Participant, Text};
 
 /// Stores what issuers have to be told later: at commit an authorization advice (0120) of what
 /// the switch approved by itself, with the approval code and the response code, and a reversal
@@ -95,22 +95,12 @@ impl Participant for Forward {
         Ok(Text::from_str(self.alloc, "")?)
     }
 
-    fn commit(
-        &mut self,
-        id: u64,
-        context: &mut Context,
-        recovering: bool,
-    ) -> Result<Option<Bytes>, NoMemory> {
+    fn commit(&mut self, id: u64, context: &mut Context, recovering: bool) -> AdviceResult {
         let request = request_in(self.alloc, context)?;
         forwarded(self.alloc, &request, context)
     }
 
-    fn abort(
-        &mut self,
-        id: u64,
-        context: &mut Context,
-        recovering: bool,
-    ) -> Result<Option<Bytes>, NoMemory> {
+    fn abort(&mut self, id: u64, context: &mut Context, recovering: bool) -> AdviceResult {
         Ok(None)
     }
 

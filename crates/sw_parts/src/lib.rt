@@ -11,7 +11,8 @@
 //!
 //! Each states for each call of a participant what it may do, as a relation in `specs/`. What is
 //! not named there does nothing: a preparation answers that the participant is ready and does not
-//! join, an outcome is told without effect. A participant that is refused memory has changed
+//! join, an outcome is told without effect. Those that never join are [`Unjoined`], and
+//! [`Bystander`] makes participants of them. A participant that is refused memory has changed
 //! nothing.
 #![tactic(auto)]
 
@@ -25,6 +26,7 @@ mod respond;
 mod reverse;
 mod route;
 mod stand_in;
+mod unjoined;
 
 pub use check::CheckFields;
 pub use forward::Forward;
@@ -35,3 +37,4 @@ pub use respond::Respond;
 pub use reverse::Reverse;
 pub use route::{Route, Routing, route_of};
 pub use stand_in::StandIn;
+pub use unjoined::{Bystander, Unjoined};

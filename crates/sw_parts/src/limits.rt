@@ -17,7 +17,7 @@ use std::alloc::Global;
 use sw_book::{Book, BookError, BookKey, Card, Item, State};
 use sw_context::Context;
 use sw_messages::{Class, ResponseCode, amount_of, class_of, note_code, put_part, request_in};
-use sw_participant::{Bytes, NoMemory, Participant, Text};
+use sw_participant::{AdviceResult, Bytes, NoMemory, Participant, Text};
 
 /// Holds, spends and gives back the amounts of cards.
 #[derive(Drop)]
@@ -186,33 +186,23 @@ impl Participant for Limits {
         prepare_book(&mut self.book, id, &request, context)
     }
 
-    fn prepare_for_abort(&mut self, id: u64, context: &mut Context) -> Result<u8, NoMemory> {
-        Ok(PASSES)
-    }
-
     fn select(&mut self, id: u64, context: &Context) -> Result<Text, NoMemory> {
         Ok(Text::from_str(self.alloc, "")?)
     }
 
-    fn commit(
-        &mut self,
-        id: u64,
-        context: &mut Context,
-        recovering: bool,
-    ) -> Result<Option<Bytes>, NoMemory> {
+    fn commit(&mut self, id: u64, context: &mut Context, recovering: bool) -> AdviceResult {
         let request = request_in(self.alloc, context)?;
         commit_book(&mut self.book, id, &request);
         Ok(None)
     }
 
-    fn abort(
-        &mut self,
-        id: u64,
-        context: &mut Context,
-        recovering: bool,
-    ) -> Result<Option<Bytes>, NoMemory> {
+    fn abort(&mut self, id: u64, context: &mut Context, recovering: bool) -> AdviceResult {
         let _ = self.book.release(id);
         Ok(None)
+    }
+
+    fn prepare_for_abort(&mut self, id: u64, context: &mut Context) -> Result<u8, NoMemory> {
+        Ok(PASSES)
     }
 
     fn recover(&mut self, id: u64, context: &mut Context, commit: bool) -> Result<(), NoMemory> {

@@ -6,10 +6,11 @@ ghost use Rattle.sw_context.specs.Pairs.{find};
 ghost use Rattle.sw_mux.specs.Waiting.{without};
 ghost use Rattle.sw_parts.specs.Queries.{Hears, Ends, Asks, Queries};
 ghost use Rattle.sw_parts.specs.Queries.{answer_in, asking, answered, approves, or_code, bytes_in};
-ghost use Rattle.sw_parts.specs.Quiet.{PassesOver, SelectsNone, StaysQuiet, RestoresNothing};
+ghost use Rattle.sw_parts.specs.Quiet.{PassesOver, SelectsNone};
 
 use crate::answers::{LEAVES_NOTES, PASSES, REFUSES};
 use crate::link::Link;
+use crate::unjoined::Unjoined;
 use iso_codec::{DecodeError, decode};
 use iso_msg::Message;
 use std::alloc::Global;
@@ -18,7 +19,7 @@ use sw_messages::{
     APPROVAL, CODE, Class, LATE, REQUEST, ResponseCode, SENT, note, note_code, request_in,
 };
 use sw_mux::{Key, Mux, MuxError, Outcome};
-use sw_participant::{Bytes, NoMemory, Participant, Text};
+use sw_participant::{NoMemory, Text};
 
 /// The message of these bytes, where it has the key that waits.
 fn answer_in(
@@ -215,7 +216,7 @@ pub struct QueryIssuer<L: Link> {
 impl<L: Link> QueryIssuer<L> {
     /// Over this link.
     pub fn new(alloc: Global, link: L) -> QueryIssuer<L>
-        ensures { ⟦<QueryIssuer<L> as Participant>⟧.object result ≡ L.state link }
+        ensures { ⟦<QueryIssuer<L> as Unjoined>⟧.object result ≡ L.state link }
     {
         QueryIssuer {
             alloc,
@@ -225,7 +226,7 @@ impl<L: Link> QueryIssuer<L> {
     }
 }
 
-impl<L: Link> Participant for QueryIssuer<L> {
+impl<L: Link> Unjoined for QueryIssuer<L> {
     ghost object = { λ query. L.state query.link };
 
     ghost prepares = { λ id o x byte p y. Queries L.sends L.receives o x byte p y };
@@ -233,12 +234,6 @@ impl<L: Link> Participant for QueryIssuer<L> {
     ghost prepares_for_abort = { λ id o x byte p y. PassesOver o x byte p y };
 
     ghost selects = { λ id o x text p. SelectsNone o text p };
-
-    ghost commits = { λ id recovering o x advice p y. StaysQuiet o x advice p y };
-
-    ghost aborts = { λ id recovering o x advice p y. StaysQuiet o x advice p y };
-
-    ghost recovers = { λ id commit o x p y. RestoresNothing o x p y };
 
     fn prepare(&mut self, id: u64, context: &mut Context) -> Result<u8, NoMemory> {
         query(self.alloc, id, &mut self.mux, &mut self.link, context)
@@ -250,27 +245,5 @@ impl<L: Link> Participant for QueryIssuer<L> {
 
     fn select(&mut self, id: u64, context: &Context) -> Result<Text, NoMemory> {
         Ok(Text::from_str(self.alloc, "")?)
-    }
-
-    fn commit(
-        &mut self,
-        id: u64,
-        context: &mut Context,
-        recovering: bool,
-    ) -> Result<Option<Bytes>, NoMemory> {
-        Ok(None)
-    }
-
-    fn abort(
-        &mut self,
-        id: u64,
-        context: &mut Context,
-        recovering: bool,
-    ) -> Result<Option<Bytes>, NoMemory> {
-        Ok(None)
-    }
-
-    fn recover(&mut self, id: u64, context: &mut Context, commit: bool) -> Result<(), NoMemory> {
-        Ok(())
     }
 }

@@ -3,15 +3,16 @@
 ghost use Rattle.std.specs.Prelude.{◌≡◌, [], OnOk, OnErr};
 ghost use Rattle.sw_messages.specs.declared.response_code.ResponseCode.TheVariants as rc;
 ghost use Rattle.sw_parts.specs.Quiet.{leaves_notes, refuses};
-ghost use Rattle.sw_parts.specs.Quiet.{SelectsNone, StaysQuiet, RestoresNothing};
+ghost use Rattle.sw_parts.specs.Quiet.{SelectsNone};
 ghost use Rattle.sw_parts.specs.Responses.{responded};
 
 use crate::answers::{LEAVES_NOTES, REFUSES};
+use crate::unjoined::Unjoined;
 use iso_codec::encode;
 use std::alloc::Global;
 use sw_context::Context;
 use sw_messages::{RESPONSE, ResponseCode, note, request_in, response_to, response_type};
-use sw_participant::{Bytes, NoMemory, Participant, Text};
+use sw_participant::{NoMemory, Text};
 
 /// Writes the response to the request of a context. The code in `rc` is its field 39, and without
 /// one it is 00 where the transaction prepares and 96 where it aborts; the code in `auth` is its
@@ -45,13 +46,13 @@ fn write_response(
 impl Respond {
     /// It keeps nothing, and takes no memory: `alloc` is for the messages that it writes.
     pub fn new(alloc: Global) -> Respond
-        ensures { ⟦<Respond as Participant>⟧.object result ≡ [] }
+        ensures { ⟦<Respond as Unjoined>⟧.object result ≡ [] }
     {
         Respond { alloc }
     }
 }
 
-impl Participant for Respond {
+impl Unjoined for Respond {
     ghost object = { λ _. [] };
 
     ghost prepares = { λ id o x byte p y.
@@ -61,12 +62,6 @@ impl Participant for Respond {
         (p ≡ o) × (byte ≡ refuses) × (y ≡ responded rc.SystemMalfunction x) };
 
     ghost selects = { λ id o x text p. SelectsNone o text p };
-
-    ghost commits = { λ id recovering o x advice p y. StaysQuiet o x advice p y };
-
-    ghost aborts = { λ id recovering o x advice p y. StaysQuiet o x advice p y };
-
-    ghost recovers = { λ id commit o x p y. RestoresNothing o x p y };
 
     fn prepare(&mut self, id: u64, context: &mut Context) -> Result<u8, NoMemory> {
         write_response(self.alloc, context, ResponseCode::Approved)?;
@@ -80,27 +75,5 @@ impl Participant for Respond {
 
     fn select(&mut self, id: u64, context: &Context) -> Result<Text, NoMemory> {
         Ok(Text::from_str(self.alloc, "")?)
-    }
-
-    fn commit(
-        &mut self,
-        id: u64,
-        context: &mut Context,
-        recovering: bool,
-    ) -> Result<Option<Bytes>, NoMemory> {
-        Ok(None)
-    }
-
-    fn abort(
-        &mut self,
-        id: u64,
-        context: &mut Context,
-        recovering: bool,
-    ) -> Result<Option<Bytes>, NoMemory> {
-        Ok(None)
-    }
-
-    fn recover(&mut self, id: u64, context: &mut Context, commit: bool) -> Result<(), NoMemory> {
-        Ok(())
     }
 }

@@ -12,7 +12,7 @@ use iso_msg::Message;
 use std::alloc::Global;
 use sw_context::Context;
 use sw_messages::{CODE, Class, LATE, SENT, class_of, is_approved, request_in, reversal_of};
-use sw_participant::{Bytes, NoMemory, Participant, Text};
+use sw_participant::{AdviceResult, Bytes, NoMemory, Participant, Text};
 
 /// Gives the reversal (0420) of an authorization that an issuer may have approved and the switch
 /// did not end so: at commit where the issuer's answer is late, at abort where the request was
@@ -92,30 +92,20 @@ impl Participant for Reverse {
         Ok(answer(&request))
     }
 
+    fn commit(&mut self, id: u64, context: &mut Context, recovering: bool) -> AdviceResult {
+        advice_of(self.alloc, context.get(LATE).is_some(), context)
+    }
+
+    fn abort(&mut self, id: u64, context: &mut Context, recovering: bool) -> AdviceResult {
+        advice_of(self.alloc, is_due(recovering, context), context)
+    }
+
     fn prepare_for_abort(&mut self, id: u64, context: &mut Context) -> Result<u8, NoMemory> {
         Ok(PASSES)
     }
 
     fn select(&mut self, id: u64, context: &Context) -> Result<Text, NoMemory> {
         Ok(Text::from_str(self.alloc, "")?)
-    }
-
-    fn commit(
-        &mut self,
-        id: u64,
-        context: &mut Context,
-        recovering: bool,
-    ) -> Result<Option<Bytes>, NoMemory> {
-        advice_of(self.alloc, context.get(LATE).is_some(), context)
-    }
-
-    fn abort(
-        &mut self,
-        id: u64,
-        context: &mut Context,
-        recovering: bool,
-    ) -> Result<Option<Bytes>, NoMemory> {
-        advice_of(self.alloc, is_due(recovering, context), context)
     }
 
     fn recover(&mut self, id: u64, context: &mut Context, commit: bool) -> Result<(), NoMemory> {

@@ -3,16 +3,17 @@
 ghost use Rattle.std.specs.Prelude.{◌≡◌, List, [], IfOk, OnErr, option_map};
 ghost use Rattle.sw_messages.specs.Requests.{request_in};
 ghost use Rattle.sw_parts.specs.declared.route.Routing.{Routing};
-ghost use Rattle.sw_parts.specs.Quiet.{PassesOver, StaysQuiet, RestoresNothing};
+ghost use Rattle.sw_parts.specs.Quiet.{PassesOver};
 ghost use Rattle.sw_parts.specs.Routes.{longer, if_prefix, route_for, route_of, route_fault};
 ghost use Rattle.sw_parts.specs.Routes.{ChecksRoute, group_by, chosen_group, shown_routes};
 
-use crate::answers::{PASSES, REFUSES};
+use crate::answers::{PASSES, decide};
+use crate::unjoined::Unjoined;
 use iso_msg::Message;
 use std::alloc::Global;
 use sw_context::Context;
-use sw_messages::{CODE, Class, ResponseCode, class_of, note_code, request_in};
-use sw_participant::{Bytes, NoMemory, Participant, Sequence, Text};
+use sw_messages::{CODE, Class, ResponseCode, class_of, request_in};
+use sw_participant::{NoMemory, Sequence, Text};
 
 /// The cards whose numbers begin with a prefix are asked for by a group of the flow.
 #[derive(Drop)]
@@ -112,13 +113,13 @@ fn chosen<'a>(request: &Option<Message>, routes: &'a [Routing]) -> &'a str
 impl Route {
     /// By these routes. It takes no memory: `alloc` is for the messages that it reads.
     pub fn new(alloc: Global, routes: Sequence<Routing>) -> Route
-        ensures { ⟦<Route as Participant>⟧.object result ≡ shown_routes routes }
+        ensures { ⟦<Route as Unjoined>⟧.object result ≡ shown_routes routes }
     {
         Route { alloc, routes }
     }
 }
 
-impl Participant for Route {
+impl Unjoined for Route {
     ghost object = { λ route. shown_routes route.routes };
 
     ghost prepares = { λ id o x byte p y. (rs : List Routing)
@@ -129,21 +130,9 @@ impl Participant for Route {
     ghost selects = { λ id o x text p. (rs : List Routing)
         × (o ≡ shown_routes rs) × (p ≡ o) × (text ≡ chosen_group rs x) };
 
-    ghost commits = { λ id recovering o x advice p y. StaysQuiet o x advice p y };
-
-    ghost aborts = { λ id recovering o x advice p y. StaysQuiet o x advice p y };
-
-    ghost recovers = { λ id commit o x p y. RestoresNothing o x p y };
-
     fn prepare(&mut self, id: u64, context: &mut Context) -> Result<u8, NoMemory> {
         let request = request_in(self.alloc, context)?;
-        match route_fault(&request, self.routes.as_slice()) {
-            None => Ok(PASSES),
-            Some(code) => {
-                note_code(context, code)?;
-                Ok(REFUSES)
-            }
-        }
+        decide(route_fault(&request, self.routes.as_slice()), context)
     }
 
     fn prepare_for_abort(&mut self, id: u64, context: &mut Context) -> Result<u8, NoMemory> {
@@ -157,27 +146,5 @@ impl Participant for Route {
         let request = request_in(self.alloc, context)?;
         let group = chosen(&request, self.routes.as_slice());
         Ok(Text::from_str(self.alloc, group)?)
-    }
-
-    fn commit(
-        &mut self,
-        id: u64,
-        context: &mut Context,
-        recovering: bool,
-    ) -> Result<Option<Bytes>, NoMemory> {
-        Ok(None)
-    }
-
-    fn abort(
-        &mut self,
-        id: u64,
-        context: &mut Context,
-        recovering: bool,
-    ) -> Result<Option<Bytes>, NoMemory> {
-        Ok(None)
-    }
-
-    fn recover(&mut self, id: u64, context: &mut Context, commit: bool) -> Result<(), NoMemory> {
-        Ok(())
     }
 }

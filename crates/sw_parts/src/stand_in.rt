@@ -2,18 +2,19 @@
 
 ghost use Rattle.std.specs.Prelude.{◌≡◌, ◌≤◌, [], length, IfOk, OnOk, OnErr};
 ghost use Rattle.sw_base.specs.Digits.{number_of};
-ghost use Rattle.sw_parts.specs.Quiet.{PassesOver, SelectsNone, StaysQuiet, RestoresNothing};
+ghost use Rattle.sw_parts.specs.Quiet.{PassesOver, SelectsNone};
 ghost use Rattle.sw_parts.specs.StandIns.{is_open, is_small, stand_in_code, stood_in};
 ghost use Rattle.sw_parts.specs.StandIns.{Judged, StandsInBy, StandsIn};
 
 use crate::answers::{LEAVES_NOTES, PASSES, REFUSES};
+use crate::unjoined::Unjoined;
 use iso_msg::Message;
 use std::alloc::Global;
 use sw_context::Context;
 use sw_messages::{
     APPROVAL, CODE, LATE, ResponseCode, STAND_IN, amount_of, note, note_code, put_part, request_in,
 };
-use sw_participant::{Bytes, NoMemory, Participant, Text};
+use sw_participant::{NoMemory, Text};
 
 /// The greatest amount that the switch approves by itself.
 const MOST_AMOUNT: u64 = 1_000;
@@ -99,13 +100,13 @@ fn stand_in(request: &Option<Message>, context: &mut Context) -> Result<u8, NoMe
 impl StandIn {
     /// It keeps nothing, and takes no memory: `alloc` is for the messages that it reads.
     pub fn new(alloc: Global) -> StandIn
-        ensures { ⟦<StandIn as Participant>⟧.object result ≡ [] }
+        ensures { ⟦<StandIn as Unjoined>⟧.object result ≡ [] }
     {
         StandIn { alloc }
     }
 }
 
-impl Participant for StandIn {
+impl Unjoined for StandIn {
     ghost object = { λ _. [] };
 
     ghost prepares = { λ id o x byte p y. (p ≡ o) × StandsIn x byte y };
@@ -113,12 +114,6 @@ impl Participant for StandIn {
     ghost prepares_for_abort = { λ id o x byte p y. PassesOver o x byte p y };
 
     ghost selects = { λ id o x text p. SelectsNone o text p };
-
-    ghost commits = { λ id recovering o x advice p y. StaysQuiet o x advice p y };
-
-    ghost aborts = { λ id recovering o x advice p y. StaysQuiet o x advice p y };
-
-    ghost recovers = { λ id commit o x p y. RestoresNothing o x p y };
 
     fn prepare(&mut self, id: u64, context: &mut Context) -> Result<u8, NoMemory> {
         if !is_open(context) {
@@ -134,27 +129,5 @@ impl Participant for StandIn {
 
     fn select(&mut self, id: u64, context: &Context) -> Result<Text, NoMemory> {
         Ok(Text::from_str(self.alloc, "")?)
-    }
-
-    fn commit(
-        &mut self,
-        id: u64,
-        context: &mut Context,
-        recovering: bool,
-    ) -> Result<Option<Bytes>, NoMemory> {
-        Ok(None)
-    }
-
-    fn abort(
-        &mut self,
-        id: u64,
-        context: &mut Context,
-        recovering: bool,
-    ) -> Result<Option<Bytes>, NoMemory> {
-        Ok(None)
-    }
-
-    fn recover(&mut self, id: u64, context: &mut Context, commit: bool) -> Result<(), NoMemory> {
-        Ok(())
     }
 }

@@ -9,7 +9,7 @@ use crate::puts::{Put, put_all};
 use std::alloc::Global;
 use std::collections::VecDeque;
 use sw_context::Context;
-use sw_participant::{Bytes, NoMemory, Participant, Sequence, Text};
+use sw_participant::{AdviceResult, Bytes, NoMemory, Participant, Sequence, Text};
 
 /// The byte of a participant that has no answer queued: PREPARED.
 const PREPARED: u8 = 0x01;
@@ -133,21 +133,11 @@ impl Participant for Scripted {
         Ok(self.replies.choose(self.alloc))
     }
 
-    fn commit(
-        &mut self,
-        id: u64,
-        context: &mut Context,
-        recovering: bool,
-    ) -> Result<Option<Bytes>, NoMemory> {
+    fn commit(&mut self, id: u64, context: &mut Context, recovering: bool) -> AdviceResult {
         Ok(self.replies.advise())
     }
 
-    fn abort(
-        &mut self,
-        id: u64,
-        context: &mut Context,
-        recovering: bool,
-    ) -> Result<Option<Bytes>, NoMemory> {
+    fn abort(&mut self, id: u64, context: &mut Context, recovering: bool) -> AdviceResult {
         Ok(self.replies.advise())
     }
 

@@ -1,6 +1,7 @@
 //! Why the program ends early.
 
 use cli_io::{ReadError, WriteError};
+use cli_run::ServeError;
 use cli_script::ScriptError;
 use cli_step::StepError;
 use std::alloc::{AllocError, AllocFailed};
@@ -25,6 +26,8 @@ pub enum TestError {
     Script(#[from] ScriptError),
     #[error("{0}")]
     Step(#[from] StepError),
+    #[error("{0}")]
+    Serve(#[from] ServeError),
     #[error("{0}")]
     Plant(#[from] PlantError),
     #[error("{0}")]

@@ -1,13 +1,10 @@
 //! The lines that the program adds to those of a script.
 
-use crate::error::TestError;
 use cli_io::WriteError;
-use std::alloc::Global;
 use std::io::Write;
 use sw_participant::Station;
-use tx_engine::Engine;
 use tx_history::JournalView;
-use tx_trace::{PhaseText, Tracer};
+use tx_trace::PhaseText;
 
 fn run_line<W: Write>(calls: &[u64], out: &mut W) -> std::io::Result<()> {
     write!(out, "run")?;
@@ -41,22 +38,6 @@ fn view_line<W: Write>(word: &str, view: &JournalView, out: &mut W) -> std::io::
 /// `WORD NEXTID[ row ID PHASE ..][ shelf ID ..][ advice ID PLACE ..]`
 pub fn write_view<W: Write>(word: &str, view: &JournalView, out: &mut W) -> Result<(), WriteError> {
     Ok(view_line(word, view, out)?)
-}
-
-/// The lines of all entries of the engine's history.
-pub fn write_entries<W: Write>(
-    alloc: Global,
-    engine: &Engine,
-    out: &mut W,
-) -> Result<(), TestError> {
-    let mut tracer = Tracer::new(alloc, engine);
-    for _ in engine.history() {
-        let Some(line) = tracer.next(alloc, engine)? else {
-            return Ok(());
-        };
-        writeln!(out, "{line}").map_err(WriteError::from)?;
-    }
-    Ok(())
 }
 
 /// `calls NAME COUNT` for each station.

@@ -3,7 +3,8 @@
 ghost use Rattle.tx_plant.specs.Plant.{IsEngine};
 
 use crate::error::TestError;
-use crate::lines::{write_entries, write_view};
+use crate::lines::write_view;
+use cli_run::write_lines;
 use cli_script::Actions;
 use cli_step::{StepError, run_actions};
 use sqlite::Alter;
@@ -60,7 +61,7 @@ pub fn finish<S: Alter, W: Write>(
 {
     write_view("found", plant.engine().opened(), out)?;
     let done = plant.recover(alloc);
-    write_entries(alloc, plant.engine(), out)?;
+    write_lines(alloc, plant.engine(), out)?;
     if is_plant_cut(done)? {
         return Ok(true);
     }

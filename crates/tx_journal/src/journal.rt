@@ -118,14 +118,7 @@ impl<S: Alter> Journal<S> {
             return Err(JournalError::Failed);
         }
         match read_all(&mut self.conn) {
-            Ok(stored) => match view_of(
-                alloc,
-                stored.meta.as_slice(),
-                stored.tx.as_slice(),
-                stored.members.as_slice(),
-                stored.shelf.as_slice(),
-                stored.advices.as_slice(),
-            ) {
+            Ok(stored) => match view_of(alloc, stored.rows()) {
                 Ok(view) => Ok(view),
                 Err(RowsError::OutOfMemory) => Err(JournalError::OutOfMemory),
                 Err(RowsError::BadRow(bad)) => Err(JournalError::BadRow(bad)),

@@ -3,13 +3,13 @@
 ghost use Rattle.std.specs.Prelude.{◌≡◌, OnOk, false};
 ghost use Rattle.sqlite.specs.Held.{state};
 ghost use Rattle.sqlite.specs.State.{HasCleanDisk, Survives};
-ghost use Rattle.journal_rows.specs.Tables.{tables_of, with_meta};
+ghost use Rattle.journal_rows.specs.Tables.{tables_of};
 ghost use Rattle.journal_tables.specs.Schema.{four_schema, journal_schema};
-ghost use Rattle.journal_tables.specs.Steps.{LeavesNothing, Runs};
+ghost use Rattle.journal_tables.specs.Steps.{LeavesNothing};
 ghost use Rattle.tx_journal.specs.Making.{Creates, Fills, IsMade, IsStage, member_schema, meta_schema, new_tables};
 ghost use Rattle.tx_journal.specs.Making.{no_schema, tx_schema};
 
-use sqlite::types::ValueRef;
+use journal_tables::add_meta;
 use sqlite::{Alter, Connection, Error, Transaction};
 
 fn create_meta<S: Alter>(tx: &mut Transaction<'_, S>) -> Result<usize, Error>
@@ -78,19 +78,6 @@ fn create_advice<S: Alter>(tx: &mut Transaction<'_, S>) -> Result<usize, Error>
         "CREATE TABLE advice (id INTEGER NOT NULL, place INTEGER NOT NULL, body BLOB NOT NULL, \
 PRIMARY KEY (id, place)) STRICT",
         &[],
-    )
-}
-
-fn add_meta<S: Alter>(tx: &mut Transaction<'_, S>, k: i64, v: i64) -> Result<usize, Error>
-    ensures same_reference { tx.new.conn.ghost_name ≡ tx.old.conn.ghost_name }
-    ensures steps { Runs (with_meta k v)
-        (state S.Store tx.old.conn.now) (state S.Store tx.new.conn.now) result }
-    ensures survives { LeavesNothing
-        (state S.Store tx.old.conn.now) (state S.Store tx.new.conn.now) }
-{
-    tx.execute(
-        "INSERT INTO meta (k, v) VALUES (?1, ?2)",
-        &[ValueRef::Int(k), ValueRef::Int(v)],
     )
 }
 

@@ -5,6 +5,7 @@ ghost use Rattle.sqlite.specs.Held.{state};
 ghost use Rattle.journal_rows.specs.Reads.{advices_in, members_in, shown_meta, shown_shelf, shown_tx};
 ghost use Rattle.tx_journal.specs.Stored.{ChangesNothing, OnlyReads, Shows, ShowsAll};
 
+use journal_rows::TableRows;
 use sqlite::{Alter, Connection, Error, Row};
 
 // The rows of `meta`, keys rising.
@@ -79,6 +80,25 @@ pub struct Stored {
     pub members: Vec<Row>,
     pub shelf: Vec<Row>,
     pub advices: Vec<Row>,
+}
+
+impl Stored {
+    /// The same as slices.
+    pub fn rows(&self) -> TableRows<'_>
+        ensures meta { result.meta.now ≡ self.now.meta.items }
+        ensures tx { result.tx.now ≡ self.now.tx.items }
+        ensures members { result.members.now ≡ self.now.members.items }
+        ensures shelf { result.shelf.now ≡ self.now.shelf.items }
+        ensures advices { result.advices.now ≡ self.now.advices.items }
+    {
+        TableRows {
+            meta: self.meta.as_slice(),
+            tx: self.tx.as_slice(),
+            members: self.members.as_slice(),
+            shelf: self.shelf.as_slice(),
+            advices: self.advices.as_slice(),
+        }
+    }
 }
 
 /// Reads all rows, each table by its key.

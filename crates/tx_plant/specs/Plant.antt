@@ -1,8 +1,11 @@
 -- What contracts see of a plant with its journal, and its turns.
-use Rattle.std.specs.Prelude.{◌≡◌, ◌⊎◌, ℕ, ◌+◌, ◌≤◌, ⊤, Bool, true, false, List, [], ◌∷◌, ◌++◌, length, take, drop, min, slice_get, replicate, Option, Some, None, Result, Ok, Err}
+use Rattle.std.specs.Prelude.{◌≡◌, ◌⊎◌, ℕ, ◌+◌, ◌≤◌, ⊤, Bool, true, false, List, [], ◌∷◌, ◌++◌, length, map, take, drop, min, slice_get, replicate, Option, Some, None, Result, Ok, Err}
 use Rattle.std.specs.declared.alloc.AllocError.{AllocError}
 use Rattle.sqlite_trees.specs.View.{doubt}
-use Rattle.sw_participant.specs.Chains.{Rule, Stopped, counts_after}
+use Rattle.sw_participant.specs.declared.participant.Participant.{Ghosts}
+use Rattle.sw_participant.specs.declared.station.Station.{Station}
+use Rattle.sw_participant.specs.Chains.{Rule, Stopped, counts_after, rule_at}
+use Rattle.sw_participant.specs.Stations.{calls_of, object_of, rule_of}
 use Rattle.tx_history.specs.declared.event.Entry.{Entry}
 use Rattle.tx_history.specs.declared.journal.JournalView.{JournalView}
 use Rattle.tx_history.specs.Journal.{entries}
@@ -59,6 +62,9 @@ pub record Whole : Type 0 where
 
 abbrev pub whole : World → Seats → Seen → Whole
 whole w s j = record { core = core w s; journal = j }
+
+abbrev pub whole_of : World → Seats → JournalState → Whole
+whole_of w s j = whole w s (seen j)
 
 -- writing
 
@@ -167,6 +173,13 @@ Turned turn.Stop r m p q = Stops m p r q
 Turned turn.Cut r m p q = (m ≡ []) × (q.core ≡ record p.core { world = q.core.world }) × Raises (λ x. Cuts p.core.world x q.core.world) r p q
 Turned t r m p q = Logged t m p r q
 
+-- the same with the chain of its calls, from these stations to those, `members` being what each type of participant states
+abbrev pub Turns : {I : Type 0} {D : I → Type 0} → ((z : (k : I) × D k) → Ghosts (D z.0)) → Turn → Result Outcome PlantError → List (Station I D) → Whole → List (Station I D) → Whole → Type 0
+Turns members turn r old p new q =
+    (m : List Moved) × Turned turn r m p q
+    × Led (rule_at (rule_of members) old) (map (object_of members) old) p.core m (map (object_of members) new) q.core
+    × (map calls_of new ≡ counts_after (map calls_of old) m)
+
 -- What every engine is: its history is lawful, from a sound start, and no more of it is written than there is.
 pub record IsEngine (w : World) : Type 0 where
   pub flow : FlowFits w.flow
@@ -224,3 +237,12 @@ Drives rule os cs turns outcomes p ps ds q = (m : List Moved) × Driven turns ou
 -- and the same where one of them was not done
 abbrev pub DrivesTo : (ℕ → Rule) → List (List ℕ) → List ℕ → List Turn → DriveFault → Whole → List (List ℕ) → List ℕ → Whole → Type 0
 DrivesTo rule os cs turns f p ps ds q = (m : List Moved) × Faulted turns f m p q × Led rule os p.core m ps q.core × (ds ≡ counts_after cs m)
+
+-- both from these stations to those
+abbrev pub DrivesAll : {I : Type 0} {D : I → Type 0} → ((z : (k : I) × D k) → Ghosts (D z.0)) → List Turn → List Outcome → List (Station I D) → Whole → List (Station I D) → Whole → Type 0
+DrivesAll members turns outcomes old p new q =
+    Drives (rule_at (rule_of members) old) (map (object_of members) old) (map calls_of old) turns outcomes p (map (object_of members) new) (map calls_of new) q
+
+abbrev pub DrivesSome : {I : Type 0} {D : I → Type 0} → ((z : (k : I) × D k) → Ghosts (D z.0)) → List Turn → DriveFault → List (Station I D) → Whole → List (Station I D) → Whole → Type 0
+DrivesSome members turns f old p new q =
+    DrivesTo (rule_at (rule_of members) old) (map (object_of members) old) (map calls_of old) turns f p (map (object_of members) new) (map calls_of new) q

@@ -9,8 +9,8 @@ ghost use Rattle.sw_participant.specs.Chains.{rule_at};
 ghost use Rattle.sw_participant.specs.Stations.{type_of, name_of, calls_of, object_of, rule_of};
 ghost use Rattle.tx_journal.specs.Kept.{kept};
 ghost use Rattle.tx_plant.specs.Core.{core};
-ghost use Rattle.tx_plant.specs.Plant.{Drives, DrivesTo, IsEngine, OnSeating, Reopens};
-ghost use Rattle.tx_plant.specs.Plant.{Unmade, seen, whole};
+ghost use Rattle.tx_plant.specs.Plant.{DrivesAll, DrivesSome, IsEngine, OnSeating, Reopens};
+ghost use Rattle.tx_plant.specs.Plant.{Unmade, seen, whole_of};
 ghost use Rattle.tx_plant.specs.Recovery.{Recovers};
 ghost use Rattle.tx_plant.specs.Written.{IsWritten};
 ghost use Rattle.flow_model.specs.Places.{parts_of};
@@ -138,25 +138,17 @@ impl<S: Alter> Plant<S> {
         ensures types { map type_of self.new.stations.items ≡ map type_of self.old.stations.items }
         ensures names { map name_of self.new.stations.items ≡ map name_of self.old.stations.items }
         ensures done { IfOk result (λ outcomes.
-            Drives (rule_at (rule_of Participant-dyn) self.old.stations.items)
-            (map (object_of Participant-dyn) self.old.stations.items)
-            (map calls_of self.old.stations.items) turns.now outcomes.items
-            (whole self.old.running.engine self.old.running.seats
-            (seen (kept S.Store self.old.journal)))
-            (map (object_of Participant-dyn) self.new.stations.items)
-            (map calls_of self.new.stations.items)
-            (whole self.new.running.engine self.new.running.seats
-            (seen (kept S.Store self.new.journal)))) }
+            DrivesAll Participant-dyn turns.now outcomes.items
+            self.old.stations.items (whole_of self.old.running.engine
+            self.old.running.seats (kept S.Store self.old.journal))
+            self.new.stations.items (whole_of self.new.running.engine
+            self.new.running.seats (kept S.Store self.new.journal))) }
         ensures fault { IfErr result (λ fault.
-            DrivesTo (rule_at (rule_of Participant-dyn) self.old.stations.items)
-            (map (object_of Participant-dyn) self.old.stations.items)
-            (map calls_of self.old.stations.items) turns.now fault
-            (whole self.old.running.engine self.old.running.seats
-            (seen (kept S.Store self.old.journal)))
-            (map (object_of Participant-dyn) self.new.stations.items)
-            (map calls_of self.new.stations.items)
-            (whole self.new.running.engine self.new.running.seats
-            (seen (kept S.Store self.new.journal)))) }
+            DrivesSome Participant-dyn turns.now fault
+            self.old.stations.items (whole_of self.old.running.engine
+            self.old.running.seats (kept S.Store self.old.journal))
+            self.new.stations.items (whole_of self.new.running.engine
+            self.new.running.seats (kept S.Store self.new.journal))) }
         ensures written { IsWritten self.old.running.engine (seen (kept S.Store self.old.journal))
             → IsWritten self.new.running.engine (seen (kept S.Store self.new.journal)) }
         ensures clean { doubt (kept S.Store self.old.journal).is_clean
@@ -182,16 +174,16 @@ impl<S: Alter> Plant<S> {
         ensures recovers { Recovers (rule_at (rule_of Participant-dyn) self.old.stations.items)
             (map (object_of Participant-dyn) self.old.stations.items)
             (map calls_of self.old.stations.items)
-            (whole self.old.running.engine self.old.running.seats
-            (seen (kept S.Store self.old.journal))) result
+            (whole_of self.old.running.engine self.old.running.seats
+            (kept S.Store self.old.journal)) result
             (map (object_of Participant-dyn) self.new.stations.items)
             (map calls_of self.new.stations.items)
-            (whole self.new.running.engine self.new.running.seats
-            (seen (kept S.Store self.new.journal))) }
-        ensures written { IsWritten self.old.running.engine (seen (kept S.Store self.old.journal))
-            → IsWritten self.new.running.engine (seen (kept S.Store self.new.journal)) }
+            (whole_of self.new.running.engine self.new.running.seats
+            (kept S.Store self.new.journal)) }
         ensures clean { doubt (kept S.Store self.old.journal).is_clean
             ≤ doubt (kept S.Store self.new.journal).is_clean }
+        ensures written { IsWritten self.old.running.engine (seen (kept S.Store self.old.journal))
+            → IsWritten self.new.running.engine (seen (kept S.Store self.new.journal)) }
     {
         recover(
             alloc,

@@ -8,7 +8,7 @@ ghost use Rattle.tx_history.specs.declared.event.Event.{Event};
 ghost use Rattle.tx_history.specs.Journal.{closes};
 ghost use Rattle.tx_history.specs.Views.{StartFits};
 ghost use Rattle.tx_journal.specs.Kept.{kept};
-ghost use Rattle.tx_plant.specs.Plant.{seen, whole};
+ghost use Rattle.tx_plant.specs.Plant.{seen, whole_of};
 ghost use Rattle.tx_plant.specs.Recovery.{Recovers, recovery_turn};
 ghost use Rattle.tx_plant.specs.Written.{IsWritten};
 
@@ -57,16 +57,16 @@ pub(crate) fn recover<S: Alter>(
     ensures names { map name_of stations.new.items ≡ map name_of stations.old.items }
     ensures recovers { Recovers (rule_at (rule_of Participant-dyn) stations.old.items)
         (map (object_of Participant-dyn) stations.old.items) (map calls_of stations.old.items)
-        (whole running.old.engine running.old.seats (seen (kept S.Store journal.old))) result
+        (whole_of running.old.engine running.old.seats (kept S.Store journal.old)) result
         (map (object_of Participant-dyn) stations.new.items) (map calls_of stations.new.items)
-        (whole running.new.engine running.new.seats (seen (kept S.Store journal.new))) }
+        (whole_of running.new.engine running.new.seats (kept S.Store journal.new)) }
     ensures written { IsWritten running.old.engine (seen (kept S.Store journal.old))
         → IsWritten running.new.engine (seen (kept S.Store journal.new)) }
     ensures clean { doubt (kept S.Store journal.old).is_clean
         ≤ doubt (kept S.Store journal.new).is_clean }
 {
     while let Some(turn) = recovery_turn(&running.engine) {
-        let outcome = match one_turn(alloc, running, journal, stations, &turn) {
+        let outcome = match one_turn(&turn, alloc, running, journal, stations) {
             Ok(outcome) => outcome,
             Err(cause) => return Err(cause),
         };

@@ -9,7 +9,7 @@ ghost use Rattle.tx_journal.specs.Kept.{kept};
 ghost use Rattle.tx_plant.specs.Steps.{Moved};
 ghost use Rattle.tx_plant.specs.Core.{Stepped, core};
 ghost use Rattle.tx_plant.specs.Led.{Led};
-ghost use Rattle.tx_plant.specs.Plant.{Seen, Stays, StaysFailed, Stops, Writes, seen, whole};
+ghost use Rattle.tx_plant.specs.Plant.{Seen, Stays, StaysFailed, Stops, Writes, seen, whole_of};
 ghost use Rattle.tx_plant.specs.Written.{IsWritten};
 ghost use Rattle.tx_plant.specs.Turns.{Cuts, IsLogged, Takes, event_for};
 
@@ -122,8 +122,8 @@ impl Running {
         journal: &mut Journal<S>,
     ) -> Result<Outcome, PlantError>
         ensures stopped { (m : List Moved)
-            × Stops m (whole self.old.engine self.old.seats (seen (kept S.Store journal.old)))
-            result (whole self.new.engine self.new.seats (seen (kept S.Store journal.new))) }
+            × Stops m (whole_of self.old.engine self.old.seats (kept S.Store journal.old))
+            result (whole_of self.new.engine self.new.seats (kept S.Store journal.new)) }
         ensures written { IsWritten self.old.engine (seen (kept S.Store journal.old))
             → IsWritten self.new.engine (seen (kept S.Store journal.new)) }
         ensures stays { Stays (seen (kept S.Store journal.old)) (seen (kept S.Store journal.new)) }

@@ -1,15 +1,11 @@
 //! Turns, one after the other.
 
-ghost use Rattle.std.specs.Prelude.{◌≡◌, ◌≤◌, List, map, IfErr, IfOk, None};
+ghost use Rattle.std.specs.Prelude.{◌≡◌, ◌≤◌, map, IfErr, IfOk, None};
 ghost use Rattle.sqlite_trees.specs.View.{doubt};
-ghost use Rattle.sw_participant.specs.Chains.{counts_after, rule_at};
-ghost use Rattle.sw_participant.specs.Stations.{type_of, name_of, calls_of, object_of, rule_of};
+ghost use Rattle.sw_participant.specs.Stations.{type_of, name_of};
 ghost use Rattle.tx_journal.specs.Kept.{kept};
-ghost use Rattle.tx_plant.specs.Steps.{Moved};
-ghost use Rattle.tx_plant.specs.Core.{core};
-ghost use Rattle.tx_plant.specs.Led.{Led};
-ghost use Rattle.tx_plant.specs.Plant.{Drives, DrivesTo, GoesOn, LeavesJournal, Turned};
-ghost use Rattle.tx_plant.specs.Plant.{seen, whole};
+ghost use Rattle.tx_plant.specs.Plant.{DrivesAll, DrivesSome, GoesOn, LeavesJournal, Turns};
+ghost use Rattle.tx_plant.specs.Plant.{seen, whole_of};
 ghost use Rattle.tx_plant.specs.Turns.{event_for};
 ghost use Rattle.tx_plant.specs.Written.{IsWritten};
 
@@ -23,25 +19,20 @@ use tx_journal::Journal;
 
 // A turn of a session, a write, a stop or a cut.
 fn session_turn<S: Alter>(
-    alloc: Global,
     running: &mut Running,
     journal: &mut Journal<S>,
     stations: &mut Vec<Station>,
+    alloc: Global,
     turn: &Turn,
 ) -> Result<Outcome, PlantError>
     requires { event_for running.old.engine turn.now ≡ None }
     ensures types { map type_of stations.new.items ≡ map type_of stations.old.items }
     ensures names { map name_of stations.new.items ≡ map name_of stations.old.items }
-    ensures turned { (m : List Moved)
-        × Turned turn.now result m
-        (whole running.old.engine running.old.seats (seen (kept S.Store journal.old)))
-        (whole running.new.engine running.new.seats (seen (kept S.Store journal.new)))
-        × Led (rule_at (rule_of Participant-dyn) stations.old.items)
-        (map (object_of Participant-dyn) stations.old.items)
-        (core running.old.engine running.old.seats) m
-        (map (object_of Participant-dyn) stations.new.items)
-        (core running.new.engine running.new.seats)
-        × (map calls_of stations.new.items ≡ counts_after (map calls_of stations.old.items) m) }
+    ensures turned { Turns Participant-dyn turn.now result
+        stations.old.items (whole_of running.old.engine running.old.seats
+        (kept S.Store journal.old))
+        stations.new.items (whole_of running.new.engine running.new.seats
+        (kept S.Store journal.new)) }
     ensures written { IsWritten running.old.engine (seen (kept S.Store journal.old))
         → IsWritten running.new.engine (seen (kept S.Store journal.new)) }
     ensures journal { LeavesJournal turn.now (seen (kept S.Store journal.old))
@@ -67,58 +58,48 @@ fn any_turn<S: Alter>(
     stations: &mut Vec<Station>,
     turn: &Turn,
 ) -> Result<Outcome, PlantError>
-    ensures types { map type_of stations.new.items ≡ map type_of stations.old.items }
-    ensures names { map name_of stations.new.items ≡ map name_of stations.old.items }
-    ensures turned { (m : List Moved)
-        × Turned turn.now result m
-        (whole running.old.engine running.old.seats (seen (kept S.Store journal.old)))
-        (whole running.new.engine running.new.seats (seen (kept S.Store journal.new)))
-        × Led (rule_at (rule_of Participant-dyn) stations.old.items)
-        (map (object_of Participant-dyn) stations.old.items)
-        (core running.old.engine running.old.seats) m
-        (map (object_of Participant-dyn) stations.new.items)
-        (core running.new.engine running.new.seats)
-        × (map calls_of stations.new.items ≡ counts_after (map calls_of stations.old.items) m) }
     ensures written { IsWritten running.old.engine (seen (kept S.Store journal.old))
         → IsWritten running.new.engine (seen (kept S.Store journal.new)) }
-    ensures journal { LeavesJournal turn.now (seen (kept S.Store journal.old))
-        (seen (kept S.Store journal.new)) }
     ensures clean { doubt (kept S.Store journal.old).is_clean
         ≤ doubt (kept S.Store journal.new).is_clean }
+    ensures turned { Turns Participant-dyn turn.now result
+        stations.old.items (whole_of running.old.engine running.old.seats
+        (kept S.Store journal.old))
+        stations.new.items (whole_of running.new.engine running.new.seats
+        (kept S.Store journal.new)) }
+    ensures journal { LeavesJournal turn.now (seen (kept S.Store journal.old))
+        (seen (kept S.Store journal.new)) }
+    ensures names { map name_of stations.new.items ≡ map name_of stations.old.items }
+    ensures types { map type_of stations.new.items ≡ map type_of stations.old.items }
 {
     match running.log(turn) {
         Some(logged) => raised(logged),
-        None => session_turn(alloc, running, journal, stations, turn),
+        None => session_turn(running, journal, stations, alloc, turn),
     }
 }
 
 /// Does one turn.
 pub(crate) fn one_turn<S: Alter>(
+    turn: &Turn,
     alloc: Global,
     running: &mut Running,
     journal: &mut Journal<S>,
     stations: &mut Vec<Station>,
-    turn: &Turn,
 ) -> Result<Outcome, PlantError>
+    ensures turned { Turns Participant-dyn turn.now result
+        stations.old.items (whole_of running.old.engine running.old.seats
+        (kept S.Store journal.old))
+        stations.new.items (whole_of running.new.engine running.new.seats
+        (kept S.Store journal.new)) }
+    ensures goes { GoesOn turn.now
+        (whole_of running.old.engine running.old.seats (kept S.Store journal.old))
+        (whole_of running.new.engine running.new.seats (kept S.Store journal.new)) }
     ensures types { map type_of stations.new.items ≡ map type_of stations.old.items }
     ensures names { map name_of stations.new.items ≡ map name_of stations.old.items }
-    ensures turned { (m : List Moved)
-        × Turned turn.now result m
-        (whole running.old.engine running.old.seats (seen (kept S.Store journal.old)))
-        (whole running.new.engine running.new.seats (seen (kept S.Store journal.new)))
-        × Led (rule_at (rule_of Participant-dyn) stations.old.items)
-        (map (object_of Participant-dyn) stations.old.items)
-        (core running.old.engine running.old.seats) m
-        (map (object_of Participant-dyn) stations.new.items)
-        (core running.new.engine running.new.seats)
-        × (map calls_of stations.new.items ≡ counts_after (map calls_of stations.old.items) m) }
-    ensures written { IsWritten running.old.engine (seen (kept S.Store journal.old))
-        → IsWritten running.new.engine (seen (kept S.Store journal.new)) }
-    ensures goes { GoesOn turn.now
-        (whole running.old.engine running.old.seats (seen (kept S.Store journal.old)))
-        (whole running.new.engine running.new.seats (seen (kept S.Store journal.new))) }
     ensures clean { doubt (kept S.Store journal.old).is_clean
         ≤ doubt (kept S.Store journal.new).is_clean }
+    ensures written { IsWritten running.old.engine (seen (kept S.Store journal.old))
+        → IsWritten running.new.engine (seen (kept S.Store journal.new)) }
 {
     let done = any_turn(alloc, running, journal, stations, turn);
     is_engine(&running.engine);
@@ -135,20 +116,16 @@ pub(crate) fn all_turns<S: Alter>(
 ) -> Result<Vec<Outcome>, DriveFault>
     ensures types { map type_of stations.new.items ≡ map type_of stations.old.items }
     ensures names { map name_of stations.new.items ≡ map name_of stations.old.items }
-    ensures done { IfOk result (λ outcomes.
-        Drives (rule_at (rule_of Participant-dyn) stations.old.items)
-        (map (object_of Participant-dyn) stations.old.items) (map calls_of stations.old.items)
-        turns.now outcomes.items
-        (whole running.old.engine running.old.seats (seen (kept S.Store journal.old)))
-        (map (object_of Participant-dyn) stations.new.items) (map calls_of stations.new.items)
-        (whole running.new.engine running.new.seats (seen (kept S.Store journal.new)))) }
-    ensures fault { IfErr result (λ fault.
-        DrivesTo (rule_at (rule_of Participant-dyn) stations.old.items)
-        (map (object_of Participant-dyn) stations.old.items) (map calls_of stations.old.items)
-        turns.now fault
-        (whole running.old.engine running.old.seats (seen (kept S.Store journal.old)))
-        (map (object_of Participant-dyn) stations.new.items) (map calls_of stations.new.items)
-        (whole running.new.engine running.new.seats (seen (kept S.Store journal.new)))) }
+    ensures done { IfOk result (λ outcomes. DrivesAll Participant-dyn turns.now outcomes.items
+        stations.old.items (whole_of running.old.engine running.old.seats
+        (kept S.Store journal.old))
+        stations.new.items (whole_of running.new.engine running.new.seats
+        (kept S.Store journal.new))) }
+    ensures fault { IfErr result (λ fault. DrivesSome Participant-dyn turns.now fault
+        stations.old.items (whole_of running.old.engine running.old.seats
+        (kept S.Store journal.old))
+        stations.new.items (whole_of running.new.engine running.new.seats
+        (kept S.Store journal.new))) }
     ensures written { IsWritten running.old.engine (seen (kept S.Store journal.old))
         → IsWritten running.new.engine (seen (kept S.Store journal.new)) }
     ensures clean { doubt (kept S.Store journal.old).is_clean
@@ -161,7 +138,7 @@ pub(crate) fn all_turns<S: Alter>(
         });
     };
     for turn in turns {
-        match one_turn(alloc, running, journal, stations, turn) {
+        match one_turn(turn, alloc, running, journal, stations) {
             Ok(outcome) => outcomes.push_reserved(outcome),
             Err(cause) => return Err(DriveFault {
                 done: outcomes.len(),

@@ -3,7 +3,7 @@
 ghost use Rattle.std.specs.Prelude.{◌≡◌, ◌&&◌, None, Some, IfOk};
 ghost use Rattle.std.specs.Prelude.{true};
 ghost use Rattle.tx_machine.specs.Contract.{IsSound, tx_state};
-ghost use Rattle.tx_machine.specs.Table.{is_due, next};
+ghost use Rattle.tx_machine.specs.Table.{next};
 ghost use Rattle.tx_machine.specs.declared.values.Item.TheVariants.{Answer, Choice};
 ghost use Rattle.tx_machine.specs.declared.values.Item.TheVariants.{Told as ToldOne};
 ghost use Rattle.tx_history.specs.History.{shelved};
@@ -128,15 +128,15 @@ pub fn make_ready(
     })
 }
 
-/// A machine that stands where this one does after its due preparation is answered.
+/// A machine that stands where this one does after its due preparation is answered. Where no answer is due it
+/// is refused as for want of memory.
 pub fn after_answer(
     code: &Code,
     machine: &Machine,
     byte: u8,
     context: Bytes,
 ) -> Result<Machine, AllocError>
-    requires sound { IsSound code.now machine.now }
-    requires due { is_due (tx_state code.now machine.now) (Answer byte context) ≡ true }
+    requires { IsSound code.now machine.now }
     ensures sound { IfOk result (IsSound code.now) }
     ensures after { IfOk result (λ m. tx_state code.now m
         ≡ next code.now (tx_state code.now machine.now) (Answer byte context)) }
@@ -148,15 +148,14 @@ pub fn after_answer(
     }
 }
 
-/// A machine that stands where this one does after its due selection.
+/// A machine that stands where this one does after its due selection; else as [`after_answer`].
 pub fn after_choice(
     alloc: Global,
     code: &Code,
     machine: &Machine,
     text: &str,
 ) -> Result<Machine, AllocError>
-    requires sound { IsSound code.now machine.now }
-    requires due { is_due (tx_state code.now machine.now) (Choice text.now) ≡ true }
+    requires { IsSound code.now machine.now }
     ensures sound { IfOk result (IsSound code.now) }
     ensures after { IfOk result (λ m. tx_state code.now m
         ≡ next code.now (tx_state code.now machine.now) (Choice text.now)) }
@@ -168,10 +167,9 @@ pub fn after_choice(
     }
 }
 
-/// A machine that stands where this one does after its due member is told.
+/// A machine that stands where this one does after its due member is told; else as [`after_answer`].
 pub fn after_told(code: &Code, machine: &Machine) -> Result<Machine, AllocError>
-    requires sound { IsSound code.now machine.now }
-    requires due { is_due (tx_state code.now machine.now) (ToldOne None) ≡ true }
+    requires { IsSound code.now machine.now }
     ensures sound { IfOk result (IsSound code.now) }
     ensures after { IfOk result (λ m. tx_state code.now m
         ≡ next code.now (tx_state code.now machine.now) (ToldOne None)) }

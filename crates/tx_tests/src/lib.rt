@@ -4,18 +4,4 @@
 #![tactic(auto)]
 
 #[cfg(test)]
-mod bounds;
-#[cfg(test)]
-mod contexts;
-#[cfg(test)]
-mod flows;
-#[cfg(test)]
-mod machines;
-#[cfg(test)]
-mod places;
-#[cfg(test)]
-mod script;
-#[cfg(test)]
-mod stamp;
-#[cfg(test)]
-mod stations;
+mod tests;

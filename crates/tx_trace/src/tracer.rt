@@ -32,6 +32,7 @@ use sw_participant::Bytes;
 use tx_engine::{Engine, reopened, restored_by};
 use tx_history::{Change, Entry, Event, Row};
 use tx_machine::{Due, Machine};
+use tx_slots::{after_answer, after_choice, after_told};
 
 /// What has gone through the first entries of an engine's history. It keeps the machines of the
 /// transactions under way, so that the next line costs what its entry costs.
@@ -338,56 +339,6 @@ fn next_recovered(
     Ok(None)
 }
 
-fn after_answer(
-    code: &Code,
-    machine: &Machine,
-    byte: u8,
-    context: &Bytes,
-) -> Result<Machine, AllocError>
-    requires { IsSound code.now machine.now }
-    ensures sound { IfOk result (IsSound code.now) }
-    ensures after { IfOk result (λ m. tx_state code.now m
-        ≡ next code.now (tx_state code.now machine.now) (Answer byte context.now)) }
-{
-    let mut copy = machine.copy()?;
-    let context = context.copy()?;
-    match copy.answered(code, byte, context.into_vec()) {
-        Ok(()) => Ok(copy),
-        Err(_) => Err(AllocError),
-    }
-}
-
-fn after_choice(
-    alloc: Global,
-    code: &Code,
-    machine: &Machine,
-    text: &str,
-) -> Result<Machine, AllocError>
-    requires { IsSound code.now machine.now }
-    ensures sound { IfOk result (IsSound code.now) }
-    ensures after { IfOk result (λ m. tx_state code.now m
-        ≡ next code.now (tx_state code.now machine.now) (Choice text.now)) }
-{
-    let mut copy = machine.copy()?;
-    match copy.chose(alloc, code, text) {
-        Ok(()) => Ok(copy),
-        Err(_) => Err(AllocError),
-    }
-}
-
-fn after_told(code: &Code, machine: &Machine) -> Result<Machine, AllocError>
-    requires { IsSound code.now machine.now }
-    ensures sound { IfOk result (IsSound code.now) }
-    ensures after { IfOk result (λ m. tx_state code.now m
-        ≡ next code.now (tx_state code.now machine.now) (ToldOne None)) }
-{
-    let mut copy = machine.copy()?;
-    match copy.told(code) {
-        Ok(()) => Ok(copy),
-        Err(_) => Err(AllocError),
-    }
-}
-
 // A machine that stands where the event leads this one.
 fn led(alloc: Global, code: &Code, machine: &Machine, event: &Event) -> Result<Machine, AllocError>
     requires { IsSound code.now machine.now }
@@ -396,7 +347,9 @@ fn led(alloc: Global, code: &Code, machine: &Machine, event: &Event) -> Result<M
         ≡ led_by code.now (tx_state code.now machine.now) event.now) }
 {
     match event {
-        Event::Answered { byte, context, .. } => after_answer(code, machine, *byte, context),
+        Event::Answered { byte, context, .. } => {
+            after_answer(code, machine, *byte, context.copy()?)
+        }
         Event::Chose { text, .. } => after_choice(alloc, code, machine, text.as_str()),
         Event::Told { .. } => after_told(code, machine),
         _ => machine.copy(),

@@ -1,6 +1,6 @@
 //! What an engine tells of itself, without memory; and the written mark.
 
-ghost use Rattle.std.specs.Prelude.{◌≡◌, ◌≤◌, ⊤, drop, length, is_some, option_map, IfOk};
+ghost use Rattle.std.specs.Prelude.{◌≡◌, ◌≤◌, ◌<◌, ⊤, drop, length, is_some, option_map, IfOk};
 ghost use Rattle.sw_base.specs.Refusals.{Accepts, refused};
 ghost use Rattle.sw_context.specs.Spelling.{bytes_of};
 ghost use Rattle.tx_history.specs.History.{queue, recovering, shelf};
@@ -27,14 +27,22 @@ impl Engine {
         if s >= self.slots.len() {
             return Err(EngineError::NoSession);
         }
-        Ok(next_at(
+        Ok(self.next_of(s))
+    }
+
+    // What a session that there is is to do.
+    pub(super) fn next_of(&self, s: usize) -> Next
+        requires { s < self.now.sessions }
+        ensures { result ≡ next_of self.now s }
+    {
+        next_at(
             &self.code,
             self.first.next_id,
             self.restored,
             self.breaks.as_slice(),
             self.mark,
             &self.slots[s],
-        ))
+        )
     }
 
     /// The code that the engine was opened with.

@@ -21,7 +21,7 @@ use sw_participant::{Bytes, Text};
 use tx_history::Event;
 use tx_slots::{
     Given, Hold, ReplyKind, Slot, after_answer, after_choice, after_told, goes_on, is_asked,
-    make_ready, next_at, put_both,
+    make_ready, put_both,
 };
 
 impl Engine {
@@ -37,15 +37,7 @@ impl Engine {
         let Slot::Holding(hold) = &self.slots[s] else {
             return Err(EngineError::NotDue);
         };
-        let next = next_at(
-            &self.code,
-            self.first.next_id,
-            self.restored,
-            self.breaks.as_slice(),
-            self.mark,
-            &self.slots[s],
-        );
-        if !is_asked(kind, next) {
+        if !is_asked(kind, self.next_of(s)) {
             return Err(EngineError::NotDue);
         }
         if self.is_full() {

@@ -3,13 +3,8 @@ use Rattle.tx_machine.specs.Contract.{tx_state}
 use Rattle.tx_machine.specs.Table.{next}
 use Rattle.tx_machine.specs.declared.values.Item.TheVariants.{Answer}
 use Rattle.tx_engine.specs.contracts.engine.Engine.{the_view}
-use Rattle.tx_engine.proofs.Dues.{allows_of, gives_answer}
+use Rattle.tx_engine.proofs.Dues.{gives_answer}
 use Rattle.tx_engine.proofs.engine.Engine.answered.Goals as goal
-
-pub after_answer-requires-clause-due : goal.after_answer-requires-clause-due
-after_answer-requires-clause-due c =
-    let a = allows_of (the_view c.self.inside) _ c.args.s _ c.in_ok-hold.hold.now c.self.view_is c.in_ok-hold.ensures in
-    a.asked.0 c.args.byte c.in_ok-spelled.field-0
 
 pub give-requires : goal.give-requires
 give-requires c =

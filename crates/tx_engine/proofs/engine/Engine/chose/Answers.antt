@@ -1,11 +1,6 @@
 use Rattle.tx_engine.specs.contracts.engine.Engine.{the_view}
-use Rattle.tx_engine.proofs.Dues.{allows_of, gives_choice}
+use Rattle.tx_engine.proofs.Dues.{gives_choice}
 use Rattle.tx_engine.proofs.engine.Engine.chose.Goals as goal
-
-pub after_choice-requires-clause-due : goal.after_choice-requires-clause-due
-after_choice-requires-clause-due c =
-    let a = allows_of (the_view c.self.inside) _ c.args.s _ c.in_ok-hold.hold.now c.self.view_is c.in_ok-hold.ensures in
-    a.asked.0 c.args.text.now
 
 pub give-requires : goal.give-requires
 give-requires c =

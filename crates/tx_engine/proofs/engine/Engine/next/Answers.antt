@@ -1,21 +1,16 @@
-use Rattle.std.proofs.Common.{◌<◌, length, arith, ◌∙◌}
+use Rattle.std.proofs.Common.{◌<◌, length, arith}
 use Rattle.tx_engine.specs.World.{World}
 use Rattle.tx_engine.specs.contracts.engine.Engine.{the_view}
-use Rattle.tx_engine.proofs.Keeps.{slot_there, slot_sound}
-use Rattle.tx_engine.proofs.Dues.{next_slot, next_ok}
+use Rattle.tx_engine.proofs.Dues.{next_ok}
 use Rattle.tx_engine.proofs.engine.Engine.next.Goals as goal
 
-pub next_at-requires : goal.next_at-requires
-next_at-requires c =
+pub next_of-requires : goal.next_of-requires
+next_of-requires c =
     let lt : c.args.s < length c.self.inside.slots.items = omega arith in
-    let w : World = the_view c.self.inside in
-    let x = slot_there w.flow w.start w.past c.self.inside.slots.items c.args.s _ c.self.invariant.sessions lt c.index.ensures in
-    slot_sound w.flow w.start w.past c.args.s _ x
+    rw (← c.self.view_is) lt
 
 pub returns : goal.returns
 returns c =
     let lt : c.args.s < length c.self.inside.slots.items = omega arith in
     let w : World = the_view c.self.inside in
-    let x = slot_there w.flow w.start w.past c.self.inside.slots.items c.args.s _ c.self.invariant.sessions lt c.index.ensures in
-    let n = rw c.as_slice.ensures.value at c.next_at.ensures in
-    rw (← c.self.view_is) (next_ok w c.args.s c.next_at.result lt (n ∙ next_slot w _ _ c.args.s _ c.self.invariant.stops.1 c.self.invariant.renewed x))
+    rw (← c.self.view_is) (next_ok w c.args.s c.next_of.result lt (rw (← c.self.view_is) at c.next_of.ensures))

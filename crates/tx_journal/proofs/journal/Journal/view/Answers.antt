@@ -14,4 +14,4 @@ returns-in-Ok-view_of-clause-stands g c clean =
     rw (← c.self.view_is)
     (standing_from (state g.S.Store inside).now c.in-Ok-view_of.view ready.now
     (view_read (tables_of (state g.S.Store inside).now.trees) c.in-Ok.stored _ _ _ _ _ c.in-Ok-view_of.view (c.in-Ok.ensures.rows clean ready.now)
-    c.as_slice.ensures.value c.as_slice-in-Ok.ensures.value c.as_slice-in-Ok-2.ensures.value c.as_slice-in-Ok-3.ensures.value c.as_slice-in-Ok-4.ensures.value c.in-Ok-view_of.ensures))
+    c.rows.ensures.meta c.rows.ensures.tx c.rows.ensures.members c.rows.ensures.shelf c.rows.ensures.advices c.in-Ok-view_of.ensures))

@@ -3,7 +3,7 @@
 ghost use Rattle.std.specs.Prelude.{IfOk};
 ghost use Rattle.tx_machine.specs.Contract.{IsSound};
 
-use crate::flows::picking;
+use crate::tests::flows::picking;
 use flow_asm::Code;
 use std::alloc::{AllocError, Global};
 use std::test::Fail;

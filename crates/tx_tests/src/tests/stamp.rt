@@ -4,7 +4,7 @@ ghost use Rattle.std.specs.Prelude.{◌≡◌, ◌≢◌, ◌⊎◌, None, codes
 ghost use Rattle.sw_context.specs.Pairs.{refusal, with_value, without};
 
 use sw_context::{Context, ContextError};
-use sw_participant::{Bytes, NoMemory, Participant, Text};
+use sw_participant::{AdviceResult, NoMemory, Participant, Text};
 
 /// Puts a value under `stamp` as it prepares, and takes it out again where the transaction aborts.
 #[derive(Drop)]
@@ -50,21 +50,11 @@ impl Participant for Stamp {
         Ok(Text::from_str(*self.value.allocator(), "")?)
     }
 
-    fn commit(
-        &mut self,
-        id: u64,
-        context: &mut Context,
-        recovering: bool,
-    ) -> Result<Option<Bytes>, NoMemory> {
+    fn commit(&mut self, id: u64, context: &mut Context, recovering: bool) -> AdviceResult {
         Ok(None)
     }
 
-    fn abort(
-        &mut self,
-        id: u64,
-        context: &mut Context,
-        recovering: bool,
-    ) -> Result<Option<Bytes>, NoMemory> {
+    fn abort(&mut self, id: u64, context: &mut Context, recovering: bool) -> AdviceResult {
         let _ = context.take("stamp");
         Ok(None)
     }

@@ -1,6 +1,6 @@
 //! Messages as bytes: worked messages, and the largest that the table allows.
 
-use crate::messages::{largest, message_of};
+use crate::tests::messages::{largest, message_of};
 use iso_codec::{DecodeError, decode, encode};
 use std::alloc::Global;
 use std::test::Fail;

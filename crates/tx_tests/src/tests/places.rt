@@ -1,6 +1,6 @@
 //! Where the entries of a flow stand among its steps.
 
-use crate::flows::picking;
+use crate::tests::flows::picking;
 use flow_asm::{Code, place, step_at};
 use std::test::Fail;
 

@@ -1,7 +1,7 @@
 //! The last id, a history that is full, and replies that are not due.
 
-use crate::flows::opened;
-use crate::script::played;
+use crate::tests::flows::opened;
+use crate::tests::script::played;
 use std::test::Fail;
 
 const LAST: &str = "\

@@ -2,13 +2,13 @@
 
 ghost use Rattle.std.specs.Prelude.{◌≡◌, [], OnErr};
 
-use crate::stamp::Stamp;
+use crate::tests::stamp::Stamp;
 use std::alloc::{AllocError, Global};
 use std::test::Fail;
 use sw_context::{Context, ContextError};
 use sw_participant::{
-    Act, Bytes, Call, NoMemory, Participant, Reply, Sequence, Station, StationError, Text,
-    call_station,
+    Act, AdviceResult, Bytes, Call, NoMemory, Participant, Reply, Sequence, Station, StationError,
+    Text, call_station,
 };
 
 /// Answers alike at all times, and puts the name of each call under `call`. It promises nothing.
@@ -56,23 +56,13 @@ impl Participant for Scribe {
         Ok(Text::from_str(self.alloc, "alpha, beta")?)
     }
 
-    fn commit(
-        &mut self,
-        id: u64,
-        context: &mut Context,
-        recovering: bool,
-    ) -> Result<Option<Bytes>, NoMemory> {
+    fn commit(&mut self, id: u64, context: &mut Context, recovering: bool) -> AdviceResult {
         let advice = Bytes::new(Vec::from_slice(self.alloc, b"AB")?);
         note(context, if recovering { "commit again" } else { "commit" })?;
         Ok(Some(advice))
     }
 
-    fn abort(
-        &mut self,
-        id: u64,
-        context: &mut Context,
-        recovering: bool,
-    ) -> Result<Option<Bytes>, NoMemory> {
+    fn abort(&mut self, id: u64, context: &mut Context, recovering: bool) -> AdviceResult {
         note(context, if recovering { "abort again" } else { "abort" })?;
         Ok(None)
     }
