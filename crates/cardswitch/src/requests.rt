@@ -73,6 +73,12 @@ fn serve_file<R: Read + Drop, O: Write, E: Write>(
     }
 }
 
+// The steps of the flow in the file at a path.
+fn code_at(alloc: Global, rt: &HostRuntime, path: &str) -> Result<Code, RunError> {
+    let flow = flow_at(alloc, rt, path)?;
+    Ok(assemble(alloc, &flow)?)
+}
+
 /// Answers the requests of an input, over a journal in memory or in the file that the options name.
 pub fn answer_requests<R: Read + Drop, O: Write, E: Write>(
     alloc: Global,
@@ -82,9 +88,8 @@ pub fn answer_requests<R: Read + Drop, O: Write, E: Write>(
     out: &mut O,
     err: &mut E,
 ) -> Result<(), RunError> {
-    let flow = flow_at(alloc, rt, options.flow)?;
+    let code = code_at(alloc, rt, options.flow)?;
     let setup = setup(alloc, options.limit, options.sessions as usize)?;
-    let code = assemble(alloc, &flow)?;
     let mut told = Told {
         err,
         trace: options.trace,
@@ -106,9 +111,8 @@ pub fn recover<O: Write>(
     journal: &str,
     out: &mut O,
 ) -> Result<(), RunError> {
-    let flow = flow_at(alloc, rt, flow)?;
+    let code = code_at(alloc, rt, flow)?;
     let setup = setup(alloc, LIMIT, 1)?;
-    let code = assemble(alloc, &flow)?;
     let mut sink = std::io::sink();
     let mut told = Told {
         err: &mut sink,

@@ -60,17 +60,31 @@ fn run_one(alloc: Global, engine: &mut Engine, context: &Context) -> Result<(), 
     Ok(())
 }
 
-/// Runs so many transactions, one after the other.
-pub fn run(alloc: Global, count: u64) -> Result<(), &'static str> {
-    let code = code_of_two(alloc)?;
-    let context = request(alloc)?;
-    let Ok(mut engine) = Engine::open(alloc, &code, &JournalView::blank(alloc), 1) else {
-        return Err("the engine was not opened");
-    };
+fn opened(alloc: Global, code: &Code) -> Result<Engine, &'static str> {
+    match Engine::open(alloc, code, &JournalView::blank(alloc), 1) {
+        Ok(engine) => Ok(engine),
+        Err(_) => Err("the engine was not opened"),
+    }
+}
+
+fn run_all(
+    alloc: Global,
+    engine: &mut Engine,
+    context: &Context,
+    count: u64,
+) -> Result<(), &'static str> {
     for _ in 0..count {
-        if run_one(alloc, &mut engine, &context).is_err() {
+        if run_one(alloc, engine, context).is_err() {
             return Err("the engine refused a call");
         }
     }
     Ok(())
+}
+
+/// Runs so many transactions, one after the other.
+pub fn run(alloc: Global, count: u64) -> Result<(), &'static str> {
+    let code = code_of_two(alloc)?;
+    let context = request(alloc)?;
+    let mut engine = opened(alloc, &code)?;
+    run_all(alloc, &mut engine, &context, count)
 }

@@ -70,15 +70,6 @@ fn open_files(alloc: Global, files: Disks) -> Kept {
     }
 }
 
-// What is left of a journal. Behind a refusal its connection goes on, where it can.
-fn left(alloc: Global, journal: Journal<Store>, cut: Cut, is_cut: bool) -> Kept {
-    let conn = journal.into_connection();
-    match cut {
-        Cut::Refusal if is_cut => journal_of(alloc, conn),
-        _ => Kept::Closed(conn.into_store().close()),
-    }
-}
-
 // The disks as they are found again, of whose calls the one after so many others is cut.
 fn found_again(alloc: Global, files: Disks, cut: Cut, calls: u64) -> Result<Disks, AllocError> {
     let Files { log, db } = files;
@@ -128,8 +119,12 @@ impl Machine {
         }
     }
 
-    /// Takes the journal back, which was cut or was not.
+    /// Takes the journal back, which was cut or was not. Behind a refusal its connection goes on, where it can.
     pub fn stop(&mut self, alloc: Global, journal: Journal<Store>, is_cut: bool) {
-        self.kept = Some(left(alloc, journal, self.cut, is_cut));
+        let conn = journal.into_connection();
+        self.kept = Some(match self.cut {
+            Cut::Refusal if is_cut => journal_of(alloc, conn),
+            _ => Kept::Closed(conn.into_store().close()),
+        });
     }
 }
