@@ -22,6 +22,7 @@ use sw_issuers::Sender;
 use sw_participant::Station;
 use sw_parts::{
     Bystander, CheckFields, Forward, Limits, Link, QueryIssuer, Respond, Reverse, Route, StandIn,
+    Unjoined,
 };
 use tx_engine::Engine;
 use tx_journal::Journal;
@@ -153,6 +154,11 @@ fn run_over<S: Alter + Drop, L: Link, R: Read + Drop, O: Write, E: Write>(
     served
 }
 
+// A participant that joins nobody, ready for a station.
+fn boxed<P: Unjoined>(alloc: Global, participant: P) -> Result<Box<Bystander<P>>, ServeError> {
+    Ok(Box::new(alloc, Bystander::new(participant))?)
+}
+
 /// Recovers what the journal has unfinished. Without an input the lines of that are printed, and that is all.
 /// Else it answers the requests of an input as they come, then what is on the shelf, and sends the stored
 /// advices. At the end, also where it ends early, the lines of the trace are written. Where the stream of
@@ -180,22 +186,28 @@ pub fn run<S: Alter + Drop, R: Read + Drop, O: Write, E: Write>(
         sessions,
     } = setup;
     let Issuers { alpha, beta } = queried;
-    let check = Bystander::new(CheckFields::new(alloc));
-    let route = Bystander::new(Route::new(alloc, routes(alloc)?));
-    let query_alpha = Bystander::new(QueryIssuer::new(alloc, alpha));
-    let query_beta = Bystander::new(QueryIssuer::new(alloc, beta));
-    let stand_in = Bystander::new(StandIn::new(alloc));
-    let respond = Bystander::new(Respond::new(alloc));
     let mut stations = Vec::new(alloc);
-    stations.push(Station::new(alloc, "check", Box::new(alloc, check)?)?)?;
+    stations.push(Station::new(alloc, "check", boxed(alloc, CheckFields::new(alloc))?)?)?;
     stations.push(Station::new(alloc, "limits", Box::new(alloc, Limits::new(alloc, book))?)?)?;
-    stations.push(Station::new(alloc, "route", Box::new(alloc, route)?)?)?;
-    stations.push(Station::new(alloc, "query_alpha", Box::new(alloc, query_alpha)?)?)?;
-    stations.push(Station::new(alloc, "query_beta", Box::new(alloc, query_beta)?)?)?;
+    stations.push(Station::new(
+        alloc,
+        "route",
+        boxed(alloc, Route::new(alloc, routes(alloc)?))?,
+    )?)?;
+    stations.push(Station::new(
+        alloc,
+        "query_alpha",
+        boxed(alloc, QueryIssuer::new(alloc, alpha))?,
+    )?)?;
+    stations.push(Station::new(
+        alloc,
+        "query_beta",
+        boxed(alloc, QueryIssuer::new(alloc, beta))?,
+    )?)?;
     stations.push(Station::new(alloc, "reverse", Box::new(alloc, Reverse::new(alloc))?)?)?;
-    stations.push(Station::new(alloc, "standin", Box::new(alloc, stand_in)?)?)?;
+    stations.push(Station::new(alloc, "standin", boxed(alloc, StandIn::new(alloc))?)?)?;
     stations.push(Station::new(alloc, "forward", Box::new(alloc, Forward::new(alloc))?)?)?;
-    stations.push(Station::new(alloc, "respond", Box::new(alloc, respond)?)?)?;
+    stations.push(Station::new(alloc, "respond", boxed(alloc, Respond::new(alloc))?)?)?;
     let mut sender = sender_over(alloc, advised)?;
     run_over(
         alloc,
