@@ -1,7 +1,7 @@
 -- The contexts of the transactions that ended, above an id.
 -- for: given::text_above, given::last_above
 use Rattle.std.proofs.Common.{◌≡◌, ℕ, ◌<◌, ◌≤◌, ◌==◌, Bool, true, false, cond, List, [], ◌∷◌, ◌++◌, length, Option, Some, None, refl, sym, ap, subst, arith, ◌∙◌, suc, zero, append-nil}
-use Rattle.std.specs.Prelude.{slice_get, All, nat_lt, not, ◌&&◌}
+use Rattle.std.specs.Prelude.{slice_get, All, nat_lt, ◌&&◌}
 use Rattle.std.specs.Ordering.{is_lt, nat_cmp}
 use Rattle.std.specs.declared.cmp.Ordering.TheVariants.{Equal, Greater}
 use Rattle.std.specs.Map.{keys_of}

@@ -1,6 +1,6 @@
 -- Legs one after the other, and what they write.
 -- for: switch::Switch, advices::send_advices, stream::Requests, serving::run
-use Rattle.std.proofs.Common.{◌≡◌, ℕ, ◌+◌, ◌-◌, ◌≤◌, List, [], ◌∷◌, ◌++◌, length, drop, Option, Some, None, Result, Ok, Err, refl, sym, ap, subst, arith, ◌∙◌, append_assoc, append-nil, length-append}
+use Rattle.std.proofs.Common.{◌≡◌, ℕ, ◌+◌, ◌≤◌, List, [], ◌∷◌, ◌++◌, length, Option, Some, None, Result, Ok, Err, refl, sym, ap, subst, arith, ◌∙◌, append_assoc, append-nil, length-append}
 use Rattle.std.proofs.lemmas.List.{length-drop}
 use Rattle.std.proofs.KnownBytes.{Appends-nil, Appends-trans}
 use Rattle.std.specs.Io.KnownBytes.{Appends}
@@ -20,16 +20,17 @@ use Rattle.tx_plant.specs.declared.turn.Outcome.{Outcome}
 use Rattle.tx_plant.specs.declared.turn.Outcome.TheVariants as outcome
 use Rattle.tx_plant.specs.declared.turn.Turn.{Turn}
 use Rattle.tx_plant.specs.declared.turn.Turn.TheVariants as turn
+use Rattle.tx_plant.specs.Core.{Core}
 use Rattle.tx_plant.specs.Steps.{Moved}
 use Rattle.tx_plant.specs.Recovery.{IsRecovery}
-use Rattle.tx_plant.specs.Plant.{Driven, GoesOn, Seen, Turned, Whole, Writes, journal_fault, late}
-use Rattle.cli_run.specs.Answered.{Acts, Leg, Drove, Gave, Goes, IsAllWritten, Point, Serves, all_answered, last_id, offer_of, offered, offers_in, responses, unanswered}
+use Rattle.tx_plant.specs.Plant.{Driven, GoesOn, Seen, Turned, Whole, Writes, journal_fault}
+use Rattle.cli_run.specs.Answered.{Acts, Leg, Drove, Gave, Goes, IsAllWritten, IsPrompt, IsReady, LeavesGiven, Point, Serves, above, all_answered, last_id, offer_of, offered, offers_in, responses, unanswered}
 
 goes_append : (ds es : List Leg) (p q r : Point) (xs ys : List ℕ) → Goes ds p xs q → Goes es q ys r → Goes (ds ++ es) p (xs ++ ys) r
 goes_append [] es p q r xs ys (none, same) h =
     subst (λ (l : List ℕ). Goes es p (l ++ ys) r) (sym none) (subst (λ (z : Point). Goes es z ys r) same h)
-goes_append (Drove ts os ∷ ds) es p q r xs ys (m, w, driven, more) h =
-    (m, w, driven, goes_append ds es (record p { plant = w }) q r xs ys more h)
+goes_append (Drove ts os ∷ ds) es p q r xs ys (prompt, m, w, driven, more) h =
+    (prompt, m, w, driven, goes_append ds es (record p { plant = w }) q r xs ys more h)
 goes_append (Gave ∷ ds) es p q r xs ys (text, rest, written, framed, all, more) h =
     (text, rest ++ ys, written, framed, ap (λ (l : List ℕ). l ++ ys) all ∙ append_assoc text rest ys, goes_append ds es (all_answered p) q r rest ys more h)
 
@@ -52,11 +53,11 @@ acts_then xs ys p q r a b = record {
   written = b.written;
 }
 
-pub serves_none : (p : Point) (o : Option (List ℕ)) → IsAllWritten p.plant.core.world → Serves [] p o p o
-serves_none p o h = record { legs = []; bytes = []; goes = (refl, refl); offers_are = refl; appends = Appends-nil o; written = h }
+pub serves_none : (p : Point) (o : Option (List ℕ)) → IsAllWritten p.plant.core.world → unanswered p ≡ [] → Serves [] p o p o
+serves_none p o h given = record { legs = []; bytes = []; goes = (refl, refl); offers_are = refl; appends = Appends-nil o; written = h; given = given }
 
-pub serves_acts : (xs : List Pairs) (p q : Point) (o : Option (List ℕ)) → Acts xs p q → Serves xs p o q o
-serves_acts xs p q o a = record { legs = a.legs; bytes = []; goes = a.goes; offers_are = a.offers_are; appends = Appends-nil o; written = a.written }
+serves_acts : (p q : Point) (o : Option (List ℕ)) → Acts [] p q → unanswered q ≡ [] → Serves [] p o q o
+serves_acts p q o a given = record { legs = a.legs; bytes = []; goes = a.goes; offers_are = a.offers_are; appends = Appends-nil o; written = a.written; given = given }
 
 pub serves_then : (xs ys : List Pairs) (p q r : Point) (a b c : Option (List ℕ)) → Serves xs p a q b → Serves ys q b r c → Serves (xs ++ ys) p a r c
 serves_then xs ys p q r a b c s t = record {
@@ -66,25 +67,44 @@ serves_then xs ys p q r a b c s t = record {
   offers_are = both_offered s.legs t.legs xs ys s.offers_are t.offers_are;
   appends = Appends-trans a b c s.bytes t.bytes s.appends t.appends;
   written = t.written;
+  given = t.given;
+}
+
+-- what is served behind turns
+pub serves_behind : (xs ys : List Pairs) (p q r : Point) (a b : Option (List ℕ)) → Acts xs p q → Serves ys q a r b → Serves (xs ++ ys) p a r b
+serves_behind xs ys p q r a b acts s = record {
+  legs = acts.legs ++ s.legs;
+  bytes = s.bytes;
+  goes = goes_append acts.legs s.legs p q r [] s.bytes acts.goes s.goes;
+  offers_are = both_offered acts.legs s.legs xs ys acts.offers_are s.offers_are;
+  appends = s.appends;
+  written = s.written;
+  given = s.given;
 }
 
 -- the responses that were not given are
-pub gave : (p : Point) (a b : Option (List ℕ)) (text : List ℕ) → IsAllWritten p.plant.core.world → AreFramed text (responses (unanswered p)) → Appends a b text → Serves [] p a (all_answered p) b
-gave p a b text written framed appends = record {
+gave : (p : Point) (a b : Option (List ℕ)) (text : List ℕ) → IsAllWritten p.plant.core.world → AreFramed text (responses (unanswered p)) → unanswered (all_answered p) ≡ [] → Appends a b text → Serves [] p a (all_answered p) b
+gave p a b text written framed given appends = record {
   legs = Gave ∷ [];
   bytes = text;
   goes = (text, [], written, framed, sym (append-nil text), (refl, refl));
   offers_are = refl;
   appends = appends;
   written = written;
+  given = given;
 }
 
 -- the same, by the id that is given last
-pub gave_to : (p : Point) (a b : Option (List ℕ)) (text : List ℕ) (last : ℕ) → IsAllWritten p.plant.core.world → AreFramed text (responses (unanswered p)) → last ≡ last_id p.answered (unanswered p) → Appends a b text → Serves [] p a (record p { answered = last }) b
-gave_to p a b text last written framed is appends = subst (λ (z : ℕ). Serves [] p a (record p { answered = z }) b) (sym is) (gave p a b text written framed appends)
+pub gave_to : (p : Point) (a b : Option (List ℕ)) (text : List ℕ) (last : ℕ) → IsAllWritten p.plant.core.world → AreFramed text (responses (unanswered p)) → last ≡ last_id p.answered (unanswered p) → above last p.plant.core.ended ≡ [] → Appends a b text → Serves [] p a (record p { answered = last }) b
+gave_to p a b text last written framed is given appends =
+    subst (λ (z : ℕ). Serves [] p a (record p { answered = z }) b) (sym is) (gave p a b text written framed (subst (λ (z : ℕ). above z p.plant.core.ended ≡ []) is given) appends)
 
 pub serves_after : (xs : List Pairs) (p q r : Point) (a b c : Option (List ℕ)) → Serves xs p a q b → Serves [] q b r c → Serves xs p a r c
 serves_after xs p q r a b c s t = subst (λ (l : List Pairs). Serves l p a r c) (append-nil xs) (serves_then xs [] p q r a b c s t)
+
+-- turns by which no session goes on leave it so
+pub still_served : (xs : List Pairs) (p q r : Point) (a b : Option (List ℕ)) → Serves xs p a q b → Acts [] q r → unanswered r ≡ unanswered q → Serves xs p a r b
+still_served xs p q r a b s acts left = serves_after xs p q r a b b s (serves_acts q r b acts (left ∙ s.given))
 
 pub offers_same : (x y : Pairs) (p q : Point) → x ≡ y → Acts (x ∷ []) p q → Acts (y ∷ []) p q
 offers_same x y p q same acts = subst (λ (z : Pairs). Acts (z ∷ []) p q) same acts
@@ -93,6 +113,10 @@ offers_same x y p q same acts = subst (λ (z : Pairs). Acts (z ∷ []) p q) same
 pub on_ok : {T E : Type 0} {P Q : Type 0} (r : Result T E) → (P → Q) → OnOk r P → OnOk r Q
 on_ok (Ok x) f h = f h
 on_ok (Err e) f h = tt
+
+pub on_both : {T E : Type 0} {P Q R : Type 0} (r : Result T E) → (P → Q → R) → OnOk r P → OnOk r Q → OnOk r R
+on_both (Ok x) f h k = f h k
+on_both (Err e) f h k = tt
 
 pub if_ok : {T E : Type 0} {P Q : T → Type 0} (r : Result T E) → ((x : T) → P x → Q x) → IfOk r P → IfOk r Q
 if_ok (Ok x) f h = f x h
@@ -111,7 +135,7 @@ some_ok P o x is h = subst (λ (z : Option _). IfSome z P) (sym is) h
 -- what is served behind a recovery, from the id that the view gives
 pub recovers_first : (xs : List Pairs) (w : Whole) (n m : ℕ) (q r : Point) (a b : Option (List ℕ)) → n ≡ m → Acts [] (record { plant = w; answered = n }) q → Serves xs q a r b → Serves xs (record { plant = w; answered = m }) a r b
 recovers_first xs w n m q r a b is acts serves =
-    subst (λ (z : ℕ). Serves xs (record { plant = w; answered = z }) a r b) is (serves_then [] xs (record { plant = w; answered = n }) q r a a b (serves_acts [] (record { plant = w; answered = n }) q a acts) serves)
+    subst (λ (z : ℕ). Serves xs (record { plant = w; answered = z }) a r b) is (serves_behind [] xs (record { plant = w; answered = n }) q r a b acts serves)
 
 -- after a write of all entries every entry is written
 
@@ -171,13 +195,40 @@ written_behind t (o ∷ u ∷ []) m p q (w, first, later, turned, driven, all, g
 written_behind t (o ∷ u ∷ x ∷ os) m p q (w, first, later, turned, (v, next, rest, written, driven, more, on), all, go) = absurd driven
 
 -- a turn and the write behind it
-pub drove : (t : Turn) (os : List Outcome) (m : List Moved) (p q : Whole) (id : ℕ) → Driven (t ∷ turn.Write None ∷ []) os m p q → IsAllWritten q.core.world → Acts (offer_of t) (record { plant = p; answered = id }) (record { plant = q; answered = id })
-drove t os m p q id driven h = record {
+pub drove : (t : Turn) (os : List Outcome) (m : List Moved) (p q : Whole) (id : ℕ) → Driven (t ∷ turn.Write None ∷ []) os m p q → IsReady (offer_of t) (record { plant = p; answered = id }) → IsAllWritten q.core.world → Acts (offer_of t) (record { plant = p; answered = id }) (record { plant = q; answered = id })
+drove t os m p q id driven ready h = record {
   legs = Drove (t ∷ turn.Write None ∷ []) os ∷ [];
-  goes = (m, q, driven, (refl, refl));
+  goes = ((ready, refl), m, q, driven, (refl, refl));
   offers_are = append-nil (offer_of t ++ []) ∙ append-nil (offer_of t);
   written = h;
 }
+
+-- which responses are to give after a turn by which no session goes on, and the write behind it
+
+wrote_ended : (os : List Outcome) (m : List Moved) (p q : Whole) → Driven (turn.Write None ∷ []) os m p q → q.core.ended ≡ p.core.ended
+wrote_ended [] m p q d = absurd d
+wrote_ended (o ∷ []) m p q (w, first, later, turned, (nothing, same), all, go) = ap (λ (z : Whole). z.core.ended) same ∙ ap (λ (z : Core). z.ended) turned.1
+wrote_ended (o ∷ x ∷ os) m p q (w, first, later, turned, driven, all, go) = absurd driven
+
+still_given : (p w q : Whole) (id : ℕ) → w.core ≡ record p.core { world = w.core.world } → q.core.ended ≡ w.core.ended → above id q.core.ended ≡ above id p.core.ended
+still_given p w q id core same = ap (above id) (same ∙ ap (λ (z : Core). z.ended) core)
+
+turned_given : (t : Turn) (o : Outcome) (m : List Moved) (p w q : Whole) (id : ℕ) → Turned t (Ok o) m p w → q.core.ended ≡ w.core.ended → LeavesGiven t (record { plant = p; answered = id }) (record { plant = q; answered = id })
+turned_given (turn.Take s) o m p w q id turned same = tt
+turned_given (turn.Step s) o m p w q id turned same = tt
+turned_given turn.Stop o m p w q id turned same = tt
+turned_given (turn.Write most) o m p w q id turned same = still_given p w q id turned.1 same
+turned_given (turn.Offer x) o m p w q id turned same = still_given p w q id turned.1 same
+turned_given turn.Release o m p w q id turned same = still_given p w q id turned.1 same
+turned_given (turn.Ack of place) o m p w q id turned same = still_given p w q id turned.1 same
+turned_given (turn.Break name) o m p w q id turned same = still_given p w q id turned.1 same
+turned_given (turn.Clear name) o m p w q id turned same = still_given p w q id turned.1 same
+turned_given (turn.LetGo s) o m p w q id turned same = still_given p w q id turned.1 same
+turned_given turn.Cut o m p w q id turned same = still_given p w q id turned.1 same
+
+pub leaves_given : (t : Turn) (os : List Outcome) (m : List Moved) (p q : Whole) (id : ℕ) → Driven (t ∷ turn.Write None ∷ []) os m p q → LeavesGiven t (record { plant = p; answered = id }) (record { plant = q; answered = id })
+leaves_given t [] m p q id d = absurd d
+leaves_given t (o ∷ os) m p q id (w, first, later, turned, driven, all, go) = turned_given t o first p w q id turned (wrote_ended os later w q driven)
 
 -- a recovery offers nothing
 no_offer : (t : Turn) → IsRecovery t → offer_of t ≡ []
@@ -197,11 +248,15 @@ no_offers : (ts : List Turn) → AllByRecursion IsRecovery ts → offers_in ts �
 no_offers [] h = refl
 no_offers (t ∷ ts) h = rw (no_offer t h.0) (no_offers ts h.1)
 
+is_prompt : (ts : List Turn) (p : Point) → AllByRecursion IsRecovery ts → IsPrompt ts p
+is_prompt [] p h = tt
+is_prompt (t ∷ ts) p h = rw (no_offer t h.0) (tt, no_offers ts h.1)
+
 -- a recovery and the write behind it
 pub recovered : (ts : List Turn) (os vs : List Outcome) (m n : List Moved) (p q r : Whole) (id : ℕ) → AllByRecursion IsRecovery ts → Driven ts os m p q → Driven (turn.Write None ∷ []) vs n q r → Acts [] (record { plant = p; answered = id }) (record { plant = r; answered = id })
 recovered ts os vs m n p q r id own first second = record {
   legs = Drove ts os ∷ Drove (turn.Write None ∷ []) vs ∷ [];
-  goes = (m, q, first, (n, r, second, (refl, refl)));
+  goes = (is_prompt ts (record { plant = p; answered = id }) own, m, q, first, ((tt, refl), n, r, second, (refl, refl)));
   offers_are = ap (λ (l : List Pairs). l ++ []) (no_offers ts own);
   written = written_alone vs n q r second;
 }

@@ -1,6 +1,6 @@
 -- What is read of a stream of frames, and which of its messages are requests.
 -- for: stream::serve, stream::serve_messages, stream::Requests
-use Rattle.std.proofs.Common.{◌≡◌, ◌<◌, ◌≤◌, ℕ, ◌+◌, List, [], ◌∷◌, ◌++◌, length, map, take, get_or, Option, Some, None, Result, Ok, Err, refl, sym, ap, subst, arith, ◌∙◌, inl, inr, append_assoc, append-nil}
+use Rattle.std.proofs.Common.{◌≡◌, ◌<◌, ◌≤◌, ℕ, ◌+◌, List, [], ◌∷◌, ◌++◌, length, map, take, get_or, Option, Result, Ok, Err, refl, sym, ap, subst, arith, ◌∙◌, inl, append_assoc, append-nil}
 use Rattle.std.proofs.KnownBytes.{Consumes-kept, Consumes-nil, Consumes-trans}
 use Rattle.std.proofs.lemmas.List.{length-append, length-take-le, map-append, take_more}
 use Rattle.std.specs.Io.KnownBytes.{Consumes, Keeps}
@@ -9,7 +9,7 @@ use Rattle.sw_context.specs.Pairs.{Pairs}
 use Rattle.sw_frame.specs.declared.error.FrameError.{FrameError}
 use Rattle.sw_frame.specs.declared.error.FrameError.TheVariants as frame
 use Rattle.sw_frame.specs.Feeds.{StreamGoesOnFrom, messages}
-use Rattle.sw_frame.specs.Stream.{State, Stream, blank}
+use Rattle.sw_frame.specs.Stream.{State, blank}
 use Rattle.iso_msg.specs.Messages.{PlainMessage}
 use Rattle.iso_codec.specs.declared.error.DecodeError.{DecodeError}
 use Rattle.iso_codec.specs.Reads.{read}

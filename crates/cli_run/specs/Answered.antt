@@ -1,5 +1,5 @@
 -- What a run has written: the responses of the transactions that ended, one after the other.
-use Rattle.std.specs.Prelude.{◌≡◌, ℕ, ◌-◌, List, [], ◌∷◌, ◌++◌, length, Option, Some, None, codes}
+use Rattle.std.specs.Prelude.{◌≡◌, ℕ, ◌-◌, ⊤, List, [], ◌∷◌, ◌++◌, length, Option, Some, None, codes}
 use Rattle.std.specs.Io.KnownBytes.{Appends}
 use Rattle.std.specs.Ordering.{nat_cmp}
 use Rattle.std.specs.BTreeMap.Range.{entries_between}
@@ -69,13 +69,6 @@ pub data Leg : Type 0 where
   Drove : (turns : List Turn) → (outcomes : List Outcome) → Leg
   Gave : Leg
 
--- One after the other, with what they write. Turns write nothing. Responses are given as frames, ids rising, and only when
--- every entry of the history is written.
-abbrev pub Goes : List Leg → Point → List ℕ → Point → Type 0
-Goes [] p bytes q = (bytes ≡ []) × (q ≡ p)
-Goes (Drove turns outcomes ∷ ds) p bytes q = (m : List Moved) × (w : Whole) × Driven turns outcomes m p.plant w × Goes ds (record p { plant = w }) bytes q
-Goes (Gave ∷ ds) p bytes q = (text : List ℕ) × (rest : List ℕ) × IsAllWritten p.plant.core.world × AreFramed text (responses (unanswered p)) × (bytes ≡ text ++ rest) × Goes ds (all_answered p) rest q
-
 -- the contexts that turns offer
 abbrev pub offer_of : Turn → List Pairs
 offer_of (turn.Offer x) = x ∷ []
@@ -84,6 +77,30 @@ offer_of _ = []
 abbrev pub offers_in : List Turn → List Pairs
 offers_in [] = []
 offers_in (t ∷ ts) = offer_of t ++ offers_in ts
+
+-- a context is offered when no response is left to give
+abbrev pub IsReady : List Pairs → Point → Type 0
+IsReady [] p = ⊤
+IsReady (x ∷ xs) p = unanswered p ≡ []
+
+-- of turns the first alone may offer one
+abbrev pub IsPrompt : List Turn → Point → Type 0
+IsPrompt [] p = ⊤
+IsPrompt (t ∷ ts) p = IsReady (offer_of t) p × (offers_in ts ≡ [])
+
+-- One after the other, with what they write. Turns write nothing, and a context is offered only when no response is left to
+-- give. Responses are given as frames, ids rising, and only when every entry of the history is written.
+abbrev pub Goes : List Leg → Point → List ℕ → Point → Type 0
+Goes [] p bytes q = (bytes ≡ []) × (q ≡ p)
+Goes (Drove turns outcomes ∷ ds) p bytes q = IsPrompt turns p × (m : List Moved) × (w : Whole) × Driven turns outcomes m p.plant w × Goes ds (record p { plant = w }) bytes q
+Goes (Gave ∷ ds) p bytes q = (text : List ℕ) × (rest : List ℕ) × IsAllWritten p.plant.core.world × AreFramed text (responses (unanswered p)) × (bytes ≡ text ++ rest) × Goes ds (all_answered p) rest q
+
+-- a turn by which no session goes on leaves the responses to give as they were
+abbrev pub LeavesGiven : Turn → Point → Point → Type 0
+LeavesGiven (turn.Take s) p q = ⊤
+LeavesGiven (turn.Step s) p q = ⊤
+LeavesGiven turn.Stop p q = ⊤
+LeavesGiven t p q = unanswered q ≡ unanswered p
 
 abbrev pub offered : List Leg → List Pairs
 offered [] = []
@@ -97,7 +114,7 @@ pub record Acts (offers : List Pairs) (p q : Point) : Type 0 where
   pub offers_are : offered legs ≡ offers
   pub written : IsAllWritten q.plant.core.world
 
--- the same with what an output holds before and after, where that is known
+-- the same with what an output holds before and after, where that is known; no response is left to give then
 pub record Serves (offers : List Pairs) (p : Point) (before : Option (List ℕ)) (q : Point) (after : Option (List ℕ)) : Type 0 where
   pub legs : List Leg
   pub bytes : List ℕ
@@ -105,13 +122,13 @@ pub record Serves (offers : List Pairs) (p : Point) (before : Option (List ℕ))
   pub offers_are : offered legs ≡ offers
   pub appends : Appends before after bytes
   pub written : IsAllWritten q.plant.core.world
+  pub given : unanswered q ≡ []
 
--- A whole run over a journal: a plant is opened on its view, these contexts are offered, and at the end no response is left
--- to give of a transaction that began in it.
+-- A whole run over a journal: a plant is opened on its view, these contexts are offered, and the responses given of the
+-- transactions that began in it.
 pub record Ran (f : Flow) (sessions : ℕ) (j : Seen) (offers : List Pairs) (before after : Option (List ℕ)) : Type 0 where
   pub view : JournalView
   pub made : Whole
   pub opened : Opened f sessions view j made.core made.journal
   pub end : Point
   pub serves : Serves offers (record { plant = made; answered = made.core.world.start.view.next_id - 1 }) before end after
-  pub all : unanswered end ≡ []

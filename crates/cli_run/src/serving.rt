@@ -53,6 +53,7 @@ impl<S: Alter> Switch<S> {
         told: &mut Told<'_, E>,
     ) -> Result<(), ServeError>
         requires written { IsAllWritten self.old.plant.running.engine }
+        requires given { unanswered (point_of S.Store self.old) ≡ [] }
         ensures serves { OnOk result (Serves []
             (point_of S.Store self.old) (O.contents out.old)
             (point_of S.Store self.new) (O.contents out.new)) }
@@ -84,9 +85,10 @@ impl<S: Alter> Switch<S> {
             × ReadTo end (R.remaining input) frames
             × Serves (requests frames)
             (point_of S.Store self.old) (O.contents out.old)
-            (point_of S.Store self.new) (O.contents out.new)
-            × (unanswered (point_of S.Store self.new) ≡ [])) }
+            (point_of S.Store self.new) (O.contents out.new)) }
     {
+        // (A recovery ends none that began in this run, so that this writes nothing.)
+        self.give(alloc, out)?;
         let mut input = input;
         let mut requests = Requests::new(alloc);
         let end = requests.serve_all(alloc, self, &mut input, out, told)?;

@@ -1,6 +1,6 @@
 //! The frames of a stream, answered as they come.
 
-ghost use Rattle.std.specs.Prelude.{◌≡◌, ◌<◌, ℕ, List, IfOk, IfSome, OnOk, Option, Some};
+ghost use Rattle.std.specs.Prelude.{◌≡◌, ◌<◌, ℕ, List, [], IfOk, IfSome, OnOk, Option, Some};
 ghost use Rattle.std.specs.Prelude.{length, map};
 ghost use Rattle.std.specs.Io.KnownBytes.{IsAtEnd};
 ghost use Rattle.cli_io.specs.declared.error.ReadError.{ReadError};
@@ -8,7 +8,7 @@ ghost use Rattle.sw_frame.specs.declared.error.FrameError.TheVariants as FrameEr
 ghost use Rattle.sw_frame.specs.Feeds.{messages};
 ghost use Rattle.sw_frame.specs.Stream.{blank};
 ghost use Rattle.iso_codec.specs.Reads.{read};
-ghost use Rattle.cli_run.specs.Answered.{IsAllWritten, Serves, point_of};
+ghost use Rattle.cli_run.specs.Answered.{IsAllWritten, Serves, point_of, unanswered};
 ghost use Rattle.cli_run.specs.Requests.{EndsAs, FramesIn, ReadTo, ReadsOn, if_read, request_of, requests};
 ghost use Rattle.cli_run.specs.declared.stream.StreamEnd.TheVariants.{Unread};
 
@@ -67,6 +67,7 @@ fn serve<S: Alter, O: Write, E: Write>(
     told: &mut Told<'_, E>,
 ) -> Result<(), ServeError>
     requires written { IsAllWritten switch.old.plant.running.engine }
+    requires given { unanswered (point_of S.Store switch.old) ≡ [] }
     ensures serves { OnOk result (Serves (map request_of (if_read (read message.now) message.now))
         (point_of S.Store switch.old) (O.contents out.old)
         (point_of S.Store switch.new) (O.contents out.new)) }
@@ -91,6 +92,7 @@ fn serve_messages<S: Alter, O: Write, E: Write>(
     told: &mut Told<'_, E>,
 ) -> Result<(), ServeError>
     requires written { IsAllWritten switch.old.plant.running.engine }
+    requires given { unanswered (point_of S.Store switch.old) ≡ [] }
     ensures serves { OnOk result (Serves (requests (messages list.now))
         (point_of S.Store switch.old) (O.contents out.old)
         (point_of S.Store switch.new) (O.contents out.new)) }
@@ -122,6 +124,7 @@ impl Requests {
         told: &mut Told<'_, E>,
     ) -> Result<(), ServeError>
         requires written { IsAllWritten switch.old.plant.running.engine }
+        requires given { unanswered (point_of S.Store switch.old) ≡ [] }
         ensures serves { OnOk result ((more : List (List ℕ))
             × FramesIn piece.now more self.old.framer self.new.framer
             × Serves (requests more)
@@ -162,6 +165,7 @@ impl Requests {
         told: &mut Told<'_, E>,
     ) -> Result<Option<StreamEnd>, ServeError>
         requires written { IsAllWritten switch.old.plant.running.engine }
+        requires given { unanswered (point_of S.Store switch.old) ≡ [] }
         requires room { 0 < length buf.old }
         ensures room { length buf.new ≡ length buf.old }
         ensures serves { IfOk result (λ end. (more : List (List ℕ))
@@ -191,6 +195,7 @@ impl Requests {
         told: &mut Told<'_, E>,
     ) -> Result<StreamEnd, ServeError>
         requires written { IsAllWritten switch.old.plant.running.engine }
+        requires given { unanswered (point_of S.Store switch.old) ≡ [] }
         requires fresh { self.old.framer ≡ blank }
         ensures serves { IfOk result (λ end. (frames : List (List ℕ))
             × ReadTo end (R.remaining input.old) frames

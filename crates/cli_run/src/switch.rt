@@ -1,7 +1,8 @@
 //! The plant of the switch, one transaction after the other.
 
 ghost use Rattle.std.specs.Prelude.{◌≡◌, ◌-◌, ◌∷◌, [], OnOk};
-ghost use Rattle.cli_run.specs.Answered.{Acts, IsAllWritten, Serves, offer_of, point_of, unanswered};
+ghost use Rattle.cli_run.specs.Answered.{Acts, IsAllWritten, IsReady, LeavesGiven, Serves};
+ghost use Rattle.cli_run.specs.Answered.{offer_of, point_of, unanswered};
 ghost use Rattle.cli_run.specs.Requests.{request_of};
 
 use crate::error::ServeError;
@@ -86,7 +87,10 @@ impl<S: Alter> Switch<S> {
     /// Does a turn, and writes its entry.
     pub(crate) fn act(&mut self, alloc: Global, turn: Turn) -> Result<Outcome, ServeError>
         requires written { IsAllWritten self.old.plant.running.engine }
+        requires ready { IsReady (offer_of turn) (point_of S.Store self.old) }
         ensures acts { OnOk result (Acts (offer_of turn)
+            (point_of S.Store self.old) (point_of S.Store self.new)) }
+        ensures left { OnOk result (LeavesGiven turn
             (point_of S.Store self.old) (point_of S.Store self.new)) }
     {
         let turns = [turn, Turn::Write(None)];
@@ -122,7 +126,6 @@ impl<S: Alter> Switch<S> {
         ensures serves { OnOk result (Serves []
             (point_of S.Store self.old) (O.contents out.old)
             (point_of S.Store self.new) (O.contents out.new)) }
-        ensures none_left { OnOk result (unanswered (point_of S.Store self.new) ≡ []) }
     {
         let text = text_above(alloc, self.plant.ended(), self.answered)?;
         self.answered = last_above(self.plant.ended(), self.answered);
@@ -138,6 +141,8 @@ impl<S: Alter> Switch<S> {
         requires written { IsAllWritten self.old.plant.running.engine }
         ensures acts { OnOk result (Acts []
             (point_of S.Store self.old) (point_of S.Store self.new)) }
+        ensures left { OnOk result (unanswered (point_of S.Store self.new)
+            ≡ unanswered (point_of S.Store self.old)) }
     {
         if self.engine().history().len() >= MANY_ENTRIES {
             told.trace(alloc, self.engine())?;
@@ -172,6 +177,7 @@ impl<S: Alter> Switch<S> {
         out: &mut O,
     ) -> Result<(), ServeError>
         requires written { IsAllWritten self.old.plant.running.engine }
+        requires given { unanswered (point_of S.Store self.old) ≡ [] }
         ensures serves { OnOk result (Serves (request_of request.now ∷ [])
             (point_of S.Store self.old) (O.contents out.old)
             (point_of S.Store self.new) (O.contents out.new)) }

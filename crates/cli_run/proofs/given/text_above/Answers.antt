@@ -1,8 +1,5 @@
-use Rattle.std.proofs.Common.{◌≡◌, ℕ, List, [], ◌∷◌, ◌++◌, map}
+use Rattle.std.proofs.Common.{map}
 use Rattle.std.proofs.lemmas.List.{map-append}
-use Rattle.sw_context.specs.Pairs.{Pairs}
-use Rattle.sw_frame.specs.Stream.{AreFramed}
-use Rattle.cli_run.specs.Answered.{responses}
 use Rattle.cli_run.proofs.Ended.{framed_more}
 use Rattle.cli_run.proofs.given.text_above.Goals as goal
 

@@ -1,4 +1,4 @@
-use Rattle.std.proofs.Common.{◌≡◌, ℕ, ◌-◌, ap, ◌∙◌}
+use Rattle.std.proofs.Common.{◌≡◌, ◌-◌, ap, ◌∙◌}
 use Rattle.tx_engine.specs.World.{World}
 use Rattle.tx_journal.specs.Kept.{kept}
 use Rattle.tx_plant.specs.Plant.{seen, whole}
@@ -25,7 +25,6 @@ returns g c =
           opened = c.in-Ok.ensures.opened.1;
           end = point last.plant.running.engine last.plant.running.seats (kept g.S.Store last.plant.journal) last.answered;
           serves = recovers_first (requests served.0) _ c.last_before-before.result _ _ _ _ _ begins c.in_ok-recover.ensures.acts served.2;
-          all = served.3;
         },
       )) c.serve_to_end-served.ensures.serves;
     }

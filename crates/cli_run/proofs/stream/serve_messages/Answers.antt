@@ -1,4 +1,4 @@
-use Rattle.std.proofs.Common.{◌∙◌, ap, map, take, sym}
+use Rattle.std.proofs.Common.{map, take}
 use Rattle.sw_frame.specs.Feeds.{messages}
 use Rattle.iso_codec.specs.Reads.{read}
 use Rattle.cli_run.specs.Requests.{if_read, request_of, requests}

@@ -9,7 +9,7 @@ loop-init g c = record {
   room = let l : c.in_ok-buf.buf.len ≡ 65536 = c.in_ok-buf.ensures.len in omega (arith, l, c.in_ok-buf.buf.ok.0);
   frames = [];
   reads = nothing_read (g.R.Read.remaining c.args.input.now) c.args.self.now.framer c.requires.fresh;
-  serves = serves_none _ _ c.requires.written;
+  serves = serves_none _ _ c.requires.written c.requires.given;
 }
 
 pub returns-in-Some : goal.returns-in-Some

@@ -11,5 +11,5 @@ returns-in-Ok g c = record {
 
 pub returns-in-Err : goal.returns-in-Err
 returns-in-Err g c = record {
-  serves = on_ok c.stop_on_memory.result (λ differs. ([], no_more_frames c.args.piece.now c.args.self.now.framer c.feed.new.self c.in-Err.error differs c.in-Err.ensures.so_far, serves_none _ _ c.requires.written)) c.stop_on_memory.ensures;
+  serves = on_ok c.stop_on_memory.result (λ differs. ([], no_more_frames c.args.piece.now c.args.self.now.framer c.feed.new.self c.in-Err.error differs c.in-Err.ensures.so_far, serves_none _ _ c.requires.written c.requires.given)) c.stop_on_memory.ensures;
 }

@@ -7,7 +7,7 @@ pub returns-in-Err-clause-serves : goal.returns-in-Err-clause-serves
 returns-in-Err-clause-serves g c = (
   [],
   reads_nothing (g.R.Read.remaining c.args.input.now) (g.R.Read.remaining c.read.new.self) c.args.self.now.framer c.in-Err.ensures.bytes,
-  serves_none _ _ c.requires.written,
+  serves_none _ _ c.requires.written c.requires.given,
   tt,
 )
 
@@ -15,7 +15,7 @@ pub returns-in-Err-2-clause-serves : goal.returns-in-Err-2-clause-serves
 returns-in-Err-2-clause-serves g c = if_ok c.unread.result (λ end is. (
   [],
   reads_nothing (g.R.Read.remaining c.args.input.now) (g.R.Read.remaining c.read.new.self) c.args.self.now.framer c.in-Err.ensures.bytes,
-  serves_none _ _ c.requires.written,
+  serves_none _ _ c.requires.written c.requires.given,
   rw is.1 tt,
 )) c.unread.ensures
 

@@ -1,6 +1,6 @@
 use Rattle.tx_journal.specs.Kept.{kept}
 use Rattle.tx_plant.specs.Plant.{seen, whole}
-use Rattle.cli_run.proofs.Legs.{drove, written_behind}
+use Rattle.cli_run.proofs.Legs.{drove, leaves_given, written_behind}
 use Rattle.cli_run.proofs.switch.Switch.act.Goals as goal
 
 pub returns-in-Some : goal.returns-in-Some
@@ -9,4 +9,8 @@ returns-in-Some g c =
     let q = whole c.drive.new.self.running.engine c.drive.new.self.running.seats (seen (kept g.S.Store c.drive.new.self.journal)) in
     let (m, driven, led, counts) = c.in-Ok.ensures.done in
     let two = written_behind c.args.turn c.in-Ok.outcomes.items m p q driven in
-    record { acts = drove c.args.turn c.in-Ok.outcomes.items m p q c.args.self.now.answered driven two.written }
+    let id = c.args.self.now.answered in
+    record {
+      acts = drove c.args.turn c.in-Ok.outcomes.items m p q id driven c.requires.ready two.written;
+      left = leaves_given c.args.turn c.in-Ok.outcomes.items m p q id driven;
+    }
