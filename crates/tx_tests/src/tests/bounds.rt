@@ -2,6 +2,7 @@
 
 use crate::tests::flows::opened;
 use crate::tests::script::played;
+use std::alloc::Global;
 use std::test::Fail;
 
 const LAST: &str = "\
@@ -18,10 +19,15 @@ answer 0 65 = NotDue
 take 0 = IdsSpent
 ";
 
+// What comes of a script's calls of an engine whose next transaction has this id.
+fn played_from(alloc: Global, next_id: u64, script: &str) -> Result<String, Fail> {
+    let mut engine = opened(alloc, next_id)?;
+    played(alloc, &mut engine, script)
+}
+
 #[test]
 fn the_last_id(rt: HostRuntime) -> Result<(), Fail> {
-    let mut engine = opened(rt.alloc(), 9_223_372_036_854_775_806)?;
-    let came = played(rt.alloc(), &mut engine, LAST)?;
+    let came = played_from(rt.alloc(), 9_223_372_036_854_775_806, LAST)?;
     assert_eq!(rt; came.as_str(), LAST);
     Ok(())
 }
@@ -55,8 +61,7 @@ next 0 = held 1 0 Prepare
 
 #[test]
 fn a_full_history_is_cut(rt: HostRuntime) -> Result<(), Fail> {
-    let mut engine = opened(rt.alloc(), 1)?;
-    let came = played(rt.alloc(), &mut engine, FULL)?;
+    let came = played_from(rt.alloc(), 1, FULL)?;
     assert_eq!(rt; came.as_str(), FULL);
     Ok(())
 }

@@ -1,5 +1,5 @@
 //! Contexts: bytes worked out by hand, limits, and the order of entries and of refusals. The helpers have no contract,
-//! so that the proof of a test carries no values.
+//! so that the proof of a test carries no values, and a test holds no context where it may end.
 
 use std::alloc::{AllocError, Global};
 use std::test::Fail;
@@ -52,14 +52,26 @@ fn begins(context: &Context, bytes: &[u8]) -> bool {
     }
 }
 
+fn one_is_spelled(alloc: Global) -> Result<bool, ContextError> {
+    let context = one(alloc)?;
+    Ok(spells(&context, ONE) && spells(&copied(&context)?, ONE))
+}
+
+fn one_is_read(alloc: Global) -> Result<bool, ContextError> {
+    let context = read(alloc, ONE)?;
+    Ok(context.len() == 1 && is_at(&context, 0, "v", b"A"))
+}
+
+fn none_is_read(alloc: Global) -> Result<bool, ContextError> {
+    Ok(read(alloc, &[0x00])?.is_empty())
+}
+
 #[test]
 fn bytes_of_contexts(rt: HostRuntime) -> Result<(), Fail> {
-    let context = one(rt.alloc())?;
-    assert!(rt; spells(&context, ONE) && spells(&copied(&context)?, ONE));
+    assert!(rt; one_is_spelled(rt.alloc())?);
     assert!(rt; spells(&Context::new(rt.alloc()), &[0x00]));
-    let again = read(rt.alloc(), ONE)?;
-    assert!(rt; again.len() == 1 && is_at(&again, 0, "v", b"A"));
-    assert!(rt; read(rt.alloc(), &[0x00])?.is_empty());
+    assert!(rt; one_is_read(rt.alloc())?);
+    assert!(rt; none_is_read(rt.alloc())?);
     Ok(())
 }
 
@@ -100,37 +112,67 @@ fn fill(context: &mut Context, alloc: Global, count: usize) -> Result<(), Contex
     Ok(())
 }
 
-fn goes_round(alloc: Global, context: &Context) -> Result<Context, ContextError> {
-    read(alloc, &context.to_bytes()?)
+fn full(alloc: Global) -> Result<Context, ContextError> {
+    let mut context = Context::new(alloc);
+    fill(&mut context, alloc, 64)?;
+    Ok(context)
+}
+
+// A full context takes no name more, but another value of a name that it has.
+fn takes_no_more(context: &mut Context) -> bool {
+    put(context, "n64", b"") == Err(ContextError::Full)
+        && put(context, "n0", b"again").is_ok()
+        && has(context, "n0", b"again")
+}
+
+fn goes_round(alloc: Global, context: &Context) -> Result<bool, ContextError> {
+    let again = read(alloc, &context.to_bytes()?)?;
+    Ok(again.len() == 64 && is_at(&again, 0, "n0", b"again") && is_at(&again, 63, "n63", b""))
+}
+
+fn is_limited(alloc: Global) -> Result<bool, ContextError> {
+    let mut context = full(alloc)?;
+    Ok(takes_no_more(&mut context) && goes_round(alloc, &context)?)
 }
 
 #[test]
 fn the_65th_name_is_refused(rt: HostRuntime) -> Result<(), Fail> {
-    let mut context = Context::new(rt.alloc());
-    fill(&mut context, rt.alloc(), 64)?;
-    assert!(rt; put(&mut context, "n64", b"") == Err(ContextError::Full));
-    assert!(rt; put(&mut context, "n0", b"again").is_ok() && has(&context, "n0", b"again"));
-
-    let again = goes_round(rt.alloc(), &context)?;
-    assert!(rt;
-        again.len() == 64 && is_at(&again, 0, "n0", b"again") && is_at(&again, 63, "n63", b"")
-    );
+    assert!(rt; is_limited(rt.alloc())?);
     Ok(())
+}
+
+// What comes of so many zeros under a name that may be bad, and whether the one entry is as it was.
+fn refusal(alloc: Global, name: &str, count: usize) -> Result<Option<ContextError>, ContextError> {
+    let mut context = one(alloc)?;
+    match put(&mut context, name, &zeros(alloc, count)?) {
+        Err(error) if spells(&context, ONE) => Ok(Some(error)),
+        _ => Ok(None),
+    }
 }
 
 #[test]
 fn refusals_come_in_order(rt: HostRuntime) -> Result<(), Fail> {
-    let mut context = one(rt.alloc())?;
-    let long = zeros(rt.alloc(), 65_536)?;
-    assert!(rt; put(&mut context, "", &long) == Err(ContextError::BadName));
-    assert!(rt; put(&mut context, "a b", b"") == Err(ContextError::BadName));
-    assert!(rt; put(&mut context, "v", &long) == Err(ContextError::ValueTooLong));
-    assert!(rt; spells(&context, ONE));
+    let rows = [
+        ("", 65_536, ContextError::BadName),
+        ("a b", 0, ContextError::BadName),
+        ("v", 65_536, ContextError::ValueTooLong),
+    ];
+    for (name, count, wanted) in rows {
+        assert!(rt; refusal(rt.alloc(), name, count)? == Some(wanted));
+    }
+    Ok(())
+}
 
-    // The longest name and value are taken.
-    let longest = zeros(rt.alloc(), 65_535)?;
+fn longest_is_taken(alloc: Global) -> Result<bool, ContextError> {
+    let mut context = one(alloc)?;
+    let longest = zeros(alloc, 65_535)?;
     put(&mut context, "A-z_0.9-123456789012345678901234", &longest)?;
-    assert!(rt; has(&context, "A-z_0.9-123456789012345678901234", &longest));
+    Ok(has(&context, "A-z_0.9-123456789012345678901234", &longest))
+}
+
+#[test]
+fn the_longest_name_and_value_are_taken(rt: HostRuntime) -> Result<(), Fail> {
+    assert!(rt; longest_is_taken(rt.alloc())?);
     Ok(())
 }
 
@@ -141,17 +183,25 @@ fn takes(context: &mut Context, name: &str, value: &[u8]) -> bool {
     }
 }
 
+fn three(alloc: Global) -> Result<Context, ContextError> {
+    let mut context = Context::new(alloc);
+    for (name, value) in [("a", b"1"), ("b", b"2"), ("c", b"3"), ("a", b"4")] {
+        put(&mut context, name, value)?;
+    }
+    Ok(context)
+}
+
+fn are_in_order(alloc: Global) -> Result<bool, ContextError> {
+    let mut context = three(alloc)?;
+    let is_first = is_at(&context, 0, "a", b"4");
+    let is_once = takes(&mut context, "b", b"2") && !takes(&mut context, "b", b"2");
+    let are_two = is_at(&context, 0, "a", b"4") && is_at(&context, 1, "c", b"3");
+    Ok(is_first && is_once && are_two && context.name_at(2).is_none())
+}
+
 #[test]
 fn entries_keep_their_order(rt: HostRuntime) -> Result<(), Fail> {
-    let mut context = Context::new(rt.alloc());
-    put(&mut context, "a", b"1")?;
-    put(&mut context, "b", b"2")?;
-    put(&mut context, "c", b"3")?;
-    put(&mut context, "a", b"4")?;
-    assert!(rt; is_at(&context, 0, "a", b"4"));
-    assert!(rt; takes(&mut context, "b", b"2") && !takes(&mut context, "b", b"2"));
-    assert!(rt; is_at(&context, 0, "a", b"4") && is_at(&context, 1, "c", b"3"));
-    assert!(rt; context.name_at(2).is_none());
+    assert!(rt; are_in_order(rt.alloc())?);
     Ok(())
 }
 
