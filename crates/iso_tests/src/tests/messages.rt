@@ -43,24 +43,40 @@ fn has_numbers(message: &Message, wanted: &[u8]) -> bool {
             .all(|(number, want)| number == *want)
 }
 
-#[test]
-fn a_message_is_a_map(rt: HostRuntime) -> Result<(), Fail> {
-    let alloc = rt.alloc();
+fn three(alloc: Global) -> Result<Message, Fail> {
     let mut message = message_of(alloc, b"0800", &[(70, b"301"), (11, b"000001")])?;
     message.reserve(2)?;
     message.set(alloc, 52, &[0, 255, 1, 2, 3, 4, 5, 6])?;
     message.set(alloc, 11, b"000002")?;
-    assert_eq!(rt; message.mti().digits(), b"0800".as_slice());
-    assert!(rt; has_numbers(&message, &[11, 52, 70]));
-    assert_eq!(rt; message.get(11), Some(b"000002".as_slice()));
-    assert_eq!(rt; message.get(12), None);
+    Ok(message)
+}
+
+fn are_three(message: &Message) -> bool {
+    has_numbers(message, &[11, 52, 70])
+        && message.get(11) == Some(b"000002".as_slice())
+        && message.get(12).is_none()
+        && message.get(70) == Some(b"301".as_slice())
+}
+
+// Whether the field had this value, and is removed once.
+fn loses(message: &mut Message, number: u8, value: &[u8]) -> bool {
+    match message.remove(number) {
+        Some(removed) => removed.as_slice() == value && message.remove(number).is_none(),
+        None => false,
+    }
+}
+
+fn is_a_map(alloc: Global) -> Result<bool, Fail> {
+    let mut message = three(alloc)?;
     let copy = message.copy(alloc)?;
-    assert_eq!(rt;
-        message.remove(70).ok_or("removed")?.as_slice(),
-        b"301".as_slice()
-    );
-    assert!(rt; message.remove(70).is_none() && has_numbers(&message, &[11, 52]));
-    assert!(rt; has_numbers(&copy, &[11, 52, 70]) && copy.get(70) == Some(b"301".as_slice()));
+    let were_three = are_three(&message) && message.mti().digits() == b"0800".as_slice();
+    let is_lost = loses(&mut message, 70, b"301") && has_numbers(&message, &[11, 52]);
+    Ok(were_three && is_lost && are_three(&copy))
+}
+
+#[test]
+fn a_message_is_a_map(rt: HostRuntime) -> Result<(), Fail> {
+    assert!(rt; is_a_map(rt.alloc())?);
     Ok(())
 }
 
@@ -75,9 +91,17 @@ fn the_largest_message_is_copied(rt: HostRuntime) -> Result<(), Fail> {
     Ok(())
 }
 
+// The text of the refusal of a field's value.
+fn refusal(alloc: Global, number: u8, value: &[u8]) -> Result<String, Fail> {
+    let mut message = message_of(alloc, b"0800", &[])?;
+    match message.set(alloc, number, value) {
+        Ok(_) => Err(Fail::new("the value is taken")),
+        Err(error) => Ok(error.to_string(alloc)?),
+    }
+}
+
 #[test]
 fn a_refused_value_is_told(rt: HostRuntime) -> Result<(), Fail> {
-    let mut message = message_of(rt.alloc(), b"0800", &[])?;
     let rows: [(u8, &[u8], &str); 7] = [
         (
             65,
@@ -113,8 +137,7 @@ fn a_refused_value_is_told(rt: HostRuntime) -> Result<(), Fail> {
         ),
     ];
     for (number, value, wanted) in rows {
-        let error = message.set(rt.alloc(), number, value).err().ok_or(wanted)?;
-        assert_eq!(rt; error.to_string(rt.alloc())?.as_str(), wanted);
+        assert_eq!(rt; refusal(rt.alloc(), number, value)?.as_str(), wanted);
     }
     let error: MessageError = Mti::new(b"080").err().ok_or("three digits")?;
     assert_eq!(rt;
