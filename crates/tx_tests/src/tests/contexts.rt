@@ -1,5 +1,5 @@
 //! Contexts: bytes worked out by hand, limits, and the order of entries and of refusals. The helpers have no contract,
-//! so that the proof of a test carries no values, and a test holds no context where it may end.
+//! so that the proof of a test carries no values, and hardly a test holds a context where it may end.
 
 use std::alloc::{AllocError, Global};
 use std::test::Fail;
