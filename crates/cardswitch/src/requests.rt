@@ -73,6 +73,19 @@ fn serve_file<R: Read + Drop, O: Write, E: Write>(
     }
 }
 
+// Runs over a journal in memory.
+fn serve_memory<R: Read + Drop, O: Write, E: Write>(
+    alloc: Global,
+    code: &Code,
+    setup: Setup,
+    input: R,
+    out: &mut O,
+    told: &mut Told<'_, E>,
+) -> Result<(), RunError> {
+    let conn = Connection::open_in_memory(alloc)?;
+    Ok(serve(alloc, code, conn, setup, Some(input), out, told)?)
+}
+
 // The steps of the flow in the file at a path.
 fn code_at(alloc: Global, rt: &HostRuntime, path: &str) -> Result<Code, RunError> {
     let flow = flow_at(alloc, rt, path)?;
@@ -96,10 +109,7 @@ pub fn answer_requests<R: Read + Drop, O: Write, E: Write>(
     };
     match options.journal {
         Some(path) => serve_file(alloc, rt, &code, path, setup, Some(input), out, &mut told),
-        None => {
-            let conn = Connection::open_in_memory(alloc)?;
-            Ok(serve(alloc, &code, conn, setup, Some(input), out, &mut told)?)
-        }
+        None => serve_memory(alloc, &code, setup, input, out, &mut told),
     }
 }
 

@@ -7,111 +7,162 @@ ghost use Rattle.cli_script.specs.declared.error.ScriptError.TheVariants as scri
 use cli_quote::Quoted;
 use flow_model::FlowError;
 use std::alloc::{AllocError, AllocFailed};
+use std::fmt;
 use sw_participant::NoMemory;
 use thiserror::Error;
 
 /// Why a line is refused: what is wrong with it, and what was expected. The first three are tried in
 /// this order, before the line's form.
-#[derive(Debug, Clone, Copy, PartialEq, Eq, Error)]
+#[derive(Debug, Clone, Copy, PartialEq, Eq)]
 pub enum LineError {
     /// The bytes are not UTF-8.
-    #[error("it is not UTF-8; expected words of text with single spaces between them")]
     NotText,
     /// A tab or a carriage return stands in the line.
-    #[error("a tab or a carriage return stands in it; \
-        expected words of text with single spaces between them")]
     Control,
     /// The line is empty, or a space leads, ends or is doubled.
-    #[error("it is empty, or a space leads, ends or is doubled; \
-        expected words of text with single spaces between them")]
     EmptyWord,
     /// The first word begins no line.
-    #[error("its first word is no command; expected retries, sessions, flow, answer, choose, advice, \
-        restore, offer, take, release, ack, break, clear, go, call, write, stop, cut, where, rest, \
-        saved, calls or auto")]
     Command,
     /// `retries` without a number below 2^64.
-    #[error("the number of retries is missing, or it is none; expected retries N, N in decimal digits")]
     Retries,
     /// `sessions` without a number below 2^64.
-    #[error("the number of sessions is missing, or it is none; expected sessions N, N in decimal digits")]
     Sessions,
     /// `flow` without a group's name.
-    #[error("the group's name is missing; expected flow GROUP ENTRY ..")]
     Flow,
     /// An entry of `flow` with a colon and no marks behind it.
-    #[error("an entry has marks that there are not; \
-        expected NAME, or NAME with one of :s :a :sa :r :sr :ar :sar")]
     Marks,
     /// `answer` without a name and a byte.
-    #[error("the name or the byte is missing, or one of them is none; \
-        expected answer NAME HH, HH two hexadecimal digits")]
     Answer,
     /// A word behind `answer`, `restore` or `offer` that is no entry of a context.
-    #[error("an entry of a context is none; \
-        expected N=HEX, N a name and HEX at most 65535 bytes in hexadecimal digits")]
     Entry,
     /// `choose` without a name and a space behind it.
-    #[error("the name or the text is missing, or the name is none; \
-        expected choose NAME TEXT, one space before TEXT")]
     Choose,
     /// `advice` without a name and bytes.
-    #[error("the name or the advice is missing, or one of them is none; \
-        expected advice NAME HEX, HEX in hexadecimal digits")]
     Advice,
     /// `restore` without a name.
-    #[error("the name is missing, or it is none; expected restore NAME N=HEX ..")]
     Restore,
     /// `take` without one number.
-    #[error("the session is missing, or it is none; expected take S, S in decimal digits")]
     Take,
     /// `release` with more words.
-    #[error("words follow that it does not take; expected release")]
     Release,
     /// `ack` without two numbers.
-    #[error("the id or the place is missing, or one of them is none; \
-        expected ack ID PLACE, both in decimal digits")]
     Ack,
     /// `break` without one name.
-    #[error("the name is missing, or it is none; expected break NAME")]
     Break,
     /// `clear` without one name.
-    #[error("the name is missing, or it is none; expected clear NAME")]
     Clear,
     /// `go` without one number.
-    #[error("the session is missing, or it is none; expected go S, S in decimal digits")]
     Go,
     /// `call` without one number.
-    #[error("the session is missing, or it is none; expected call S, S in decimal digits")]
     Call,
     /// `write` with words that are not one number.
-    #[error("the count is none; expected write, or write K, K in decimal digits")]
     Write,
     /// `stop` with more words.
-    #[error("words follow that it does not take; expected stop")]
     Stop,
     /// `cut` with more words.
-    #[error("words follow that it does not take; expected cut")]
     Cut,
     /// `where` without one number.
-    #[error("the session is missing, or it is none; expected where S, S in decimal digits")]
     Where,
     /// `rest` without one number.
-    #[error("the session is missing, or it is none; expected rest S, S in decimal digits")]
     Rest,
     /// `saved` without one number.
-    #[error("the session is missing, or it is none; expected saved S, S in decimal digits")]
     Saved,
     /// `calls` without one name.
-    #[error("the name is missing, or it is none; expected calls NAME")]
     Calls,
     /// `auto` with more words.
-    #[error("words follow that it does not take; expected auto")]
     Auto,
     /// No memory was left for what the line means.
-    #[error("out of memory")]
     OutOfMemory,
 }
+
+impl LineError {
+    // What was wrong, and what was expected.
+    fn text(self) -> &'static str {
+        match self {
+            LineError::NotText =>
+                "it is not UTF-8; expected words of text with single spaces between them",
+            LineError::Control => {
+                "a tab or a carriage return stands in it; expected words of text with single spaces \
+                 between them"
+            }
+            LineError::EmptyWord => {
+                "it is empty, or a space leads, ends or is doubled; expected words of text with \
+                 single spaces between them"
+            }
+            LineError::Command => {
+                "its first word is no command; expected retries, sessions, flow, answer, choose, \
+                 advice, restore, offer, take, release, ack, break, clear, go, call, write, stop, \
+                 cut, where, rest, saved, calls or auto"
+            }
+            LineError::Retries => {
+                "the number of retries is missing, or it is none; expected retries N, N in decimal \
+                 digits"
+            }
+            LineError::Sessions => {
+                "the number of sessions is missing, or it is none; expected sessions N, N in decimal \
+                 digits"
+            }
+            LineError::Flow => "the group's name is missing; expected flow GROUP ENTRY ..",
+            LineError::Marks => {
+                "an entry has marks that there are not; expected NAME, or NAME with one of :s :a :sa \
+                 :r :sr :ar :sar"
+            }
+            LineError::Answer => {
+                "the name or the byte is missing, or one of them is none; expected answer NAME HH, HH \
+                 two hexadecimal digits"
+            }
+            LineError::Entry => {
+                "an entry of a context is none; expected N=HEX, N a name and HEX at most 65535 bytes \
+                 in hexadecimal digits"
+            }
+            LineError::Choose => {
+                "the name or the text is missing, or the name is none; expected choose NAME TEXT, one \
+                 space before TEXT"
+            }
+            LineError::Advice => {
+                "the name or the advice is missing, or one of them is none; expected advice NAME HEX, \
+                 HEX in hexadecimal digits"
+            }
+            LineError::Restore =>
+                "the name is missing, or it is none; expected restore NAME N=HEX ..",
+            LineError::Take =>
+                "the session is missing, or it is none; expected take S, S in decimal digits",
+            LineError::Release => "words follow that it does not take; expected release",
+            LineError::Ack => {
+                "the id or the place is missing, or one of them is none; expected ack ID PLACE, both \
+                 in decimal digits"
+            }
+            LineError::Break => "the name is missing, or it is none; expected break NAME",
+            LineError::Clear => "the name is missing, or it is none; expected clear NAME",
+            LineError::Go =>
+                "the session is missing, or it is none; expected go S, S in decimal digits",
+            LineError::Call =>
+                "the session is missing, or it is none; expected call S, S in decimal digits",
+            LineError::Write =>
+                "the count is none; expected write, or write K, K in decimal digits",
+            LineError::Stop => "words follow that it does not take; expected stop",
+            LineError::Cut => "words follow that it does not take; expected cut",
+            LineError::Where =>
+                "the session is missing, or it is none; expected where S, S in decimal digits",
+            LineError::Rest =>
+                "the session is missing, or it is none; expected rest S, S in decimal digits",
+            LineError::Saved =>
+                "the session is missing, or it is none; expected saved S, S in decimal digits",
+            LineError::Calls => "the name is missing, or it is none; expected calls NAME",
+            LineError::Auto => "words follow that it does not take; expected auto",
+            LineError::OutOfMemory => "out of memory",
+        }
+    }
+}
+
+// By hand: the texts are constants, and a derived `fmt` of so many variants is dear to prove.
+impl fmt::Display for LineError {
+    fn fmt<W: fmt::Write>(&self, f: &mut fmt::Formatter<W>) -> fmt::Result {
+        f.write_str(self.text())
+    }
+}
+
+impl std::error::Error for LineError {}
 
 impl From<AllocError> for LineError {
     ghost from_gives = { λ _ r. r ≡ line.OutOfMemory };

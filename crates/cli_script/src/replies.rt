@@ -10,12 +10,23 @@ use sw_participant::{Bytes, Sequence, Text};
 use sw_scripted::{Put, QueuedAnswer, QueuedReplies};
 
 /// What participants reply, in the order in which it was queued.
-#[derive(Drop)]
 pub struct Replies {
     answers: Queues<QueuedAnswer>,
     choices: Queues<Text>,
     advices: Queues<Bytes>,
     restores: Queues<Sequence<Put>>,
+}
+
+// Written out, so that no caller proves again how its parts are dropped.
+impl Drop for Replies {
+    fn drop(self) {
+        let Replies {
+            answers: _,
+            choices: _,
+            advices: _,
+            restores: _,
+        } = self;
+    }
 }
 
 impl Replies {

@@ -7,7 +7,7 @@ use crate::actions::run_action;
 use crate::error::{ActionError, StepError};
 use cli_io::WriteError;
 use cli_script::{Actions, Script, open_script};
-use flow_asm::assemble;
+use flow_asm::{Code, assemble};
 use flow_model::Flow;
 use sqlite::{Alter, Connection, MemStore};
 use std::alloc::Global;
@@ -54,8 +54,31 @@ fn memory_journal(alloc: Global) -> Result<Journal<MemStore>, ActionError> {
     }
 }
 
-// Makes a plant with a participant by the script for each one of the flow, and runs the lines behind the
-// settings. (It hands no station out, so that contracts know of every participant whose it is.)
+// Runs the lines behind the settings over a plant of these stations with a journal in memory (apart, so that its
+// proof does not carry their making).
+fn play_over<W: Write>(
+    alloc: Global,
+    code: &Code,
+    stations: Vec<Station>,
+    sessions: usize,
+    actions: &mut Actions<'_>,
+    out: &mut W,
+) -> Result<(), StepError> {
+    let first = actions.lines().saturating_add(1);
+    let journal = match memory_journal(alloc) {
+        Ok(journal) => journal,
+        Err(error) => return Err(error.at_line(first)),
+    };
+    let mut plant = match Plant::new(alloc, code, journal, stations, sessions) {
+        Ok(plant) => plant,
+        Err((cause, _, _)) => return Err(ActionError::Plant(cause).at_line(first)),
+    };
+    let mut tracer = Tracer::new(alloc, plant.engine());
+    run_actions(alloc, &mut plant, &mut tracer, actions, out)
+}
+
+// Makes a participant by the script for each one of the flow, and runs the lines behind the settings. (It hands
+// no station out, so that contracts know of every participant whose it is.)
 fn play<W: Write>(alloc: Global, script: Script<'_>, out: &mut W) -> Result<(), StepError>
     requires { IsChecked script.flow }
 {
@@ -65,12 +88,7 @@ fn play<W: Write>(alloc: Global, script: Script<'_>, out: &mut W) -> Result<(), 
         replies: mut replies,
         actions: mut actions,
     } = script;
-    let first = actions.lines().saturating_add(1);
     let code = assemble(alloc, &flow)?;
-    let journal = match memory_journal(alloc) {
-        Ok(journal) => journal,
-        Err(error) => return Err(error.at_line(first)),
-    };
     let mut stations = Vec::new(alloc);
     for part in code.participants() {
         let name = part.name.as_str();
@@ -81,12 +99,7 @@ fn play<W: Write>(alloc: Global, script: Script<'_>, out: &mut W) -> Result<(), 
             Err(_) => return Err(StepError::OutOfMemory),
         }
     }
-    let mut plant = match Plant::new(alloc, &code, journal, stations, sessions as usize) {
-        Ok(plant) => plant,
-        Err((cause, _, _)) => return Err(ActionError::Plant(cause).at_line(first)),
-    };
-    let mut tracer = Tracer::new(alloc, plant.engine());
-    run_actions(alloc, &mut plant, &mut tracer, &mut actions, out)
+    play_over(alloc, &code, stations, sessions as usize, &mut actions, out)
 }
 
 /// Runs the lines of a script in their order over a plant with a journal in memory, and writes what they

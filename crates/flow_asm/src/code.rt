@@ -19,7 +19,7 @@ pub enum Step {
 }
 
 /// A group of the flow.
-#[derive(Debug, Drop)]
+#[derive(Debug)]
 pub struct GroupStart {
     pub name: Text,
     /// The number of the group's first step: that of its first entry, or its `Return` where it has
@@ -27,15 +27,34 @@ pub struct GroupStart {
     pub first: usize,
 }
 
+// Written out, so that no caller proves again how its parts are dropped.
+impl Drop for GroupStart {
+    fn drop(self) {
+        let GroupStart { name: _, first: _ } = self;
+    }
+}
+
 /// The steps of a checked flow, numbered from 0: for each group in the flow's order, a `Call` for
 /// each entry, with a `Pick` behind the `Call` of a selector, and a `Return` at the end. At most
 /// 33,024 steps. Contracts see the flow.
-#[derive(Debug, Drop)]
+#[derive(Debug)]
 pub struct Code {
     pub(crate) retries: u8,
     pub(crate) parts: Sequence<Part>,
     pub(crate) starts: Sequence<GroupStart>,
     pub(crate) steps: Sequence<Step>,
+}
+
+// Written out, so that no caller proves again how its parts are dropped.
+impl Drop for Code {
+    fn drop(self) {
+        let Code {
+            retries: _,
+            parts: _,
+            starts: _,
+            steps: _,
+        } = self;
+    }
 }
 
 impl Model for Code {

@@ -7,7 +7,7 @@ use std::alloc::{AllocError, Global};
 use sw_participant::{Kind, Sequence, Text};
 
 /// One entry of a group: a participant that is prepared there.
-#[derive(Debug, Drop)]
+#[derive(Debug)]
 pub struct Entry {
     /// The participant's name; a checked flow has names of 1 to 32 of `a-z A-Z 0-9 _ - .`.
     pub participant: Text,
@@ -15,11 +15,31 @@ pub struct Entry {
     pub kind: Kind,
 }
 
+// Written out, so that no caller proves again how its parts are dropped.
+impl Drop for Entry {
+    fn drop(self) {
+        let Entry {
+            participant: _,
+            kind: _,
+        } = self;
+    }
+}
+
 /// A named list of entries. It may be empty.
-#[derive(Debug, Drop)]
+#[derive(Debug)]
 pub struct Group {
     pub name: Text,
     pub entries: Sequence<Entry>,
+}
+
+// Written out, so that no caller proves again how its parts are dropped.
+impl Drop for Group {
+    fn drop(self) {
+        let Group {
+            name: _,
+            entries: _,
+        } = self;
+    }
 }
 
 impl Group {

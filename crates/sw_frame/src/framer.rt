@@ -57,10 +57,17 @@ fn finish(alloc: Global, held: &[u8], piece: &[u8], missing: usize) -> Result<Fo
 }
 
 /// Finds the frames of a stream that comes in pieces. It holds the bytes of the frame that isn't whole yet.
-#[derive(Debug, Drop)]
+#[derive(Debug)]
 pub struct Framer {
     held: Vec<u8>,
     failed: bool,
+}
+
+// Written out, so that no caller proves again how its parts are dropped.
+impl Drop for Framer {
+    fn drop(self) {
+        let Framer { held: _, failed: _ } = self;
+    }
 }
 
 impl Model for Framer {

@@ -20,11 +20,21 @@ const COPIED: [u8; 7] = [2, 3, 4, 7, 11, 41, 49];
 /// A link to an issuer that is simulated. It decides an authorization by the last two digits of
 /// the amount, accepts every advice, and answers nothing else. A silent one answers nothing at
 /// all.
-#[derive(Drop)]
 pub struct Issuer {
     alloc: Global,
     silent: bool,
     waiting: VecDeque<Bytes>,
+}
+
+// Written out, so that no caller proves again how its parts are dropped.
+impl Drop for Issuer {
+    fn drop(self) {
+        let Issuer {
+            alloc: _,
+            silent: _,
+            waiting: _,
+        } = self;
+    }
 }
 
 fn response(

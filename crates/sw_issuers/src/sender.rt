@@ -15,7 +15,6 @@ use sw_participant::{NoMemory, Sequence, Text};
 use sw_parts::{Link, Routing, route_of};
 
 /// The link to the issuers that a group of the flow asks.
-#[derive(Drop)]
 pub struct GroupLink<L: Link> {
     /// The name of the group.
     pub group: Text,
@@ -23,13 +22,30 @@ pub struct GroupLink<L: Link> {
     pub link: L,
 }
 
+// Written out, so that no caller proves again how its parts are dropped.
+impl<L: Link + Drop> Drop for GroupLink<L> {
+    fn drop(self) {
+        let GroupLink { group: _, link: _ } = self;
+    }
+}
+
 /// Sends advices, each over the link of the group that the route of its card number names.
 /// Contracts see the routes, and each group with the state of its link.
-#[derive(Drop)]
 pub struct Sender<L: Link> {
     alloc: Global,
     routes: Sequence<Routing>,
     links: Vec<GroupLink<L>>,
+}
+
+// Written out, so that no caller proves again how its parts are dropped.
+impl<L: Link + Drop> Drop for Sender<L> {
+    fn drop(self) {
+        let Sender {
+            alloc: _,
+            routes: _,
+            links: _,
+        } = self;
+    }
 }
 
 impl<L: Link> Model for Sender<L> {

@@ -34,7 +34,6 @@ pub enum Outcome {
 ///
 /// A deadline is a number that the caller chooses, as a tick of a clock or the number of a
 /// transaction; `expire` compares it and nothing else reads it.
-#[derive(Drop)]
 pub struct Mux {
     // The requests by number, the oldest first, and the number of each key: neither a response nor
     // a withdrawal moves what stands behind. The keys by deadline and number: what is not due is
@@ -43,6 +42,18 @@ pub struct Mux {
     numbers: HashMap<Key, u64>,
     deadlines: BTreeMap<(u64, u64), Key>,
     next: u64,
+}
+
+// Written out, so that no caller proves again how its parts are dropped.
+impl Drop for Mux {
+    fn drop(self) {
+        let Mux {
+            requests: _,
+            numbers: _,
+            deadlines: _,
+            next: _,
+        } = self;
+    }
 }
 
 impl Model for Mux {

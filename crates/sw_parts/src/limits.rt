@@ -20,10 +20,16 @@ use sw_messages::{Class, ResponseCode, amount_of, class_of, note_code, put_part,
 use sw_participant::{AdviceResult, Bytes, NoMemory, Participant, Text};
 
 /// Holds, spends and gives back the amounts of cards.
-#[derive(Drop)]
 pub struct Limits {
     alloc: Global,
     book: Book,
+}
+
+// Written out, so that no caller proves again how its parts are dropped.
+impl Drop for Limits {
+    fn drop(self) {
+        let Limits { alloc: _, book: _ } = self;
+    }
 }
 
 fn card_of(digits: &[u8]) -> Card

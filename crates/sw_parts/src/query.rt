@@ -204,13 +204,23 @@ fn bytes_in(alloc: Global, context: &Context) -> Result<Vec<u8>, NoMemory>
 }
 
 /// Asks an issuer over a link.
-#[derive(Drop)]
 pub struct QueryIssuer<L: Link> {
     alloc: Global,
     mux: Mux,
     link: L,
     // between calls nothing waits
     ghost idle: { mux ≡ [] },
+}
+
+// Written out, so that no caller proves again how its parts are dropped.
+impl<L: Link + Drop> Drop for QueryIssuer<L> {
+    fn drop(self) {
+        let QueryIssuer {
+            alloc: _,
+            mux: _,
+            link: _,
+        } = self;
+    }
 }
 
 impl<L: Link> QueryIssuer<L> {

@@ -18,9 +18,15 @@ use sw_participant::{AdviceResult, Bytes, NoMemory, Participant, Text};
 /// did not end so: at commit where the issuer's answer is late, at abort where the request was
 /// sent and its answer is late or was an approval, and at any abort after a restart, when the
 /// context no longer tells.
-#[derive(Drop)]
 pub struct Reverse {
     alloc: Global,
+}
+
+// Written out, so that no caller proves again how its parts are dropped.
+impl Drop for Reverse {
+    fn drop(self) {
+        let Reverse { alloc: _ } = self;
+    }
 }
 
 fn is_due(recovering: bool, context: &Context) -> bool

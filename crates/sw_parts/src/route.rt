@@ -16,7 +16,6 @@ use sw_messages::{CODE, Class, ResponseCode, class_of, request_in};
 use sw_participant::{NoMemory, Sequence, Text};
 
 /// The cards whose numbers begin with a prefix are asked for by a group of the flow.
-#[derive(Drop)]
 pub struct Routing {
     /// The first digits of the card numbers.
     pub prefix: Text,
@@ -24,13 +23,32 @@ pub struct Routing {
     pub group: Text,
 }
 
+// Written out, so that no caller proves again how its parts are dropped.
+impl Drop for Routing {
+    fn drop(self) {
+        let Routing {
+            prefix: _,
+            group: _,
+        } = self;
+    }
+}
+
 /// Chooses the group that asks the issuer of a card: that of the longest prefix of the card
 /// number. An authorization whose card has none of the prefixes is refused with 91, issuer
 /// inoperative.
-#[derive(Drop)]
 pub struct Route {
     alloc: Global,
     routes: Sequence<Routing>,
+}
+
+// Written out, so that no caller proves again how its parts are dropped.
+impl Drop for Route {
+    fn drop(self) {
+        let Route {
+            alloc: _,
+            routes: _,
+        } = self;
+    }
 }
 
 /// The one of two with the longer prefix, the first where they are equally long.

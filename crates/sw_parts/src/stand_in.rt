@@ -22,9 +22,15 @@ const MOST_AMOUNT: u64 = 1_000;
 /// Decides in the place of an issuer whose answer is late: an amount of at most 1,000 is
 /// approved, with an approval code of `SI` and the last four digits of the STAN, and any other
 /// one refused with 91, issuer inoperative.
-#[derive(Drop)]
 pub struct StandIn {
     alloc: Global,
+}
+
+// Written out, so that no caller proves again how its parts are dropped.
+impl Drop for StandIn {
+    fn drop(self) {
+        let StandIn { alloc: _ } = self;
+    }
 }
 
 fn is_open(context: &Context) -> bool

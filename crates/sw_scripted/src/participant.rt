@@ -15,14 +15,20 @@ use sw_participant::{AdviceResult, Bytes, NoMemory, Participant, Sequence, Text}
 const PREPARED: u8 = 0x01;
 
 /// An answer to a preparation, and the entries that it puts into the context.
-#[derive(Debug, Drop)]
+#[derive(Debug)]
 pub struct QueuedAnswer {
     pub byte: u8,
     pub puts: Sequence<Put>,
 }
 
+// Written out, so that no caller proves again how its parts are dropped.
+impl Drop for QueuedAnswer {
+    fn drop(self) {
+        let QueuedAnswer { byte: _, puts: _ } = self;
+    }
+}
+
 /// QueuedReplies that are queued, of each kind the next first.
-#[derive(Drop)]
 pub struct QueuedReplies {
     /// For `prepare` and `prepare_for_abort`.
     pub answers: VecDeque<QueuedAnswer>,
@@ -34,12 +40,33 @@ pub struct QueuedReplies {
     pub restores: VecDeque<Sequence<Put>>,
 }
 
+// Written out, so that no caller proves again how its parts are dropped.
+impl Drop for QueuedReplies {
+    fn drop(self) {
+        let QueuedReplies {
+            answers: _,
+            choices: _,
+            advices: _,
+            restores: _,
+        } = self;
+    }
+}
+
 /// A participant whose replies are queued. Each call takes the next of its kind; where none is queued
 /// it answers PREPARED, selects no group, gives no advice and restores nothing.
-#[derive(Drop)]
 pub struct Scripted {
     alloc: Global,
     replies: QueuedReplies,
+}
+
+// Written out, so that no caller proves again how its parts are dropped.
+impl Drop for Scripted {
+    fn drop(self) {
+        let Scripted {
+            alloc: _,
+            replies: _,
+        } = self;
+    }
 }
 
 // The context with these entries put.

@@ -21,7 +21,7 @@ use tx_slots::{Lists, Slot};
 /// A transaction engine: sessions that take transactions from one queue. Contracts see its flow,
 /// its number of sessions, what its history began from, the history, the written mark, and for how
 /// many offers memory is reserved; all that it keeps beside them is a function of these.
-#[derive(Debug, Drop)]
+#[derive(Debug)]
 pub struct Engine {
     code: Code,
     // What the history began from.
@@ -40,6 +40,27 @@ pub struct Engine {
     restored: bool,
     // Whether a transaction of the journal is not finished.
     recovering: bool,
+}
+
+// Written out, so that no caller proves again how its parts are dropped.
+impl Drop for Engine {
+    fn drop(self) {
+        let Engine {
+            code: _,
+            first: _,
+            first_queue: _,
+            first_breaks: _,
+            lists: _,
+            mark: _,
+            slots: _,
+            shelf: _,
+            advices: _,
+            breaks: _,
+            next_id: _,
+            restored: _,
+            recovering: _,
+        } = self;
+    }
 }
 
 impl Model for Engine {

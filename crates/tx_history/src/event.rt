@@ -5,7 +5,7 @@ use sw_participant::{Bytes, Text};
 
 /// An accepted event. Sessions and participants are numbered from 0, transactions from 1; a context
 /// is its bytes.
-#[derive(Debug, Drop)]
+#[derive(Debug)]
 pub enum Event {
     /// A context was put at the end of the queue, with the flow's retries as tries left.
     Offered {
@@ -62,8 +62,48 @@ pub enum Event {
     },
 }
 
+// Written out, so that no caller proves again how its parts are dropped.
+impl Drop for Event {
+    fn drop(self) {
+        match self {
+            Event::Offered { context: _context } => {}
+            Event::Taken { session: _session } => {}
+            Event::Answered {
+                session: _session,
+                byte: _byte,
+                context: _context,
+            } => {}
+            Event::Chose {
+                session: _session,
+                text: _text,
+            } => {}
+            Event::Told {
+                session: _session,
+                advice: _advice,
+            } => {}
+            Event::Recovered {
+                session: _session,
+                context: _context,
+            } => {}
+            Event::Released => {}
+            Event::Acked {
+                id: _id,
+                place: _place,
+            } => {}
+            Event::Broke {
+                participant: _participant,
+            } => {}
+            Event::Cleared {
+                participant: _participant,
+            } => {}
+            Event::LetGo { session: _session } => {}
+            Event::Closed { id: _id } => {}
+        }
+    }
+}
+
 /// What an entry changes in the journal: each part that is there is put in the place of what stands.
-#[derive(Debug, Drop)]
+#[derive(Debug)]
 pub struct Change {
     pub next_id: Option<u64>,
     /// The row under an id, or that there is none.
@@ -76,10 +116,34 @@ pub struct Change {
     pub advice: Option<((u64, usize), Option<Bytes>)>,
 }
 
+// Written out, so that no caller proves again how its parts are dropped.
+impl Drop for Change {
+    fn drop(self) {
+        let Change {
+            next_id: _,
+            row: _,
+            shelved: _,
+            emptied: _,
+            advice: _,
+        } = self;
+    }
+}
+
 /// An entry of the history, numbered from 1 at each opening and each cut.
-#[derive(Debug, Drop)]
+#[derive(Debug)]
 pub struct Entry {
     pub number: usize,
     pub event: Event,
     pub change: Change,
+}
+
+// Written out, so that no caller proves again how its parts are dropped.
+impl Drop for Entry {
+    fn drop(self) {
+        let Entry {
+            number: _,
+            event: _,
+            change: _,
+        } = self;
+    }
 }

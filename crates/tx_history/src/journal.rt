@@ -8,7 +8,7 @@ use sw_participant::{Bytes, Sequence, Text};
 use tx_machine::Phase;
 
 /// A context that waits in the queue or on the shelf.
-#[derive(Debug, Drop)]
+#[derive(Debug)]
 pub struct Waiting {
     /// How often it may be tried again after its next try; at most 100.
     pub tries: u8,
@@ -16,8 +16,18 @@ pub struct Waiting {
     pub context: Bytes,
 }
 
+// Written out, so that no caller proves again how its parts are dropped.
+impl Drop for Waiting {
+    fn drop(self) {
+        let Waiting {
+            tries: _,
+            context: _,
+        } = self;
+    }
+}
+
 /// The journal's row of an unfinished transaction; participants stand here by name.
-#[derive(Debug, Drop)]
+#[derive(Debug)]
 pub struct Row {
     pub phase: Phase,
     /// The members, in the order of joining and once per joining; at most 1,001.
@@ -32,8 +42,22 @@ pub struct Row {
     pub context: Bytes,
 }
 
+// Written out, so that no caller proves again how its parts are dropped.
+impl Drop for Row {
+    fn drop(self) {
+        let Row {
+            phase: _,
+            joined: _,
+            told: _,
+            doing: _,
+            tries: _,
+            context: _,
+        } = self;
+    }
+}
+
 /// What a journal holds.
-#[derive(Debug, Drop)]
+#[derive(Debug)]
 pub struct JournalView {
     /// The id of the next take, from 1; 2^63 - 1 where all ids are spent.
     pub next_id: u64,
@@ -44,6 +68,18 @@ pub struct JournalView {
     /// The advices that were not acknowledged, each under a transaction's id and the number of the
     /// member that gave it, from 0. These places rise.
     pub advices: Sequence<((u64, usize), Bytes)>,
+}
+
+// Written out, so that no caller proves again how its parts are dropped.
+impl Drop for JournalView {
+    fn drop(self) {
+        let JournalView {
+            next_id: _,
+            rows: _,
+            shelf: _,
+            advices: _,
+        } = self;
+    }
 }
 
 impl JournalView {

@@ -73,13 +73,25 @@ fn all_advices<S: Alter>(conn: &mut Connection<S>) -> Result<Vec<Row>, Error>
 }
 
 /// All rows of the tables.
-#[derive(Drop)]
 pub struct Stored {
     pub meta: Vec<Row>,
     pub tx: Vec<Row>,
     pub members: Vec<Row>,
     pub shelf: Vec<Row>,
     pub advices: Vec<Row>,
+}
+
+// Written out, so that no caller proves again how its parts are dropped.
+impl Drop for Stored {
+    fn drop(self) {
+        let Stored {
+            meta: _,
+            tx: _,
+            members: _,
+            shelf: _,
+            advices: _,
+        } = self;
+    }
 }
 
 impl Stored {

@@ -22,7 +22,7 @@ use flow_asm::{Code, StepView};
 use std::alloc::{AllocError, Global};
 
 /// One transaction.
-#[derive(Debug, Drop)]
+#[derive(Debug)]
 pub struct Machine {
     phase: Phase,
     // The step that is due, or a return where nothing is to come.
@@ -36,6 +36,24 @@ pub struct Machine {
     told: usize,
     tries: u8,
     saved: Vec<u8>,
+}
+
+// Written out, so that no caller proves again how its parts are dropped.
+impl Drop for Machine {
+    fn drop(self) {
+        let Machine {
+            phase: _,
+            step: _,
+            stack: _,
+            retry: _,
+            bound: _,
+            calls: _,
+            joined: _,
+            told: _,
+            tries: _,
+            saved: _,
+        } = self;
+    }
 }
 
 impl Machine {

@@ -15,12 +15,22 @@ use flow_asm::{Code, StepView};
 use std::alloc::{AllocError, Global};
 
 /// A selection that is under way.
-#[derive(Debug, Drop)]
+#[derive(Debug)]
 pub(crate) struct Frame {
     /// The step behind the selector's.
     pub(crate) back: usize,
     /// The numbers of the chosen groups still to be entered before; at most 16.
     pub(crate) pending: Vec<usize>,
+}
+
+// Written out, so that no caller proves again how its parts are dropped.
+impl Drop for Frame {
+    fn drop(self) {
+        let Frame {
+            back: _,
+            pending: _,
+        } = self;
+    }
 }
 
 /// A code is that of a checked flow: a wrapper for proofs.

@@ -19,7 +19,6 @@ pub(crate) struct Seat {
 }
 
 /// All live contexts.
-#[derive(Drop)]
 pub(crate) struct Seats {
     /// By session.
     pub(crate) by_session: Vec<Option<Seat>>,
@@ -29,6 +28,18 @@ pub(crate) struct Seats {
     pub(crate) ended: BTreeMap<u64, Context>,
     /// The id of the next take.
     pub(crate) next_id: u64,
+}
+
+// Written out, so that no caller proves again how its parts are dropped.
+impl Drop for Seats {
+    fn drop(self) {
+        let Seats {
+            by_session: _,
+            waiting: _,
+            ended: _,
+            next_id: _,
+        } = self;
+    }
 }
 
 /// What becomes of a transaction by an entry.

@@ -11,7 +11,7 @@ use std::collections::{BTreeMap, VecDeque};
 use tx_history::{Entry, Waiting};
 
 /// The entries and the queue. An offer adds to both.
-#[derive(Debug, Drop)]
+#[derive(Debug)]
 pub struct Lists {
     /// Oldest first.
     pub entries: Vec<Entry>,
@@ -21,6 +21,17 @@ pub struct Lists {
     pub reserved: usize,
     ghost entries_fit: { vec_len entries + reserved ≤ vec_capacity entries },
     ghost queue_fits: { deque_len queue + reserved ≤ deque_capacity queue },
+}
+
+// Written out, so that no caller proves again how its parts are dropped.
+impl Drop for Lists {
+    fn drop(self) {
+        let Lists {
+            entries: _,
+            queue: _,
+            reserved: _,
+        } = self;
+    }
 }
 
 // So many places beside those that are reserved.

@@ -13,7 +13,7 @@ use sw_participant::Call;
 use tx_machine::{Due, Machine};
 
 /// What a session holds.
-#[derive(Debug, Drop)]
+#[derive(Debug)]
 pub enum Slot {
     /// No transaction.
     Free,
@@ -21,8 +21,18 @@ pub enum Slot {
     Holding(Hold),
 }
 
+// Written out, so that no caller proves again how its parts are dropped.
+impl Drop for Slot {
+    fn drop(self) {
+        match self {
+            Slot::Free => {}
+            Slot::Holding(_value) => {}
+        }
+    }
+}
+
 /// The transaction that a session holds.
-#[derive(Debug, Drop)]
+#[derive(Debug)]
 pub struct Hold {
     pub id: u64,
     pub machine: Machine,
@@ -30,6 +40,18 @@ pub struct Hold {
     pub last: usize,
     /// Whether the session was let go since the call became due.
     pub let_go: bool,
+}
+
+// Written out, so that no caller proves again how its parts are dropped.
+impl Drop for Hold {
+    fn drop(self) {
+        let Hold {
+            id: _,
+            machine: _,
+            last: _,
+            let_go: _,
+        } = self;
+    }
 }
 
 /// The slot of a transaction after its entry of this number.

@@ -36,7 +36,6 @@ use tx_slots::{after_answer, after_choice, after_told};
 
 /// What has gone through the first entries of an engine's history. It keeps the machines of the
 /// transactions under way, so that the next line costs what its entry costs.
-#[derive(Drop)]
 pub struct Tracer {
     // How many entries it has gone through.
     done: usize,
@@ -49,6 +48,19 @@ pub struct Tracer {
     restored: bool,
     // The transactions of the journal up to this id are over.
     over: u64,
+}
+
+// Written out, so that no caller proves again how its parts are dropped.
+impl Drop for Tracer {
+    fn drop(self) {
+        let Tracer {
+            done: _,
+            machines: _,
+            shelved: _,
+            restored: _,
+            over: _,
+        } = self;
+    }
 }
 
 // What an entry shows, and what it moves.

@@ -1,7 +1,7 @@
 //! Opening an engine on a journal's view: the closing entries of those with nobody to tell, and the
 //! first transaction that is told on.
 
-ghost use Rattle.std.specs.Prelude.{◌≡◌, ◌∷◌, [], IfErr, IfOk, None, OnOk, false, replicate};
+ghost use Rattle.std.specs.Prelude.{◌≡◌, ◌≤◌, ◌∷◌, [], IfErr, IfOk, None, OnOk, false, replicate, slice_set};
 ghost use Rattle.flow_model.specs.declared.flow.Flow.{Flow};
 ghost use Rattle.tx_history.specs.Keys.{Rising};
 ghost use Rattle.tx_history.specs.History.{Start, to_tell};
@@ -49,21 +49,26 @@ impl Engine {
         test_rows(code, rows)?;
         let first_slot = next_slot(alloc, code, rows, 0)?;
         let recovering = is_holding(&first_slot);
-        let mut slots = free_slots(alloc, sessions)?;
-        slots[0] = first_slot;
+        let slots = seated(alloc, first_slot, sessions)?;
         // That the code is of a checked flow is known by its retries.
         let _retries = code.retries();
+        let lists = Lists::new(alloc, closings(alloc, rows)?);
+        let shelf = shelf_of(alloc, view.shelf.as_slice(), view.next_id)?;
+        let advices = advices_of(alloc, view.advices.as_slice(), view.next_id)?;
+        let breaks = no_breaks(alloc, code.participants().len())?;
+        let code = code.copy(alloc)?;
+        let first = view.copy(alloc)?;
         Ok(Engine {
-            code: code.copy(alloc)?,
-            first: view.copy(alloc)?,
+            code,
+            first,
             first_queue: Sequence::new(Vec::new(alloc)),
             first_breaks: Sequence::new(Vec::new(alloc)),
-            lists: Lists::new(alloc, closings(alloc, rows)?),
+            lists,
             mark: 0,
             slots,
-            shelf: shelf_of(alloc, view.shelf.as_slice(), view.next_id)?,
-            advices: advices_of(alloc, view.advices.as_slice(), view.next_id)?,
-            breaks: no_breaks(alloc, code.participants().len())?,
+            shelf,
+            advices,
+            breaks,
             next_id: view.next_id,
             restored: false,
             recovering,
@@ -115,6 +120,16 @@ pub(super) fn free_slots(alloc: Global, sessions: usize) -> Result<Vec<Slot>, Al
     for _ in 0..sessions {
         slots.push(Slot::Free)?;
     }
+    Ok(slots)
+}
+
+// The slots of so many sessions, of which the first one has this slot.
+fn seated(alloc: Global, first: Slot, sessions: usize) -> Result<Vec<Slot>, AllocError>
+    requires { 1 ≤ sessions }
+    ensures { IfOk result (λ slots. slots.items ≡ slice_set (replicate sessions Free) 0 first) }
+{
+    let mut slots = free_slots(alloc, sessions)?;
+    slots[0] = first;
     Ok(slots)
 }
 

@@ -1,8 +1,6 @@
 use Rattle.std.proofs.Common.{◌≡◌, ◌≤◌, ◌∙◌, ap, arith, List, length, replicate, false}
-use Rattle.std.specs.Prelude.{slice_set}
 use Rattle.flow_model.specs.declared.numbering.Part.{Part}
 use Rattle.tx_slots.specs.declared.slot.Slot.{Slot}
-use Rattle.tx_slots.specs.declared.slot.Slot.TheVariants.{Free}
 use Rattle.tx_history.proofs.CheckedFlows.{checked_fits}
 use Rattle.tx_engine.specs.Opening.{first_start}
 use Rattle.tx_engine.proofs.Opens.{kept_made, sessions_are, world_opened}
@@ -21,14 +19,13 @@ invariant_of-result c =
     let few : c.args.sessions ≤ 16 = omega arith in
     let is = rw c.as_slice-rows.ensures at (c.in_ok-closings.ensures c.args.code.now (first_start c.args.view.now)) in
     let next = rw c.as_slice-rows.ensures at (c.in_ok-first_slot.ensures) in
-    let slots : slice_set c.in_ok-slots.slots.items 0 c.in_ok-first_slot.first_slot ≡ slice_set (replicate c.args.sessions Free) 0 c.in_ok-first_slot.first_slot = ap (λ (l : List Slot). slice_set l 0 c.in_ok-first_slot.first_slot) (c.in_ok-slots.ensures) in
-    let many : length (slice_set c.in_ok-slots.slots.items 0 c.in_ok-first_slot.first_slot) ≡ c.args.sessions = ap (λ (l : List Slot). length l) slots ∙ sessions_are c.args.sessions c.in_ok-first_slot.first_slot in
-    rw c.new-5.ensures.reserved (kept_made c.args.code.now _ c.args.view.now _ c.args.sessions _ _ c.in_ok-first_slot.first_slot _ _ _ _ _ _ _ _ fits st some few (c.new-5.ensures.entries ∙ is) next
-    (c.in_ok-copy.ensures) (c.in_ok-copy-2.ensures) many (c.new-2.ensures ∙ c.new.ensures.items) (c.new-4.ensures ∙ c.new-3.ensures.items) slots c.new-5.ensures.queue
-    (c.in_ok-shelf_of.ensures ∙ c.as_slice.ensures) (c.in_ok-advices_of.ensures ∙ c.as_slice-2.ensures) (c.in_ok-no_breaks.ensures ∙ ap (λ (ps : List Part). replicate (length ps) false) c.participants.ensures.participants) c.is_holding-recovering.ensures)
+    let many : length c.in_ok-slots.slots.items ≡ c.args.sessions = ap (λ (l : List Slot). length l) (c.in_ok-slots.ensures) ∙ sessions_are c.args.sessions c.in_ok-first_slot.first_slot in
+    rw c.new-lists.ensures.reserved (kept_made c.args.code.now _ c.args.view.now _ c.args.sessions _ _ c.in_ok-first_slot.first_slot _ _ _ _ _ _ _ _ fits st some few (c.new-lists.ensures.entries ∙ is) next
+    (c.in_ok-code.ensures) (c.in_ok-first.ensures) many (c.new-2.ensures ∙ c.new.ensures.items) (c.new-4.ensures ∙ c.new-3.ensures.items) (c.in_ok-slots.ensures) c.new-lists.ensures.queue
+    (c.in_ok-shelf.ensures ∙ c.as_slice.ensures) (c.in_ok-advices.ensures ∙ c.as_slice-2.ensures) (c.in_ok-breaks.ensures ∙ ap (λ (ps : List Part). replicate (length ps) false) c.participants.ensures.participants) c.is_holding-recovering.ensures)
 
 pub returns-clause-opened : goal.returns-clause-opened
 returns-clause-opened c =
     let is = rw c.as_slice-rows.ensures at (c.in_ok-closings.ensures c.args.code.now (first_start c.args.view.now)) in
-    rw (c.in_ok-copy.ensures, c.in_ok-copy-2.ensures, c.new-2.ensures, c.new.ensures.items, c.new-4.ensures, c.new-3.ensures.items, c.in_ok-slots.ensures, c.new-5.ensures.reserved)
-    (world_opened c.args.code.now c.args.view.now c.args.sessions _ _ (sessions_are c.args.sessions c.in_ok-first_slot.first_slot) (c.new-5.ensures.entries ∙ is))
+    rw (c.in_ok-code.ensures, c.in_ok-first.ensures, c.new-2.ensures, c.new.ensures.items, c.new-4.ensures, c.new-3.ensures.items, c.in_ok-slots.ensures, c.new-lists.ensures.reserved)
+    (world_opened c.args.code.now c.args.view.now c.args.sessions _ _ (sessions_are c.args.sessions c.in_ok-first_slot.first_slot) (c.new-lists.ensures.entries ∙ is))
