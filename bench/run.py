@@ -36,6 +36,7 @@ INSERT INTO meta VALUES (1, 1), (2, 1);
 """
 PUT_ROW = """INSERT INTO tx VALUES (?1, ?2, ?3, ?4, 0, ?5)
     ON CONFLICT (id) DO UPDATE SET phase = ?2, told = ?3, doing = ?4, tries = 0, context = ?5"""
+PUT_MEMBER = "INSERT INTO member VALUES (?1, ?2, ?3) ON CONFLICT (id, place) DO NOTHING"
 # The rows of an approved authorization after each of its entries but the last, which drops it: phase, members, told, doing,
 # and the bytes of its context.
 LEAST_ROWS = [
@@ -106,8 +107,7 @@ def commits(rows, count, path):
             journal.execute(PUT_ROW, (number, phase, told, doing, bytes(context)))
             if members:
                 last = len(members) - 1
-                journal.execute("DELETE FROM member WHERE id = ? AND place = ?", (number, last))
-                journal.execute("INSERT INTO member VALUES (?, ?, ?)", (number, last, members[-1]))
+                journal.execute(PUT_MEMBER, (number, last, members[-1]))
             journal.execute("COMMIT")
         journal.execute("DELETE FROM tx WHERE id = ?", (number,))
     return time.monotonic() - began
