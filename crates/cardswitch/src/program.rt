@@ -164,6 +164,3 @@ pub fn refuse_words<E: Write>(error: io::Error, err: &mut E) -> u8
         }
     }
 }
-
-#[cfg(test)]
-mod tests;

@@ -1,7 +1,7 @@
 //! What a command line asks for.
 
 /// A subcommand with what it was given.
-#[derive(Debug, Clone, Copy, PartialEq, Eq)]
+#[derive(Clone, Copy)]
 pub enum Options<'a> {
     /// `step`: a script of transactions comes from standard input. With `--flow` its flow is that of
     /// the flow file at this path.
@@ -26,7 +26,7 @@ pub enum Options<'a> {
 }
 
 /// What `run` is given.
-#[derive(Debug, Clone, Copy, PartialEq, Eq)]
+#[derive(Clone, Copy)]
 pub struct RunOptions<'a> {
     /// The path of the flow file.
     pub flow: &'a str,

@@ -1,16 +1,17 @@
 //! Why a command line gives no options.
 ghost use Rattle.std.specs.Prelude.{◌≡◌, ◌==◌, not};
 ghost use Rattle.cli_options.specs.Conversion.{Carries};
-ghost use Rattle.cli_options.specs.Refusal.{status_of};
+ghost use Rattle.cli_options.specs.Refusal.{kind_status, status_of};
 ghost use Rattle.cli_options.specs.declared.error.OptionsError.TheVariants.{OutOfMemory};
 
 use clap::error::ErrorKind;
 use cli_quote::Quoted;
 use std::alloc::AllocError;
+use std::fmt;
 use thiserror::Error;
 
 /// Why a command line gives no options. Each text ends in a line feed.
-#[derive(Debug, Drop, Error)]
+#[derive(Drop, Error)]
 pub enum OptionsError {
     /// Words that the table refuses, or a wish for help or the version. The text is clap's.
     #[error("{0}")]
@@ -26,6 +27,13 @@ pub enum OptionsError {
     OutOfMemory,
 }
 
+// A person is shown the same text.
+impl fmt::Debug for OptionsError {
+    fn fmt<W: fmt::Write>(&self, f: &mut fmt::Formatter<W>) -> fmt::Result {
+        fmt::Display::fmt(self, f)
+    }
+}
+
 impl OptionsError {
     /// The program's exit status: 0 where the text is the help or the version, 2 for a bad command
     /// line, 4 for want of memory.
@@ -33,10 +41,7 @@ impl OptionsError {
         ensures { result ≡ status_of self.now }
     {
         match self {
-            OptionsError::BadCommandLine(error) => match error.kind() {
-                ErrorKind::DisplayHelp | ErrorKind::DisplayVersion => 0,
-                _ => 2,
-            },
+            OptionsError::BadCommandLine(error) => kind_status(error.kind()),
             OptionsError::NoSubcommand | OptionsError::BadNumber { .. } => 2,
             OptionsError::OutOfMemory => 4,
         }
@@ -47,6 +52,16 @@ impl OptionsError {
         ensures { result ≡ not (status_of self.now == 0) }
     {
         self.status() != 0
+    }
+}
+
+/// The status of clap's refusals of this kind.
+fn kind_status(kind: ErrorKind) -> u8
+    ensures { result ≡ kind_status kind }
+{
+    match kind {
+        ErrorKind::DisplayHelp | ErrorKind::DisplayVersion => 0,
+        _ => 2,
     }
 }
 

@@ -13,7 +13,7 @@ use thiserror::Error;
 
 /// Why a line is refused: what is wrong with it, and what was expected. The first three are tried in
 /// this order, before the line's form.
-#[derive(Debug, Clone, Copy, PartialEq, Eq)]
+#[derive(Clone, Copy, PartialEq, Eq)]
 pub enum LineError {
     /// The bytes are not UTF-8.
     NotText,
@@ -162,6 +162,13 @@ impl fmt::Display for LineError {
     }
 }
 
+// A person is shown the same text.
+impl fmt::Debug for LineError {
+    fn fmt<W: fmt::Write>(&self, f: &mut fmt::Formatter<W>) -> fmt::Result {
+        fmt::Display::fmt(self, f)
+    }
+}
+
 impl std::error::Error for LineError {}
 
 impl From<AllocError> for LineError {
@@ -181,7 +188,7 @@ impl<T: Drop> From<AllocFailed<T>> for LineError {
 }
 
 /// Why a script is refused: at which line, the first being 1. The lines before it have run.
-#[derive(Debug, Drop, Error)]
+#[derive(Drop, Error)]
 pub enum ScriptError {
     /// The line is not of its form.
     #[error("line {line}: {cause}; found {found}")]
@@ -220,6 +227,13 @@ pub enum ScriptError {
     /// No memory was left for what the script says.
     #[error("out of memory")]
     OutOfMemory,
+}
+
+// By hand: a person is shown the same text, and a derived `fmt` of so many variants is dear to prove.
+impl fmt::Debug for ScriptError {
+    fn fmt<W: fmt::Write>(&self, f: &mut fmt::Formatter<W>) -> fmt::Result {
+        fmt::Display::fmt(self, f)
+    }
 }
 
 impl From<NoMemory> for ScriptError {

@@ -4,7 +4,7 @@ use sw_participant::{Bytes, Sequence, Text};
 use sw_scripted::{Put, QueuedAnswer};
 
 /// A line of a script.
-#[derive(Debug, Drop)]
+#[derive(Drop)]
 pub enum ScriptLine {
     /// A line that settles something before the first action.
     Setting(Setting),
@@ -13,7 +13,7 @@ pub enum ScriptLine {
 }
 
 /// What is settled before a script's first action.
-#[derive(Debug, Drop)]
+#[derive(Drop)]
 pub enum Setting {
     /// `retries N`: how often a transaction that aborts with RETRY is tried again.
     Retries(u64),
@@ -44,7 +44,7 @@ pub enum Setting {
 }
 
 /// What a line runs. Sessions, ids, places and counts are any numbers below 2^64.
-#[derive(Debug, Drop)]
+#[derive(Drop)]
 pub enum Action {
     /// `offer [N=HEX ..]`: a context with these entries goes to the end of the queue.
     Offer(Sequence<Put>),

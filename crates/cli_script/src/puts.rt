@@ -2,7 +2,7 @@
 ghost use Rattle.std.specs.Prelude.{◌≡◌, IfOk, Some, is_some, map};
 ghost use Rattle.cli_script.specs.Forms.{or_refuse};
 ghost use Rattle.cli_script.specs.Grammar.{Answers};
-ghost use Rattle.cli_script.specs.Puts.{put_spelled, puts_spelled};
+ghost use Rattle.cli_script.specs.Puts.{put_cut, put_spelled, puts_spelled};
 ghost use Rattle.cli_script.specs.Scripts.{crowds};
 ghost use Rattle.cli_script.specs.Words.{further_words, has_bad};
 ghost use Rattle.cli_script.specs.declared.error.LineError.TheVariants.{Entry};
@@ -19,12 +19,19 @@ use sw_scripted::{Put, is_crowded};
 /// The most digits of a value: two for each of 65,535 bytes.
 const MOST_DIGITS: usize = 131_070;
 
+/// Whether what stands around the `=` of a word is a name and a value's digits.
+fn is_pair(name: &str, digits: &str) -> bool
+    ensures { result ≡ is_some (put_cut (Some (name.now, digits.now))) }
+{
+    is_name(name) && digits.len() <= MOST_DIGITS && is_hex(digits)
+}
+
 /// Whether a word is `N=HEX`. It takes no memory.
 fn is_put(word: &str) -> bool
     ensures { result ≡ is_some (put_spelled word.now) }
 {
     match cut_at(word, '=') {
-        Some((name, digits)) => is_name(name) && digits.len() <= MOST_DIGITS && is_hex(digits),
+        Some((name, digits)) => is_pair(name, digits),
         None => false,
     }
 }

@@ -2,11 +2,12 @@
 
 use flow_model::FlowError;
 use std::alloc::{AllocError, AllocFailed};
+use std::fmt;
 use thiserror::Error;
 
 /// The first fault of an image, its kinds in the order of their numbers, from 0. Lines are numbered
 /// from 1, groups from 0.
-#[derive(Clone, Copy, Debug, PartialEq, Eq, Error)]
+#[derive(Clone, Copy, PartialEq, Eq, Error)]
 pub enum LoadError {
     /// An allocation failed. Each line by itself and the version are without fault (`BadHeader`,
     /// `BadLine`, `BadNumber`), which is told without memory; the lines together and the flow may have
@@ -41,6 +42,13 @@ pub enum LoadError {
     /// The image is that of a flow which its check refuses.
     #[error("{0}")]
     Flow(FlowError),
+}
+
+// By hand: a person is shown the same text, and a derived `fmt` of so many variants is dear to prove.
+impl fmt::Debug for LoadError {
+    fn fmt<W: fmt::Write>(&self, f: &mut fmt::Formatter<W>) -> fmt::Result {
+        fmt::Display::fmt(self, f)
+    }
 }
 
 impl From<AllocError> for LoadError {

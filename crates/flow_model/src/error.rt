@@ -5,7 +5,7 @@ use thiserror::Error;
 
 /// The first fault of a flow, its kinds in the order of their numbers, from 1. Groups and entries are
 /// numbered from 0.
-#[derive(Clone, Copy, Debug, PartialEq, Eq, Error)]
+#[derive(Clone, Copy, PartialEq, Eq, Error)]
 pub enum FlowError {
     /// No group is named `main`.
     #[error("no group is named main: expected one, with which a transaction starts")]
@@ -26,6 +26,13 @@ pub enum FlowError {
     /// `retries` is over 100.
     #[error("retries is too large: expected 0 to 100")]
     BadRetries,
+}
+
+// By hand: a person is shown the same text, and a derived `fmt` of so many variants is dear to prove.
+impl fmt::Debug for FlowError {
+    fn fmt<W: fmt::Write>(&self, f: &mut fmt::Formatter<W>) -> fmt::Result {
+        fmt::Display::fmt(self, f)
+    }
 }
 
 /// `group G` or `group G, entry I`.

@@ -1,4 +1,4 @@
-//! Tests of messages, their bytes, frames and streams, of the multiplexer, the book and the participants of the switch:
+//! Tests of messages, their bytes and frames, of the multiplexer, the book and the participants of the switch:
 //! what no clause says, and no case under `tests/` shows. The helpers have no contract, so that the proof of a test
 //! carries no values.
 #![tactic(auto)]

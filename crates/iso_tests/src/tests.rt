@@ -6,4 +6,3 @@ mod codec;
 mod frames;
 mod keys;
 mod messages;
-mod streams;

@@ -32,10 +32,29 @@ impl Cut {
 }
 
 // The journal, or its files where it is not open.
-#[derive(Drop)]
 enum Kept {
     Open(Journal<Store>),
     Closed(Disks),
+}
+
+// Written out, so that no caller proves again how its parts are dropped.
+impl Drop for Kept {
+    fn drop(self) {
+        match self {
+            Kept::Open(_journal) => {}
+            Kept::Closed(_files) => {}
+        }
+    }
+}
+
+impl Kept {
+    // The journal, or its files.
+    fn into_journal(self) -> Result<Journal<Store>, Disks> {
+        match self {
+            Kept::Open(journal) => Ok(journal),
+            Kept::Closed(files) => Err(files),
+        }
+    }
 }
 
 // Disks with these contents, of whose calls the one after so many others is cut.
@@ -50,12 +69,20 @@ fn cut_after(
     Ok(Files { log, db })
 }
 
+// The files of what is left. (Each call of a generic function at this store is dear to prove: they stand here alone.)
+fn shut(left: Left<Store>) -> Disks {
+    let store = match left {
+        Left::Open(conn) => conn.into_store(),
+        Left::Closed(store) => store,
+    };
+    store.close()
+}
+
 // The journal of a connection.
 fn journal_of(alloc: Global, conn: Connection<Store>) -> Kept {
     match Journal::open(alloc, conn) {
         Ok(journal) => Kept::Open(journal),
-        Err((_, Left::Open(conn))) => Kept::Closed(conn.into_store().close()),
-        Err((_, Left::Closed(store))) => Kept::Closed(store.close()),
+        Err((_, left)) => Kept::Closed(shut(left)),
     }
 }
 
@@ -85,10 +112,16 @@ fn found_again(alloc: Global, files: Disks, cut: Cut, calls: u64) -> Result<Disk
 }
 
 /// A machine with the journal's files.
-#[derive(Drop)]
 pub struct Machine {
     cut: Cut,
     kept: Option<Kept>,
+}
+
+// Written out, so that no caller proves again how its parts are dropped.
+impl Drop for Machine {
+    fn drop(self) {
+        let Machine { cut: _, kept: _ } = self;
+    }
 }
 
 impl Machine {
@@ -106,14 +139,16 @@ impl Machine {
     ) -> Result<Option<Journal<Store>>, AllocError> {
         let cut = self.cut;
         let files = match self.kept.take() {
-            Some(Kept::Open(journal)) => return Ok(Some(journal)),
-            Some(Kept::Closed(files)) => found_again(alloc, files, cut, calls)?,
+            Some(kept) => match kept.into_journal() {
+                Ok(journal) => return Ok(Some(journal)),
+                Err(files) => found_again(alloc, files, cut, calls)?,
+            },
             None => cut_after(alloc, Memory::new(alloc), Memory::new(alloc), cut, calls)?,
         };
-        match open_files(alloc, files) {
-            Kept::Open(journal) => Ok(Some(journal)),
-            closed => {
-                self.kept = Some(closed);
+        match open_files(alloc, files).into_journal() {
+            Ok(journal) => Ok(Some(journal)),
+            Err(files) => {
+                self.kept = Some(Kept::Closed(files));
                 Ok(None)
             }
         }
@@ -124,7 +159,7 @@ impl Machine {
         let conn = journal.into_connection();
         self.kept = Some(match self.cut {
             Cut::Refusal if is_cut => journal_of(alloc, conn),
-            _ => Kept::Closed(conn.into_store().close()),
+            _ => Kept::Closed(shut(Left::Open(conn))),
         });
     }
 }

@@ -12,8 +12,11 @@ use tx_plant::PlantError;
 /// Why the program ends early. That the disks are cut is no such case.
 #[derive(Debug, Drop, Error)]
 pub enum TestError {
-    #[error("expected: silent FLOW JOURNAL, stopped power|kill [twice], or stopped refusal")]
+    #[error("expected: silent FLOW JOURNAL, stopped power|kill [twice], stopped refusal, journal PATH COMMITS ENTRIES, \
+         engine COUNT, or mux mux|map|ticks KEYS ROUNDS")]
     Words,
+    #[error("{0}")]
+    Bench(&'static str),
     #[error("the flow was refused")]
     Flow,
     #[error("the journal's file was not opened")]
@@ -42,6 +45,12 @@ pub enum TestError {
     Write(#[from] WriteError),
     #[error("out of memory")]
     OutOfMemory(#[from] AllocError),
+}
+
+impl From<&'static str> for TestError {
+    fn from(text: &'static str) -> TestError {
+        TestError::Bench(text)
+    }
 }
 
 impl<T: Drop> From<AllocFailed<T>> for TestError {

@@ -1,4 +1,5 @@
-//! The switch under faults that no subcommand lays into it, for tests. Without words it does nothing.
+//! The switch under faults that no subcommand lays into it, for tests, and its parts, for bench/*.py to time. Without
+//! words it does nothing.
 //!
 //! `test_switch silent FLOW JOURNAL` answers the requests of its input as `cardswitch run --flow FLOW --journal
 //! JOURNAL` does, but its issuer alpha is silent.
@@ -12,8 +13,19 @@
 //! It prints for each run `run CALLS`, the script's lines up to the cut, `found` with the journal that was
 //! opened again, the lines of the recovery, `left` with the journal behind it, and behind the lines of
 //! each plant `calls NAME COUNT` for each of its stations.
+//!
+//! `test_switch journal PATH COMMITS ENTRIES` makes so many commits of so many entries each in a journal in
+//! the file at the path, or in memory where the path is `memory`.
+//!
+//! `test_switch engine COUNT` runs so many transactions of two participants, one after the other, six entries
+//! each, with every entry written before the next call.
+//!
+//! `test_switch mux WHAT KEYS ROUNDS` lets so many keys wait, and then, so many times, lets one more wait and
+//! takes the response to the oldest. WHAT is `mux`, or `map`: a hash map of keys as it is used without a
+//! multiplexer, or `ticks`: a multiplexer in which the oldest comes to its deadline instead.
 #![tactic(auto)]
 
+mod bench;
 mod disks;
 mod error;
 mod lines;
@@ -21,6 +33,7 @@ mod lives;
 mod runs;
 mod silent;
 
+use bench::{time_engine, time_journal, time_mux};
 use cli_io::{Input, read_input};
 use disks::Cut;
 use error::TestError;
@@ -48,6 +61,20 @@ fn run_stopped(rt: &HostRuntime, cut: Cut, is_twice: bool) -> Result<(), TestErr
     run_each(alloc, script.as_slice(), cut, is_twice, &mut rt.stdout())
 }
 
+// Times a part of the switch.
+fn run_bench(rt: &HostRuntime, words: &[String]) -> Result<(), TestError> {
+    Ok(match words {
+        [_, part, path, commits, entries] if part.as_str() == "journal" => {
+            time_journal(rt, path.as_str(), commits.as_str(), entries.as_str())?
+        }
+        [_, part, count] if part.as_str() == "engine" => time_engine(rt, count.as_str())?,
+        [_, part, what, keys, rounds] if part.as_str() == "mux" => {
+            time_mux(rt, what.as_str(), keys.as_str(), rounds.as_str())?
+        }
+        _ => return Err(TestError::Words),
+    })
+}
+
 fn run_words(rt: &HostRuntime, words: &[String]) -> Result<(), TestError> {
     match words {
         [_] => Ok(()),
@@ -60,7 +87,7 @@ fn run_words(rt: &HostRuntime, words: &[String]) -> Result<(), TestError> {
         [_, test, cut, twice] if test.as_str() == "stopped" && twice.as_str() == "twice" => {
             run_stopped(rt, cut_of(cut.as_str())?, true)
         }
-        _ => Err(TestError::Words),
+        _ => run_bench(rt, words),
     }
 }
 

@@ -186,7 +186,7 @@ some_by : (n : ℕ) (b : Bool) (o : Option EngineError) → nat_lt n 1 ≡ b →
 some_by n true o e h = absurd (cc)
 some_by n false o e h = grind (arith, nat_tests)
 
-some_sessions : (flow : Flow) (view : JournalView) (n : ℕ) → open_refusal flow view n ≡ None → 0 < n
+pub some_sessions : (flow : Flow) (view : JournalView) (n : ℕ) → open_refusal flow view n ≡ None → 0 < n
 some_sessions flow view n h = some_by n (nat_lt n 1) _ refl h
 
 pub led_opened : (rule : ℕ → Rule) (os : List (List ℕ)) (p q : Core) (flow : Flow) (n : ℕ) (view : JournalView) (j k : Seen) → Opened flow n view j q k → Led rule os p (Stopped view ∷ []) os q

@@ -50,3 +50,36 @@ loop-turn-preserved g c =
 
 pub returns-in-Err-clause-written : goal.returns-in-Err-clause-written
 returns-in-Err-clause-written g c = λ h. c.one_turn.ensures.written (c.loop-turn.invariant.written h)
+
+pub returns-in_default-clause-types : goal.returns-in_default-clause-types
+returns-in_default-clause-types g c = refl
+
+pub returns-in_default-clause-names : goal.returns-in_default-clause-names
+returns-in_default-clause-names g c = refl
+
+pub returns-in_default-clause-written : goal.returns-in_default-clause-written
+returns-in_default-clause-written g c = λ h. h
+
+pub returns-in_default-clause-clean : goal.returns-in_default-clause-clean
+returns-in_default-clause-clean g c = omega arith
+
+pub returns-in-Err-clause-types : goal.returns-in-Err-clause-types
+returns-in-Err-clause-types g c = c.one_turn.ensures.types ∙ c.loop-turn.invariant.types
+
+pub returns-in-Err-clause-names : goal.returns-in-Err-clause-names
+returns-in-Err-clause-names g c = c.one_turn.ensures.names ∙ c.loop-turn.invariant.names
+
+pub returns-in-Err-clause-clean : goal.returns-in-Err-clause-clean
+returns-in-Err-clause-clean g c = omega (arith, c.one_turn.ensures.clean, c.loop-turn.invariant.clean)
+
+pub returns-clause-types : goal.returns-clause-types
+returns-clause-types g c = c.loop-turn.invariant.types
+
+pub returns-clause-names : goal.returns-clause-names
+returns-clause-names g c = c.loop-turn.invariant.names
+
+pub returns-clause-written : goal.returns-clause-written
+returns-clause-written g c = c.loop-turn.invariant.written
+
+pub returns-clause-clean : goal.returns-clause-clean
+returns-clause-clean g c = c.loop-turn.invariant.clean
