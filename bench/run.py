@@ -6,8 +6,9 @@
 Two flows are timed: the least one (limits, an issuer, the response: five commits an authorization), and that of
 examples/ (thirteen). Beside each, in the same run, SQLite's C library (through Python's sqlite3) makes the commits of as
 many transactions in a journal of the same tables, WAL and synchronous FULL on the file: the rows of one approved
-authorization, a commit for each of its entries, by the same statements. Then the time and the memory of 1,000, 10,000 and
-100,000 requests, in memory.
+authorization, a commit for each of its entries, by the same statements; on a file once with pages of its own size (4,096
+bytes), and once with those that a journal has (1,024). Then the time and the memory of 1,000, 10,000 and 100,000 requests,
+in memory.
 """
 
 import argparse
@@ -90,9 +91,10 @@ def run(program, flow, count, journal=None):
     return took, used.ru_maxrss
 
 
-def commits(rows, count, path):
+def commits(rows, count, path, page=4096):
     """The seconds of SQLite's C library for the commits of so many authorizations with these rows."""
     journal = sqlite3.connect(path, isolation_level=None)
+    journal.execute(f"PRAGMA page_size = {page}")
     journal.execute("PRAGMA journal_mode = WAL")
     journal.execute("PRAGMA synchronous = FULL")
     journal.execute("PRAGMA foreign_keys = ON")
@@ -115,12 +117,17 @@ def commits(rows, count, path):
 
 def compare(name, program, flow, rows, count, room):
     """Prints both sides' authorizations a second, over files of the room or in memory."""
-    ours, theirs = [], []
+    ours, theirs, small = [], [], []
     for turn in range(ROUNDS):
         ours.append(run(program, flow, count, room and f"{room}/ours-{turn}.db")[0])
         theirs.append(commits(rows, count, f"{room}/theirs-{turn}.db" if room else ":memory:"))
-    own, other = count / min(ours), count / min(theirs)
-    print(f"{name}: {own:9.0f} authorizations a second, C SQLite's commits {other:9.0f}, ratio {own / other:.2f}")
+        if room:
+            small.append(commits(rows, count, f"{room}/small-{turn}.db", 1024))
+    own = count / min(ours)
+    for of, taken in ("", theirs), (" on pages of 1,024 bytes", small):
+        if taken:
+            other = count / min(taken)
+            print(f"{name}: {own:9.0f} authorizations a second, C SQLite's commits{of} {other:9.0f}, ratio {own / other:.2f}")
 
 
 def main():

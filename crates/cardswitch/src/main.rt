@@ -7,6 +7,7 @@
 
 mod error;
 mod flow_file;
+mod journal_file;
 mod program;
 mod requests;
 

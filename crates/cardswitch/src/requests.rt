@@ -4,6 +4,7 @@ ghost use Rattle.flow_model.specs.Check.{IsChecked};
 
 use crate::error::RunError;
 use crate::flow_file::flow_at;
+use crate::journal_file::lay;
 use cli_options::choice::RunOptions;
 use cli_run::{Issuers, ServeError, Setup, Told, run};
 use flow_asm::{Code, assemble};
@@ -65,6 +66,8 @@ fn serve_file<R: Read + Drop, O: Write, E: Write>(
     out: &mut O,
     told: &mut Told<'_, E>,
 ) -> Result<(), RunError> {
+    // Where no file was laid, the journal is made as it is opened.
+    let _laid = lay(rt, alloc, path);
     match Connection::open(rt, path) {
         Ok(conn) => Ok(serve(alloc, code, conn, setup, input, out, told)?),
         Err(_) => Err(RunError::JournalFile {

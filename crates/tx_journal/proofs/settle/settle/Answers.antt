@@ -1,6 +1,7 @@
 use Rattle.sqlite.specs.Effect.{Database}
 use Rattle.std.proofs.Common.{ap, subst, ◌≡◌, ◌∙◌, sym, IsTrue, arith, false, rules}
 use Rattle.std.proofs.lemmas.Bool.{true_from_ne_false, both_ways}
+use Rattle.std.proofs.lemmas.Result.{IfErr-weaker}
 use Rattle.sqlite.specs.Held.{state}
 use Rattle.sqlite_trees.specs.View.{IsClean}
 use Rattle.tx_journal.proofs.RestLemmas.{shaped_by, if_ok_then, if_ok_both}
@@ -51,3 +52,15 @@ returns-clause-same g c =
     let last : (g.S.Store.view conn.store).committed ≡ (g.S.Store.view old).committed = sym (ap (λ (d : Database). d.trees) opens.0.clean) ∙ h.1.1 clean ∙ (undone.undone live).0 in
     subst (g.S.Store.recovers old) (sym (g.met.S.Store.settled conn.store db opens.0.is_open left ∙ last)) (g.met.S.Store.stays old ((undone.kept early).was_open live)))
     (if_ok_both _ _ c.over.result c.over.ensures.clean (if_ok_both _ _ c.over.result c.over.ensures.opens c.over.ensures.trees))
+
+pub returns-clause-fresh : goal.returns-clause-fresh
+returns-clause-fresh g c = if_ok_then _ _ c.over.result (λ conn h. h.autocommit) c.over.ensures.fresh
+
+pub returns-clause-clean : goal.returns-clause-clean
+returns-clause-clean g c = if_ok_then _ _ c.over.result (λ conn h. omega (arith, c.into_store-store.ensures.quiet.clean)) c.over.ensures.clean
+
+pub returns-clause-left : goal.returns-clause-left
+returns-clause-left g c = IfErr-weaker c.over.result _ _ (λ e h db left. c.into_store-store.ensures.quiet.outcomes db (h.outcomes db left)) c.over.ensures.unharmed
+
+pub returns-then-is_broken : goal.returns-then-is_broken
+returns-then-is_broken g c = record { fresh = tt; rests = tt; clean = tt; kept = tt; same = tt; left = c.into_store-store.ensures.quiet.outcomes }

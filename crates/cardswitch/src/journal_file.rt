@@ -1,0 +1,43 @@
+//! The journal's file.
+
+use std::alloc::Global;
+use std::fs;
+use std::io::{self, Write};
+
+/// The bytes of a page of a new journal. Its rows are short, and a commit writes each page that it changes whole, so
+/// that larger ones would be written for little.
+const PAGE: u64 = 1024;
+
+/// The first page of a database without tables, up to the zeros with which it ends, as SQLite's file format has it: the
+/// size of a page, write-ahead logging, the count of changes and of pages, and an empty leaf, which is the schema.
+const EMPTY: &[u8] = b"SQLite format 3\x00\
+    \x04\x00\x02\x02\x00\x40\x20\x20\
+    \x00\x00\x00\x01\x00\x00\x00\x01\x00\x00\x00\x00\x00\x00\x00\x00\
+    \x00\x00\x00\x00\x00\x00\x00\x00\x00\x00\x00\x00\x00\x00\x00\x00\
+    \x00\x00\x00\x00\x00\x00\x00\x00\x00\x00\x00\x00\x00\x00\x00\x00\
+    \x00\x00\x00\x00\x00\x00\x00\x00\x00\x00\x00\x00\x00\x00\x00\x00\
+    \x00\x00\x00\x00\x00\x00\x00\x01\x00\x2e\x63\x01\
+    \x0d\x00\x00\x00\x00\x04\x00\x00";
+
+// Writes a database without tables.
+fn write_empty(rt: &HostRuntime, path: &str) -> io::Result<()> {
+    let mut file = fs::create(rt, path)?;
+    file.write_all(EMPTY)?;
+    file.set_len(PAGE)?;
+    file.sync_all()
+}
+
+/// Lays a journal without tables at a path where nothing is. It is written beside that path and linked there whole, so
+/// that nobody finds a part of it, and none that another process laid meanwhile is lost.
+///
+/// Where this fails nothing is at the path, and the journal is made as it is opened, with pages of the library's size.
+pub fn lay(rt: &HostRuntime, alloc: Global, path: &str) -> io::Result<()> {
+    if path == ":memory:" || path.starts_with("file:") || fs::exists(rt, path)? {
+        return Ok(());
+    }
+    let beside = format!(in alloc; "{path}-new")?;
+    write_empty(rt, beside.as_str())?;
+    let laid = fs::hard_link(rt, beside.as_str(), path);
+    fs::remove_file(rt, beside.as_str())?;
+    laid
+}
