@@ -1,7 +1,7 @@
 //! The journal's file.
 
 use std::alloc::Global;
-use std::fs;
+use std::fs::{self, File};
 use std::io::{self, Write};
 
 /// The bytes of a page of a new journal. Its rows are short, and a commit writes each page that it changes whole, so
@@ -19,9 +19,9 @@ const EMPTY: &[u8] = b"SQLite format 3\x00\
     \x00\x00\x00\x00\x00\x00\x00\x01\x00\x2e\x63\x01\
     \x0d\x00\x00\x00\x00\x04\x00\x00";
 
-// Writes a database without tables.
+// Writes a database without tables, where no file is.
 fn write_empty(rt: &HostRuntime, path: &str) -> io::Result<()> {
-    let mut file = fs::create(rt, path)?;
+    let mut file = File::create_new(rt, path)?;
     file.write_all(EMPTY)?;
     file.set_len(PAGE)?;
     file.sync_all()
@@ -30,7 +30,8 @@ fn write_empty(rt: &HostRuntime, path: &str) -> io::Result<()> {
 /// Lays a journal without tables at a path where nothing is. It is written beside that path and linked there whole, so
 /// that nobody finds a part of it, and none that another process laid meanwhile is lost.
 ///
-/// Where this fails nothing is at the path, and the journal is made as it is opened, with pages of the library's size.
+/// Where none is laid, as where a file stands beside the path already, which stays as it is, the journal is made as it is
+/// opened, with pages of the library's size.
 pub fn lay(rt: &HostRuntime, alloc: Global, path: &str) -> io::Result<()> {
     if path == ":memory:" || path.starts_with("file:") || fs::exists(rt, path)? {
         return Ok(());
