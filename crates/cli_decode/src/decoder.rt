@@ -11,7 +11,7 @@ use std::alloc::{AllocError, Global};
 use sw_frame::{FrameError, Framer};
 
 /// What a stream has left so far.
-#[derive(Debug, Drop)]
+#[derive(Drop)]
 pub struct Decoder {
     framer: Framer,
     /// How many messages came, refused ones included.

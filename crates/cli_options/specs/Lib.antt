@@ -1,3 +1,4 @@
 pub mod CommandLine
 pub mod Conversion
 pub mod Refusal
+pub mod Rows

@@ -119,41 +119,66 @@ pub struct Setup {
     pub sessions: usize,
 }
 
-// A run over the stations that were made (apart, so that its proof does not carry their making).
-fn run_over<S: Alter + Drop, L: Link, R: Read + Drop, O: Write, E: Write>(
-    alloc: Global,
-    code: &Code,
+// What a run takes beside the stations, as one value: where a station is not made, one is let go.
+struct Over<S: Alter, R: Read, L: Link> {
     journal: Journal<S>,
     input: Option<R>,
-    stations: Vec<Station>,
+    sender: Sender<L>,
     sessions: usize,
-    sender: &mut Sender<L>,
-    out: &mut O,
-    told: &mut Told<'_, E>,
-) -> Result<StreamEnd, ServeError>
-    ensures ran { IfOk result (λ end. IfSome input (λ reader. (frames : List (List ℕ))
-        × ReadTo end (R.remaining reader) frames
-        × Ran code.now sessions (seen (kept S.Store journal)) (requests frames)
-        (O.contents out.old) (O.contents out.new))) }
-{
-    let plant = match Plant::new(alloc, code, journal, stations, sessions) {
-        Ok(plant) => plant,
-        Err((error, _, _)) => return Err(cause_of(alloc, code, error)),
-    };
-    let before = last_before(plant.engine());
-    let mut switch = Switch {
-        plant,
-        answered: before,
-        before,
-    };
-    switch.recover(alloc)?;
-    let Some(input) = input else {
-        print(alloc, switch.engine(), out)?;
-        return Ok(StreamEnd::Whole);
-    };
-    let served = switch.serve_to_end(alloc, sender, input, out, told);
-    told.trace(alloc, switch.engine())?;
-    served
+}
+
+impl<S: Alter + Drop, R: Read + Drop, L: Link> Drop for Over<S, R, L> {
+    fn drop(self) {
+        let Over {
+            journal: _,
+            input: _,
+            sender: _,
+            sessions: _,
+        } = self;
+    }
+}
+
+impl<S: Alter + Drop, R: Read + Drop, L: Link> Over<S, R, L> {
+    // The run over the stations that were made (apart, so that its proof does not carry their making).
+    fn run<O: Write, E: Write>(
+        self,
+        alloc: Global,
+        code: &Code,
+        stations: Vec<Station>,
+        out: &mut O,
+        told: &mut Told<'_, E>,
+    ) -> Result<StreamEnd, ServeError>
+        ensures ran { IfOk result (λ end. IfSome self.input (λ reader. (frames : List (List ℕ))
+            × ReadTo end (R.remaining reader) frames
+            × Ran code.now self.sessions (seen (kept S.Store self.journal)) (requests frames)
+            (O.contents out.old) (O.contents out.new))) }
+    {
+        let Over {
+            journal,
+            input,
+            sender,
+            sessions,
+        } = self;
+        let mut sender = sender;
+        let plant = match Plant::new(alloc, code, journal, stations, sessions) {
+            Ok(plant) => plant,
+            Err((error, _, _)) => return Err(cause_of(alloc, code, error)),
+        };
+        let before = last_before(plant.engine());
+        let mut switch = Switch {
+            plant,
+            answered: before,
+            before,
+        };
+        switch.recover(alloc)?;
+        let Some(input) = input else {
+            print(alloc, switch.engine(), out)?;
+            return Ok(StreamEnd::Whole);
+        };
+        let served = switch.serve_to_end(alloc, &mut sender, input, out, told);
+        told.trace(alloc, switch.engine())?;
+        served
+    }
 }
 
 // A participant that joins nobody, ready for a station.
@@ -188,38 +213,50 @@ pub fn run<S: Alter + Drop, R: Read + Drop, O: Write, E: Write>(
         sessions,
     } = setup;
     let Issuers { alpha, beta } = queried;
-    let mut stations = Vec::new(alloc);
-    stations.push(Station::new(alloc, "check", boxed(alloc, CheckFields::new(alloc))?)?)?;
-    stations.push(Station::new(alloc, "limits", Box::new(alloc, Limits::new(alloc, book))?)?)?;
-    stations.push(Station::new(
-        alloc,
-        "route",
-        boxed(alloc, Route::new(alloc, routes(alloc)?))?,
-    )?)?;
-    stations.push(Station::new(
-        alloc,
-        "query_alpha",
-        boxed(alloc, QueryIssuer::new(alloc, alpha))?,
-    )?)?;
-    stations.push(Station::new(
-        alloc,
-        "query_beta",
-        boxed(alloc, QueryIssuer::new(alloc, beta))?,
-    )?)?;
-    stations.push(Station::new(alloc, "reverse", Box::new(alloc, Reverse::new(alloc))?)?)?;
-    stations.push(Station::new(alloc, "standin", boxed(alloc, StandIn::new(alloc))?)?)?;
-    stations.push(Station::new(alloc, "forward", Box::new(alloc, Forward::new(alloc))?)?)?;
-    stations.push(Station::new(alloc, "respond", boxed(alloc, Respond::new(alloc))?)?)?;
-    let mut sender = sender_over(alloc, advised)?;
-    run_over(
-        alloc,
-        code,
+    let over = Over {
         journal,
         input,
-        stations,
+        sender: sender_over(alloc, advised)?,
         sessions,
-        &mut sender,
-        out,
-        told,
-    )
+    };
+    let routes = routes(alloc)?;
+    // (All at once: with a return for each, each would prove how all else is let go.)
+    let (Ok(check), Ok(limits), Ok(route), Ok(alpha), Ok(beta)) = (
+        boxed(alloc, CheckFields::new(alloc)),
+        Box::new(alloc, Limits::new(alloc, book)),
+        boxed(alloc, Route::new(alloc, routes)),
+        boxed(alloc, QueryIssuer::new(alloc, alpha)),
+        boxed(alloc, QueryIssuer::new(alloc, beta)),
+    ) else {
+        return Err(ServeError::OutOfMemory);
+    };
+    let (Ok(reverse), Ok(standin), Ok(forward), Ok(respond)) = (
+        Box::new(alloc, Reverse::new(alloc)),
+        boxed(alloc, StandIn::new(alloc)),
+        Box::new(alloc, Forward::new(alloc)),
+        boxed(alloc, Respond::new(alloc)),
+    ) else {
+        return Err(ServeError::OutOfMemory);
+    };
+    let (Ok(check), Ok(limits), Ok(route), Ok(alpha), Ok(beta)) = (
+        Station::new(alloc, "check", check),
+        Station::new(alloc, "limits", limits),
+        Station::new(alloc, "route", route),
+        Station::new(alloc, "query_alpha", alpha),
+        Station::new(alloc, "query_beta", beta),
+    ) else {
+        return Err(ServeError::OutOfMemory);
+    };
+    let (Ok(reverse), Ok(standin), Ok(forward), Ok(respond)) = (
+        Station::new(alloc, "reverse", reverse),
+        Station::new(alloc, "standin", standin),
+        Station::new(alloc, "forward", forward),
+        Station::new(alloc, "respond", respond),
+    ) else {
+        return Err(ServeError::OutOfMemory);
+    };
+    let stations = vec![in alloc;
+        check, limits, route, alpha, beta, reverse, standin, forward, respond,
+    ]?;
+    over.run(alloc, code, stations, out, told)
 }

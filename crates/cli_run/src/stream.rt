@@ -26,7 +26,7 @@ use sw_frame::{FrameError, Framer};
 const PIECE: usize = 65_536;
 
 /// How a stream of frames ended. What came before is answered.
-#[derive(Debug, Drop)]
+#[derive(Drop)]
 pub enum StreamEnd {
     /// Behind a whole frame, or before the first.
     Whole,

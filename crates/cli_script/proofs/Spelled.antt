@@ -1,6 +1,8 @@
 -- Words that are read as a list, each of them spelling one item, and looked over again where that fails.
--- for: group::read_entries, group::read_flow, puts::read_puts
-use Rattle.std.proofs.Common.{◌≡◌, ◌≢◌, ◌||◌, ℕ, Bool, true, false, List, [], ◌∷◌, Option, None, Some, Err, is_none, refl, option_map, option_and_then}
+-- for: group::read_entries, group::read_flow, group::spelled_entries, puts::read_puts
+use Rattle.std.specs.Borrow.{Bor}
+use Rattle.std.proofs.Common.{◌≡◌, ◌≢◌, ◌∙◌, ◌||◌, ℕ, ◌+◌, ◌<◌, Bool, true, false, List, [], ◌∷◌, ◌++◌, length, drop, get_or, map, Option, None, Some, Err, is_none, refl, sym, ap, append_assoc, option_map, option_and_then}
+use Rattle.std.proofs.lemmas.List.{drop_more}
 use Rattle.cli_script.specs.Forms.{flow_line, group_line, or_refuse}
 use Rattle.cli_script.specs.Grammar.{Answers}
 use Rattle.cli_script.specs.Groups.{entries_spelled}
@@ -45,6 +47,19 @@ module _ {A : Type 0} where
   pub good_refused : (spelled : List ℕ → Option A) (e : LineError) (words : List (List ℕ))
       → has_bad spelled words ≡ false → Answers (or_refuse e (all_spelled spelled words)) (Err OutOfMemory)
   good_refused spelled e words good = memory_answers e _ (good_words spelled words good)
+
+  regroup : (front : List A) (x : A) (rest : Option (List A))
+      → option_map (λ es. front ++ es) (option_map (λ es. x ∷ es) rest) ≡ option_map (λ es. (front ++ x ∷ []) ++ es) rest
+  regroup front x None = refl
+  regroup front x (Some es) = ap Some (sym (append_assoc front (x ∷ []) es))
+
+  -- one word more, as a loop reads it
+  pub spelled_more : (spelled : List ℕ → Option A) (front new : List A) (words : List (Bor (List ℕ))) (i : ℕ) (d : Bor (List ℕ)) (x : A) (total : Option (List A))
+      → new ≡ front ++ x ∷ [] → i < length words → Some x ≡ spelled (get_or words i d).now
+      → option_map (λ es. front ++ es) (all_spelled spelled (map (λ w. w.now) (drop i words))) ≡ total
+      → option_map (λ es. new ++ es) (all_spelled spelled (map (λ w. w.now) (drop (i + 1) words))) ≡ total
+  spelled_more spelled front new words i d x total grows lt is so_far =
+      rw grows (sym (regroup front x (all_spelled spelled (map (λ w. w.now) (drop (i + 1) words)))) ∙ rw (drop_more words i d lt, ← is) at so_far)
 
 pub further_any : (text : List ℕ) → text ≢ [] → further_words text ≡ words_of text
 further_any [] some = absurd (some refl)

@@ -9,7 +9,6 @@ use flow_model::FlowError;
 use std::alloc::{AllocError, AllocFailed};
 use std::fmt;
 use sw_participant::NoMemory;
-use thiserror::Error;
 
 /// Why a line is refused: what is wrong with it, and what was expected. The first three are tried in
 /// this order, before the line's form.
@@ -188,48 +187,71 @@ impl<T: Drop> From<AllocFailed<T>> for LineError {
 }
 
 /// Why a script is refused: at which line, the first being 1. The lines before it have run.
-#[derive(Drop, Error)]
+#[derive(Drop)]
 pub enum ScriptError {
     /// The line is not of its form.
-    #[error("line {line}: {cause}; found {found}")]
     Line {
         line: usize,
         cause: LineError,
         found: Quoted,
     },
     /// A group stands beside a flow file.
-    #[error("line {line}: a group stands beside a flow file; \
-        expected no flow lines with --flow; found {found}")]
     FlowBesideFile {
         line: usize,
         found: Quoted,
     },
     /// A setting stands after other lines.
-    #[error("line {line}: a setting stands after other lines; \
-        expected retries, sessions, flow, answer, choose, advice and restore before all else; \
-        found {found}")]
     LateSetting {
         line: usize,
         found: Quoted,
     },
     /// A context that is offered has too many entries.
-    #[error("line {line}: a context has more than 64 names; expected at most 64; found {found}")]
     Crowded {
         line: usize,
         found: Quoted,
     },
     /// The flow that the settings state is refused, at the first line that is no setting.
-    #[error("line {line}: the flow is refused: {cause}")]
     Flow {
         line: usize,
         cause: FlowError,
     },
     /// No memory was left for what the script says.
-    #[error("out of memory")]
     OutOfMemory,
 }
 
-// By hand: a person is shown the same text, and a derived `fmt` of so many variants is dear to prove.
+// By hand: most texts are built alike, and each text of a derived `fmt` is proved by itself.
+impl fmt::Display for ScriptError {
+    fn fmt<W: fmt::Write>(&self, f: &mut fmt::Formatter<W>) -> fmt::Result {
+        let (line, fault, found) = match self {
+            ScriptError::Line { line, cause, found } => (line, cause.text(), found),
+            ScriptError::FlowBesideFile { line, found } => (
+                line,
+                "a group stands beside a flow file; expected no flow lines with --flow",
+                found,
+            ),
+            ScriptError::LateSetting { line, found } => (
+                line,
+                "a setting stands after other lines; expected retries, sessions, flow, answer, \
+                 choose, advice and restore before all else",
+                found,
+            ),
+            ScriptError::Crowded { line, found } => (
+                line,
+                "a context has more than 64 names; expected at most 64",
+                found,
+            ),
+            ScriptError::Flow { line, cause } => {
+                return write!(f, "line {line}: the flow is refused: {cause}");
+            }
+            ScriptError::OutOfMemory => return f.write_str("out of memory"),
+        };
+        write!(f, "line {line}: {fault}; found {found}")
+    }
+}
+
+impl std::error::Error for ScriptError {}
+
+// A person is shown the same text.
 impl fmt::Debug for ScriptError {
     fn fmt<W: fmt::Write>(&self, f: &mut fmt::Formatter<W>) -> fmt::Result {
         fmt::Display::fmt(self, f)

@@ -1,12 +1,12 @@
 -- What each turn does to the history, by its outcome.
 -- for: turns::drive_one, turns::do_turn
-use Rattle.std.proofs.Common.{◌≡◌, ◌∷◌, ◌+◌, ◌<◌, ℕ, [], List, Result, Ok, Err, Option, Some, None, false, length, refl, ap, sym, arith}
+use Rattle.std.proofs.Common.{◌≡◌, ◌∷◌, ◌++◌, ◌∙◌, ℕ, [], List, Result, Ok, Err, Option, Some, None, false, length, refl, ap, sym, arith}
 use Rattle.std.specs.declared.alloc.AllocError.{AllocError}
 use Rattle.std.specs.Prelude.{◌⊎◌}
 use Rattle.std.proofs.Common.{inl, inr}
 use Rattle.tx_history.specs.declared.event.Event.{Event}
 use Rattle.tx_history.specs.declared.event.Event.TheVariants as event
-use Rattle.tx_engine.specs.World.{World, Recorded, happened}
+use Rattle.tx_engine.specs.World.{World, happened}
 use Rattle.tx_journal.specs.declared.error.JournalError.{JournalError}
 use Rattle.tx_plant.specs.Core.{Core, Stepped, Stood, seat_of}
 use Rattle.tx_engine.specs.Calls.{next_of, next_refusal}
@@ -17,10 +17,9 @@ use Rattle.tx_plant.specs.Turns.{Cuts, IsLogged, Logs, Takes, event_for, refusal
 use Rattle.tx_plant.specs.declared.seat.Seat.{Seat}
 use Rattle.tx_plant.specs.declared.turn.Outcome.{Outcome}
 use Rattle.tx_plant.specs.declared.turn.Outcome.TheVariants as outcome
-use Rattle.tx_plant.specs.declared.turn.PlantError.{PlantError}
 use Rattle.tx_plant.specs.declared.turn.Turn.{Turn}
 use Rattle.tx_plant.specs.declared.turn.Turn.TheVariants as turn
-use Rattle.tx_trace.specs.Follow.{Follows, count_of}
+use Rattle.tx_trace.specs.Follow.{Follows}
 use Rattle.tx_trace.specs.declared.tracer.Tracer.{Tracer}
 use Rattle.cli_step.specs.Doing.{IsAhead, Stands, is_fresh}
 
@@ -188,3 +187,20 @@ ahead t (outcome.Held call) w to k f = tt
 ahead t (outcome.Written n) w to k f = tt
 ahead t (outcome.Restarted n) w to k f = tt
 ahead t (outcome.Cut n) w to k f = tt
+
+only_one : (xs : List Outcome) (x y : Outcome) → xs ++ (x ∷ []) ≡ y ∷ [] → x ≡ y
+only_one [] x y same = cc
+only_one (z ∷ []) x y same = cc
+only_one (z ∷ w ∷ ws) x y same = cc
+
+-- the last outcome of one turn is its own
+pub last_driven : (t : Turn) (os xs : List Outcome) (o : Outcome) (m : List Moved) (p q : Whole) → Driven (t ∷ []) os m p q → os ≡ xs ++ (o ∷ [])
+    → (n : List Moved) × Turned t (Ok o) n p q
+last_driven t os xs o m p q driven last =
+    let one = one_driven t os m p q driven in
+    rw (only_one xs o one.0 (sym last ∙ one.1)) one.2
+
+-- and one turn has an outcome
+pub none_driven : (t : Turn) (os : List Outcome) (m : List Moved) (p q : Whole) → Driven (t ∷ []) os m p q → length os ≡ 0 → ⊥
+none_driven t [] m p q driven none = driven
+none_driven t (o ∷ os) m p q driven none = absurd (omega arith)

@@ -9,8 +9,8 @@ ghost use Rattle.cli_step.specs.Doing.{Says, offer_of, session_of, turn_of};
 
 use crate::auto::auto;
 use crate::error::ActionError;
-use crate::said::said;
-use crate::shown::{push_line, show};
+use crate::said::say;
+use crate::shown::show;
 use crate::turns::do_turn;
 use cli_script::Action;
 use sqlite::Alter;
@@ -80,8 +80,7 @@ fn run_turn<S: Alter>(
     ensures follows { OnOk result (Follows plant.new.running.engine tracer.new) }
 {
     let outcome = do_turn(alloc, plant, tracer, turn)?;
-    let line = said(alloc, plant.engine(), tracer, s, &outcome)?;
-    Ok(push_line(text, line)?)
+    say(alloc, plant.engine(), tracer, s, &outcome, text)
 }
 
 /// Runs a line, and adds what it prints. A line that is a turn does that turn, and the line of what came

@@ -4,8 +4,7 @@ ghost use Rattle.std.specs.Prelude.{OnOk};
 ghost use Rattle.tx_trace.specs.Follow.{Follows};
 
 use crate::error::ActionError;
-use crate::said::said;
-use crate::shown::push_line;
+use crate::said::say;
 use crate::turns::do_turn;
 use sqlite::Alter;
 use std::alloc::Global;
@@ -28,11 +27,10 @@ fn quiet_turn<S: Alter>(
     ensures { OnOk result (Follows plant.new.running.engine tracer.new) }
 {
     let outcome = do_turn(alloc, plant, tracer, turn)?;
-    if let Outcome::Refused(_) = &outcome {
-        let line = said(alloc, plant.engine(), tracer, 0, &outcome)?;
-        push_line(text, line)?;
+    match &outcome {
+        Outcome::Refused(_) => say(alloc, plant.engine(), tracer, 0, &outcome, text),
+        _ => Ok(()),
     }
-    Ok(())
 }
 
 // Writes all, and makes the due call of session 0; whether there may be more to do.
@@ -50,8 +48,7 @@ fn auto_step<S: Alter>(
     if let Outcome::Idle = &outcome {
         return Ok(false);
     }
-    let line = said(alloc, plant.engine(), tracer, 0, &outcome)?;
-    push_line(text, line)?;
+    say(alloc, plant.engine(), tracer, 0, &outcome, text)?;
     Ok(matches!(outcome, Outcome::Accepted(_)))
 }
 

@@ -34,7 +34,7 @@ pub enum StepError {
 }
 
 /// Why a line was not run.
-#[derive(Debug, Drop)]
+#[derive(Drop)]
 pub enum ActionError {
     Plant(PlantError),
     OutOfMemory,

@@ -3,9 +3,11 @@
 ghost use Rattle.std.specs.Prelude.{◌≡◌, IfOk, OnOk, option_map, string_bytes};
 ghost use Rattle.tx_trace.specs.Follow.{Follows};
 ghost use Rattle.cli_step.specs.Doing.{IsAhead};
-ghost use Rattle.cli_step.specs.Said.{held_line, refusal_name, said, told, where_line};
+ghost use Rattle.cli_step.specs.Said.{held_line, refusal_name, said, told, where_line, with_line};
 
+use crate::error::ActionError;
 use crate::places::{HeldText, WhereText};
+use crate::shown::push_line;
 use std::alloc::{AllocError, Global};
 use tx_engine::{Engine, EngineError};
 use tx_plant::Outcome;
@@ -99,9 +101,9 @@ fn told(alloc: Global, engine: &Engine, s: usize, outcome: &Outcome) -> Result<S
     }
 }
 
-/// The line of what came of a turn of this session, without a line feed: of an entry its line in the
-/// trace.
-pub fn said(
+// The line of what came of a turn of this session, without a line feed: of an entry its line in the
+// trace.
+fn said(
     alloc: Global,
     engine: &Engine,
     tracer: &mut Tracer,
@@ -117,4 +119,23 @@ pub fn said(
         Outcome::Accepted(number) => tracer.line_at(alloc, engine, *number),
         other => Ok(Some(told(alloc, engine, s, other)?)),
     }
+}
+
+/// Adds the line of what came of a turn of this session to a text.
+pub fn say(
+    alloc: Global,
+    engine: &Engine,
+    tracer: &mut Tracer,
+    s: usize,
+    outcome: &Outcome,
+    text: &mut String,
+) -> Result<(), ActionError>
+    requires follows { Follows engine.now tracer.old }
+    requires ahead { IsAhead tracer.old outcome.now }
+    ensures line { OnOk result (string_bytes text.new
+        ≡ with_line (string_bytes text.old) (said engine.now s outcome.now)) }
+    ensures follows { OnOk result (Follows engine.now tracer.new) }
+{
+    let line = said(alloc, engine, tracer, s, outcome)?;
+    Ok(push_line(text, line)?)
 }

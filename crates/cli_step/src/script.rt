@@ -1,5 +1,6 @@
 //! The run of a script.
 
+ghost use Rattle.std.specs.Prelude.{◌≡◌, Ok, OnOk};
 ghost use Rattle.flow_model.specs.Check.{IsChecked};
 ghost use Rattle.tx_trace.specs.Follow.{Follows};
 
@@ -19,8 +20,24 @@ use tx_plant::{Plant, PlantError};
 use tx_trace::Tracer;
 
 // Writes what the writer has kept back.
-fn flush<W: Write>(out: &mut W) -> Result<(), WriteError> {
-    Ok(out.flush()?)
+fn flush<W: Write>(out: &mut W) -> Result<(), StepError> {
+    Ok(out.flush().map_err(WriteError::from)?)
+}
+
+// Writes what the line of this number printed, and says whether it ran.
+fn put_out<W: Write>(
+    out: &mut W,
+    text: &str,
+    ran: Result<(), ActionError>,
+    line: usize,
+) -> Result<(), StepError>
+    ensures { OnOk result (ran ≡ Ok tt) }
+{
+    out.write_all(text.as_bytes()).map_err(WriteError::from)?;
+    match ran {
+        Ok(()) => Ok(()),
+        Err(error) => Err(error.at_line(line)),
+    }
 }
 
 /// Runs the lines behind the settings over a plant, and writes what each prints. Where it ends early,
@@ -38,12 +55,9 @@ pub fn run_actions<S: Alter, W: Write>(
     while let Some(action) = actions.next(alloc)? {
         text.clear();
         let ran = run_action(alloc, plant, tracer, &action, &mut text);
-        out.write_all(text.as_bytes()).map_err(WriteError::from)?;
-        if let Err(error) = ran {
-            return Err(error.at_line(actions.lines()));
-        }
+        put_out(out, text.as_str(), ran, actions.lines())?;
     }
-    Ok(flush(out)?)
+    flush(out)
 }
 
 // A journal in memory.
@@ -82,13 +96,13 @@ fn play_over<W: Write>(
 fn play<W: Write>(alloc: Global, script: Script<'_>, out: &mut W) -> Result<(), StepError>
     requires { IsChecked script.flow }
 {
+    let code = assemble(alloc, &script.flow)?;
     let Script {
-        flow,
+        flow: _,
         sessions,
         replies: mut replies,
         actions: mut actions,
     } = script;
-    let code = assemble(alloc, &flow)?;
     let mut stations = Vec::new(alloc);
     for part in code.participants() {
         let name = part.name.as_str();
@@ -116,6 +130,6 @@ pub fn run_script<W: Write>(
 ) -> Result<(), StepError> {
     match open_script(alloc, file, script)? {
         Some(script) => play(alloc, script, out),
-        None => Ok(flush(out)?),
+        None => flush(out),
     }
 }

@@ -106,6 +106,22 @@ fn calls_line<S: Alter>(alloc: Global, plant: &Plant<S>, name: &str) -> Result<S
     format!(in alloc; "calls {name} {count}")
 }
 
+// The line of an action that only shows something; of another one none.
+fn shown<S: Alter>(
+    alloc: Global,
+    plant: &Plant<S>,
+    action: &Action,
+) -> Result<Option<String>, AllocError> {
+    let engine = plant.engine();
+    match action {
+        Action::Where(s) => where_line(alloc, engine, *s as usize).map(Some),
+        Action::Rest(s) => rest_line(alloc, engine, *s as usize).map(Some),
+        Action::Saved(s) => saved_line(alloc, engine, *s as usize).map(Some),
+        Action::Calls(name) => calls_line(alloc, plant, name.as_str()).map(Some),
+        _ => Ok(None),
+    }
+}
+
 /// Adds the line of an action that only shows something; of another one nothing.
 pub fn show<S: Alter>(
     alloc: Global,
@@ -113,13 +129,6 @@ pub fn show<S: Alter>(
     action: &Action,
     text: &mut String,
 ) -> Result<(), ActionError> {
-    let engine = plant.engine();
-    let line = match action {
-        Action::Where(s) => where_line(alloc, engine, *s as usize)?,
-        Action::Rest(s) => rest_line(alloc, engine, *s as usize)?,
-        Action::Saved(s) => saved_line(alloc, engine, *s as usize)?,
-        Action::Calls(name) => calls_line(alloc, plant, name.as_str())?,
-        _ => return Ok(()),
-    };
-    Ok(push_line(text, Some(line))?)
+    let line = shown(alloc, plant, action)?;
+    Ok(push_line(text, line)?)
 }

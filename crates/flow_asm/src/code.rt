@@ -8,7 +8,7 @@ use std::marker::Model;
 use sw_participant::{Sequence, Text};
 
 /// One step. Participants are numbered by first appearance in the flow.
-#[derive(Clone, Copy, PartialEq, Eq, Debug)]
+#[derive(Clone, Copy)]
 pub enum Step {
     /// The participant of this number is prepared: an entry of a group.
     Call(usize),
@@ -19,7 +19,6 @@ pub enum Step {
 }
 
 /// A group of the flow.
-#[derive(Debug)]
 pub struct GroupStart {
     pub name: Text,
     /// The number of the group's first step: that of its first entry, or its `Return` where it has
@@ -37,7 +36,6 @@ impl Drop for GroupStart {
 /// The steps of a checked flow, numbered from 0: for each group in the flow's order, a `Call` for
 /// each entry, with a `Pick` behind the `Call` of a selector, and a `Return` at the end. At most
 /// 33,024 steps. Contracts see the flow.
-#[derive(Debug)]
 pub struct Code {
     pub(crate) retries: u8,
     pub(crate) parts: Sequence<Part>,

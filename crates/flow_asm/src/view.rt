@@ -11,7 +11,7 @@ use crate::code::{Code, Step};
 use sw_participant::Kind;
 
 /// What stands at a step.
-#[derive(Clone, Copy, PartialEq, Eq, Debug)]
+#[derive(Clone, Copy)]
 pub enum StepView {
     /// The participant of this number is prepared; it has these marks.
     Call(usize, Kind),

@@ -19,6 +19,16 @@ fails_same Y (Flow f) = refl
 pub fails_when : {Y : Type 0} (e : LoadError) (read : Result Y LoadError) → read ≡ Err e → Fails e read
 fails_when {Y = Y} e read is = subst (λ (r : Result Y LoadError). Fails e r) (sym is) (fails_same Y e)
 
+-- what fails of one reading, fails of the other, unless memory ran out
+pub fails_through : {X Y : Type 0} (e : LoadError) (inner : Result X LoadError) (read : Result Y LoadError) → (inner ≡ Err e → read ≡ Err e) → Fails e inner → Fails e read
+fails_through OutOfMemory inner read on h = tt
+fails_through BadHeader inner read on h = on h
+fails_through (BadLine n) inner read on h = on h
+fails_through (BadNumber n) inner read on h = on h
+fails_through (BadTarget n) inner read on h = on h
+fails_through (NoReturn n) inner read on h = on h
+fails_through (Flow f) inner read on h = on h
+
 -- what takes no memory is never refused it
 pub gives_exactly : {X Y : Type 0} (view : X → Y) (r : Result X LoadError) (read : Result Y LoadError) → Exactly view r read → Gives view r read
 gives_exactly view (Ok x) read h = h
@@ -51,13 +61,7 @@ stops form e front count k at bytes total lt h so_far =
 
 pub ends : {A : Type 0} (form : LoadError → List ℕ → Result (ℕ × A) LoadError) (e : LoadError) (front : List A) (count k at : ℕ) (bytes : List ℕ) (total : Result (List A × List ℕ) LoadError) → k < count → Fails e (line_at form k (at + k) bytes)
     → with_front front (items_at form (count - k) k (at + k) bytes) ≡ total → Fails e total
-ends form OutOfMemory front count k at bytes total lt h so_far = tt
-ends form BadHeader front count k at bytes total lt h so_far = stops form _ front count k at bytes total lt h so_far
-ends form (BadLine n) front count k at bytes total lt h so_far = stops form _ front count k at bytes total lt h so_far
-ends form (BadNumber n) front count k at bytes total lt h so_far = stops form _ front count k at bytes total lt h so_far
-ends form (BadTarget n) front count k at bytes total lt h so_far = stops form _ front count k at bytes total lt h so_far
-ends form (NoReturn n) front count k at bytes total lt h so_far = stops form _ front count k at bytes total lt h so_far
-ends form (Flow n) front count k at bytes total lt h so_far = stops form _ front count k at bytes total lt h so_far
+ends form e front count k at bytes total lt h so_far = fails_through e (line_at form k (at + k) bytes) total (λ is. stops form e front count k at bytes total lt is so_far) h
 
 pub is_done : {A : Type 0} (form : LoadError → List ℕ → Result (ℕ × A) LoadError) (front : List A) (count k at : ℕ) (bytes : List ℕ) (total : Result (List A × List ℕ) LoadError) → count ≤ k → with_front front (items_at form (count - k) k (at + k) bytes) ≡ total → total ≡ Ok (front, bytes)
 unfolding items_at

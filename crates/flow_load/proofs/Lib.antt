@@ -1,6 +1,8 @@
 mod LinesPrinted
 mod Conjunctions
 mod ItemLoop
+mod GroupWalk
+mod GroupsWalk
 mod LookLoop
 mod LookedOver
 mod Doubles

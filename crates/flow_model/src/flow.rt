@@ -7,7 +7,6 @@ use std::alloc::{AllocError, Global};
 use sw_participant::{Kind, Sequence, Text};
 
 /// One entry of a group: a participant that is prepared there.
-#[derive(Debug)]
 pub struct Entry {
     /// The participant's name; a checked flow has names of 1 to 32 of `a-z A-Z 0-9 _ - .`.
     pub participant: Text,
@@ -26,7 +25,6 @@ impl Drop for Entry {
 }
 
 /// A named list of entries. It may be empty.
-#[derive(Debug)]
 pub struct Group {
     pub name: Text,
     pub entries: Sequence<Entry>,
@@ -66,7 +64,7 @@ impl Group {
 
 /// A flow. A transaction starts with the entries of the group `main`; a selector names further
 /// groups.
-#[derive(Debug, Drop)]
+#[derive(Drop)]
 pub struct Flow {
     /// How often a transaction that aborts with RETRY is tried again; at most 100 in a checked flow.
     pub retries: u8,
@@ -76,7 +74,7 @@ pub struct Flow {
 }
 
 /// An entry at its place: the entry `index` of the group `group`, both from 0.
-#[derive(Clone, Copy, PartialEq, Eq, Debug)]
+#[derive(Clone, Copy, PartialEq, Eq)]
 pub struct PlacedEntry {
     pub group: usize,
     pub index: usize,

@@ -9,7 +9,6 @@ use std::alloc::{AllocError, Global};
 use sw_participant::{Kind, Sequence, Text};
 
 /// A participant of a flow, with its marks.
-#[derive(Debug)]
 pub struct Part {
     pub name: Text,
     pub kind: Kind,

@@ -47,7 +47,7 @@ impl<T: Drop> From<AllocFailed<T>> for MessageError {
 }
 
 /// A field's number, shown with its name, as in "field 39 (response code)".
-#[derive(Clone, Copy, Debug, PartialEq, Eq)]
+#[derive(Clone, Copy, PartialEq, Eq)]
 pub struct FieldLabel(pub u8);
 
 impl fmt::Display for FieldLabel {
@@ -64,7 +64,7 @@ impl fmt::Display for FieldLabel {
 }
 
 /// A field's number, shown as what its values are, as in "at most 19 digits".
-#[derive(Clone, Copy, Debug, PartialEq, Eq)]
+#[derive(Clone, Copy, PartialEq, Eq)]
 pub struct ExpectedValue(pub u8);
 
 impl fmt::Display for ExpectedValue {

@@ -4,7 +4,7 @@ use std::fmt;
 
 /// The name of a field in ISO 8583:1987. Some numbers share one: fields 60 to 63 are reserved for
 /// private use, and both 64 and 128 are a message authentication code.
-#[derive(Clone, Copy, Debug, PartialEq, Eq)]
+#[derive(Clone, Copy, PartialEq, Eq)]
 pub enum FieldName {
     PrimaryAccountNumber,
     ProcessingCode,

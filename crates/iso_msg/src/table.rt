@@ -7,7 +7,7 @@ use crate::name::FieldName;
 use std::fmt;
 
 /// Which characters a value may have.
-#[derive(Clone, Copy, Debug, PartialEq, Eq)]
+#[derive(Clone, Copy, PartialEq, Eq)]
 pub enum Content {
     /// `n`: decimal digits, `0` to `9`.
     Numeric,
@@ -16,7 +16,7 @@ pub enum Content {
 }
 
 /// What the values of a field are, and how one is spelled.
-#[derive(Clone, Copy, Debug, PartialEq, Eq)]
+#[derive(Clone, Copy, PartialEq, Eq)]
 pub enum Form {
     /// `n 6` or `ans 6`: a value of this length, spelled as it is.
     Fixed {
@@ -60,7 +60,7 @@ impl fmt::Display for Content {
 }
 
 /// A row of the table: what ISO 8583:1987 calls the field, and what its values are.
-#[derive(Clone, Copy, Debug, PartialEq, Eq)]
+#[derive(Clone, Copy, PartialEq, Eq)]
 pub struct Definition {
     pub name: FieldName,
     pub form: Form,

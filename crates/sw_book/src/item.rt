@@ -1,7 +1,7 @@
 //! What a book is about.
 
 /// A card: the digits of field 2, the primary account number, filled up with spaces behind them.
-#[derive(Clone, Copy, Debug, PartialEq, Eq, Hash)]
+#[derive(Clone, Copy, PartialEq, Eq, Hash)]
 pub struct Card {
     /// The 19 places.
     pub digits: [u8; 19],
@@ -9,14 +9,14 @@ pub struct Card {
 
 /// What tells two requests of a card apart: the card in 19 places, then the terminal (field 41),
 /// the STAN (field 11) and the transmission date and time (field 7).
-#[derive(Clone, Copy, Debug, PartialEq, Eq, Hash)]
+#[derive(Clone, Copy, PartialEq, Eq, Hash)]
 pub struct BookKey {
     /// The 43 places.
     pub places: [u8; 43],
 }
 
 /// How far an item has come.
-#[derive(Clone, Copy, Debug, PartialEq, Eq)]
+#[derive(Clone, Copy, PartialEq, Eq)]
 pub enum State {
     /// Held for a transaction that may commit.
     Open,
@@ -27,7 +27,7 @@ pub enum State {
 }
 
 /// An amount of a card.
-#[derive(Clone, Copy, Debug)]
+#[derive(Clone, Copy)]
 pub struct Item {
     /// Whose it is.
     pub card: Card,
@@ -40,7 +40,7 @@ pub struct Item {
 }
 
 /// What a card has spent, and what is held for it.
-#[derive(Clone, Copy, Debug)]
+#[derive(Clone, Copy)]
 pub struct Totals {
     /// The sum of its used items.
     pub used: u64,

@@ -18,7 +18,6 @@ const MOST_ENTRIES: usize = 64;
 const MOST_BYTES: usize = 65_535;
 
 /// Named values in order. A contract sees the list of pairs of name and value.
-#[derive(Debug)]
 pub struct Context {
     entries: IndexMap<String, Vec<u8>>,
 }

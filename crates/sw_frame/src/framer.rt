@@ -57,7 +57,6 @@ fn finish(alloc: Global, held: &[u8], piece: &[u8], missing: usize) -> Result<Fo
 }
 
 /// Finds the frames of a stream that comes in pieces. It holds the bytes of the frame that isn't whole yet.
-#[derive(Debug)]
 pub struct Framer {
     held: Vec<u8>,
     failed: bool,

@@ -9,7 +9,7 @@ use crate::framer::Framer;
 use std::alloc::{AllocError, Global};
 
 /// The messages of a stream, and the framer that read it: what is pending, and whether it met a fault.
-#[derive(Debug, Drop)]
+#[derive(Drop)]
 pub struct StreamReading {
     pub messages: Vec<Vec<u8>>,
     pub framer: Framer,

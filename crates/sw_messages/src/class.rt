@@ -5,7 +5,7 @@ ghost use Rattle.sw_messages.specs.Requests.{class_of};
 ghost use Rattle.sw_messages.specs.Faults.{needed_fields};
 
 /// What a request is for, by its message type.
-#[derive(Clone, Copy, Debug, PartialEq, Eq)]
+#[derive(Clone, Copy, PartialEq, Eq)]
 pub enum Class {
     /// An authorization request: 0100, 0101.
     Authorization,

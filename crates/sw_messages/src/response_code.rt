@@ -4,7 +4,7 @@ ghost use Rattle.std.specs.Prelude.{◌≡◌, option_map};
 ghost use Rattle.sw_messages.specs.Requests.{digits_of, is_approved};
 
 /// Why a request is answered as it is (field 39).
-#[derive(Clone, Copy, Debug, PartialEq, Eq)]
+#[derive(Clone, Copy, PartialEq, Eq)]
 pub enum ResponseCode {
     /// 00
     Approved,

@@ -15,7 +15,6 @@ use sw_participant::{AdviceResult, Bytes, NoMemory, Participant, Sequence, Text}
 const PREPARED: u8 = 0x01;
 
 /// An answer to a preparation, and the entries that it puts into the context.
-#[derive(Debug)]
 pub struct QueuedAnswer {
     pub byte: u8,
     pub puts: Sequence<Put>,

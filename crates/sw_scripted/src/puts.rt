@@ -8,7 +8,7 @@ use sw_context::{Context, ContextError};
 use sw_participant::{Bytes, NoMemory, Text};
 
 /// An entry for a context.
-#[derive(Debug, Drop)]
+#[derive(Drop)]
 pub struct Put {
     pub name: Text,
     pub value: Bytes,

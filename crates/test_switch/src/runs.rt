@@ -1,17 +1,17 @@
 //! The runs of a script, each cut at another call of the disks.
 
-use crate::disks::{Cut, Machine};
+use crate::disks::{Cut, Disks, found_again, new_disks};
 use crate::error::TestError;
 use crate::lines::{write_calls, write_run};
 use crate::lives::{finish, is_plant_cut, play};
 use cli_script::{Script, open_script};
 use flow_asm::{Code, assemble};
-use sqlite::Alter;
+use sqlite::{Alter, Connection, Options};
 use std::alloc::{AllocError, Global};
 use std::io::Write;
 use sw_participant::Station;
 use sw_scripted::Scripted;
-use tx_journal::Journal;
+use tx_journal::{Journal, Left};
 use tx_plant::Plant;
 
 /// More calls than any run makes.
@@ -57,36 +57,77 @@ fn begin<S: Alter + Drop, W: Write>(
     Ok((is_cut, end(plant, out)?))
 }
 
-// Runs the script, or recovers, over this journal.
-fn run_over<S: Alter + Drop, W: Write>(
+// Runs the script, or recovers, over the journal of this connection. Whether it was cut; `None` where the journal
+// was not opened.
+fn run_part<S: Alter + Drop, W: Write>(
     alloc: Global,
     script: &[u8],
     is_first: bool,
-    journal: Journal<S>,
+    conn: Connection<S>,
     out: &mut W,
-) -> Result<(bool, Journal<S>), TestError> {
+) -> Result<(Option<bool>, Left<S>), TestError> {
+    let journal = match Journal::open(alloc, conn) {
+        Ok(journal) => journal,
+        Err((_, left)) => return Ok((None, left)),
+    };
     let Some(mut script) = open_script(alloc, None, script)? else {
         return Err(TestError::NoLine);
     };
     let code = assemble(alloc, &script.flow)?;
-    begin(alloc, &code, &mut script, is_first, journal, out)
+    let (is_cut, journal) = begin(alloc, &code, &mut script, is_first, journal, out)?;
+    Ok((Some(is_cut), Left::Open(journal.into_connection())))
 }
 
-// Writes the lines of one plant over the machine's journal. Whether that was cut.
-fn run_part<W: Write>(
+// Writes the lines of one plant over the journal of this connection, and adds whether it was cut. Behind a
+// refusal the connection goes on, where it can, with a second plant, of which the same is told.
+fn run_over<S: Alter + Drop, W: Write>(
     alloc: Global,
     script: &[u8],
-    is_first: bool,
-    machine: &mut Machine,
-    calls: u64,
+    cut: Cut,
+    conn: Connection<S>,
+    cuts: &mut Vec<bool>,
     out: &mut W,
-) -> Result<bool, TestError> {
-    let Some(journal) = machine.open(alloc, calls)? else {
-        return Ok(true);
+) -> Result<S, TestError> {
+    let (end, left) = run_part(alloc, script, cuts.is_empty(), conn, out)?;
+    cuts.push(end != Some(false))?;
+    let conn = match left {
+        Left::Open(conn) => conn,
+        Left::Closed(store) => return Ok(store),
     };
-    let (is_cut, journal) = run_over(alloc, script, is_first, journal, out)?;
-    machine.stop(alloc, journal, is_cut);
-    Ok(is_cut)
+    if end != Some(true) || !matches!(cut, Cut::Refusal) {
+        return Ok(conn.into_store());
+    }
+    let (end, left) = run_part(alloc, script, false, conn, out)?;
+    if let Some(is_cut) = end {
+        cuts.push(is_cut)?;
+    }
+    Ok(match left {
+        Left::Open(conn) => conn.into_store(),
+        Left::Closed(store) => store,
+    })
+}
+
+// Writes the lines over the journal in these files, and gives them back. (Each function that calls a generic one at the
+// store of these disks is dear to prove: it is this one alone.)
+fn run_files<W: Write>(
+    alloc: Global,
+    script: &[u8],
+    cut: Cut,
+    files: Disks,
+    cuts: &mut Vec<bool>,
+    out: &mut W,
+) -> Result<Disks, TestError> {
+    if !files.may_be_used() {
+        cuts.push(true)?;
+        return Ok(files);
+    }
+    match Connection::open_files(alloc, files, Options::new(1)) {
+        Ok(conn) => Ok(run_over(alloc, script, cut, conn, cuts, out)?.close()),
+        Err((_, left)) => {
+            cuts.push(true)?;
+            Ok(left.into_files())
+        }
+    }
 }
 
 // Writes `run CALLS ..` with what cuts it, and the lines of that run: those of the script, then those of
@@ -98,13 +139,19 @@ fn run_lines<W: Write>(
     calls: &[u64],
     out: &mut W,
 ) -> Result<Vec<bool>, TestError> {
-    let mut machine = Machine::new(cut);
+    let mut kept: Option<Disks> = None;
     let mut cuts = Vec::new(alloc);
     write_run(calls, out)?;
-    for count in calls {
-        let is_first = cuts.is_empty();
-        let is_cut = run_part(alloc, script, is_first, &mut machine, *count, out)?;
-        cuts.push(is_cut)?;
+    for (place, count) in calls.iter().enumerate() {
+        // (behind a refusal two have run over one connection)
+        if place < cuts.len() {
+            continue;
+        }
+        let files = match kept.take() {
+            Some(files) => found_again(alloc, files, cut, *count)?,
+            None => new_disks(alloc, cut, *count)?,
+        };
+        kept = Some(run_files(alloc, script, cut, files, &mut cuts, out)?);
     }
     match cuts.last() {
         Some(true) => Err(TestError::Lost),

@@ -9,7 +9,6 @@ use Rattle.flow_model.specs.declared.flow.Flow.{Flow}
 use Rattle.tx_history.specs.declared.event.Event.{Event}
 use Rattle.tx_history.specs.declared.event.Entry.{Entry}
 use Rattle.tx_history.specs.declared.journal.JournalView.{JournalView}
-use Rattle.tx_history.specs.declared.journal.Row.{Row}
 use Rattle.tx_history.specs.declared.journal.Waiting.{Waiting}
 use Rattle.tx_history.specs.Keys.{gather, look}
 use Rattle.tx_history.specs.History.{Start, has_break, held_of, holds, ids, is_among, is_ended, next_id, or_taken, own_items, recovering, serves, state_of, taken}
@@ -242,22 +241,22 @@ may_cut w h = by (is_in_use w) (nat_lt w.mark (length w.past)) h
 idle_world : (u w : World) → u ≡ w → cut_refusal w ≡ None → is_in_use u ≡ false
 idle_world u w same h = subst (λ (z : World). is_in_use z ≡ false) (sym same) (may_cut w h)
 
-pub cut_kept : (f : Flow) (n : ℕ) (v : Start) (es : List Entry) (mark reserved : ℕ) (r : Running) (w : World) (rows : List (ℕ × Row)) (kept : List (ℕ × Waiting)) (stored : List ((ℕ × ℕ) × List ℕ)) (waiting : List Waiting) (breaks : List ℕ) (left : List Entry)
+pub cut_kept : (f : Flow) (n : ℕ) (v : Start) (es : List Entry) (mark reserved : ℕ) (r : Running) (w : World) (view : JournalView) (waiting : List Waiting) (breaks : List ℕ) (left : List Entry)
     → Kept (world f n v es mark reserved) es r → world f n v es mark reserved ≡ w → length r.slots ≡ n → cut_refusal w ≡ None
-    → rows ≡ [] → kept ≡ r.shelf → stored ≡ r.advices → waiting ≡ r.queue → breaks ≡ filter (flag r.breaks) (range_with_len 0 (length r.breaks)) → left ≡ []
-    → Kept (world f n (record { view = record { next_id = r.next_id; rows = rows; shelf = kept; advices = stored }; queue = waiting; breaks = breaks }) left 0 0) left (parts_after r)
-cut_kept f n v es mark reserved r w rows kept stored waiting breaks left k same many none er ek es' ew eb el =
-    rw (er, ek, es', ew, eb, el) (kept_cut f n v es mark reserved r k many (idle_world (world f n v es mark reserved) w same none))
+    → view ≡ record { next_id = r.next_id; rows = []; shelf = r.shelf; advices = r.advices } → waiting ≡ r.queue → breaks ≡ filter (flag r.breaks) (range_with_len 0 (length r.breaks)) → left ≡ []
+    → Kept (world f n (record { view = view; queue = waiting; breaks = breaks }) left 0 0) left (parts_after r)
+cut_kept f n v es mark reserved r w view waiting breaks left k same many none ev ew eb el =
+    rw (ev, ew, eb, el) (kept_cut f n v es mark reserved r k many (idle_world (world f n v es mark reserved) w same none))
 
 -- what contracts see of it
-pub cut_shown : (f : Flow) (n : ℕ) (v : Start) (es : List Entry) (mark reserved : ℕ) (r : Running) (w : World) (rows : List (ℕ × Row)) (kept : List (ℕ × Waiting)) (stored : List ((ℕ × ℕ) × List ℕ)) (waiting : List Waiting) (breaks : List ℕ) (left : List Entry)
+pub cut_shown : (f : Flow) (n : ℕ) (v : Start) (es : List Entry) (mark reserved : ℕ) (r : Running) (w : World) (view : JournalView) (waiting : List Waiting) (breaks : List ℕ) (left : List Entry)
     → Kept (world f n v es mark reserved) es r → world f n v es mark reserved ≡ w → cut_refusal w ≡ None
-    → rows ≡ [] → kept ≡ r.shelf → stored ≡ r.advices → waiting ≡ r.queue → breaks ≡ filter (flag r.breaks) (range_with_len 0 (length r.breaks)) → left ≡ []
-    → world f n (record { view = record { next_id = r.next_id; rows = rows; shelf = kept; advices = stored }; queue = waiting; breaks = breaks }) left 0 0 ≡ cut_world w
-cut_shown f n v es mark reserved r w rows kept stored waiting breaks left k same none er ek es' ew eb el =
+    → view ≡ record { next_id = r.next_id; rows = []; shelf = r.shelf; advices = r.advices } → waiting ≡ r.queue → breaks ≡ filter (flag r.breaks) (range_with_len 0 (length r.breaks)) → left ≡ []
+    → world f n (record { view = view; queue = waiting; breaks = breaks }) left 0 0 ≡ cut_world w
+cut_shown f n v es mark reserved r w view waiting breaks left k same none ev ew eb el =
     let is : parts_start r ≡ after_cut f v (past_of es) (breaks_of f v (past_of es)) = start_is f n v es mark reserved r k (idle_world (world f n v es mark reserved) w same none) in
-    let made : record { view = record { next_id = r.next_id; rows = rows; shelf = kept; advices = stored }; queue = waiting; breaks = breaks } ≡ parts_start r = rw (er, ek, es', ew, eb) refl in
-    rw el (subst (λ (z : World). world f n (record { view = record { next_id = r.next_id; rows = rows; shelf = kept; advices = stored }; queue = waiting; breaks = breaks }) [] 0 0 ≡ cut_world z) same
+    let made : record { view = view; queue = waiting; breaks = breaks } ≡ parts_start r = rw (ev, ew, eb) refl in
+    rw el (subst (λ (z : World). world f n (record { view = view; queue = waiting; breaks = breaks }) [] 0 0 ≡ cut_world z) same
     (ap (λ (s : Start). world f n s [] 0 0) (made ∙ is)))
 
 pub accepts_cut : (w : World) (done : Unit {0} → Type 0) (same : Type 0) → cut_refusal w ≡ None → done tt → Accepts OutOfMemory (cut_refusal w) (Ok tt) done same

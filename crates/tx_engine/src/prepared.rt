@@ -19,7 +19,6 @@ pub(crate) fn spelled(context: &Context) -> Result<Bytes, AllocError>
 
 /// A context to be offered, in the memory that the history and the queue keep it in: so offering it
 /// takes none. Contracts see the context's bytes.
-#[derive(Debug)]
 pub struct Offer {
     pub(crate) event: Bytes,
     pub(crate) waiting: Bytes,

@@ -5,7 +5,6 @@ use sw_participant::{Bytes, Text};
 
 /// An accepted event. Sessions and participants are numbered from 0, transactions from 1; a context
 /// is its bytes.
-#[derive(Debug)]
 pub enum Event {
     /// A context was put at the end of the queue, with the flow's retries as tries left.
     Offered {
@@ -103,7 +102,6 @@ impl Drop for Event {
 }
 
 /// What an entry changes in the journal: each part that is there is put in the place of what stands.
-#[derive(Debug)]
 pub struct Change {
     pub next_id: Option<u64>,
     /// The row under an id, or that there is none.
@@ -130,7 +128,6 @@ impl Drop for Change {
 }
 
 /// An entry of the history, numbered from 1 at each opening and each cut.
-#[derive(Debug)]
 pub struct Entry {
     pub number: usize,
     pub event: Event,

@@ -8,7 +8,6 @@ use sw_participant::{Bytes, Sequence, Text};
 use tx_machine::Phase;
 
 /// A context that waits in the queue or on the shelf.
-#[derive(Debug)]
 pub struct Waiting {
     /// How often it may be tried again after its next try; at most 100.
     pub tries: u8,
@@ -27,7 +26,6 @@ impl Drop for Waiting {
 }
 
 /// The journal's row of an unfinished transaction; participants stand here by name.
-#[derive(Debug)]
 pub struct Row {
     pub phase: Phase,
     /// The members, in the order of joining and once per joining; at most 1,001.
@@ -57,7 +55,6 @@ impl Drop for Row {
 }
 
 /// What a journal holds.
-#[derive(Debug)]
 pub struct JournalView {
     /// The id of the next take, from 1; 2^63 - 1 where all ids are spent.
     pub next_id: u64,

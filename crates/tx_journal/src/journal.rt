@@ -10,11 +10,12 @@ ghost use Rattle.journal_tables.specs.Small.{IsEntrySmall};
 ghost use Rattle.tx_journal.specs.Kept.{IsCleanJournal, OpensAs, kept};
 ghost use Rattle.tx_journal.specs.Left.{IsBeforeOrMade};
 ghost use Rattle.tx_journal.specs.Means.{IsStore, Means};
+ghost use Rattle.tx_journal.specs.Stored.{Holds};
 
 use crate::error::{Cause, JournalError};
 use crate::layout::{is_empty, is_journal};
 use crate::making::make_journal;
-use crate::reading::read_all;
+use crate::reading::{Stored, read_all};
 use crate::settle::settle;
 use journal_rows::{RowsError, view_of};
 use journal_tables::write_all;
@@ -29,6 +30,18 @@ fn cause_of(error: &Error) -> JournalError
     match error {
         Error::SqliteFailure(ErrorCode::OutOfMemory) => JournalError::Store(Cause::Memory),
         _ => JournalError::Store(Cause::Refused),
+    }
+}
+
+// What the rows that were read stand for, or the first row at fault (apart, so that the proof of `view` does not
+// carry how rows are at fault).
+fn viewed(alloc: Global, stored: &Stored) -> Result<JournalView, JournalError>
+    ensures { (t : Tables) → Holds t stored.now → Means t false result }
+{
+    match view_of(alloc, stored.rows()) {
+        Ok(view) => Ok(view),
+        Err(RowsError::OutOfMemory) => Err(JournalError::OutOfMemory),
+        Err(RowsError::BadRow(bad)) => Err(JournalError::BadRow(bad)),
     }
 }
 
@@ -118,11 +131,7 @@ impl<S: Alter> Journal<S> {
             return Err(JournalError::Failed);
         }
         match read_all(&mut self.conn) {
-            Ok(stored) => match view_of(alloc, stored.rows()) {
-                Ok(view) => Ok(view),
-                Err(RowsError::OutOfMemory) => Err(JournalError::OutOfMemory),
-                Err(RowsError::BadRow(bad)) => Err(JournalError::BadRow(bad)),
-            },
+            Ok(stored) => viewed(alloc, &stored),
             Err(error) => {
                 self.failed = true;
                 Err(cause_of(&error))

@@ -131,29 +131,50 @@ fn is_to_tx(reference: &Reference) -> bool
         && !reference.is_deferred
 }
 
-fn is_member(table: &Table) -> bool
-    ensures { IsTrue result → table.now ≡ member }
+// Columns of ids and places, and a last one.
+fn are_place_columns(columns: &[Column], last: &[u8], kind: Kind) -> bool
+    ensures { IsTrue result → columns.now
+        ≡ needed (codes "id") Integer ∷ needed (codes "place") Integer ∷ needed last.now kind ∷ [] }
 {
-    let [id, place, name] = table.columns.as_slice() else {
+    let [id, place, other] = columns else {
         return false;
     };
+    is_needed(id, b"id", Kind::Integer)
+        && is_needed(place, b"place", Kind::Integer)
+        && is_needed(other, last, kind)
+}
+
+// A table whose key is its second and third column, with references and no other rule.
+fn is_placed(table: &Table, name: &[u8], tree: u32) -> bool
+    ensures { IsTrue result → table.now ≡ record (base name.now tree table.now.columns) {
+      key = None;
+      primary = 1 ∷ 2 ∷ [];
+      uniques = (1 ∷ 2 ∷ []) ∷ [];
+      orders = plain ∷ [];
+      references = table.now.references;
+    } }
+{
     let [unique] = table.uniques.as_slice() else {
         return false;
     };
     let [order] = table.orders.as_slice() else {
         return false;
     };
-    let [reference] = table.references.as_slice() else {
-        return false;
-    };
-    is_bare(table, b"member", 2)
-        && is_needed(id, b"id", Kind::Integer)
-        && is_needed(place, b"place", Kind::Integer)
-        && is_needed(name, b"name", Kind::Text)
+    is_bare(table, name, tree)
         && table.key.is_none()
         && matches!(table.primary.as_slice(), [1, 2])
         && matches!(unique.as_slice(), [1, 2])
         && order.digits == 0
+}
+
+fn is_member(table: &Table) -> bool
+    ensures { IsTrue result → table.now ≡ member }
+{
+    let [reference] = table.references.as_slice() else {
+        return false;
+    };
+    is_placed(table, b"member", 2)
+        && are_place_columns(table.columns.as_slice(), b"name", Kind::Text)
         && is_to_tx(reference)
 }
 
@@ -184,23 +205,8 @@ fn is_shelf(table: &Table) -> bool
 fn is_advice(table: &Table) -> bool
     ensures { IsTrue result → table.now ≡ advice }
 {
-    let [id, place, body] = table.columns.as_slice() else {
-        return false;
-    };
-    let [unique] = table.uniques.as_slice() else {
-        return false;
-    };
-    let [order] = table.orders.as_slice() else {
-        return false;
-    };
-    is_bare(table, b"advice", 5)
-        && is_needed(id, b"id", Kind::Integer)
-        && is_needed(place, b"place", Kind::Integer)
-        && is_needed(body, b"body", Kind::Blob)
-        && table.key.is_none()
-        && matches!(table.primary.as_slice(), [1, 2])
-        && matches!(unique.as_slice(), [1, 2])
-        && order.digits == 0
+    is_placed(table, b"advice", 5)
+        && are_place_columns(table.columns.as_slice(), b"body", Kind::Blob)
         && table.references.is_empty()
 }
 

@@ -7,3 +7,4 @@ mod StepsAhead
 mod Frames
 mod RestPlaces
 mod Copies
+mod Replies

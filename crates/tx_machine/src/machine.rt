@@ -22,7 +22,6 @@ use flow_asm::{Code, StepView};
 use std::alloc::{AllocError, Global};
 
 /// One transaction.
-#[derive(Debug)]
 pub struct Machine {
     phase: Phase,
     // The step that is due, or a return where nothing is to come.

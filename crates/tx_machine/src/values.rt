@@ -3,7 +3,7 @@
 use sw_participant::{Bytes, Text};
 
 /// Where a transaction is on its way.
-#[derive(Clone, Copy, PartialEq, Eq, Debug)]
+#[derive(Clone, Copy)]
 pub enum Phase {
     /// Participants are prepared.
     Preparing,
@@ -16,7 +16,7 @@ pub enum Phase {
 }
 
 /// The entry whose call is due.
-#[derive(Clone, Copy, PartialEq, Eq, Debug)]
+#[derive(Clone, Copy, PartialEq, Eq)]
 pub struct Spot {
     /// The number of the due step: of a preparation the `Call`, of a selection the `Pick`.
     pub step: usize,
@@ -29,7 +29,7 @@ pub struct Spot {
 }
 
 /// The call that is due, or how the transaction ends.
-#[derive(Clone, Copy, PartialEq, Eq, Debug)]
+#[derive(Clone, Copy, PartialEq, Eq)]
 pub enum Due {
     Prepare(Spot),
     PrepareForAbort(Spot),
@@ -46,7 +46,6 @@ pub enum Due {
 }
 
 /// The reply to a due call.
-#[derive(Debug)]
 pub enum Item {
     /// The answer byte of a preparation, and the context as the participant left it.
     Answer(u8, Bytes),

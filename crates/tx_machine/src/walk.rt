@@ -15,7 +15,6 @@ use flow_asm::{Code, StepView};
 use std::alloc::{AllocError, Global};
 
 /// A selection that is under way.
-#[derive(Debug)]
 pub(crate) struct Frame {
     /// The step behind the selector's.
     pub(crate) back: usize,

@@ -10,7 +10,7 @@ use sw_participant::{Act, Call};
 use tx_machine::{Due, Phase, Spot};
 
 /// What a session is to do.
-#[derive(Clone, Copy, Debug, PartialEq, Eq)]
+#[derive(Clone, Copy)]
 pub enum Next {
     /// It holds no transaction.
     Idle,
@@ -23,7 +23,7 @@ pub enum Next {
 }
 
 /// Where a session's transaction stands: its due call, and the entry that is called.
-#[derive(Clone, Copy, Debug, PartialEq, Eq)]
+#[derive(Clone, Copy)]
 pub struct At {
     pub id: u64,
     pub phase: Phase,
@@ -33,7 +33,7 @@ pub struct At {
 }
 
 /// A kind of reply.
-#[derive(Clone, Copy, Debug, PartialEq, Eq)]
+#[derive(Clone, Copy)]
 pub enum ReplyKind {
     Answer,
     Choice,

@@ -148,7 +148,7 @@ pub(crate) fn slot_after(
 }
 
 /// Where an entry leads its transaction.
-#[derive(Debug, Drop)]
+#[derive(Drop)]
 pub(crate) struct Step {
     pub(crate) id: u64,
     pub(crate) machine: Machine,

@@ -22,7 +22,7 @@ use tx_history::{Change, Entry, Event, Row, Waiting};
 use tx_machine::Machine;
 
 /// A reply as it is recorded: the machine stands where it leads.
-#[derive(Debug, Drop)]
+#[derive(Drop)]
 pub struct Given {
     pub session: usize,
     pub id: u64,
@@ -71,7 +71,7 @@ pub fn goes_on(recovering: bool, slot: &Slot) -> bool
 }
 
 /// All that a reply adds to the engine.
-#[derive(Debug, Drop)]
+#[derive(Drop)]
 pub struct Ready {
     pub entry: Entry,
     pub shelved: Option<(u64, Waiting)>,
@@ -107,21 +107,21 @@ pub fn make_ready(
         advice,
         ..
     } = given;
-    let change = change_of(alloc, code, id, &machine, advice)?;
-    let shelved = shelved_by(&change)?;
-    let advice = advice_by(&change)?;
+    let entry = Entry {
+        number,
+        event,
+        change: change_of(alloc, code, id, &machine, advice)?,
+    };
     let step = Step {
         id,
         machine,
         number,
     };
     let slot = slot_after(alloc, code, rows, recovering, step)?;
+    let shelved = shelved_by(&entry.change)?;
+    let advice = advice_by(&entry.change)?;
     Ok(Ready {
-        entry: Entry {
-            number,
-            event,
-            change,
-        },
+        entry,
         shelved,
         advice,
         slot,

@@ -11,7 +11,6 @@ use std::collections::{BTreeMap, VecDeque};
 use tx_history::{Entry, Waiting};
 
 /// The entries and the queue. An offer adds to both.
-#[derive(Debug)]
 pub struct Lists {
     /// Oldest first.
     pub entries: Vec<Entry>,

@@ -13,7 +13,6 @@ use sw_participant::Call;
 use tx_machine::{Due, Machine};
 
 /// What a session holds.
-#[derive(Debug)]
 pub enum Slot {
     /// No transaction.
     Free,
@@ -32,7 +31,6 @@ impl Drop for Slot {
 }
 
 /// The transaction that a session holds.
-#[derive(Debug)]
 pub struct Hold {
     pub id: u64,
     pub machine: Machine,

@@ -11,6 +11,17 @@ use std::fmt;
 use sw_participant::read_answer;
 use tx_machine::{Due, Phase, Spot};
 
+fn phase_letter(phase: Phase) -> &'static str
+    ensures { result.now ≡ phase_text phase }
+{
+    match phase {
+        Phase::Preparing => "P",
+        Phase::Aborting => "A",
+        Phase::Committing => "C",
+        Phase::Undoing => "U",
+    }
+}
+
 /// The phase as its letter: `P`, `A`, `C` or `U`.
 #[derive(Drop)]
 pub struct PhaseText(pub Phase);
@@ -19,12 +30,7 @@ impl fmt::Display for PhaseText {
     ghost output = { λ p. Some (phase_text p.0) };
 
     fn fmt<W: fmt::Write>(&self, f: &mut fmt::Formatter<W>) -> fmt::Result {
-        match self.0 {
-            Phase::Preparing => write!(f, "P"),
-            Phase::Aborting => write!(f, "A"),
-            Phase::Committing => write!(f, "C"),
-            Phase::Undoing => write!(f, "U"),
-        }
+        f.write_str(phase_letter(self.0))
     }
 }
 
@@ -79,8 +85,8 @@ impl fmt::Display for NextText<'_> {
                 let name = names.participant(member);
                 write!(f, "abort {name}")
             }
-            Due::Shelve => write!(f, "shelve"),
-            Due::Done => write!(f, "done"),
+            Due::Shelve => f.write_str("shelve"),
+            Due::Done => f.write_str("done"),
         }
     }
 }

@@ -2,7 +2,8 @@
 
 ghost use Rattle.std.specs.Prelude.{◌≡◌, ◌<◌, ◌+◌, ◌∷◌, ℕ, false, List, Some, None};
 ghost use Rattle.std.specs.Prelude.{IfOk, OnErr, OnOk, if◌then◌else◌};
-ghost use Rattle.std.specs.Prelude.{is_some, not, ◌&&◌, option_map, string_bytes};
+ghost use Rattle.std.specs.Prelude.{codes, is_some, not, ◌&&◌, ◌++◌, option_map, string_bytes};
+ghost use Rattle.std.specs.Fmt.{decimal};
 ghost use Rattle.tx_machine.specs.Contract.{IsSound, tx_state};
 ghost use Rattle.tx_machine.specs.Due.{due_of};
 ghost use Rattle.tx_machine.specs.Table.{next, opening};
@@ -15,6 +16,7 @@ ghost use Rattle.tx_history.specs.Journal.{row as row_of};
 ghost use Rattle.tx_history.specs.Views.{StartFits};
 ghost use Rattle.tx_slots.specs.Rows.{AreKnown};
 ghost use Rattle.tx_trace.specs.Lines.{debug_line, line_in, plain_line};
+ghost use Rattle.tx_trace.specs.Trace.{due_text};
 ghost use Rattle.tx_trace.specs.Follow.{AreFound, Concerns, Follows, IsBegun};
 ghost use Rattle.tx_trace.specs.Follow.{IsLeft, IsNext, IsSubject};
 ghost use Rattle.tx_trace.specs.Follow.{IsTraced, IsUnderWay, PutsMove};
@@ -468,21 +470,35 @@ fn begun(
 {
     let Some(row) = row else {
         return Ok(Traced {
-            line: format!(in alloc; "{id} take {session} -> done")?,
+            line: begun_line(alloc, code, session, id, Due::Done)?,
             moved: Some((id, None)),
         });
     };
     let saved = row.context.copy()?;
     let machine = Machine::start(alloc, code, row.tries, saved.into_vec());
-    let next = NextText {
-        names: Names { code },
-        due: machine.due(code),
-    };
-    let line = format!(in alloc; "{id} take {session} -> {next}")?;
+    let line = begun_line(alloc, code, session, id, machine.due(code))?;
     Ok(Traced {
         line,
         moved: Some((id, Some(machine))),
     })
+}
+
+// The line of a take under this id, after which this is due.
+fn begun_line(
+    alloc: Global,
+    code: &Code,
+    session: usize,
+    id: u64,
+    due: Due,
+) -> Result<String, AllocError>
+    ensures { IfOk result (λ s. string_bytes s ≡ decimal id ++ codes " take " ++ decimal session
+        ++ codes " -> " ++ due_text code.now due) }
+{
+    let next = NextText {
+        names: Names { code },
+        due,
+    };
+    format!(in alloc; "{id} take {session} -> {next}")
 }
 
 // What an entry shows that is of no transaction under way: it moves nothing.

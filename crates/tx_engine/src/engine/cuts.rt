@@ -48,12 +48,7 @@ impl Engine {
         ensures finished { OnOk result (self.new.start.view.rows ≡ []) }
     {
         self.allow_cut()?;
-        let view = JournalView {
-            next_id: self.next_id,
-            rows: Sequence::new(Vec::new(alloc)),
-            shelf: Sequence::new(shelf_items(alloc, &self.shelf)?),
-            advices: Sequence::new(advice_items(alloc, &self.advices)?),
-        };
+        let view = view_of(alloc, self.next_id, &self.shelf, &self.advices)?;
         let queue = queue_items(alloc, &self.lists.queue)?;
         let breaks = set_numbers(alloc, self.breaks.as_slice())?;
         self.first = view;
@@ -72,6 +67,28 @@ fn any_holding(slots: &[Slot]) -> bool
     ensures { result ≡ list_any is_holding slots.now }
 {
     slots.iter().any(|slot| is_holding(slot))
+}
+
+// A view without rows, of this shelf and these advices.
+fn view_of(
+    alloc: Global,
+    next_id: u64,
+    shelf: &BTreeMap<u64, Waiting>,
+    advices: &BTreeMap<(u64, usize), Bytes>,
+) -> Result<JournalView, AllocError>
+    ensures { IfOk result (λ view. view ≡ record {
+      next_id = next_id;
+      rows = [];
+      shelf = shelf.now.entries;
+      advices = advices.now.entries;
+    }) }
+{
+    Ok(JournalView {
+        next_id,
+        rows: Sequence::new(Vec::new(alloc)),
+        shelf: Sequence::new(shelf_items(alloc, shelf)?),
+        advices: Sequence::new(advice_items(alloc, advices)?),
+    })
 }
 
 // The contexts on the shelf under their ids, once more.

@@ -17,7 +17,7 @@ use tx_machine::Machine;
 use tx_slots::{is_holding, no_change, row_of, slot_for};
 
 /// A transaction as it is taken: contracts see its context's entries.
-#[derive(Debug, Drop)]
+#[derive(Drop)]
 pub struct TakenTx {
     /// The number of the entry.
     pub number: usize,

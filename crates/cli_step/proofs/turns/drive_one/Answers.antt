@@ -1,10 +1,26 @@
 use Rattle.std.proofs.Common.{arith}
-use Rattle.std.proofs.lemmas.Grind.{common_steps}
 use Rattle.tx_journal.specs.Kept.{kept}
 use Rattle.tx_plant.specs.Plant.{seen, whole}
-use Rattle.cli_step.specs.Doing.{Does}
-use Rattle.cli_step.proofs.Turning.{ahead, goes_on, stands}
+use Rattle.cli_step.proofs.Turning.{ahead, goes_on, last_driven, none_driven, stands}
 use Rattle.cli_step.proofs.turns.drive_one.Goals as goal
+
+pub unreachable-requires : goal.unreachable-requires
+unreachable-requires g c =
+    let plant = c.args.plant.now in
+    let new = c.drive.new.self in
+    let p = whole plant.running.engine plant.running.seats (seen (kept g.S.Store plant.journal)) in
+    let q = whole new.running.engine new.running.seats (seen (kept g.S.Store new.journal)) in
+    let done = rw c.as_slice.ensures at c.in-Ok.ensures.done in
+    none_driven c.args.turn c.in-Ok.outcomes.items done.0 p q done.1 (omega (arith, c.in-Ok.outcomes.ok, c.in-None.ensures.cases.0))
+
+pub returns-in-Some-clause-does : goal.returns-in-Some-clause-does
+returns-in-Some-clause-does g c =
+    let plant = c.args.plant.now in
+    let new = c.drive.new.self in
+    let p = whole plant.running.engine plant.running.seats (seen (kept g.S.Store plant.journal)) in
+    let q = whole new.running.engine new.running.seats (seen (kept g.S.Store new.journal)) in
+    let done = rw c.as_slice.ensures at c.in-Ok.ensures.done in
+    last_driven c.args.turn c.in-Ok.outcomes.items c.pop.new.self.items c.in-Some.outcome done.0 p q done.1 c.in-Some.ensures.items
 
 pub returns-in-Some-clause-follows : goal.returns-in-Some-clause-follows
 returns-in-Some-clause-follows g c = λ old.
@@ -12,7 +28,7 @@ returns-in-Some-clause-follows g c = λ old.
     let new = c.drive.new.self in
     let p = whole plant.running.engine plant.running.seats (seen (kept g.S.Store plant.journal)) in
     let q = whole new.running.engine new.running.seats (seen (kept g.S.Store new.journal)) in
-    let does : Does c.args.turn c.in-Some.outcome p q = grind (arith, common_steps) in
+    let does = returns-in-Some-clause-does g c in
     goes_on c.tracers_go_on.ensures.entry c.args.tracer.now c.in-Some.outcome plant.running.engine new.running.engine
     (stands c.args.turn c.in-Some.outcome does.0 p q does.1) old c.requires
 
@@ -22,6 +38,6 @@ returns-in-Some-clause-ahead g c =
     let new = c.drive.new.self in
     let p = whole plant.running.engine plant.running.seats (seen (kept g.S.Store plant.journal)) in
     let q = whole new.running.engine new.running.seats (seen (kept g.S.Store new.journal)) in
-    let does : Does c.args.turn c.in-Some.outcome p q = grind (arith, common_steps) in
+    let does = returns-in-Some-clause-does g c in
     ahead c.args.tracer.now c.in-Some.outcome plant.running.engine new.running.engine
     (stands c.args.turn c.in-Some.outcome does.0 p q does.1) c.requires

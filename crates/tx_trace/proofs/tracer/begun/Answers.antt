@@ -1,4 +1,4 @@
-use Rattle.std.proofs.Common.{◌≡◌, ◌∙◌, refl, sym, ap, List, ℕ, None, Some, append_assoc}
+use Rattle.std.proofs.Common.{◌≡◌, ◌∙◌, refl, sym, ap, List, ℕ, None, Some}
 use Rattle.tx_machine.specs.Contract.{tx_state}
 use Rattle.tx_machine.specs.Table.{opening}
 use Rattle.tx_machine.specs.Due.{due_of}
@@ -10,7 +10,7 @@ pub returns-in_default : goal.returns-in_default
 returns-in_default c = λ tries saved is.
     let none : row c.args.code.now (opening c.args.code.now tries saved) ≡ None = sym is ∙ c.in_default.is in
     record {
-      text = rw (no_row_done c.args.code.now tries saved none) (c.in_ok-format.ensures.ok ∙ sym (simp append_assoc refl));
+      text = rw (no_row_done c.args.code.now tries saved none) c.in_ok-begun_line.ensures;
       moves = (refl, no_row_ended c.args.code.now (opening c.args.code.now tries saved) none);
     }
 
@@ -22,6 +22,6 @@ returns c = λ tries saved is.
     c.start-machine.ensures.state ∙ (ap (λ (x : List ℕ). opening c.args.code.now c.in-Some.row.tries x) context ∙ row_opening c.args.code.now tries saved c.in-Some.row some) in
     let due : c.due.result ≡ due_of c.args.code.now (opening c.args.code.now tries saved) = c.due.ensures.due ∙ ap (due_of c.args.code.now) state in
     record {
-      text = rw (← due) (c.in_ok-line.ensures.ok ∙ sym (simp append_assoc refl));
+      text = rw (← due) c.in_ok-line.ensures;
       moves = (refl, c.start-machine.ensures.sound, state);
     }

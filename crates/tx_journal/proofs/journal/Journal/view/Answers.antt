@@ -1,17 +1,78 @@
-use Rattle.std.proofs.Common.{arith}
+use Rattle.std.proofs.Common.{◌∙◌, sym, ap, subst, inl, inr, arith, true≢false}
+use Rattle.std.proofs.lemmas.Bool.{both_ways}
+use Rattle.sqlite.specs.Effect.{Database}
 use Rattle.sqlite.specs.State.{HasCleanDisk}
 use Rattle.sqlite.specs.Held.{state}
-use Rattle.journal_tables.proofs.Types.{standing_from}
 use Rattle.journal_rows.specs.Tables.{tables_of}
-use Rattle.tx_journal.proofs.ViewReads.{view_read}
+use Rattle.journal_tables.specs.Steps.{IsJournal}
+use Rattle.tx_journal.specs.Means.{Means}
+use Rattle.tx_journal.proofs.ViewReads.{stands_if}
 use Rattle.tx_journal.proofs.journal.Journal.view.Goals as goal
 
-pub returns-in-Ok-view_of-clause-stands : goal.returns-in-Ok-view_of-clause-stands
-returns-in-Ok-view_of-clause-stands g c clean =
+pub returns-in-Ok-clause-failed : goal.returns-in-Ok-clause-failed
+returns-in-Ok-clause-failed g c = rw (← c.self.view_is) (λ is. absurd (both_ways _ c.if-self.false is))
+
+pub returns-in-Ok-clause-clean : goal.returns-in-Ok-clause-clean
+returns-in-Ok-clause-clean g c = rw (← c.self.view_is) c.read_all.ensures.survives.clean
+
+pub returns-in-Ok-clause-same : goal.returns-in-Ok-clause-same
+returns-in-Ok-clause-same g c = rw (← c.self.view_is) (λ clean fine.
+    let early : HasCleanDisk (state g.S.Store c.self.inside.conn) = omega (arith, c.read_all.ensures.survives.clean) in
+    let ready = c.self.invariant.ready c.if-self.false early in
+    ap (λ (d : Database). tables_of d.trees) (c.in-Ok.ensures.same clean ready.now).0.now_is)
+
+pub returns-in-Ok-clause-left : goal.returns-in-Ok-clause-left
+returns-in-Ok-clause-left g c = rw (← c.self.view_is) (λ clean fine t left.
     let inside = c.self.inside.conn in
     let early : HasCleanDisk (state g.S.Store inside) = omega (arith, c.read_all.ensures.survives.clean) in
     let ready = c.self.invariant.ready c.if-self.false early in
-    rw (← c.self.view_is)
-    (standing_from (state g.S.Store inside).now c.in-Ok-view_of.view ready.now
-    (view_read (tables_of (state g.S.Store inside).now.trees) c.in-Ok.stored _ _ _ _ _ c.in-Ok-view_of.view (c.in-Ok.ensures.rows clean ready.now)
-    c.rows.ensures.meta c.rows.ensures.tx c.rows.ensures.members c.rows.ensures.shelf c.rows.ensures.advices c.in-Ok-view_of.ensures))
+    elim (c.read_all.ensures.survives.crash clean left.0 left.1) [
+      | inl was ↦ sym left.2 ∙ ap tables_of (g.met.S.Store.settled inside.store left.0 ready.is_open was) ∙ ap (λ (d : Database). tables_of d.trees) ready.settled
+      | inr never ↦ absurd (never ready.now)
+    ])
+
+pub returns-in-Ok-clause-means : goal.returns-in-Ok-clause-means
+returns-in-Ok-clause-means g c = rw (← c.self.view_is) (λ clean.
+    let early : HasCleanDisk (state g.S.Store c.self.inside.conn) = omega (arith, c.read_all.ensures.survives.clean) in
+    let ready = c.self.invariant.ready c.if-self.false early in
+    subst (λ failed. Means (tables_of (state g.S.Store c.self.inside.conn).now.trees) failed c.viewed.result) (sym c.if-self.false)
+    (c.viewed.ensures _ (c.in-Ok.ensures.rows clean ready.now)))
+
+pub returns-in-Ok-clause-stands : goal.returns-in-Ok-clause-stands
+returns-in-Ok-clause-stands g c = rw (← c.self.view_is) (λ clean.
+    let early : HasCleanDisk (state g.S.Store c.self.inside.conn) = omega (arith, c.read_all.ensures.survives.clean) in
+    let ready = c.self.invariant.ready c.if-self.false early in
+    stands_if (state g.S.Store c.self.inside.conn).now c.viewed.result ready.now (c.viewed.ensures _ (c.in-Ok.ensures.rows clean ready.now)))
+
+pub returns-in-Err-clause-failed : goal.returns-in-Err-clause-failed
+returns-in-Err-clause-failed g c = rw (← c.self.view_is) (λ is. absurd (both_ways _ c.if-self.false is))
+
+pub returns-in-Err-clause-clean : goal.returns-in-Err-clause-clean
+returns-in-Err-clause-clean g c = rw (← c.self.view_is) c.read_all.ensures.survives.clean
+
+pub returns-in-Err-clause-left : goal.returns-in-Err-clause-left
+returns-in-Err-clause-left g c = rw (← c.self.view_is) (λ clean fine t left.
+    let inside = c.self.inside.conn in
+    let early : HasCleanDisk (state g.S.Store inside) = omega (arith, c.read_all.ensures.survives.clean) in
+    let ready = c.self.invariant.ready c.if-self.false early in
+    elim (c.read_all.ensures.survives.crash clean left.0 left.1) [
+      | inl was ↦ sym left.2 ∙ ap tables_of (g.met.S.Store.settled inside.store left.0 ready.is_open was) ∙ ap (λ (d : Database). tables_of d.trees) ready.settled
+      | inr never ↦ absurd (never ready.now)
+    ])
+
+pub invariant_of-self : goal.invariant_of-self
+invariant_of-self g c = record {
+  autocommit = c.read_all.ensures.mode c.self.invariant.autocommit;
+  ready = λ fine clean.
+      let early : HasCleanDisk (state g.S.Store c.self.inside.conn) = omega (arith, c.read_all.ensures.survives.clean) in
+      let ready = c.self.invariant.ready c.if-self.false early in
+      let same = (c.in-Ok.ensures.same clean ready.now).0 in
+      record {
+        is_open = same.is_open;
+        now = subst IsJournal (sym same.now_is) ready.now;
+        settled = same.committed_is ∙ ready.settled ∙ sym same.now_is;
+      };
+}
+
+pub invariant_of-self-in-Err : goal.invariant_of-self-in-Err
+invariant_of-self-in-Err g c = record { autocommit = c.read_all.ensures.mode c.self.invariant.autocommit; ready = λ fine. absurd (true≢false fine) }

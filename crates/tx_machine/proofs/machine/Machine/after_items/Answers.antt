@@ -1,5 +1,6 @@
 -- The items, one by one: a search through the table's states takes many seconds.
-use Rattle.std.proofs.Common.{◌≡◌, ℕ, suc, ◌+◌, ◌<◌, Bool, true, List, ◌∷◌, drop, get_or, length, sym, ap, arith, ◌∙◌, drop-cons, drop_of_length-le}
+use Rattle.std.proofs.Common.{◌≡◌, ℕ, suc, ◌+◌, ◌<◌, Bool, true, false, List, ◌∷◌, drop, get_or, length, sym, ap, arith, ◌∙◌, drop-cons, drop_of_length-le}
+use Rattle.std.proofs.lemmas.Result.{err_from_is_err_and}
 use Rattle.std.specs.Prelude.{◌&&◌}
 use Rattle.flow_model.specs.declared.flow.Flow.{Flow}
 use Rattle.tx_machine.specs.Contract.{tx_state}
@@ -20,6 +21,10 @@ lawful_next : (f : Flow) (s t : TxState) (all : Bool) (xs : List Item) (i : ℕ)
 lawful_next f s t all xs i x there taken due before =
     ap (λ (u : TxState). is_lawful f u (drop (i + 1) xs)) taken
     ∙ (sym (ap (λ (b : Bool). b && is_lawful f (next f s x) (drop (i + 1) xs)) due) ∙ (sym (ap (is_lawful f s) there) ∙ before))
+
+lawful_never : (f : Flow) (s : TxState) (all : Bool) (xs : List Item) (i : ℕ) (x : Item) → drop i xs ≡ x ∷ drop (i + 1) xs → is_due s x ≡ false → is_lawful f s (drop i xs) ≡ all → all ≡ false
+lawful_never f s all xs i x there due before =
+    sym before ∙ (ap (is_lawful f s) there ∙ ap (λ (b : Bool). b && is_lawful f (next f s x) (drop (i + 1) xs)) due)
 
 pub loop-item-init : goal.loop-item-init
 loop-item-init c = record {
@@ -49,3 +54,9 @@ returns-clause-state c = sym (ap (after c.args.code.now (tx_state c.args.code.no
 
 pub returns-clause-lawful : goal.returns-clause-lawful
 returns-clause-lawful c = sym c.loop-item.invariant.laws ∙ ap (is_lawful c.args.code.now (tx_state c.args.code.now c.loop-item.machine)) (drop_of_length-le c.args.items.now c.loop-item-test.false)
+
+pub returns-in_err-apply-clause-not_due : goal.returns-in_err-apply-clause-not_due
+returns-in_err-apply-clause-not_due c =
+    let p = err_from_is_err_and c.from_residual.result c.from_residual.ensures.1 in
+    let there = at_item c.args.items.now c.loop-item.item-index c.item-item.result c.loop-item-test.true c.item-item.is in
+    rw p.1 (λ told. lawful_never c.args.code.now (tx_state c.args.code.now c.loop-item.machine) _ c.args.items.now c.loop-item.item-index c.item-item.result there (c.in_err-apply.ensures.not_due (sym p.2 ∙ told)) c.loop-item.invariant.laws)

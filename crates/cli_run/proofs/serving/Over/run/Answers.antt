@@ -5,7 +5,7 @@ use Rattle.tx_plant.specs.Plant.{seen, whole}
 use Rattle.cli_run.specs.Answered.{point}
 use Rattle.cli_run.specs.Requests.{requests}
 use Rattle.cli_run.proofs.Legs.{if_ok, if_ok_err, recovers_first, some_ok}
-use Rattle.cli_run.proofs.serving.run_over.Goals as goal
+use Rattle.cli_run.proofs.serving.Over.run.Goals as goal
 
 pub returns-in_err-recover : goal.returns-in_err-recover
 returns-in_err-recover g c = record { ran = if_ok_err _ _ c.from_residual.result c.from_residual.ensures.1 }
@@ -16,7 +16,7 @@ returns g c =
     let last = c.serve_to_end-served.new.self in
     let begins : c.last_before-before.result ≡ made.running.engine.start.view.next_id - 1 = c.last_before-before.ensures ∙ ap (λ (w : World). w.start.view.next_id - 1) c.engine.ensures in
     record {
-      ran = if_ok c.serve_to_end-served.result (λ end served. some_ok _ c.args.input c.in-Some.input c.in-Some.is (
+      ran = if_ok c.serve_to_end-served.result (λ end served. some_ok _ c.args.self.input c.in-Some.input c.in-Some.is (
         served.0,
         served.1,
         record {

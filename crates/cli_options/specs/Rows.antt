@@ -1,0 +1,26 @@
+-- What a row of the table of subcommands says.
+use Rattle.std.specs.Prelude.{Bool, List, [], ◌∷◌, Option, Some, None}
+use Rattle.std.specs.Borrow.{Bor}
+use Rattle.clap.specs.Words.{App, Rule, Text, new_app, new_rule, with_rule, with_subcommand}
+use Rattle.clap.specs.declared.builder.action.ArgAction.TheVariants.{SetTrue}
+use Rattle.cli_options.specs.declared.table.CommandRow.{CommandRow}
+use Rattle.cli_options.specs.declared.table.OptionRow.{OptionRow}
+
+-- an option with a value, or a flag
+abbrev pub rule_with : Text → Option (Bor Text) → Bool → Rule
+rule_with name (Some value) required = record (new_rule name) { long = Some name; value_names = 1; required = required }
+rule_with name None required = record (new_rule name) { long = Some name; action = Some SetTrue; required = required }
+
+abbrev pub rule_for : OptionRow → Rule
+rule_for row = rule_with row.name.now row.value row.is_required
+
+abbrev pub with_options : App → List OptionRow → App
+with_options app [] = app
+with_options app (row ∷ rows) = with_options (with_rule app (rule_for row)) rows
+
+abbrev pub app_for : CommandRow → App
+app_for row = with_options (new_app row.name.now) row.options.now
+
+abbrev pub with_commands : App → List CommandRow → App
+with_commands app [] = app
+with_commands app (row ∷ rows) = with_commands (with_subcommand app (app_for row).top) rows
