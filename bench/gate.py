@@ -3,8 +3,9 @@
 
     bench/gate.py [--cores 0,1] [COMMAND ..]        the command is ./test where none is given
 
-The prover's processes are looked at four times a second while the gate runs. Ctrl-C ends it, and what was seen until
-then is told. The last lines are a table in Markdown, the sum, the minutes by the clock, and the longest chain of crates that stand on one
+The prover's processes are looked at four times a second while the gate runs. Ctrl-C, or a SIGTERM, ends it, and what was
+seen until then is told. The last lines are a table in Markdown, the sum, the minutes by the clock, what share of the cores'
+time the host took for others meanwhile (on a shared machine, else none), and the longest chain of crates that stand on one
 another, whose proofs no number of cores can run side by side.
 """
 
@@ -59,6 +60,16 @@ def watch(seen, done, top):
                 seen[key] = max(seen.get(key, 0.0), seconds)
 
 
+def times(cores):
+    """The ticks of these processors, of all where none are named: in all, and those that the host took for others."""
+    ends = [it.split("-") for it in cores.split(",")] if cores else []
+    wanted = {f"cpu{it}" for end in ends for it in range(int(end[0]), int(end[-1]) + 1)} or {"cpu"}
+    with open("/proc/stat") as it:
+        rows = [line.split() for line in it]
+    found = [[int(it) for it in row[1:9]] for row in rows if row[0] in wanted]
+    return sum(map(sum, found)), sum(row[7] for row in found)
+
+
 def crates_below():
     """Each crate of crates.txt with the crates that it stands on."""
     below = {}
@@ -90,7 +101,9 @@ def main():
     command = words or [f"{ROOT}/test"]
     if cores:
         command = ["taskset", "-c", cores, *command]
-    seen, done, begin = {}, threading.Event(), time.monotonic()
+    for it in signal.SIGINT, signal.SIGTERM:
+        signal.signal(it, signal.default_int_handler)
+    seen, done, begin, before = {}, threading.Event(), time.monotonic(), times(cores)
     process = subprocess.Popen(command, cwd=ROOT, start_new_session=True)
     watcher = threading.Thread(target=watch, args=(seen, done, process.pid))
     watcher.start()
@@ -113,6 +126,8 @@ def main():
     print("| all | " + " | ".join(f"{sum(v for (_, k), v in minutes.items() if k == it):.1f}" for it in KINDS) + " |")
     print(f"processor minutes in all: {(used.ru_utime + used.ru_stime) / 60:.1f}")
     print(f"minutes by the clock{f' on cores {cores}' if cores else ''}: {clock:.1f}")
+    every, taken = (now - then for now, then in zip(times(cores), before))
+    print(f"taken by the host for others: {100 * taken / max(every, 1):.0f} in 100")
     most, path = longest(below, minutes)
     print(f"longest chain: {' '.join(path)}: {most:.1f}")
     return status
