@@ -14,6 +14,7 @@ in memory.
 import argparse
 import os
 import sqlite3
+import statistics
 import subprocess
 import sys
 import tempfile
@@ -60,8 +61,8 @@ EXAMPLE_ROWS = [
     (2, ["limits", "reverse", "forward"], 1, "", 224),
     (2, ["limits", "reverse", "forward"], 2, "", 224),
 ]
-# Each side takes turns, and the best of each counts.
-ROUNDS = 3
+# Each side takes turns; the best and the middle one of each are told, since a sync takes now 80 and now 200 µs.
+ROUNDS = 9
 
 
 def requests(count):
@@ -123,11 +124,11 @@ def compare(name, program, flow, rows, count, room):
         theirs.append(commits(rows, count, f"{room}/theirs-{turn}.db" if room else ":memory:"))
         if room:
             small.append(commits(rows, count, f"{room}/small-{turn}.db", 1024))
-    own = count / min(ours)
     for of, taken in ("", theirs), (" on pages of 1,024 bytes", small):
-        if taken:
-            other = count / min(taken)
-            print(f"{name}: {own:9.0f} authorizations a second, C SQLite's commits{of} {other:9.0f}, ratio {own / other:.2f}")
+        for kind, pick in ("best  ", min), ("middle", statistics.median):
+            if taken:
+                own, other = count / pick(ours), count / pick(taken)
+                print(f"{name}, {kind}: {own:7.0f} authorizations a second, C SQLite's commits{of} {other:7.0f}, ratio {own / other:.2f}")
 
 
 def main():
