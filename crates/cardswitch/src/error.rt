@@ -10,11 +10,12 @@ use cli_io::{ReadError, WriteError};
 use cli_run::ServeError;
 use cli_step::StepError;
 use std::alloc::{AllocError, AllocFailed};
+use std::fmt;
 use sw_participant::Text;
 use thiserror::Error;
 
 /// Why a run of the program ends early. Its text goes to standard error.
-#[derive(Debug, Drop, Error)]
+#[derive(Drop, Error)]
 pub enum RunError {
     /// The input could not be read to its end.
     #[error("reading the input: {0}")]
@@ -47,6 +48,13 @@ pub enum RunError {
     /// No memory was left.
     #[error("out of memory")]
     OutOfMemory,
+}
+
+// By hand: a person is shown the same text, and a derived `fmt` of so many variants is dear to prove.
+impl fmt::Debug for RunError {
+    fn fmt<W: fmt::Write>(&self, f: &mut fmt::Formatter<W>) -> fmt::Result {
+        fmt::Display::fmt(self, f)
+    }
 }
 
 impl RunError {

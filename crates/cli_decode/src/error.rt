@@ -6,10 +6,11 @@ ghost use Rattle.cli_decode.specs.declared.error.StreamError.TheVariants.{OutOfM
 
 use cli_io::{ReadError, WriteError};
 use std::alloc::{AllocError, AllocFailed};
+use std::fmt;
 use thiserror::Error;
 
 /// Why a stream is not decoded to its end. What was printed before stands.
-#[derive(Debug, Drop, Error)]
+#[derive(Drop, Error)]
 pub enum StreamError {
     /// The input could not be read to its end.
     #[error("reading the input: {0}")]
@@ -20,6 +21,13 @@ pub enum StreamError {
     /// No memory was left.
     #[error("out of memory")]
     OutOfMemory,
+}
+
+// By hand: a person is shown the same text, and a derived `fmt` is dear to prove.
+impl fmt::Debug for StreamError {
+    fn fmt<W: fmt::Write>(&self, f: &mut fmt::Formatter<W>) -> fmt::Result {
+        fmt::Display::fmt(self, f)
+    }
 }
 
 impl From<ReadError> for StreamError {

@@ -10,13 +10,13 @@ use cli_quote::Quoted;
 use flow_load::LoadError;
 use flow_toml::FlowTomlError;
 use std::alloc::{AllocError, AllocFailed, Global};
-use std::io;
 use std::str::Utf8Error;
+use std::{fmt, io};
 use thiserror::Error;
 
 /// Why a flow file or an image is not taken. The text names the place in the file, what is expected
 /// there and what was found, and not the file.
-#[derive(Debug, Drop, Error)]
+#[derive(Drop, Error)]
 pub enum FlowsError {
     /// No memory was left.
     #[error("out of memory")]
@@ -39,6 +39,13 @@ pub enum FlowsError {
     /// The output could not be written.
     #[error("writing the output: {0}")]
     Write(WriteError),
+}
+
+// By hand: a person is shown the same text, and a derived `fmt` is dear to prove.
+impl fmt::Debug for FlowsError {
+    fn fmt<W: fmt::Write>(&self, f: &mut fmt::Formatter<W>) -> fmt::Result {
+        fmt::Display::fmt(self, f)
+    }
 }
 
 impl FlowsError {

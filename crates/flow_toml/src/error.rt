@@ -8,7 +8,7 @@ use sw_participant::Text;
 use thiserror::Error;
 
 /// The first fault of a flow file, its kinds in the order of their numbers, from 0.
-#[derive(Debug, Drop, Error)]
+#[derive(Drop, Error)]
 pub enum FlowTomlError {
     /// An allocation failed, which says nothing of the file.
     #[error("out of memory")]
@@ -28,6 +28,13 @@ pub enum FlowTomlError {
     /// The file states a flow that its check refuses.
     #[error("{0}")]
     Flow(FlowError),
+}
+
+// By hand: a person is shown the same text, and a derived `fmt` is dear to prove.
+impl fmt::Debug for FlowTomlError {
+    fn fmt<W: fmt::Write>(&self, f: &mut fmt::Formatter<W>) -> fmt::Result {
+        fmt::Display::fmt(self, f)
+    }
 }
 
 /// The keys of a table, for a message.

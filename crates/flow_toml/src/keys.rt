@@ -6,7 +6,7 @@ ghost use Rattle.flow_toml.specs.Keys as spec;
 use std::fmt;
 
 /// A table of a flow file. Groups, and the entries of a group, are numbered from 0.
-#[derive(Clone, Copy, PartialEq, Eq, Debug)]
+#[derive(Clone, Copy, PartialEq, Eq)]
 pub enum TablePath {
     /// The table that the whole file is.
     Top,
@@ -17,7 +17,7 @@ pub enum TablePath {
 }
 
 /// A key of a flow file.
-#[derive(Clone, Copy, PartialEq, Eq, Debug)]
+#[derive(Clone, Copy, PartialEq, Eq)]
 pub enum Key {
     Group,
     Retries,
@@ -30,7 +30,7 @@ pub enum Key {
 }
 
 /// What stands at a key.
-#[derive(Clone, Copy, PartialEq, Eq, Debug)]
+#[derive(Clone, Copy, PartialEq, Eq)]
 pub(crate) enum Want {
     /// An array whose members are all tables, written inline or by headers; it may be empty.
     Tables,

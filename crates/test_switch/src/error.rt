@@ -5,12 +5,13 @@ use cli_run::ServeError;
 use cli_script::ScriptError;
 use cli_step::StepError;
 use std::alloc::{AllocError, AllocFailed};
+use std::fmt;
 use thiserror::Error;
 use tx_journal::JournalError;
 use tx_plant::PlantError;
 
 /// Why the program ends early. That the disks are cut is no such case.
-#[derive(Debug, Drop, Error)]
+#[derive(Drop, Error)]
 pub enum TestError {
     #[error("expected: silent FLOW JOURNAL, stopped power|kill [twice], stopped refusal, journal PATH COMMITS ENTRIES, \
          engine COUNT, or mux mux|map|ticks KEYS ROUNDS")]
@@ -45,6 +46,13 @@ pub enum TestError {
     Write(#[from] WriteError),
     #[error("out of memory")]
     OutOfMemory(#[from] AllocError),
+}
+
+// By hand: a person is shown the same text, and a derived `fmt` of so many variants is dear to prove.
+impl fmt::Debug for TestError {
+    fn fmt<W: fmt::Write>(&self, f: &mut fmt::Formatter<W>) -> fmt::Result {
+        fmt::Display::fmt(self, f)
+    }
 }
 
 impl From<&'static str> for TestError {
