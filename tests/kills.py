@@ -93,6 +93,8 @@ def one(chosen, program, room):
         kills += not ended
         if has_tables(path):
             yield from faults_of(path, answered, silent)
+        elif answered:
+            yield "the journal of what was answered is gone"
     if rows(path, "SELECT id FROM tx") or rows(path, "SELECT id FROM advice"):
         yield "at the end a row or an advice is left"
     if rows(path, "PRAGMA integrity_check") != [("ok",)]:
@@ -100,7 +102,14 @@ def one(chosen, program, room):
 
 
 def has_tables(path):
-    return os.path.exists(path) and bool(rows(path, "SELECT 1 FROM sqlite_master WHERE name = 'meta'"))
+    """Whether the journal is made. A run that is killed before that may leave a file which is no database, where a file of
+    an earlier kill stands beside it (see `journal_file.rt`); the next run takes it."""
+    try:
+        return os.path.exists(path) and bool(rows(path, "SELECT 1 FROM sqlite_master WHERE name = 'meta'"))
+    except sqlite3.DatabaseError as error:
+        if "not a database" in str(error):
+            return False
+        raise
 
 
 def main():
