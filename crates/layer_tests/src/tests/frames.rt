@@ -1,4 +1,4 @@
-//! Frames of a stream that comes in pieces, and frames of messages.
+//! A list of pieces, and frames of messages. Streams that are cut anywhere, and faults of lengths, `tests/decode` shows.
 
 use std::alloc::Global;
 use std::test::Fail;
@@ -13,34 +13,6 @@ fn gives(framer: &mut Framer, piece: &[u8], wanted: &[&[u8]]) -> bool {
         Ok(messages) => are(&messages, wanted),
         Err(_) => false,
     }
-}
-
-fn is_refused(framer: &mut Framer, piece: &[u8]) -> bool {
-    matches!(framer.feed(piece), Err(FrameError::BadLength))
-}
-
-fn is_at(framer: &Framer, pending: &[u8], failed: bool) -> bool {
-    framer.pending() == pending && framer.failed() == failed
-}
-
-#[test]
-fn frames_of_three_pieces(rt: HostRuntime) {
-    let mut framer = Framer::new(rt.alloc());
-    assert!(rt; gives(&mut framer, b"0003ab", &[]));
-    assert!(rt; is_at(&framer, b"0003ab", false));
-    assert!(rt; gives(&mut framer, b"c0000", &[b"abc", b""]));
-    assert!(rt; is_at(&framer, b"", false));
-    assert!(rt; gives(&mut framer, b"0001a00x1", &[b"a"]));
-    assert!(rt; is_at(&framer, b"", true));
-    assert!(rt; is_refused(&mut framer, b"") && is_refused(&mut framer, b"0001b"));
-}
-
-#[test]
-fn a_fault_at_once(rt: HostRuntime) {
-    let mut framer = Framer::new(rt.alloc());
-    assert!(rt; gives(&mut framer, b"00x", &[]));
-    assert!(rt; is_refused(&mut framer, b"1"));
-    assert!(rt; is_at(&framer, b"", true));
 }
 
 #[test]

@@ -1,9 +1,15 @@
 //! The tests, by what they call.
 
+mod advices;
+mod books;
 mod bounds;
+mod codec;
 mod contexts;
 mod flows;
+mod frames;
+mod keys;
 mod machines;
+mod messages;
 mod places;
 mod script;
 mod stamp;

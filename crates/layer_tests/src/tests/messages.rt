@@ -1,6 +1,5 @@
-//! Messages as maps of values, and the texts of refusals.
+//! Messages as maps of values, and the texts of refused values.
 
-use iso_codec::DecodeError;
 use iso_msg::{Form, Message, MessageError, Mti, form_at};
 use std::alloc::Global;
 use std::test::Fail;
@@ -144,36 +143,5 @@ fn a_refused_value_is_told(rt: HostRuntime) -> Result<(), Fail> {
         error.to_string(rt.alloc())?.as_str(),
         "message type: expected 4 digits"
     );
-    Ok(())
-}
-
-#[test]
-fn a_fault_of_bytes_is_told(rt: HostRuntime) -> Result<(), Fail> {
-    for (error, wanted) in [
-        (DecodeError::Short, "the bytes end within the message"),
-        (DecodeError::BadMti, "message type: expected 4 digits"),
-        (
-            DecodeError::BadBitmap,
-            "bitmap: expected 16 hexadecimal digits",
-        ),
-        (
-            DecodeError::FieldNotInProfile(65),
-            "field 65: the profile has no field of this number",
-        ),
-        (
-            DecodeError::BadLength(2),
-            "field 2 (primary account number): bad length, expected at most 19 digits",
-        ),
-        (
-            DecodeError::BadContent(52),
-            "field 52 (personal identification number data): a byte that the field does not take, expected 8 bytes",
-        ),
-        (
-            DecodeError::Trailing,
-            "there are bytes after the last field",
-        ),
-    ] {
-        assert_eq!(rt; error.to_string(rt.alloc())?.as_str(), wanted);
-    }
     Ok(())
 }
