@@ -26,8 +26,7 @@ CREATE TABLE advice (id INTEGER NOT NULL, place INTEGER NOT NULL, body BLOB NOT 
 INSERT INTO meta VALUES (1, 1), (2, 1);
 """
 
-PUT_ROW = """INSERT INTO tx VALUES (?1, ?2, ?3, ?4, ?5, ?6)
-  ON CONFLICT (id) DO UPDATE SET phase = ?2, told = ?3, doing = ?4, tries = ?5, context = ?6"""
+ADD_ROW = "INSERT INTO tx VALUES (?1, ?2, ?3, ?4, ?5, ?6)"
 
 
 def write_entry(run, n):
@@ -35,7 +34,7 @@ def write_entry(run, n):
     if n % 2 == 0:
         run("DELETE FROM meta WHERE k = ?", (2,))
         run("INSERT INTO meta VALUES (?, ?)", (2, row + 1))
-        run(PUT_ROW, (row, 0, 0, "check", 0, bytes(64)))
+        run(ADD_ROW, (row, 0, 0, "check", 0, bytes(64)))
     else:
         run("DELETE FROM tx WHERE id = ?", (row,))
 

@@ -36,9 +36,9 @@ CREATE TABLE member (id INTEGER NOT NULL REFERENCES tx ON DELETE CASCADE, place 
     PRIMARY KEY (id, place)) STRICT;
 INSERT INTO meta VALUES (1, 1), (2, 1);
 """
-PUT_ROW = """INSERT INTO tx VALUES (?1, ?2, ?3, ?4, 0, ?5)
-    ON CONFLICT (id) DO UPDATE SET phase = ?2, told = ?3, doing = ?4, tries = 0, context = ?5"""
-PUT_MEMBER = "INSERT INTO member VALUES (?1, ?2, ?3) ON CONFLICT (id, place) DO NOTHING"
+ADD_ROW = "INSERT INTO tx VALUES (?1, ?2, ?3, ?4, 0, ?5)"
+CHANGE_ROW = "UPDATE tx SET phase = ?2, told = ?3, doing = ?4, tries = 0, context = ?5 WHERE id = ?1"
+ADD_MEMBER = "INSERT INTO member VALUES (?1, ?2, ?3)"
 # The rows of an approved authorization after each of its entries but the last, which drops it: phase, members, told, doing,
 # and the bytes of its context.
 LEAST_ROWS = [
@@ -102,15 +102,17 @@ def commits(rows, count, path, page=4096):
     journal.executescript(TABLES)
     began = time.monotonic()
     for number in range(1, count + 1):
+        joined = 0
         for place, (phase, members, told, doing, context) in enumerate(rows):
             journal.execute("BEGIN")
             if place == 0:
                 journal.execute("DELETE FROM meta WHERE k = 2")
                 journal.execute("INSERT INTO meta VALUES (2, ?)", (number + 1,))
-            journal.execute(PUT_ROW, (number, phase, told, doing, bytes(context)))
-            if members:
-                last = len(members) - 1
-                journal.execute(PUT_MEMBER, (number, last, members[-1]))
+            put = CHANGE_ROW if place else ADD_ROW
+            journal.execute(put, (number, phase, told, doing, bytes(context)))
+            if len(members) > joined:
+                journal.execute(ADD_MEMBER, (number, joined, members[joined]))
+                joined += 1
             journal.execute("COMMIT")
         journal.execute("DELETE FROM tx WHERE id = ?", (number,))
     return time.monotonic() - began

@@ -5,6 +5,9 @@ pub mod StepLemmas
 pub mod CascadeLemmas
 pub mod DropRowLemmas
 pub mod PutRowLemmas
+pub mod ChangeRowLemmas
 pub mod PutMemberLemmas
+pub mod AddLemmas
 pub mod ChainLemmas
+pub mod StandingLemmas
 pub mod Types

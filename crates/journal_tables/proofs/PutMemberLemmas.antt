@@ -70,15 +70,15 @@ module _ (id place : ℤ) (name : List ℕ) where
   source = Null ∷ params
 
   -- the rows with the member
-  abbrev after : List Row → List Row
+  abbrev pub after : List Row → List Row
   after rows = if has_at id place rows then rows else put_row (member_row (next_rowid rows) id place name) rows
 
-  after_shaped : (rows : List Row) → IsShaped Table rows → IsShaped Table (after rows)
+  pub after_shaped : (rows : List Row) → IsShaped Table rows → IsShaped Table (after rows)
   after_shaped rows h =
       let put = put_row (member_row (next_rowid rows) id place name) rows in
       elim (has_at id place rows) as (λ b. IsShaped Table (if b then rows else put)) [ true ↦ h | false ↦ IsShaped-put_row (member_row (next_rowid rows) id place name) rows refl h ]
 
-  source_cast : cast_row member source ≡ source
+  pub source_cast : cast_row member source ≡ source
   source_cast i = cast_null i ∷ cast_int id i ∷ cast_int place i ∷ Text name ∷ []
 
   new_cast : (k : ℤ) → cast_row member (member_row k id place name) ≡ member_row k id place name
@@ -87,7 +87,7 @@ module _ (id place : ℤ) (name : List ℕ) where
   abbrev task_of : Option ℕ → Task
   task_of limit = record { limit = limit; keys = Enforced; schema = journal_schema; table = member; params = params }
 
-  agrees_at : (r : Row) (k : ℤ) → agree plain (1 ∷ 2 ∷ []) r (1 ∷ 2 ∷ []) (member_row k id place name) ≡ is_at id place r
+  pub agrees_at : (r : Row) (k : ℤ) → agree plain (1 ∷ 2 ∷ []) r (1 ∷ 2 ∷ []) (member_row k id place name) ≡ is_at id place r
   unfolding first_key
   agrees_at r k i = equals_int (column r 1) id i && (and_true _ ∙ equals_int (column r 2) place) i
 

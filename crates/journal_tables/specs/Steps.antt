@@ -1,5 +1,5 @@
 -- A transaction over the journal's tables.
-use Rattle.std.specs.Prelude.{◌≡◌, true, pos, ℕ, IsTrue, List, Result, OnOk}
+use Rattle.std.specs.Prelude.{◌≡◌, true, pos, ℕ, IsTrue, Result, OnOk}
 use Rattle.std.specs.List.{AllByRecursion}
 use Rattle.sqlite.specs.Effect.{Database, IsDatabase}
 use Rattle.sqlite.specs.State.{State, HasCleanDisk, Survives}
@@ -7,10 +7,8 @@ use Rattle.sqlite.specs.declared.error.Error.{Error}
 use Rattle.sqlite_trees.specs.View.{IsShaped}
 use Rattle.sqlite_trees.specs.declared.store.Shape.TheVariants.{Table}
 use Rattle.journal_tables.specs.Schema.{journal_schema}
-use Rattle.journal_rows.specs.Tables.{Tables, tables_of, all_made, with_tx, code, text_of}
+use Rattle.journal_rows.specs.Tables.{Tables, tables_of, with_tx, code, text_of}
 use Rattle.tx_history.specs.declared.journal.Row as own
-use Rattle.tx_history.specs.declared.event.Change.{Change}
-use Rattle.sqlite_trees.specs.Tree.{Trees}
 
 -- the journal's schema, whose foreign keys hold, with rows in the order of their rowids
 pub record IsJournal (db : Database) : Type 0 where
@@ -45,18 +43,3 @@ LeavesNothing old new = Survives old new (λ _. ⊥)
 -- the row of a transaction is put, without its members
 abbrev pub with_cells : ℕ → own.Row → Tables → Tables
 with_cells id r = with_tx (pos id) (pos (code r.phase)) (pos r.told) (text_of r.doing) (pos r.tries) r.context
-
--- all changes were made and committed
-pub record Wrote (changes : List Change) (old new : State) : Type 0 where
-  pub now : IsJournal new.now
-  pub tables : tables_of new.now.trees ≡ all_made changes (tables_of old.now.trees)
-  pub committed : new.committed ≡ new.now
-  pub is_open : IsTrue new.is_open
-
--- what a stop or a fault inside the write may leave, beside what it might leave before
-abbrev pub Leaves : List Change → State → Trees → Type 0
-Leaves changes old trees = IsTrue old.is_open → IsJournal old.now → tables_of trees ≡ all_made changes (tables_of old.now.trees)
-
--- what a whole write promises, if the disk returns what was written
-abbrev pub WritesAll : {A : Type 0} → List Change → State → State → Result A Error → Type 0
-WritesAll changes old new result = HasCleanDisk new → IsJournal old.now → IsTrue old.is_open → OnOk result (Wrote changes old new)

@@ -11,10 +11,12 @@
 
 mod laws;
 mod making;
+mod standing;
 mod statements;
 mod write;
 
 pub use laws::read_tables_stand;
 pub use making::{make, make_all};
+pub use standing::Standing;
 pub use statements::add_meta;
 pub use write::write_all;

@@ -1,17 +1,19 @@
 //! The parts of a change, each as a few statements.
 
-ghost use Rattle.std.specs.Prelude.{pos, if◌then◌else◌, ◌≡◌, ◌≤◌, All, length};
+ghost use Rattle.std.specs.Prelude.{pos, if◌then◌else◌, ◌≡◌, ◌≤◌, All, Some, length};
 ghost use Rattle.sqlite.specs.Held.{state};
-ghost use Rattle.journal_rows.specs.Tables.{advice_made, all_made, code, made, next_made, no_shelf, row_made};
+ghost use Rattle.journal_rows.specs.Tables.{advice_made, all_made, code, made, next_made, no_shelf, row_made, row_put};
 ghost use Rattle.journal_rows.specs.Tables.{shelf_made, text_of, with_last, with_member};
 ghost use Rattle.journal_tables.specs.Small.{IsAdviceSmall, IsChangeSmall, IsEntrySmall, IsNextSmall};
 ghost use Rattle.journal_tables.specs.Small.{IsRowChangeSmall, IsRowSmall, IsShelfSmall, IsSmall};
 ghost use Rattle.journal_rows.specs.Law.{changes_of};
+ghost use Rattle.journal_tables.specs.Standing.{GoesKnowing, GoesOver, Learns};
 ghost use Rattle.journal_tables.specs.Steps.{Goes, LeavesNothing, with_cells};
 
+use crate::standing::Standing;
 use crate::statements::{
-    add_advice, add_meta, add_shelved, clear_shelf, drop_advice, drop_meta, drop_row, drop_shelved,
-    put_member, put_row,
+    add_advice, add_member, add_meta, add_row, add_shelved, change_row, clear_shelf, drop_advice,
+    drop_meta, drop_row, drop_shelved, put_member, put_row,
 };
 use sqlite::{Alter, Error, Transaction};
 use sw_participant::{Bytes, Text};
@@ -117,12 +119,14 @@ fn text_of(name: &Option<Text>) -> &[u8]
     }
 }
 
-// The member at this place, unless one stands there: numbers of the journal are numbers of the store.
+// The member at this place, unless one stands there; where it is said to be new, the store refuses another one at the
+// place. Numbers of the journal are numbers of the store.
 fn put_name<S: Alter>(
     tx: &mut Transaction<'_, S>,
     id: u64,
     place: usize,
     name: &Text,
+    is_new: bool,
 ) -> Result<(), Error>
     requires small { IsSmall id }
     requires near { IsSmall place }
@@ -132,12 +136,21 @@ fn put_name<S: Alter>(
     ensures survives { LeavesNothing
         (state S.Store tx.old.conn.now) (state S.Store tx.new.conn.now) }
 {
+    if is_new {
+        add_member(tx, id as i64, place as i64, name.as_str().as_bytes())?;
+        return Ok(());
+    }
     put_member(tx, id as i64, place as i64, name.as_str().as_bytes())?;
     Ok(())
 }
 
 // Of the members the last one alone: an entry adds at most one, and those before it stand in the tables.
-fn put_last<S: Alter>(tx: &mut Transaction<'_, S>, id: u64, names: &[Text]) -> Result<(), Error>
+fn put_last<S: Alter>(
+    tx: &mut Transaction<'_, S>,
+    id: u64,
+    names: &[Text],
+    is_new: bool,
+) -> Result<(), Error>
     requires small { IsSmall id }
     requires few { length names.now ≤ 1001 }
     ensures same_reference { tx.new.conn.ghost_name ≡ tx.old.conn.ghost_name }
@@ -149,10 +162,16 @@ fn put_last<S: Alter>(tx: &mut Transaction<'_, S>, id: u64, names: &[Text]) -> R
     let Some((last, before)) = names.split_last() else {
         return Ok(());
     };
-    put_name(tx, id, before.len(), last)
+    put_name(tx, id, before.len(), last, is_new)
 }
 
-fn put_cells<S: Alter>(tx: &mut Transaction<'_, S>, id: u64, row: &Row) -> Result<(), Error>
+// The row without its members; where it is said to be new, the store refuses another one with its id.
+fn put_cells<S: Alter>(
+    tx: &mut Transaction<'_, S>,
+    id: u64,
+    row: &Row,
+    is_new: bool,
+) -> Result<(), Error>
     requires small { IsSmall id }
     requires fits { IsRowSmall row.now }
     ensures same_reference { tx.new.conn.ghost_name ≡ tx.old.conn.ghost_name }
@@ -161,6 +180,18 @@ fn put_cells<S: Alter>(tx: &mut Transaction<'_, S>, id: u64, row: &Row) -> Resul
     ensures survives { LeavesNothing
         (state S.Store tx.old.conn.now) (state S.Store tx.new.conn.now) }
 {
+    if is_new {
+        add_row(
+            tx,
+            id as i64,
+            code(row.phase),
+            row.told as i64,
+            text_of(&row.doing),
+            i64::from(row.tries),
+            row.context.as_slice(),
+        )?;
+        return Ok(());
+    }
     put_row(
         tx,
         id as i64,
@@ -173,58 +204,156 @@ fn put_cells<S: Alter>(tx: &mut Transaction<'_, S>, id: u64, row: &Row) -> Resul
     Ok(())
 }
 
+// The same over a row that stands.
+fn change_cells<S: Alter>(tx: &mut Transaction<'_, S>, id: u64, row: &Row) -> Result<(), Error>
+    requires small { IsSmall id }
+    requires fits { IsRowSmall row.now }
+    ensures same_reference { tx.new.conn.ghost_name ≡ tx.old.conn.ghost_name }
+    ensures steps { GoesOver (pos id) (with_cells id row.now)
+        (state S.Store tx.old.conn.now) (state S.Store tx.new.conn.now) result }
+    ensures survives { LeavesNothing
+        (state S.Store tx.old.conn.now) (state S.Store tx.new.conn.now) }
+{
+    change_row(
+        tx,
+        id as i64,
+        code(row.phase),
+        row.told as i64,
+        text_of(&row.doing),
+        i64::from(row.tries),
+        row.context.as_slice(),
+    )?;
+    Ok(())
+}
+
 // The row of a transaction, with its last member.
+fn put_whole<S: Alter>(
+    tx: &mut Transaction<'_, S>,
+    id: u64,
+    row: &Row,
+    is_new: bool,
+) -> Result<(), Error>
+    requires small { IsSmall id }
+    requires fits { IsRowSmall row.now }
+    ensures same_reference { tx.new.conn.ghost_name ≡ tx.old.conn.ghost_name }
+    ensures steps { Goes (row_put id (Some row.now))
+        (state S.Store tx.old.conn.now) (state S.Store tx.new.conn.now) result }
+    ensures survives { LeavesNothing
+        (state S.Store tx.old.conn.now) (state S.Store tx.new.conn.now) }
+{
+    put_cells(tx, id, row, is_new)?;
+    put_last(tx, id, row.joined.as_slice(), is_new)
+}
+
+// The same over what stands of it: an entry adds at most one member.
+fn put_over<S: Alter>(tx: &mut Transaction<'_, S>, known: Standing, row: &Row) -> Result<(), Error>
+    requires small { IsSmall known.id }
+    requires fits { IsRowSmall row.now }
+    ensures same_reference { tx.new.conn.ghost_name ≡ tx.old.conn.ghost_name }
+    ensures steps { GoesKnowing (Some known) (row_put known.id (Some row.now))
+        (state S.Store tx.old.conn.now) (state S.Store tx.new.conn.now) result }
+    ensures survives { LeavesNothing
+        (state S.Store tx.old.conn.now) (state S.Store tx.new.conn.now) }
+{
+    change_cells(tx, known.id, row)?;
+    if row.joined.as_slice().len() == known.members {
+        return Ok(());
+    }
+    put_last(tx, known.id, row.joined.as_slice(), true)
+}
+
+// The row of a transaction, with its last member, over what is known to stand.
+fn put_known<S: Alter>(
+    tx: &mut Transaction<'_, S>,
+    id: u64,
+    row: &Row,
+    known: Option<Standing>,
+    is_new: bool,
+) -> Result<(), Error>
+    requires small { IsSmall id }
+    requires fits { IsRowSmall row.now }
+    ensures same_reference { tx.new.conn.ghost_name ≡ tx.old.conn.ghost_name }
+    ensures steps { GoesKnowing known (row_put id (Some row.now))
+        (state S.Store tx.old.conn.now) (state S.Store tx.new.conn.now) result }
+    ensures survives { LeavesNothing
+        (state S.Store tx.old.conn.now) (state S.Store tx.new.conn.now) }
+{
+    match known {
+        Some(standing) if standing.id == id => put_over(tx, standing, row),
+        _ => put_whole(tx, id, row, is_new),
+    }
+}
+
+// The row of a transaction, put or dropped; it answers what stands then.
 fn make_row<S: Alter>(
     tx: &mut Transaction<'_, S>,
     change: &Option<(u64, Option<Row>)>,
-) -> Result<(), Error>
+    known: Option<Standing>,
+    is_new: bool,
+) -> Result<Option<Standing>, Error>
     requires small { IsRowChangeSmall change.now }
     ensures same_reference { tx.new.conn.ghost_name ≡ tx.old.conn.ghost_name }
-    ensures steps { Goes (row_made change.now)
+    ensures steps { Learns known (row_made change.now)
         (state S.Store tx.old.conn.now) (state S.Store tx.new.conn.now) result }
     ensures survives { LeavesNothing
         (state S.Store tx.old.conn.now) (state S.Store tx.new.conn.now) }
 {
     let Some((id, put)) = change else {
-        return Ok(());
+        return Ok(known);
     };
     let Some(row) = put else {
         drop_row(tx, *id as i64)?;
-        return Ok(());
+        return Ok(None);
     };
-    put_cells(tx, *id, row)?;
-    put_last(tx, *id, row.joined.as_slice())
+    put_known(tx, *id, row, known, is_new)?;
+    Ok(Some(Standing {
+        id: *id,
+        members: row.joined.as_slice().len(),
+    }))
 }
 
 /// Makes all parts of a change: the next id, the row, the emptying of the shelf, what is put there, the
-/// advice. A refusal of the store leaves some of them made, inside the transaction.
-pub fn make<S: Alter>(tx: &mut Transaction<'_, S>, change: &Change) -> Result<(), Error>
+/// advice. It answers what stands then. A refusal of the store leaves some of them made, inside the
+/// transaction.
+pub fn make<S: Alter>(
+    tx: &mut Transaction<'_, S>,
+    change: &Change,
+    known: Option<Standing>,
+) -> Result<Option<Standing>, Error>
     requires small { IsChangeSmall change.now }
     ensures same_reference { tx.new.conn.ghost_name ≡ tx.old.conn.ghost_name }
-    ensures steps { Goes (made change.now)
+    ensures steps { Learns known (made change.now)
         (state S.Store tx.old.conn.now) (state S.Store tx.new.conn.now) result }
     ensures survives { LeavesNothing
         (state S.Store tx.old.conn.now) (state S.Store tx.new.conn.now) }
 {
     make_next(tx, &change.next_id)?;
-    make_row(tx, &change.row)?;
+    // A take alone changes the next id: no row had it.
+    let is_taken = change.next_id.is_some();
+    let standing = make_row(tx, &change.row, known, is_taken)?;
     empty_shelf(tx, change.emptied)?;
     make_shelved(tx, &change.shelved)?;
-    make_advice(tx, &change.advice)
+    make_advice(tx, &change.advice)?;
+    Ok(standing)
 }
 
-/// Makes the changes of all entries, in order. A refusal of the store leaves some of them made, inside
-/// the transaction.
-pub fn make_all<S: Alter>(tx: &mut Transaction<'_, S>, entries: &[Entry]) -> Result<(), Error>
+/// Makes the changes of all entries, in order, and answers what stands then. A refusal of the store leaves
+/// some of them made, inside the transaction.
+pub fn make_all<S: Alter>(
+    tx: &mut Transaction<'_, S>,
+    entries: &[Entry],
+    known: Option<Standing>,
+) -> Result<Option<Standing>, Error>
     requires small { All IsEntrySmall entries.now }
     ensures same_reference { tx.new.conn.ghost_name ≡ tx.old.conn.ghost_name }
-    ensures steps { Goes (all_made (changes_of entries.now))
+    ensures steps { Learns known (all_made (changes_of entries.now))
         (state S.Store tx.old.conn.now) (state S.Store tx.new.conn.now) result }
     ensures survives { LeavesNothing
         (state S.Store tx.old.conn.now) (state S.Store tx.new.conn.now) }
 {
+    let mut standing = known;
     for entry in entries {
-        make(tx, &entry.change)?;
+        standing = make(tx, &entry.change, standing)?;
     }
-    Ok(())
+    Ok(standing)
 }

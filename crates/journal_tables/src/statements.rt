@@ -8,7 +8,8 @@ ghost use Rattle.sqlite.specs.Held.{state};
 ghost use Rattle.journal_rows.specs.Tables.{with_meta, with_tx, without_tx, without_meta};
 ghost use Rattle.journal_rows.specs.Tables.{with_member};
 ghost use Rattle.journal_rows.specs.Tables.{with_shelf, without_shelf, no_shelf, with_advice, without_advice};
-ghost use Rattle.journal_tables.specs.Steps.{Runs, LeavesNothing};
+ghost use Rattle.journal_tables.specs.Standing.{RunsOver};
+ghost use Rattle.journal_tables.specs.Steps.{LeavesNothing, Runs};
 
 use sqlite::types::ValueRef;
 use sqlite::{Alter, Error, Transaction};
@@ -157,6 +158,64 @@ ON CONFLICT (id) DO UPDATE SET phase = ?2, told = ?3, doing = ?4, tries = ?5, co
     )
 }
 
+/// Adds a row to tx; where one has its id, the store refuses.
+pub fn add_row<'x, S: Alter>(
+    tx: &mut Transaction<'_, S>,
+    id: i64,
+    phase: i64,
+    told: i64,
+    doing: &'x [u8],
+    tries: i64,
+    context: &'x [u8],
+) -> Result<usize, Error>
+    ensures same_reference { tx.new.conn.ghost_name ≡ tx.old.conn.ghost_name }
+    ensures steps { Runs (with_tx id phase told doing.now tries context.now)
+        (state S.Store tx.old.conn.now) (state S.Store tx.new.conn.now) result }
+    ensures survives { LeavesNothing
+        (state S.Store tx.old.conn.now) (state S.Store tx.new.conn.now) }
+{
+    tx.execute(
+        "INSERT INTO tx (id, phase, told, doing, tries, context) VALUES (?1, ?2, ?3, ?4, ?5, ?6)",
+        &[
+            ValueRef::Int(id),
+            ValueRef::Int(phase),
+            ValueRef::Int(told),
+            ValueRef::Text(doing),
+            ValueRef::Int(tries),
+            ValueRef::Blob(context),
+        ],
+    )
+}
+
+/// Changes the row of tx that has this id; where none has, nothing is changed.
+pub fn change_row<'x, S: Alter>(
+    tx: &mut Transaction<'_, S>,
+    id: i64,
+    phase: i64,
+    told: i64,
+    doing: &'x [u8],
+    tries: i64,
+    context: &'x [u8],
+) -> Result<usize, Error>
+    ensures same_reference { tx.new.conn.ghost_name ≡ tx.old.conn.ghost_name }
+    ensures steps { RunsOver id (with_tx id phase told doing.now tries context.now)
+        (state S.Store tx.old.conn.now) (state S.Store tx.new.conn.now) result }
+    ensures survives { LeavesNothing
+        (state S.Store tx.old.conn.now) (state S.Store tx.new.conn.now) }
+{
+    tx.execute(
+        "UPDATE tx SET phase = ?2, told = ?3, doing = ?4, tries = ?5, context = ?6 WHERE id = ?1",
+        &[
+            ValueRef::Int(id),
+            ValueRef::Int(phase),
+            ValueRef::Int(told),
+            ValueRef::Text(doing),
+            ValueRef::Int(tries),
+            ValueRef::Blob(context),
+        ],
+    )
+}
+
 /// Puts a member, unless one stands at its place.
 pub fn put_member<S: Alter>(
     tx: &mut Transaction<'_, S>,
@@ -172,6 +231,29 @@ pub fn put_member<S: Alter>(
 {
     tx.execute(
         "INSERT INTO member (id, place, name) VALUES (?1, ?2, ?3) ON CONFLICT (id, place) DO NOTHING",
+        &[
+            ValueRef::Int(id),
+            ValueRef::Int(place),
+            ValueRef::Text(name),
+        ],
+    )
+}
+
+/// Adds a member; where one stands at its place, the store refuses.
+pub fn add_member<S: Alter>(
+    tx: &mut Transaction<'_, S>,
+    id: i64,
+    place: i64,
+    name: &[u8],
+) -> Result<usize, Error>
+    ensures same_reference { tx.new.conn.ghost_name ≡ tx.old.conn.ghost_name }
+    ensures steps { Runs (with_member id place name.now)
+        (state S.Store tx.old.conn.now) (state S.Store tx.new.conn.now) result }
+    ensures survives { LeavesNothing
+        (state S.Store tx.old.conn.now) (state S.Store tx.new.conn.now) }
+{
+    tx.execute(
+        "INSERT INTO member (id, place, name) VALUES (?1, ?2, ?3)",
         &[
             ValueRef::Int(id),
             ValueRef::Int(place),

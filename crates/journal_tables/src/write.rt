@@ -5,24 +5,30 @@ ghost use Rattle.sqlite.specs.Held.{state};
 ghost use Rattle.sqlite.specs.State.{Survives};
 ghost use Rattle.journal_rows.specs.Law.{changes_of};
 ghost use Rattle.journal_tables.specs.Small.{IsEntrySmall};
-ghost use Rattle.journal_tables.specs.Steps.{Leaves, WritesAll};
+ghost use Rattle.journal_tables.specs.Writes.{Leaves, WritesAll};
 
 use crate::making::make_all;
+use crate::standing::Standing;
 use sqlite::{Alter, Connection, Error};
 use tx_history::Entry;
 
 /// The changes of all entries in one transaction, or none. Where it answers Ok the tables are those of before with all
-/// changes made, and they are committed. A refusal of the store leaves them as they were; a stop leaves
-/// all changes made or none.
-pub fn write_all<S: Alter>(conn: &mut Connection<S>, entries: &[Entry]) -> Result<(), Error>
+/// changes made, they are committed, and what stands of the last row that was put is told. A refusal of the store leaves
+/// them as they were; a stop leaves all changes made or none.
+pub fn write_all<S: Alter>(
+    conn: &mut Connection<S>,
+    entries: &[Entry],
+    known: Option<Standing>,
+) -> Result<Option<Standing>, Error>
     requires autocommit { conn.old.in_transaction ≡ false }
     requires small { All IsEntrySmall entries.now }
     ensures autocommit { conn.new.in_transaction ≡ false }
-    ensures wrote { WritesAll (changes_of entries.now) (state S.Store conn.old) (state S.Store conn.new) result }
+    ensures wrote { WritesAll known (changes_of entries.now) (state S.Store conn.old) (state S.Store conn.new) result }
     ensures crash { Survives (state S.Store conn.old) (state S.Store conn.new)
-        (Leaves (changes_of entries.now) (state S.Store conn.old)) }
+        (Leaves known (changes_of entries.now) (state S.Store conn.old)) }
 {
     let mut tx = conn.transaction();
-    make_all(&mut tx, entries)?;
-    tx.commit()
+    let standing = make_all(&mut tx, entries, known)?;
+    tx.commit()?;
+    Ok(standing)
 }

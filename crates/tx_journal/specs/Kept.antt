@@ -1,5 +1,5 @@
 -- What a journal is to the crates above.
-use Rattle.std.specs.Prelude.{◌≡◌, ◌⊎◌, Bool, false, IsTrue, refl}
+use Rattle.std.specs.Prelude.{◌≡◌, ◌⊎◌, Bool, false, IsTrue, Option, refl}
 use Rattle.std.specs.Coded.{Coded, code_by, coded×, coded_bool}
 use Rattle.sqlite_trees.specs.declared.store.Store.{Ghosts}
 use Rattle.sqlite_trees.specs.Tree.{Trees}
@@ -9,6 +9,8 @@ use Rattle.sqlite.specs.State.{State, HasCleanDisk}
 use Rattle.sqlite_catalog.specs.Listing.{IsSound}
 use Rattle.journal_tables.specs.Schema.{journal_schema}
 use Rattle.journal_rows.specs.Tables.{Tables, tables_of}
+use Rattle.journal_tables.specs.declared.standing.Standing.{Standing}
+use Rattle.journal_tables.specs.Standing.{IsKnown}
 use Rattle.journal_tables.specs.Steps.{IsJournal}
 use Rattle.tx_journal.specs.Making.{no_schema, new_tables}
 
@@ -24,10 +26,11 @@ pub record IsSettled (s : State) : Type 0 where
   pub now : IsJournal s.now
   pub settled : s.committed ≡ s.now
 
--- between two calls
-pub record IsKept (s : State) (failed : Bool) : Type 0 where
+-- between two calls, with what is known to stand
+pub record IsKept (s : State) (failed : Bool) (known : Option Standing) : Type 0 where
   pub autocommit : s.in_transaction ≡ false
   pub ready : failed ≡ false → HasCleanDisk s → IsSettled s
+  pub stands : failed ≡ false → HasCleanDisk s → IsKnown known (tables_of s.now.trees)
 
 pub record JournalState : Type 1 where
   pub tables : Tables

@@ -18,7 +18,7 @@ use crate::making::make_journal;
 use crate::reading::{Stored, read_all};
 use crate::settle::settle;
 use journal_rows::{RowsError, view_of};
-use journal_tables::write_all;
+use journal_tables::{Standing, write_all};
 use sqlite::{Alter, Connection, Error, ErrorCode};
 use std::alloc::Global;
 use std::marker::Model;
@@ -56,6 +56,8 @@ pub enum Left<S: Alter> {
 pub struct Journal<S: Alter> {
     conn: Connection<S>,
     failed: bool,
+    // Of the last row that was put: it need not be put again.
+    standing: Option<Standing>,
 }
 
 impl<S: Alter> Model for Journal<S> {
@@ -68,12 +70,16 @@ impl<S: Alter> Model for Journal<S> {
 
     ghost view = { λ j. record { held = j.conn; failed = j.failed } };
 
-    ghost invariant = { λ j. IsKept (state S.Store j.conn) j.failed };
+    ghost invariant = { λ j. IsKept (state S.Store j.conn) j.failed j.standing };
 }
 
 impl<S: Alter + Drop> Drop for Journal<S> {
     fn drop(self) {
-        let Journal { conn: _, failed: _ } = self;
+        let Journal {
+            conn: _,
+            failed: _,
+            standing: _,
+        } = self;
     }
 }
 
@@ -104,8 +110,11 @@ impl<S: Alter> Journal<S> {
         if entries.is_empty() {
             return Ok(());
         }
-        match write_all(&mut self.conn, entries) {
-            Ok(()) => Ok(()),
+        match write_all(&mut self.conn, entries, self.standing) {
+            Ok(standing) => {
+                self.standing = standing;
+                Ok(())
+            }
             Err(error) => {
                 self.failed = true;
                 Err(cause_of(&error))
@@ -143,7 +152,11 @@ impl<S: Alter> Journal<S> {
     pub fn into_connection(self) -> Connection<S>
         ensures same { result ≡ self.held }
     {
-        let Journal { conn, failed: _ } = self;
+        let Journal {
+            conn,
+            failed: _,
+            standing: _,
+        } = self;
         conn
     }
 }
@@ -171,6 +184,7 @@ impl<S: Alter + Drop> Journal<S> {
             return Ok(Journal {
                 conn,
                 failed: false,
+                standing: None,
             });
         }
         if !is_empty(conn.schema()) {
@@ -180,6 +194,7 @@ impl<S: Alter + Drop> Journal<S> {
             Ok(()) => Ok(Journal {
                 conn,
                 failed: false,
+                standing: None,
             }),
             Err(error) => Err((cause_of(&error), Left::Open(conn))),
         }

@@ -13,9 +13,12 @@ loop-entry-preserved g c =
     let before = c.loop-entry.invariant in (
       search rules,
       survives_nothing old mid new before.1 c.make.ensures.survives,
-      λ clean ready live.
+      λ clean ready live known.
           let early : HasCleanDisk mid = omega (arith, c.make.ensures.survives.clean) in
-          let one = before.2 early ready live in
-          let two = c.in_ok-make.ensures.steps clean one.ready one.is_open in
-          subst (λ f. Steps f old new) (sym (all_made_more c.args.entries.now c.loop-entry.entry-index c.entry-item.result c.loop-entry-test.true c.entry-item.is)) (steps_then _ _ old mid new one two),
+          let one = before.2 early ready live known in
+          let two = c.in_ok-standing.ensures.steps clean one.steps.ready one.steps.is_open one.known in
+          record {
+            steps = subst (λ f. Steps f old new) (sym (all_made_more c.args.entries.now c.loop-entry.entry-index c.entry-item.result c.loop-entry-test.true c.entry-item.is)) (steps_then _ _ old mid new one.steps two.steps);
+            known = two.known;
+          },
     )

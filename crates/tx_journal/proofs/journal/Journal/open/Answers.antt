@@ -15,6 +15,7 @@ pub invariant_of-result : goal.invariant_of-result
 invariant_of-result g c = record {
   autocommit = c.in-Ok.ensures.fresh;
   ready = λ _ clean. rest_ready (state g.S.Store c.in-Ok.conn) (c.in-Ok.ensures.rests clean) (sym c.schema.ensures.value ∙ c.is_journal.ensures c.if-is_journal.true);
+  stands = λ _ _. tt;
 }
 
 pub returns-then-is_journal-clause-kept : goal.returns-then-is_journal-clause-kept

@@ -4,6 +4,7 @@ use Rattle.sqlite.specs.Effect.{Database}
 use Rattle.sqlite.specs.State.{HasCleanDisk}
 use Rattle.sqlite.specs.Held.{state}
 use Rattle.journal_rows.specs.Tables.{tables_of}
+use Rattle.journal_tables.specs.Standing.{IsKnown}
 use Rattle.journal_tables.specs.Steps.{IsJournal}
 use Rattle.tx_journal.specs.Means.{Means}
 use Rattle.tx_journal.proofs.ViewReads.{stands_if}
@@ -72,7 +73,12 @@ invariant_of-self g c = record {
         now = subst IsJournal (sym same.now_is) ready.now;
         settled = same.committed_is ∙ ready.settled ∙ sym same.now_is;
       };
+  stands = λ fine clean.
+      let early : HasCleanDisk (state g.S.Store c.self.inside.conn) = omega (arith, c.read_all.ensures.survives.clean) in
+      let ready = c.self.invariant.ready c.if-self.false early in
+      let same = (c.in-Ok.ensures.same clean ready.now).0 in
+      subst (λ (d : Database). IsKnown c.self.inside.standing (tables_of d.trees)) (sym same.now_is) (c.self.invariant.stands c.if-self.false early);
 }
 
 pub invariant_of-self-in-Err : goal.invariant_of-self-in-Err
-invariant_of-self-in-Err g c = record { autocommit = c.read_all.ensures.mode c.self.invariant.autocommit; ready = λ fine. absurd (true≢false fine) }
+invariant_of-self-in-Err g c = record { autocommit = c.read_all.ensures.mode c.self.invariant.autocommit; ready = λ fine. absurd (true≢false fine); stands = λ fine. absurd (true≢false fine) }
