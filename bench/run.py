@@ -7,7 +7,7 @@ Two flows are timed: the least one (limits, an issuer, the response: five commit
 examples/ (thirteen). Beside each, in the same run, SQLite's C library (through Python's sqlite3) makes the commits of as
 many transactions in a journal of the same tables, WAL and synchronous FULL on the file: the rows of one approved
 authorization, a commit for each of its entries, by the same statements; on a file once with pages of its own size (4,096
-bytes), and once with those that a journal has (1,024). Then the time and the memory of 1,000, 10,000 and 100,000 requests,
+bytes), and once with those that a journal has (512). Then the time and the memory of 1,000, 10,000 and 100,000 requests,
 in memory.
 """
 
@@ -125,8 +125,8 @@ def compare(name, program, flow, rows, count, room):
         ours.append(run(program, flow, count, room and f"{room}/ours-{turn}.db")[0])
         theirs.append(commits(rows, count, f"{room}/theirs-{turn}.db" if room else ":memory:"))
         if room:
-            small.append(commits(rows, count, f"{room}/small-{turn}.db", 1024))
-    for of, taken in ("", theirs), (" on pages of 1,024 bytes", small):
+            small.append(commits(rows, count, f"{room}/small-{turn}.db", 512))
+    for of, taken in ("", theirs), (" on pages of 512 bytes", small):
         for kind, pick in ("best  ", min), ("middle", statistics.median):
             if taken:
                 own, other = count / pick(ours), count / pick(taken)

@@ -6,18 +6,18 @@ use std::io::{self, Write};
 
 /// The bytes of a page of a new journal. Its rows are short, and a commit writes each page that it changes whole, so
 /// that larger ones would be written for little.
-const PAGE: u64 = 1024;
+const PAGE: u64 = 512;
 
 /// The first page of a database without tables, up to the zeros with which it ends, as SQLite's file format has it: the
 /// size of a page, write-ahead logging, the count of changes and of pages, and an empty leaf, which is the schema.
 const EMPTY: &[u8] = b"SQLite format 3\x00\
-    \x04\x00\x02\x02\x00\x40\x20\x20\
+    \x02\x00\x02\x02\x00\x40\x20\x20\
     \x00\x00\x00\x01\x00\x00\x00\x01\x00\x00\x00\x00\x00\x00\x00\x00\
     \x00\x00\x00\x00\x00\x00\x00\x00\x00\x00\x00\x00\x00\x00\x00\x00\
     \x00\x00\x00\x00\x00\x00\x00\x00\x00\x00\x00\x00\x00\x00\x00\x00\
     \x00\x00\x00\x00\x00\x00\x00\x00\x00\x00\x00\x00\x00\x00\x00\x00\
     \x00\x00\x00\x00\x00\x00\x00\x01\x00\x2e\x63\x01\
-    \x0d\x00\x00\x00\x00\x04\x00\x00";
+    \x0d\x00\x00\x00\x00\x02\x00\x00";
 
 // Writes a database without tables, where no file is.
 fn write_empty(rt: &HostRuntime, path: &str) -> io::Result<()> {
