@@ -61,7 +61,7 @@ EXAMPLE_ROWS = [
     (2, ["limits", "reverse", "forward"], 1, "", 224),
     (2, ["limits", "reverse", "forward"], 2, "", 224),
 ]
-# Each side takes turns; the best and the middle one of each are told, since a sync takes now 80 and now 200 µs.
+# Each side takes turns; the best and the middle one of each are told, since the time of a sync varies.
 ROUNDS = 9
 
 
