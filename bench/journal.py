@@ -32,8 +32,7 @@ ADD_ROW = "INSERT INTO tx VALUES (?1, ?2, ?3, ?4, ?5, ?6)"
 def write_entry(run, n):
     row = n // 2 + 1
     if n % 2 == 0:
-        run("DELETE FROM meta WHERE k = ?", (2,))
-        run("INSERT INTO meta VALUES (?, ?)", (2, row + 1))
+        run("UPDATE meta SET v = ?2 WHERE k = ?1", (2, row + 1))
         run(ADD_ROW, (row, 0, 0, "check", 0, bytes(64)))
     else:
         run("DELETE FROM tx WHERE id = ?", (row,))

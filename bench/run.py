@@ -106,8 +106,7 @@ def commits(rows, count, path, page=4096):
         for place, (phase, members, told, doing, context) in enumerate(rows):
             journal.execute("BEGIN")
             if place == 0:
-                journal.execute("DELETE FROM meta WHERE k = 2")
-                journal.execute("INSERT INTO meta VALUES (2, ?)", (number + 1,))
+                journal.execute("UPDATE meta SET v = ?2 WHERE k = ?1", (2, number + 1))
             put = CHANGE_ROW if place else ADD_ROW
             journal.execute(put, (number, phase, told, doing, bytes(context)))
             if len(members) > joined:

@@ -30,8 +30,8 @@ fn write_empty(rt: &HostRuntime, path: &str) -> io::Result<()> {
 /// Lays a journal without tables at a path where nothing is. It is written beside that path and linked there whole, so
 /// that nobody finds a part of it, and none that another process laid meanwhile is lost.
 ///
-/// Where none is laid, as where a file stands beside the path already, which stays as it is, the journal is made as it is
-/// opened, with pages of the library's size.
+/// Where none is laid, as where a file stands beside the path already, which stays as it is, the journal is
+/// made as it is opened, with pages of the library's size.
 pub fn lay(rt: &HostRuntime, alloc: Global, path: &str) -> io::Result<()> {
     if path == ":memory:" || path.starts_with("file:") || fs::exists(rt, path)? {
         return Ok(());

@@ -97,10 +97,10 @@ turned false e = absurd (true≢false e)
 
 -- the layout stays where the next id is put
 layout_kept : (n : ℕ) (rows : List Row) → IsShaped Table rows
-    → value_of (pos 1) (map shown_meta (put_row (meta_row (pos 2) (pos n)) (without_rowid (pos 2) rows))) ≡ value_of (pos 1) (map shown_meta rows)
+    → value_of (pos 1) (map shown_meta (put_row (meta_row (pos 2) (pos n)) rows)) ≡ value_of (pos 1) (map shown_meta rows)
 layout_kept n rows h =
     let new = meta_row (pos 2) (pos n) in
-    ap (λ l. value_of (pos 1) (map shown_meta l)) (put_parts new rows h.0)
+    ap (λ l. value_of (pos 1) (map shown_meta l)) (sym (put_over new rows h.0) ∙ put_parts new rows h.0)
     ∙ value_skip (pos 1) new (filter (low (Int (pos 2))) rows) (filter (high (Int (pos 2))) rows) refl
     ∙ ap (λ l. value_of (pos 1) (map shown_meta l)) (sym (without_parts (Int (pos 2)) rows h.0))
     ∙ value_left (pos 1) (λ r. not (has_rowid (pos 2) r)) rows
@@ -111,7 +111,7 @@ next_exact : (n : Option ℕ) (t : Tables) → IsOrdered t → IsExact t → IsE
 next_exact None t o x = x
 next_exact (Some n) t o x =
     let new = meta_row (pos 2) (pos n) in record {
-      keys = all-put_row (λ r. is_meta_key r ≡ true) new (without_rowid (pos 2) t.meta) refl (all-filter (λ r. is_meta_key r ≡ true) (λ r. not (has_rowid (pos 2) r)) t.meta x.keys);
+      keys = all-put_row (λ r. is_meta_key r ≡ true) new t.meta refl x.keys;
       layout = layout_kept n t.meta o.meta ∙ x.layout;
       next = let is = next_read n t.meta o.meta in is ∙ ap (λ v. pos (nat_of v)) (sym is);
       tx = x.tx;

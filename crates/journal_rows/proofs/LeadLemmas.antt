@@ -38,12 +38,12 @@ below_apart Less e = refl
 below_apart Equal e = absurd (true≢false (sym e))
 below_apart Greater e = refl
 
-pub next_read : (n : ℕ) (rows : List Row) → IsShaped Table rows → value_of (pos 2) (map shown_meta (put_row (meta_row (pos 2) (pos n)) (without_rowid (pos 2) rows))) ≡ pos n
+pub next_read : (n : ℕ) (rows : List Row) → IsShaped Table rows → value_of (pos 2) (map shown_meta (put_row (meta_row (pos 2) (pos n)) rows)) ≡ pos n
 next_read n rows h =
     let new = meta_row (pos 2) (pos n) in
     let passed = all_pass (low (Int (pos 2))) rows in
     let ints = all-filter (λ r. IsTrue (is_int (rowid r))) (low (Int (pos 2))) rows h.1 in
-    ap (λ l. value_of (pos 2) (map shown_meta l)) (put_parts new rows h.0)
+    ap (λ l. value_of (pos 2) (map shown_meta l)) (sym (put_over new rows h.0) ∙ put_parts new rows h.0)
     ∙ value_past (pos 2) (pos n) (filter (low (Int (pos 2))) rows) (filter (high (Int (pos 2))) rows) refl
     (all_both (λ r. low (Int (pos 2)) r ≡ true) (λ r. IsTrue (is_int (rowid r))) (λ r. int_eq (int_in (column r 0)) (pos 2) ≡ false)
     (λ r e int. sym (ap (λ v. is_eq (value_cmp v (Int (pos 2)))) (int_is (rowid r) int) ∙ ap is_eq (value_cmp-Int _ (pos 2))) ∙ below_apart _ e) _ passed ints)
@@ -59,7 +59,7 @@ next_leads None t v s = s
 next_leads (Some n) t v s =
     let o = s.ordered in record {
       ordered = record {
-        meta = shaped_put (meta_row (pos 2) (pos n)) (pos 2) t.meta refl o.meta;
+        meta = IsShaped-put_row (meta_row (pos 2) (pos n)) t.meta refl o.meta;
         tx = o.tx;
         member = o.member;
         shelf = o.shelf;

@@ -54,9 +54,6 @@ has_at id place rows = list_any (is_at id place) rows
 abbrev pub with_meta : ℤ → ℤ → Tables → Tables
 with_meta k v t = record t { meta = put_row (meta_row k v) t.meta }
 
-abbrev pub without_meta : ℤ → Tables → Tables
-without_meta k t = record t { meta = without_rowid k t.meta }
-
 abbrev pub with_tx : ℤ → ℤ → ℤ → List ℕ → ℤ → List ℕ → Tables → Tables
 with_tx id phase told doing tries context t = record t { tx = put_row (tx_row id phase told doing tries context) t.tx }
 
@@ -112,7 +109,7 @@ row_made (Some change) t = row_put change.0 change.1 t
 
 abbrev pub next_made : Option ℕ → Tables → Tables
 next_made None t = t
-next_made (Some n) t = with_meta (pos 2) (pos n) (without_meta (pos 2) t)
+next_made (Some n) t = with_meta (pos 2) (pos n) t
 
 abbrev pub shelf_made : Option (ℕ × Waiting) → Tables → Tables
 shelf_made None t = t

@@ -5,9 +5,10 @@ pub mod StepLemmas
 pub mod CascadeLemmas
 pub mod DropRowLemmas
 pub mod PutRowLemmas
+pub mod ChangeMetaLemmas
 pub mod ChangeRowLemmas
 pub mod PutMemberLemmas
 pub mod AddLemmas
 pub mod ChainLemmas
-pub mod StandingLemmas
+pub mod LastPutLemmas
 pub mod Types

@@ -30,11 +30,11 @@ use Rattle.sqlite_trees.proofs.TreeLemmas.{IsShaped-put_row, IsShaped-filter}
 use Rattle.sqlite_keyed.proofs.ListLemmas.{filter_none, all_of}
 use Rattle.sqlite.specs.declared.error.Error.{Error}
 use Rattle.sqlite.specs.State.{State, ExecutesInside}
-use Rattle.journal_rows.specs.Tables.{Tables, tables_of, is_at, shelf_row, advice_row, without_meta, with_shelf, without_shelf, no_shelf, with_advice, without_advice, meta_row, with_meta}
+use Rattle.journal_rows.specs.Tables.{Tables, tables_of, is_at, shelf_row, advice_row, with_shelf, without_shelf, no_shelf, with_advice, without_advice, meta_row, with_meta}
 use Rattle.journal_tables.specs.Schema.{meta, member, shelf, advice, to_tx, journal_schema}
 use Rattle.journal_tables.specs.Steps.{IsReady, Steps}
-use Rattle.journal_tables.specs.Texts.{add_meta_text, drop_meta_text, add_shelf_text, drop_shelf_text, clear_shelf_text, add_advice_text, drop_advice_text}
-use Rattle.journal_tables.proofs.TextMeanings.{add_meta_is, add_meta_plain, by_key, by_place, drop_meta_is, drop_meta_plain, add_shelf_is, add_shelf_plain, drop_shelf_is, drop_shelf_plain, clear_shelf_is, clear_shelf_plain, add_advice_is, add_advice_plain, drop_advice_is, drop_advice_plain}
+use Rattle.journal_tables.specs.Texts.{add_meta_text, add_shelf_text, drop_shelf_text, clear_shelf_text, add_advice_text, drop_advice_text}
+use Rattle.journal_tables.proofs.TextMeanings.{add_meta_is, add_meta_plain, by_key, by_place, add_shelf_is, add_shelf_plain, drop_shelf_is, drop_shelf_plain, clear_shelf_is, clear_shelf_plain, add_advice_is, add_advice_plain, drop_advice_is, drop_advice_plain}
 use Rattle.journal_tables.proofs.WriteLemmas.{inserts}
 use Rattle.journal_tables.proofs.DropLemmas.{Pair, whole, key, HasEdited, deletes}
 
@@ -94,9 +94,6 @@ key_is : parent_key journal_schema.tables to_tx ≡ Some (1, 0 ∷ [], one_key)
 unfolding everything
 key_is = refl
 
-free_meta : (olds : List Row) → works journal_schema Enforced 0 0 olds [] ≡ []
-free_meta olds = ap (λ key. cons_option (work_by 0 0 (pairs olds []) member to_tx (Some Delete) key) [] ++ []) key_is
-
 free_shelf : (olds : List Row) → works journal_schema Enforced 0 4 olds [] ≡ []
 free_shelf olds = ap (λ key. cons_option (work_by 0 4 (pairs olds []) member to_tx (Some Delete) key) [] ++ []) key_is
 
@@ -138,12 +135,6 @@ unfolding unary
 cast_null = either _ Null
 
 -- the statements
-
-pub drops_meta : (old new : State) (k : ℤ) (r : Result ℕ Error) → IsReady old → ExecutesInside 0 drop_meta_text (Int k ∷ []) old new r → OnOk r (Steps (without_meta k) old new)
-drops_meta old new k (Err e) ready h = tt
-drops_meta old new k (Ok count) ready h =
-    let edit = deletes journal_schema 0 meta refl by_key drop_meta_text drop_meta_is drop_meta_plain free_meta (λ trees. refl) old new (Int k ∷ []) (has_rowid k) count (key_test k) ready.now.schema ready.now.shaped.0 h.0 in
-    steps_of 0 (without_rowid k) (without_meta k) (IsShaped-filter Table (λ r. not (has_rowid k r))) (λ a b e o. only_meta a b (without_rowid k (a 0)) e o) old new ready ready.now.shaped.0 edit h.1.mode h.1.committed_is h.1.is_open
 
 pub drops_shelf : (old new : State) (id : ℤ) (r : Result ℕ Error) → IsReady old → ExecutesInside 0 drop_shelf_text (Int id ∷ []) old new r → OnOk r (Steps (without_shelf id) old new)
 drops_shelf old new id (Err e) ready h = tt

@@ -14,7 +14,7 @@ use Rattle.sqlite_value.specs.declared.keys.Collation.TheVariants.{Binary}
 use Rattle.sqlite_tied.specs.Compute.{everything}
 use Rattle.sqlite.specs.Listing.{understood}
 use Rattle.sqlite.proofs.Callers.{IsPlain, command_of}
-use Rattle.journal_tables.specs.Texts.{shelf_text, advice_text, drop_row_text, add_meta_text, drop_meta_text, add_shelf_text, drop_shelf_text, clear_shelf_text, add_advice_text, drop_advice_text}
+use Rattle.journal_tables.specs.Texts.{shelf_text, advice_text, drop_row_text, add_meta_text, add_shelf_text, drop_shelf_text, clear_shelf_text, add_advice_text, drop_advice_text}
 use Rattle.journal_tables.specs.Schema.{shelf, advice, four_schema, journal_schema}
 
 pub shelf_is : table_defined_by shelf_text ≡ Ok (record shelf { tree = 0 })
@@ -48,10 +48,6 @@ by_key = op2 (Compare Eq Binary) (col 1 0) (col 0 0) ∷ []
 abbrev pub by_place : List Term
 by_place = op2 (Compare Eq Binary) (col 1 1) (col 0 0) ∷ op2 (Compare Eq Binary) (col 1 2) (col 0 1) ∷ []
 
-pub drop_meta_is : command_of (understood journal_schema drop_meta_text) ≡ Delete 0 (record { lets = []; body = rows_of 0 by_key })
-unfolding understood everything
-drop_meta_is = refl
-
 pub drop_shelf_is : command_of (understood journal_schema drop_shelf_text) ≡ Delete 3 (record { lets = []; body = rows_of 4 by_key })
 unfolding understood everything
 drop_shelf_is = refl
@@ -71,10 +67,6 @@ add_shelf_is = refl
 pub add_advice_is : command_of (understood journal_schema add_advice_text) ≡ Insert 4 (Values (lit Null ∷ col 0 0 ∷ col 0 1 ∷ col 0 2 ∷ []) 4)
 unfolding understood everything
 add_advice_is = refl
-
-pub drop_meta_plain : IsPlain (understood journal_schema drop_meta_text)
-unfolding understood everything
-drop_meta_plain = (refl, refl)
 
 pub drop_shelf_plain : IsPlain (understood journal_schema drop_shelf_text)
 unfolding understood everything

@@ -9,14 +9,14 @@
 //!   write.
 #![tactic(auto)]
 
+mod last_put;
 mod laws;
 mod making;
-mod standing;
 mod statements;
 mod write;
 
+pub use last_put::LastPut;
 pub use laws::read_tables_stand;
 pub use making::{make, make_all};
-pub use standing::Standing;
 pub use statements::add_meta;
 pub use write::write_all;

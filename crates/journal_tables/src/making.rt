@@ -7,13 +7,13 @@ ghost use Rattle.journal_rows.specs.Tables.{shelf_made, text_of, with_last, with
 ghost use Rattle.journal_tables.specs.Small.{IsAdviceSmall, IsChangeSmall, IsEntrySmall, IsNextSmall};
 ghost use Rattle.journal_tables.specs.Small.{IsRowChangeSmall, IsRowSmall, IsShelfSmall, IsSmall};
 ghost use Rattle.journal_rows.specs.Law.{changes_of};
-ghost use Rattle.journal_tables.specs.Standing.{GoesKnowing, GoesOver, Learns};
+ghost use Rattle.journal_tables.specs.LastPut.{GoesKnowing, GoesOver, Learns};
 ghost use Rattle.journal_tables.specs.Steps.{Goes, LeavesNothing, with_cells};
 
-use crate::standing::Standing;
+use crate::last_put::LastPut;
 use crate::statements::{
-    add_advice, add_member, add_meta, add_row, add_shelved, change_row, clear_shelf, drop_advice,
-    drop_meta, drop_row, drop_shelved, put_member, put_row,
+    add_advice, add_member, add_meta, add_row, add_shelved, change_meta, change_row, clear_shelf,
+    drop_advice, drop_row, drop_shelved, put_member, put_row,
 };
 use sqlite::{Alter, Error, Transaction};
 use sw_participant::{Bytes, Text};
@@ -32,8 +32,9 @@ fn make_next<S: Alter>(tx: &mut Transaction<'_, S>, next: &Option<u64>) -> Resul
     let Some(next) = next else {
         return Ok(());
     };
-    drop_meta(tx, 2)?;
-    add_meta(tx, 2, *next as i64)?;
+    if change_meta(tx, 2, *next as i64)? == 0 {
+        add_meta(tx, 2, *next as i64)?;
+    }
     Ok(())
 }
 
@@ -204,7 +205,7 @@ fn put_cells<S: Alter>(
     Ok(())
 }
 
-// The same over a row that stands.
+// The same over a row that is there.
 fn change_cells<S: Alter>(tx: &mut Transaction<'_, S>, id: u64, row: &Row) -> Result<(), Error>
     requires small { IsSmall id }
     requires fits { IsRowSmall row.now }
@@ -245,8 +246,8 @@ fn put_whole<S: Alter>(
     put_last(tx, id, row.joined.as_slice(), is_new)
 }
 
-// The same over what stands of it: an entry adds at most one member.
-fn put_over<S: Alter>(tx: &mut Transaction<'_, S>, known: Standing, row: &Row) -> Result<(), Error>
+// The same over what is there of it: an entry adds at most one member.
+fn put_over<S: Alter>(tx: &mut Transaction<'_, S>, known: LastPut, row: &Row) -> Result<(), Error>
     requires small { IsSmall known.id }
     requires fits { IsRowSmall row.now }
     ensures same_reference { tx.new.conn.ghost_name ≡ tx.old.conn.ghost_name }
@@ -267,7 +268,7 @@ fn put_known<S: Alter>(
     tx: &mut Transaction<'_, S>,
     id: u64,
     row: &Row,
-    known: Option<Standing>,
+    known: Option<LastPut>,
     is_new: bool,
 ) -> Result<(), Error>
     requires small { IsSmall id }
@@ -279,18 +280,18 @@ fn put_known<S: Alter>(
         (state S.Store tx.old.conn.now) (state S.Store tx.new.conn.now) }
 {
     match known {
-        Some(standing) if standing.id == id => put_over(tx, standing, row),
+        Some(last_put) if last_put.id == id => put_over(tx, last_put, row),
         _ => put_whole(tx, id, row, is_new),
     }
 }
 
-// The row of a transaction, put or dropped; it answers what stands then.
+// The row of a transaction, put or dropped; it answers which row that is there was put last.
 fn make_row<S: Alter>(
     tx: &mut Transaction<'_, S>,
     change: &Option<(u64, Option<Row>)>,
-    known: Option<Standing>,
+    known: Option<LastPut>,
     is_new: bool,
-) -> Result<Option<Standing>, Error>
+) -> Result<Option<LastPut>, Error>
     requires small { IsRowChangeSmall change.now }
     ensures same_reference { tx.new.conn.ghost_name ≡ tx.old.conn.ghost_name }
     ensures steps { Learns known (row_made change.now)
@@ -306,20 +307,20 @@ fn make_row<S: Alter>(
         return Ok(None);
     };
     put_known(tx, *id, row, known, is_new)?;
-    Ok(Some(Standing {
+    Ok(Some(LastPut {
         id: *id,
         members: row.joined.as_slice().len(),
     }))
 }
 
 /// Makes all parts of a change: the next id, the row, the emptying of the shelf, what is put there, the
-/// advice. It answers what stands then. A refusal of the store leaves some of them made, inside the
-/// transaction.
+/// advice. It answers which row that is there was put last. A refusal of the store leaves some of them
+/// made, inside the transaction.
 pub fn make<S: Alter>(
     tx: &mut Transaction<'_, S>,
     change: &Change,
-    known: Option<Standing>,
-) -> Result<Option<Standing>, Error>
+    known: Option<LastPut>,
+) -> Result<Option<LastPut>, Error>
     requires small { IsChangeSmall change.now }
     ensures same_reference { tx.new.conn.ghost_name ≡ tx.old.conn.ghost_name }
     ensures steps { Learns known (made change.now)
@@ -330,20 +331,20 @@ pub fn make<S: Alter>(
     make_next(tx, &change.next_id)?;
     // A take alone changes the next id: no row had it.
     let is_taken = change.next_id.is_some();
-    let standing = make_row(tx, &change.row, known, is_taken)?;
+    let last_put = make_row(tx, &change.row, known, is_taken)?;
     empty_shelf(tx, change.emptied)?;
     make_shelved(tx, &change.shelved)?;
     make_advice(tx, &change.advice)?;
-    Ok(standing)
+    Ok(last_put)
 }
 
-/// Makes the changes of all entries, in order, and answers what stands then. A refusal of the store leaves
-/// some of them made, inside the transaction.
+/// Makes the changes of all entries, in order, and answers which row that is there was put last. A refusal
+/// of the store leaves some of them made, inside the transaction.
 pub fn make_all<S: Alter>(
     tx: &mut Transaction<'_, S>,
     entries: &[Entry],
-    known: Option<Standing>,
-) -> Result<Option<Standing>, Error>
+    known: Option<LastPut>,
+) -> Result<Option<LastPut>, Error>
     requires small { All IsEntrySmall entries.now }
     ensures same_reference { tx.new.conn.ghost_name ≡ tx.old.conn.ghost_name }
     ensures steps { Learns known (all_made (changes_of entries.now))
@@ -351,9 +352,9 @@ pub fn make_all<S: Alter>(
     ensures survives { LeavesNothing
         (state S.Store tx.old.conn.now) (state S.Store tx.new.conn.now) }
 {
-    let mut standing = known;
+    let mut last_put = known;
     for entry in entries {
-        standing = make(tx, &entry.change, standing)?;
+        last_put = make(tx, &entry.change, last_put)?;
     }
-    Ok(standing)
+    Ok(last_put)
 }

@@ -5,23 +5,27 @@
 
 ghost use Rattle.std.specs.Prelude.{◌≡◌};
 ghost use Rattle.sqlite.specs.Held.{state};
-ghost use Rattle.journal_rows.specs.Tables.{with_meta, with_tx, without_tx, without_meta};
+ghost use Rattle.journal_rows.specs.Tables.{with_meta, with_tx, without_tx};
 ghost use Rattle.journal_rows.specs.Tables.{with_member};
 ghost use Rattle.journal_rows.specs.Tables.{with_shelf, without_shelf, no_shelf, with_advice, without_advice};
-ghost use Rattle.journal_tables.specs.Standing.{RunsOver};
-ghost use Rattle.journal_tables.specs.Steps.{LeavesNothing, Runs};
+ghost use Rattle.journal_tables.specs.LastPut.{RunsOver};
+ghost use Rattle.journal_tables.specs.Steps.{LeavesNothing, Runs, RunsCounting};
 
 use sqlite::types::ValueRef;
 use sqlite::{Alter, Error, Transaction};
 
-pub fn drop_meta<S: Alter>(tx: &mut Transaction<'_, S>, k: i64) -> Result<usize, Error>
+/// Changes the value of this key of meta; where none stands, nothing is changed, and the count is 0.
+pub fn change_meta<S: Alter>(tx: &mut Transaction<'_, S>, k: i64, v: i64) -> Result<usize, Error>
     ensures same_reference { tx.new.conn.ghost_name ≡ tx.old.conn.ghost_name }
-    ensures steps { Runs (without_meta k)
+    ensures steps { RunsCounting (with_meta k v)
         (state S.Store tx.old.conn.now) (state S.Store tx.new.conn.now) result }
     ensures survives { LeavesNothing
         (state S.Store tx.old.conn.now) (state S.Store tx.new.conn.now) }
 {
-    tx.execute("DELETE FROM meta WHERE k = ?1", &[ValueRef::Int(k)])
+    tx.execute(
+        "UPDATE meta SET v = ?2 WHERE k = ?1",
+        &[ValueRef::Int(k), ValueRef::Int(v)],
+    )
 }
 
 pub fn drop_shelved<S: Alter>(tx: &mut Transaction<'_, S>, id: i64) -> Result<usize, Error>

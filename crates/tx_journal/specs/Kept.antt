@@ -9,8 +9,8 @@ use Rattle.sqlite.specs.State.{State, HasCleanDisk}
 use Rattle.sqlite_catalog.specs.Listing.{IsSound}
 use Rattle.journal_tables.specs.Schema.{journal_schema}
 use Rattle.journal_rows.specs.Tables.{Tables, tables_of}
-use Rattle.journal_tables.specs.declared.standing.Standing.{Standing}
-use Rattle.journal_tables.specs.Standing.{IsKnown}
+use Rattle.journal_tables.specs.declared.last_put.LastPut.{LastPut}
+use Rattle.journal_tables.specs.LastPut.{IsKnown}
 use Rattle.journal_tables.specs.Steps.{IsJournal}
 use Rattle.tx_journal.specs.Making.{no_schema, new_tables}
 
@@ -27,7 +27,7 @@ pub record IsSettled (s : State) : Type 0 where
   pub settled : s.committed ≡ s.now
 
 -- between two calls, with what is known to stand
-pub record IsKept (s : State) (failed : Bool) (known : Option Standing) : Type 0 where
+pub record IsKept (s : State) (failed : Bool) (known : Option LastPut) : Type 0 where
   pub autocommit : s.in_transaction ≡ false
   pub ready : failed ≡ false → HasCleanDisk s → IsSettled s
   pub stands : failed ≡ false → HasCleanDisk s → IsKnown known (tables_of s.now.trees)

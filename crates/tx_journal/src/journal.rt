@@ -18,7 +18,7 @@ use crate::making::make_journal;
 use crate::reading::{Stored, read_all};
 use crate::settle::settle;
 use journal_rows::{RowsError, view_of};
-use journal_tables::{Standing, write_all};
+use journal_tables::{LastPut, write_all};
 use sqlite::{Alter, Connection, Error, ErrorCode};
 use std::alloc::Global;
 use std::marker::Model;
@@ -57,7 +57,7 @@ pub struct Journal<S: Alter> {
     conn: Connection<S>,
     failed: bool,
     // Of the last row that was put: it need not be put again.
-    standing: Option<Standing>,
+    last_put: Option<LastPut>,
 }
 
 impl<S: Alter> Model for Journal<S> {
@@ -70,7 +70,7 @@ impl<S: Alter> Model for Journal<S> {
 
     ghost view = { λ j. record { held = j.conn; failed = j.failed } };
 
-    ghost invariant = { λ j. IsKept (state S.Store j.conn) j.failed j.standing };
+    ghost invariant = { λ j. IsKept (state S.Store j.conn) j.failed j.last_put };
 }
 
 impl<S: Alter + Drop> Drop for Journal<S> {
@@ -78,7 +78,7 @@ impl<S: Alter + Drop> Drop for Journal<S> {
         let Journal {
             conn: _,
             failed: _,
-            standing: _,
+            last_put: _,
         } = self;
     }
 }
@@ -110,9 +110,9 @@ impl<S: Alter> Journal<S> {
         if entries.is_empty() {
             return Ok(());
         }
-        match write_all(&mut self.conn, entries, self.standing) {
-            Ok(standing) => {
-                self.standing = standing;
+        match write_all(&mut self.conn, entries, self.last_put) {
+            Ok(last_put) => {
+                self.last_put = last_put;
                 Ok(())
             }
             Err(error) => {
@@ -155,7 +155,7 @@ impl<S: Alter> Journal<S> {
         let Journal {
             conn,
             failed: _,
-            standing: _,
+            last_put: _,
         } = self;
         conn
     }
@@ -184,7 +184,7 @@ impl<S: Alter + Drop> Journal<S> {
             return Ok(Journal {
                 conn,
                 failed: false,
-                standing: None,
+                last_put: None,
             });
         }
         if !is_empty(conn.schema()) {
@@ -194,7 +194,7 @@ impl<S: Alter + Drop> Journal<S> {
             Ok(()) => Ok(Journal {
                 conn,
                 failed: false,
-                standing: None,
+                last_put: None,
             }),
             Err(error) => Err((cause_of(&error), Left::Open(conn))),
         }

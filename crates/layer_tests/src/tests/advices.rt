@@ -9,8 +9,9 @@ use sw_issuers::{GroupLink, Issuer, Sender};
 use sw_participant::{NoMemory, Sequence, Text};
 use sw_parts::{Link, Routing};
 
-// A reversal of the authorization with STAN 42 of card 4000000000000002 over 91 minor units: fields 2, 3, 4, 7, 11, 41 and
-// 49, and 90 (type, STAN, date and time of the request, and 22 zeros); as it is stored, and once more.
+// A reversal of the authorization with STAN 42 of card 4000000000000002 over 91 minor units: fields 2, 3, 4,
+// 7, 11, 41 and 49, and 90 (type, STAN, date and time of the request, and 22 zeros); as it is stored, and
+// once more.
 const REVERSAL: &[u8] = b"0420F2200000008080000000004000000000\
     1640000000000000020000000000000000910102030405000042TERM0001978\
     010000004201020304050000000000000000000000";

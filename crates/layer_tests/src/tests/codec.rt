@@ -2,6 +2,7 @@
 
 use crate::tests::messages::{largest, message_of};
 use iso_codec::{DecodeError, decode, encode};
+use iso_msg::Message;
 use std::alloc::Global;
 use std::test::Fail;
 use sw_frame::{Framer, frame};
@@ -13,47 +14,67 @@ const PIN: [u8; 8] = [0xA1, 0xB2, 0xC3, 0xD4, 0xE5, 0xF6, 0x07, 0x18];
 
 const CODE: [u8; 8] = [0x00, 0x11, 0x22, 0x33, 0x44, 0x55, 0x66, 0xFF];
 
+fn is_spelled(alloc: Global, message: &Message, wanted: &[u8]) -> Result<bool, Fail> {
+    Ok(encode(alloc, message)?.as_slice() == wanted)
+}
+
+// Whether the message with these fields is spelled so, and a copy of it.
+fn is_encoded(
+    alloc: Global,
+    mti: &[u8],
+    fields: &[(u8, &[u8])],
+    wanted: &[u8],
+) -> Result<bool, Fail> {
+    let message = message_of(alloc, mti, fields)?;
+    let copy = message.copy(alloc)?;
+    Ok(is_spelled(alloc, &message, wanted)? && is_spelled(alloc, &copy, wanted)?)
+}
+
+/// Messages with their fields, and their bytes.
+const WORKED: [(&[u8], &[(u8, &[u8])], &[u8]); 3] = [
+    (b"0800", &[(70, b"301"), (11, b"000001")], NETWORK),
+    (
+        b"0100",
+        &[(11, b"000042"), (41, b"TERM0001")],
+        b"01000020000000800000000042TERM0001",
+    ),
+    (
+        b"0100",
+        &[(128, &CODE), (3, b"000000"), (52, &PIN)],
+        b"0100A0000000000010000000000000000001000000A1B2C3D4E5F6071800112233445566FF",
+    ),
+];
+
 #[test]
 fn worked_messages_are_encoded(rt: HostRuntime) -> Result<(), Fail> {
-    let rows: [(&[u8], &[(u8, &[u8])], &[u8]); 3] = [
-        (b"0800", &[(70, b"301"), (11, b"000001")], NETWORK),
-        (
-            b"0100",
-            &[(11, b"000042"), (41, b"TERM0001")],
-            b"01000020000000800000000042TERM0001",
-        ),
-        (
-            b"0100",
-            &[(128, &CODE), (3, b"000000"), (52, &PIN)],
-            b"0100A0000000000010000000000000000001000000A1B2C3D4E5F6071800112233445566FF",
-        ),
-    ];
-    for (mti, fields, wanted) in rows {
-        let message = message_of(rt.alloc(), mti, fields)?;
-        let copy = message.copy(rt.alloc())?;
-        assert_eq!(rt; encode(rt.alloc(), &message)?.as_slice(), wanted);
-        assert_eq!(rt; encode(rt.alloc(), &copy)?.as_slice(), wanted);
+    for (mti, fields, wanted) in WORKED {
+        assert!(rt; is_encoded(rt.alloc(), mti, fields, wanted)?);
     }
     Ok(())
 }
 
+fn is_respelled(alloc: Global, spelled: &[u8], wanted: &[u8]) -> Result<bool, Fail> {
+    is_spelled(alloc, &decode(alloc, spelled)?, wanted)
+}
+
+/// Messages spelled in another way, and as they are written.
+const RESPELLED: [(&[u8], &[u8]); 2] = [
+    // An empty second bitmap.
+    (
+        b"080080200000000000000000000000000000000001",
+        b"08000020000000000000000001",
+    ),
+    // Digits in lower case.
+    (
+        b"0100a0000000000010000000000000000001000000a1b2c3d4e5f6071800112233445566ff",
+        b"0100A0000000000010000000000000000001000000A1B2C3D4E5F6071800112233445566FF",
+    ),
+];
+
 #[test]
 fn other_spellings_are_not_kept(rt: HostRuntime) -> Result<(), Fail> {
-    let rows: [(&[u8], &[u8]); 2] = [
-        // An empty second bitmap.
-        (
-            b"080080200000000000000000000000000000000001",
-            b"08000020000000000000000001",
-        ),
-        // Digits in lower case.
-        (
-            b"0100a0000000000010000000000000000001000000a1b2c3d4e5f6071800112233445566ff",
-            b"0100A0000000000010000000000000000001000000A1B2C3D4E5F6071800112233445566FF",
-        ),
-    ];
-    for (spelled, wanted) in rows {
-        let message = decode(rt.alloc(), spelled)?;
-        assert_eq!(rt; encode(rt.alloc(), &message)?.as_slice(), wanted);
+    for (spelled, wanted) in RESPELLED {
+        assert!(rt; is_respelled(rt.alloc(), spelled, wanted)?);
     }
     Ok(())
 }

@@ -3,7 +3,7 @@
 
 use std::alloc::{AllocError, Global};
 use std::test::Fail;
-use sw_context::{Context, ContextError, is_name, is_name_bytes};
+use sw_context::{Context, ContextError};
 
 /// The bytes of a context whose only entry is `v` with the value `A`.
 const ONE: &[u8] = &[0x01, 0x01, 0x76, 0x00, 0x01, 0x41];
@@ -27,10 +27,6 @@ fn spells(context: &Context, bytes: &[u8]) -> bool {
         Ok(spelled) => spelled.as_slice() == bytes && context.bytes_len() == bytes.len(),
         Err(_) => false,
     }
-}
-
-fn has(context: &Context, name: &str, value: &[u8]) -> bool {
-    context.get(name) == Some(value)
 }
 
 fn is_at(context: &Context, index: usize, name: &str, value: &[u8]) -> bool {
@@ -104,43 +100,6 @@ fn other_bytes_are_refused(rt: HostRuntime) {
     assert!(rt; is_bytes(ONE));
 }
 
-fn fill(context: &mut Context, alloc: Global, count: usize) -> Result<(), ContextError> {
-    for number in 0..count {
-        let name = format!(in alloc; "n{number}")?;
-        put(context, name.as_str(), b"")?;
-    }
-    Ok(())
-}
-
-fn full(alloc: Global) -> Result<Context, ContextError> {
-    let mut context = Context::new(alloc);
-    fill(&mut context, alloc, 64)?;
-    Ok(context)
-}
-
-// A full context takes no name more, but another value of a name that it has.
-fn takes_no_more(context: &mut Context) -> bool {
-    put(context, "n64", b"") == Err(ContextError::Full)
-        && put(context, "n0", b"again").is_ok()
-        && has(context, "n0", b"again")
-}
-
-fn goes_round(alloc: Global, context: &Context) -> Result<bool, ContextError> {
-    let again = read(alloc, &context.to_bytes()?)?;
-    Ok(again.len() == 64 && is_at(&again, 0, "n0", b"again") && is_at(&again, 63, "n63", b""))
-}
-
-fn is_limited(alloc: Global) -> Result<bool, ContextError> {
-    let mut context = full(alloc)?;
-    Ok(takes_no_more(&mut context) && goes_round(alloc, &context)?)
-}
-
-#[test]
-fn the_65th_name_is_refused(rt: HostRuntime) -> Result<(), Fail> {
-    assert!(rt; is_limited(rt.alloc())?);
-    Ok(())
-}
-
 // What comes of so many zeros under a name that may be bad, and whether the one entry is as it was.
 fn refusal(alloc: Global, name: &str, count: usize) -> Result<Option<ContextError>, ContextError> {
     let mut context = one(alloc)?;
@@ -160,19 +119,6 @@ fn refusals_come_in_order(rt: HostRuntime) -> Result<(), Fail> {
     for (name, count, wanted) in rows {
         assert!(rt; refusal(rt.alloc(), name, count)? == Some(wanted));
     }
-    Ok(())
-}
-
-fn longest_is_taken(alloc: Global) -> Result<bool, ContextError> {
-    let mut context = one(alloc)?;
-    let longest = zeros(alloc, 65_535)?;
-    put(&mut context, "A-z_0.9-123456789012345678901234", &longest)?;
-    Ok(has(&context, "A-z_0.9-123456789012345678901234", &longest))
-}
-
-#[test]
-fn the_longest_name_and_value_are_taken(rt: HostRuntime) -> Result<(), Fail> {
-    assert!(rt; longest_is_taken(rt.alloc())?);
     Ok(())
 }
 
@@ -203,24 +149,4 @@ fn are_in_order(alloc: Global) -> Result<bool, ContextError> {
 fn entries_keep_their_order(rt: HostRuntime) -> Result<(), Fail> {
     assert!(rt; are_in_order(rt.alloc())?);
     Ok(())
-}
-
-#[test]
-fn names(rt: HostRuntime) {
-    let rows = [
-        ("check", true),
-        ("A-z_0.9", true),
-        ("12345678901234567890123456789012", true),
-        ("123456789012345678901234567890123", false),
-        ("", false),
-        ("a b", false),
-        ("a,b", false),
-        ("café", false),
-    ];
-    for (text, named) in rows {
-        assert!(rt;
-            is_name(text) == named && is_name_bytes(text.as_bytes()) == named,
-            "{text}"
-        );
-    }
 }

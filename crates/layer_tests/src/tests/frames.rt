@@ -1,4 +1,5 @@
-//! A list of pieces, and frames of messages. Streams that are cut anywhere, and faults of lengths, `tests/decode` shows.
+//! A list of pieces, and frames of messages. Streams that are cut anywhere, and faults of lengths,
+//! `tests/decode` shows.
 
 use std::alloc::Global;
 use std::test::Fail;
@@ -30,15 +31,26 @@ fn comes_back(alloc: Global, message: &[u8]) -> Result<bool, FrameError> {
     Ok(text.len() == 4 + message.len() && gives(&mut Framer::new(alloc), &text, &[message]))
 }
 
+fn is_framed(alloc: Global, message: &[u8], wanted: &[u8]) -> Result<bool, FrameError> {
+    Ok(frame(alloc, message)?.as_slice() == wanted)
+}
+
+fn longest_comes_back(alloc: Global) -> Result<bool, Fail> {
+    let longest = vec![in alloc; b'7'; 9_999]?;
+    Ok(comes_back(alloc, &longest)?)
+}
+
+fn longer_is_refused(alloc: Global) -> Result<bool, Fail> {
+    let longer = vec![in alloc; b'7'; 10_000]?;
+    Ok(matches!(frame(alloc, &longer), Err(FrameError::TooLong)))
+}
+
 #[test]
 fn frames_of_messages(rt: HostRuntime) -> Result<(), Fail> {
-    let alloc = rt.alloc();
-    assert_eq!(rt; frame(alloc, b"abc")?.as_slice(), b"0003abc".as_slice());
-    assert_eq!(rt; frame(alloc, b"")?.as_slice(), b"0000".as_slice());
-    let longest = vec![in alloc; b'7'; 9_999]?;
-    assert!(rt; comes_back(alloc, &longest)?);
-    let longer = vec![in alloc; b'7'; 10_000]?;
-    assert!(rt; matches!(frame(alloc, &longer), Err(FrameError::TooLong)));
+    assert!(rt; is_framed(rt.alloc(), b"abc", b"0003abc")?);
+    assert!(rt; is_framed(rt.alloc(), b"", b"0000")?);
+    assert!(rt; longest_comes_back(rt.alloc())?);
+    assert!(rt; longer_is_refused(rt.alloc())?);
     Ok(())
 }
 

@@ -149,13 +149,29 @@ fn calls(stations: &[Station]) -> u64 {
     made
 }
 
+fn scribe_station(alloc: Global, name: &str) -> Result<Station, Fail> {
+    Ok(Station::new(alloc, name, Box::new(alloc, new_scribe(alloc))?)?)
+}
+
+fn stamp_station(alloc: Global) -> Result<Station, Fail> {
+    let stamp = Stamp {
+        value: Vec::from_slice(alloc, b"A")?,
+    };
+    Ok(Station::new(alloc, "stamp", Box::new(alloc, stamp)?)?)
+}
+
+/// A scribe, and a stamp behind it.
+fn both(alloc: Global) -> Result<Vec<Station>, Fail> {
+    let mut stations = Vec::new(alloc);
+    stations.push(scribe_station(alloc, "scribe")?)?;
+    stations.push(stamp_station(alloc)?)?;
+    Ok(stations)
+}
+
 #[test]
 fn each_call_is_the_one_that_is_named(rt: HostRuntime) -> Result<(), Fail> {
-    let alloc = rt.alloc();
-    let station = Station::new(alloc, "scribe", Box::new(alloc, new_scribe(alloc))?)?;
-    let mut stations = Vec::new(alloc);
-    stations.push(station)?;
-    let mut context = Context::new(alloc);
+    let mut stations = both(rt.alloc())?;
+    let mut context = Context::new(rt.alloc());
     for (act, reply, noted) in CALLS {
         let is_told = replies(&mut stations, &call(0, act), &mut context, reply);
         assert!(rt; is_told && has(&context, "call", noted), "{noted}");
@@ -172,14 +188,8 @@ const STAMPED: [(Act, &str, bool); 2] = [
 
 #[test]
 fn the_station_of_the_number_is_called(rt: HostRuntime) -> Result<(), Fail> {
-    let alloc = rt.alloc();
-    let stamp = Stamp {
-        value: Vec::from_slice(alloc, b"A")?,
-    };
-    let mut stations = Vec::new(alloc);
-    stations.push(Station::new(alloc, "scribe", Box::new(alloc, new_scribe(alloc))?)?)?;
-    stations.push(Station::new(alloc, "stamp", Box::new(alloc, stamp)?)?)?;
-    let mut context = Context::new(alloc);
+    let mut stations = both(rt.alloc())?;
+    let mut context = Context::new(rt.alloc());
     for (act, reply, stands) in STAMPED {
         let is_told = replies(&mut stations, &call(1, act), &mut context, reply);
         assert!(rt; is_told && has(&context, "stamp", "A") == stands, "{reply}");
@@ -188,13 +198,19 @@ fn the_station_of_the_number_is_called(rt: HostRuntime) -> Result<(), Fail> {
     Ok(())
 }
 
+fn is_named(alloc: Global, name: &str) -> Result<bool, Fail> {
+    Ok(scribe_station(alloc, name)?.name() == name)
+}
+
 #[test]
 fn a_bad_name_is_refused(rt: HostRuntime) -> Result<(), Fail> {
-    let alloc = rt.alloc();
-    let refused = Station::new(alloc, "a b", Box::new(alloc, new_scribe(alloc))?);
+    let refused = Station::new(
+        rt.alloc(),
+        "a b",
+        Box::new(rt.alloc(), new_scribe(rt.alloc()))?,
+    );
     assert!(rt; matches!(refused, Err(StationError::BadName)));
-    let station = Station::new(alloc, "scribe", Box::new(alloc, new_scribe(alloc))?)?;
-    assert_eq!(rt; station.name(), "scribe");
+    assert!(rt; is_named(rt.alloc(), "scribe")?);
     Ok(())
 }
 

@@ -2,7 +2,7 @@ use Rattle.std.proofs.Common.{arith}
 use Rattle.sqlite.specs.Held.{state}
 use Rattle.sqlite.specs.State.{HasCleanDisk}
 use Rattle.journal_tables.proofs.ChainLemmas.{steps_then}
-use Rattle.journal_tables.proofs.StandingLemmas.{still_known, next_leaves, emptied_leaves, shelf_leaves, advice_leaves}
+use Rattle.journal_tables.proofs.LastPutLemmas.{still_known, next_leaves, emptied_leaves, shelf_leaves, advice_leaves}
 use Rattle.journal_tables.proofs.making.make.Goals as goal
 
 pub returns-clause-steps : goal.returns-clause-steps
@@ -20,14 +20,14 @@ returns-clause-steps g c clean ready live known =
     let clean_next : HasCleanDisk next = omega (arith, clean_row, c.make_row.ensures.survives.clean) in
     let one = c.in_ok-make_next.ensures.steps clean_next ready live in
     let then = still_known _ (next_leaves change.next_id) c.args.known old next one known in
-    let two = c.in_ok-standing.ensures.steps clean_row one.ready one.is_open then in
+    let two = c.in_ok-last_put.ensures.steps clean_row one.ready one.is_open then in
     let three = c.in_ok-empty_shelf.ensures.steps clean_emptied two.steps.ready two.steps.is_open in
     let four = c.in_ok-make_shelved.ensures.steps clean_shelved three.ready three.is_open in
     let five = c.in_ok-make_advice.ensures.steps clean four.ready four.is_open in
-    let standing = c.in_ok-standing.standing in
-    let after_empty = still_known _ (emptied_leaves change.emptied) standing row emptied three two.known in
-    let after_shelf = still_known _ (shelf_leaves change.shelved) standing emptied shelved four after_empty in
+    let last_put = c.in_ok-last_put.last_put in
+    let after_empty = still_known _ (emptied_leaves change.emptied) last_put row emptied three two.known in
+    let after_shelf = still_known _ (shelf_leaves change.shelved) last_put emptied shelved four after_empty in
     record {
       steps = steps_then _ _ old shelved new (steps_then _ _ old emptied shelved (steps_then _ _ old row emptied (steps_then _ _ old next row one two.steps) three) four) five;
-      known = still_known _ (advice_leaves change.advice) standing shelved new five after_shelf;
+      known = still_known _ (advice_leaves change.advice) last_put shelved new five after_shelf;
     }

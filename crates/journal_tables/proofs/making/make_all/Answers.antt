@@ -16,7 +16,7 @@ loop-entry-preserved g c =
       λ clean ready live known.
           let early : HasCleanDisk mid = omega (arith, c.make.ensures.survives.clean) in
           let one = before.2 early ready live known in
-          let two = c.in_ok-standing.ensures.steps clean one.steps.ready one.steps.is_open one.known in
+          let two = c.in_ok-last_put.ensures.steps clean one.steps.ready one.steps.is_open one.known in
           record {
             steps = subst (λ f. Steps f old new) (sym (all_made_more c.args.entries.now c.loop-entry.entry-index c.entry-item.result c.loop-entry-test.true c.entry-item.is)) (steps_then _ _ old mid new one.steps two.steps);
             known = two.known;

@@ -3,7 +3,7 @@ use Rattle.sqlite.specs.State.{HasCleanDisk, Survives}
 use Rattle.sqlite.specs.Held.{state}
 use Rattle.journal_rows.specs.Law.{changes_of}
 use Rattle.journal_rows.specs.Tables.{all_made, tables_of}
-use Rattle.journal_tables.specs.Standing.{IsKnown, Learnt}
+use Rattle.journal_tables.specs.LastPut.{IsKnown, Learnt}
 use Rattle.journal_tables.specs.Steps.{IsReady}
 use Rattle.journal_tables.proofs.making.make_all.Given as goal
 
@@ -12,4 +12,4 @@ invariant-loop-entry g l =
     let old = state g.S.Store l.fn.tx.conn.now in
     let now = state g.S.Store l.tx.conn.now in
     (l.tx.conn.ghost_name ≡ l.fn.tx.conn.ghost_name) × Survives old now (λ _. ⊥)
-    × (HasCleanDisk now → IsReady old → IsTrue old.is_open → IsKnown l.fn.known (tables_of old.now.trees) → Learnt (all_made (changes_of (take l.entry-index l.entries))) old now l.standing)
+    × (HasCleanDisk now → IsReady old → IsTrue old.is_open → IsKnown l.fn.known (tables_of old.now.trees) → Learnt (all_made (changes_of (take l.entry-index l.entries))) old now l.last_put)

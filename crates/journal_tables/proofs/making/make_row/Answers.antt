@@ -1,8 +1,8 @@
 use Rattle.std.proofs.Common.{◌≡◌, Some, length, sym, ap, subst}
 use Rattle.sqlite.specs.Held.{state}
 use Rattle.journal_rows.specs.Tables.{tables_of, row_put}
-use Rattle.journal_tables.specs.Standing.{IsKnown}
-use Rattle.journal_tables.proofs.StandingLemmas.{put_stands}
+use Rattle.journal_tables.specs.LastPut.{IsKnown}
+use Rattle.journal_tables.proofs.LastPutLemmas.{put_is_there}
 use Rattle.journal_tables.proofs.making.make_row.Goals as goal
 
 pub returns-clause-steps : goal.returns-clause-steps
@@ -13,5 +13,5 @@ returns-clause-steps g c clean ready live known =
     let count : length row.joined ≡ length c.as_slice.result.now = ap length (sym c.as_slice.ensures) in
     let steps = c.in_ok-put_known.ensures.steps clean ready live known in
     let stands = subst (λ t. IsKnown (Some (record { id = id; members = length c.as_slice.result.now })) t) (sym steps.tables)
-    (subst (λ k. IsKnown (Some (record { id = id; members = k })) (row_put id (Some row) (tables_of old.now.trees))) count (put_stands id row (tables_of old.now.trees))) in
+    (subst (λ k. IsKnown (Some (record { id = id; members = k })) (row_put id (Some row) (tables_of old.now.trees))) count (put_is_there id row (tables_of old.now.trees))) in
     rw (c.in-Some.is, c.in-Some-put.is) (record { steps = steps; known = stands })

@@ -1,9 +1,9 @@
 use Rattle.std.proofs.Common.{◌≡◌, length, sym, ap, subst, ◌∙◌}
 use Rattle.sqlite.specs.Held.{state}
 use Rattle.journal_rows.specs.Tables.{tables_of}
-use Rattle.journal_tables.specs.Standing.{LastStands}
+use Rattle.journal_tables.specs.LastPut.{LastIsThere}
 use Rattle.journal_tables.specs.Steps.{with_cells}
-use Rattle.journal_tables.proofs.StandingLemmas.{nothing_new}
+use Rattle.journal_tables.proofs.LastPutLemmas.{nothing_new}
 use Rattle.journal_tables.proofs.making.put_over.Goals as goal
 
 pub returns-then-as_slice-known-clause-steps : goal.returns-then-as_slice-known-clause-steps
@@ -13,7 +13,7 @@ returns-then-as_slice-known-clause-steps g c clean ready live known =
     let row = c.args.row.now in
     let steps = c.in_ok-change_cells.ensures.steps live clean ready known.row in
     let count : length row.joined ≡ c.args.known.members = ap length (sym c.as_slice.ensures) ∙ c.if-as_slice-known.true in
-    let stands = subst (λ k. LastStands id k t.member) (sym count) known.last in
+    let stands = subst (λ k. LastIsThere id k t.member) (sym count) known.last in
     record {
       ready = steps.ready;
       tables = steps.tables ∙ sym (nothing_new id row.joined (with_cells id row t) stands);

@@ -4,7 +4,7 @@ use Rattle.sqlite.specs.Effect.{Database}
 use Rattle.sqlite.specs.State.{HasCleanDisk}
 use Rattle.sqlite.specs.Held.{state}
 use Rattle.journal_rows.specs.Tables.{tables_of}
-use Rattle.journal_tables.specs.Standing.{IsKnown}
+use Rattle.journal_tables.specs.LastPut.{IsKnown}
 use Rattle.journal_tables.specs.Steps.{IsJournal}
 use Rattle.tx_journal.specs.Means.{Means}
 use Rattle.tx_journal.proofs.ViewReads.{stands_if}
@@ -77,7 +77,7 @@ invariant_of-self g c = record {
       let early : HasCleanDisk (state g.S.Store c.self.inside.conn) = omega (arith, c.read_all.ensures.survives.clean) in
       let ready = c.self.invariant.ready c.if-self.false early in
       let same = (c.in-Ok.ensures.same clean ready.now).0 in
-      subst (λ (d : Database). IsKnown c.self.inside.standing (tables_of d.trees)) (sym same.now_is) (c.self.invariant.stands c.if-self.false early);
+      subst (λ (d : Database). IsKnown c.self.inside.last_put (tables_of d.trees)) (sym same.now_is) (c.self.invariant.stands c.if-self.false early);
 }
 
 pub invariant_of-self-in-Err : goal.invariant_of-self-in-Err

@@ -1,8 +1,0 @@
-use Rattle.std.proofs.Common.{to_z-of_z}
-use Rattle.sqlite.specs.Held.{state}
-use Rattle.journal_tables.proofs.StepLemmas.{drops_meta}
-use Rattle.journal_tables.proofs.statements.drop_meta.Goals as goal
-
-pub returns-clause-steps : goal.returns-clause-steps
-returns-clause-steps g c clean ready =
-    drops_meta (state g.S.Store c.args.tx.now.conn.now) (state g.S.Store c.execute.new.self.conn.now) c.args.k c.execute.result ready (rw (to_z-of_z c.ranges.k) at (c.execute.ensures.runs clean ready.mode))
