@@ -61,8 +61,9 @@ EXAMPLE_ROWS = [
     (2, ["limits", "reverse", "forward"], 1, "", 224),
     (2, ["limits", "reverse", "forward"], 2, "", 224),
 ]
-# Each side takes turns; the best and the middle one of each are told, since the time of a sync varies.
-ROUNDS = 9
+# Each side takes turns, ours first in every other turn. The time of a sync varies, and so does what a shared machine gives, by
+# half within a minute: of each side the best and the middle one are told, and of the turns' own ratios the middle one.
+ROUNDS = 15
 
 
 def requests(count):
@@ -117,25 +118,35 @@ def commits(rows, count, path, page=4096):
     return time.monotonic() - began
 
 
+def turn_of(program, flow, rows, count, room, turn):
+    """The seconds of both sides in a turn: ours, the C library's, and over files its on pages of 512 bytes."""
+    sides = [
+        ("ours", lambda: run(program, flow, count, room and f"{room}/ours-{turn}.db")[0]),
+        ("theirs", lambda: commits(rows, count, f"{room}/theirs-{turn}.db" if room else ":memory:")),
+    ]
+    if room:
+        sides.append(("small", lambda: commits(rows, count, f"{room}/small-{turn}.db", 512)))
+    return {side: seconds() for side, seconds in (sides if turn % 2 else reversed(sides))}
+
+
 def compare(name, program, flow, rows, count, room):
     """Prints both sides' authorizations a second, over files of the room or in memory."""
-    ours, theirs, small = [], [], []
-    for turn in range(ROUNDS):
-        ours.append(run(program, flow, count, room and f"{room}/ours-{turn}.db")[0])
-        theirs.append(commits(rows, count, f"{room}/theirs-{turn}.db" if room else ":memory:"))
-        if room:
-            small.append(commits(rows, count, f"{room}/small-{turn}.db", 512))
-    for of, taken in ("", theirs), (" on pages of 512 bytes", small):
+    turns = [turn_of(program, flow, rows, count, room, turn) for turn in range(ROUNDS)]
+    for of, side in ("", "theirs"), (" on pages of 512 bytes", "small"):
+        if side not in turns[0]:
+            continue
         for kind, pick in ("best  ", min), ("middle", statistics.median):
-            if taken:
-                own, other = count / pick(ours), count / pick(taken)
-                print(f"{name}, {kind}: {own:7.0f} authorizations a second, C SQLite's commits{of} {other:7.0f}, ratio {own / other:.2f}")
+            own, other = (count / pick([turn[it] for turn in turns]) for it in ("ours", side))
+            print(f"{name}, {kind}: {own:7.0f} authorizations a second, C SQLite's commits{of} {other:7.0f}, ratio {own / other:.2f}")
+        ratios = [turn[side] / turn["ours"] for turn in turns]
+        low, middle, high = statistics.quantiles(ratios, n=4)
+        print(f"{name}, ratio of each turn to C SQLite's commits{of}: middle {middle:.2f}, half of them {low:.2f} to {high:.2f}")
 
 
 def main():
     parser = argparse.ArgumentParser(description="Times cardswitch run.")
     parser.add_argument("--program", default=BUILT)
-    parser.add_argument("--requests", type=int, default=2000)
+    parser.add_argument("--requests", type=int, default=1000)
     given = parser.parse_args()
     with tempfile.TemporaryDirectory(dir=TOP) as room:
         least = os.path.join(room, "least.toml")
