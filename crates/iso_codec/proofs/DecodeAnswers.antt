@@ -1,5 +1,5 @@
 -- What decoding answers: looking bytes over tells the fault of reading, which is never want of memory.
--- for: read::decode
+-- for: read::decode, check::type_in
 use Rattle.std.proofs.Common.{◌≡◌, ℕ, Bool, true, false, cond, eqb, ltb, List, [], ◌∷◌, ◌++◌, length, take, drop, Option, Some, None, Result, Ok, Err, refl, sym, ap, subst, ◌∙◌}
 use Rattle.std.specs.List.{list_all}
 use Rattle.std.specs.Prelude.{IfOk, IsOk, MatchResult}
@@ -13,7 +13,7 @@ use Rattle.iso_codec.specs.declared.error.DecodeError.TheVariants.{Short, BadMti
 use Rattle.iso_codec.specs.Digits.{bits_at, octets}
 use Rattle.sw_base.specs.Digits.{is_digit, number_of}
 use Rattle.iso_codec.specs.Grammar.{Spells}
-use Rattle.iso_codec.specs.Reads.{◌>>=◌, or_fault, part, mti_is, bitmap_at, bitmaps_at, starts_with_1, field_numbers, known, behind_length, octets_at, text_at, field_at, fields_at, read, Answers, Fails, content_is, field_over, fields_over, read_over}
+use Rattle.iso_codec.specs.Reads.{◌>>=◌, or_fault, part, mti_is, bitmap_at, bitmaps_at, starts_with_1, field_numbers, known, behind_length, octets_at, text_at, field_at, fields_at, read, Answers, Fails, content_is, field_over, fields_over, read_over, type_of}
 use Rattle.iso_codec.proofs.MessageReads.{read_found, read_again}
 
 -- ---- reading never tells of memory
@@ -116,13 +116,13 @@ read_clean bytes =
 
 -- ---- looking over is reading without the values
 
-abbrev over : {A : Type 0} → Result A DecodeError → Result (Unit {0}) DecodeError
-over r = r >>= λ x. Ok tt
+abbrev over : Result PlainMessage DecodeError → Result (List ℕ) DecodeError
+over r = r >>= λ m. Ok m.mti
 
 abbrev rest_of : {A : Type 0} → Result (A × List ℕ) DecodeError → Result (List ℕ) DecodeError
 rest_of r = r >>= λ x. Ok x.1
 
-bind_over : {A B : Type 0} (r : Result A DecodeError) (f : A → Result B DecodeError) (g : A → Result (Unit {0}) DecodeError) → ((x : A) → g x ≡ over (f x)) → (r >>= g) ≡ over (r >>= f)
+bind_over : {A : Type 0} (r : Result A DecodeError) (f : A → Result PlainMessage DecodeError) (g : A → Result (List ℕ) DecodeError) → ((x : A) → g x ≡ over (f x)) → (r >>= g) ≡ over (r >>= f)
 bind_over (Ok x) f g h = h x
 bind_over (Err e) f g h = refl
 
@@ -156,28 +156,33 @@ fields_over_is (n ∷ ns) bytes =
     ap (λ (r : Result (List ℕ) DecodeError). r >>= λ rest. fields_over ns rest) (field_over_is (form_of n) n bytes)
     ∙ fields_step n ns (field_at (form_of n) n bytes) (λ more. fields_over_is ns more)
 
-abbrev at_end : List ℕ → Result (Unit {0}) DecodeError
-at_end rest = cond (eqb (length rest) 0) (Ok tt) (Err Trailing)
+abbrev at_end : List ℕ → List ℕ → Result (List ℕ) DecodeError
+at_end mti rest = cond (eqb (length rest) 0) (Ok mti) (Err Trailing)
 
-end_over : (b : Bool) (m : PlainMessage) → cond b fine (Err Trailing) ≡ over (cond b (Ok m) (Err Trailing))
+typed : List ℕ → Result (List ℕ) DecodeError
+typed mti = Ok mti
+
+end_over : (b : Bool) (m : PlainMessage) → cond b (typed m.mti) (Err Trailing) ≡ over (cond b (Ok m) (Err Trailing))
+unfolding typed
 end_over true m = refl
 end_over false m = refl
 
-ended_over : (mti : List ℕ) (r : Result AllFields DecodeError) → (rest_of r >>= at_end) ≡ over (r >>= λ fields. ended mti fields)
+ended_over : (mti : List ℕ) (r : Result AllFields DecodeError) → (rest_of r >>= at_end mti) ≡ over (r >>= λ fields. ended mti fields)
+unfolding typed
 ended_over mti (Ok x) = end_over (eqb (length x.1) 0) (record { mti = mti; fields = x.0 })
 ended_over mti (Err e) = refl
 
-then_over : (mti : List ℕ) (ns : Part) → (known (field_numbers ns.0) >>= λ ok. fields_over (field_numbers ns.0) ns.1 >>= at_end) ≡ over (then_fields mti ns)
+then_over : (mti : List ℕ) (ns : Part) → (known (field_numbers ns.0) >>= λ ok. fields_over (field_numbers ns.0) ns.1 >>= at_end mti) ≡ over (then_fields mti ns)
 then_over mti ns =
-    bind_over (known (field_numbers ns.0)) (λ ok. fields_at (field_numbers ns.0) ns.1 >>= λ fields. ended mti fields) (λ ok. fields_over (field_numbers ns.0) ns.1 >>= at_end)
-    (λ ok. ap (λ (r : Result (List ℕ) DecodeError). r >>= at_end) (fields_over_is (field_numbers ns.0) ns.1) ∙ ended_over mti (fields_at (field_numbers ns.0) ns.1))
+    bind_over (known (field_numbers ns.0)) (λ ok. fields_at (field_numbers ns.0) ns.1 >>= λ fields. ended mti fields) (λ ok. fields_over (field_numbers ns.0) ns.1 >>= at_end mti)
+    (λ ok. ap (λ (r : Result (List ℕ) DecodeError). r >>= at_end mti) (fields_over_is (field_numbers ns.0) ns.1) ∙ ended_over mti (fields_at (field_numbers ns.0) ns.1))
 
 pub read_over_is : (bytes : List ℕ) → read_over bytes ≡ over (read bytes)
 unfolding read read_over
 read_over_is bytes =
-    bind_over (part 4 bytes) (λ front. mti_is front.0 >>= λ mti. bitmaps_at front.1 >>= λ ns. then_fields mti ns) (λ front. mti_is front.0 >>= λ mti. bitmaps_at front.1 >>= λ ns. known (field_numbers ns.0) >>= λ ok. fields_over (field_numbers ns.0) ns.1 >>= at_end)
-    (λ front. bind_over (mti_is front.0) (λ mti. bitmaps_at front.1 >>= λ ns. then_fields mti ns) (λ mti. bitmaps_at front.1 >>= λ ns. known (field_numbers ns.0) >>= λ ok. fields_over (field_numbers ns.0) ns.1 >>= at_end)
-    (λ mti. bind_over (bitmaps_at front.1) (λ ns. then_fields mti ns) (λ ns. known (field_numbers ns.0) >>= λ ok. fields_over (field_numbers ns.0) ns.1 >>= at_end) (λ ns. then_over mti ns)))
+    bind_over (part 4 bytes) (λ front. mti_is front.0 >>= λ mti. bitmaps_at front.1 >>= λ ns. then_fields mti ns) (λ front. mti_is front.0 >>= λ mti. bitmaps_at front.1 >>= λ ns. known (field_numbers ns.0) >>= λ ok. fields_over (field_numbers ns.0) ns.1 >>= at_end mti)
+    (λ front. bind_over (mti_is front.0) (λ mti. bitmaps_at front.1 >>= λ ns. then_fields mti ns) (λ mti. bitmaps_at front.1 >>= λ ns. known (field_numbers ns.0) >>= λ ok. fields_over (field_numbers ns.0) ns.1 >>= at_end mti)
+    (λ mti. bind_over (bitmaps_at front.1) (λ ns. then_fields mti ns) (λ ns. known (field_numbers ns.0) >>= λ ok. fields_over (field_numbers ns.0) ns.1 >>= at_end mti) (λ ns. then_over mti ns)))
 
 -- ---- answers
 
@@ -209,9 +214,13 @@ over_fault : (r : Result PlainMessage DecodeError) (e : DecodeError) → over r 
 over_fault (Ok m) e h = absurd cc
 over_fault (Err d) e h = let same : d ≡ e = cc in ap (λ (x : DecodeError). failed {A = PlainMessage} x) same
 
-over_ok : (r : Result PlainMessage DecodeError) → over r ≡ Ok tt → IsOk r
-over_ok (Ok m) h = refl
-over_ok (Err d) h = absurd cc
+over_ok : (r : Result PlainMessage DecodeError) (mti : List ℕ) → over r ≡ Ok mti → IsOk r
+over_ok (Ok m) mti h = refl
+over_ok (Err d) mti h = absurd cc
+
+over_type : (r : Result PlainMessage DecodeError) (mti : List ℕ) → over r ≡ Ok mti → Some mti ≡ type_of r
+over_type (Ok m) mti h = let same : m.mti ≡ mti = cc in ap (λ t. Some t) (sym same)
+over_type (Err d) mti h = absurd cc
 
 -- a fault that is met by looking over
 pub looked_fault : (bytes : List ℕ) (e : DecodeError) → read_over bytes ≡ Err e → Answers (Err e) (read bytes)
@@ -220,8 +229,15 @@ looked_fault bytes e h =
     faulty e (read bytes) (subst (λ (r : Result PlainMessage DecodeError). Clean r) same (read_clean bytes)) same
 
 -- want of memory, where looking over meets none
-pub looked_well : (bytes : List ℕ) → read_over bytes ≡ Ok tt → Answers (Err OutOfMemory) (read bytes)
-looked_well bytes h = over_ok (read bytes) (sym (read_over_is bytes) ∙ h)
+pub looked_well : (bytes mti : List ℕ) → read_over bytes ≡ Ok mti → Answers (Err OutOfMemory) (read bytes)
+looked_well bytes mti h = over_ok (read bytes) mti (sym (read_over_is bytes) ∙ h)
+
+-- the type that looking over tells
+pub looked_type : (bytes mti : List ℕ) → read_over bytes ≡ Ok mti → Some mti ≡ type_of (read bytes)
+looked_type bytes mti h = over_type (read bytes) mti (sym (read_over_is bytes) ∙ h)
+
+pub looked_none : (bytes : List ℕ) (e : DecodeError) → read_over bytes ≡ Err e → None ≡ type_of (read bytes)
+looked_none bytes e h = let same = over_fault (read bytes) e (sym (read_over_is bytes) ∙ h) in ap type_of (sym same)
 
 pub found_by : (bytes : List ℕ) (r : Result PlainMessage DecodeError) → Answers r (read bytes) → IfOk r (λ m. Spells bytes m)
 found_by bytes (Ok m) a = read_found bytes m a

@@ -157,11 +157,17 @@ unfoldable pub fields_over : List ℕ → List ℕ → Result (List ℕ) DecodeE
 fields_over [] bytes = Ok bytes
 fields_over (n ∷ ns) bytes = field_over (form_of n) n bytes >>= λ rest. fields_over ns rest
 
-unfoldable pub read_over : List ℕ → Result (Unit {0}) DecodeError
+-- the type alone
+unfoldable pub read_over : List ℕ → Result (List ℕ) DecodeError
 read_over bytes = do
   front ← part 4 bytes
   mti ← mti_is front.0
   ns ← bitmaps_at front.1
   ok ← known (field_numbers ns.0)
   rest ← fields_over (field_numbers ns.0) ns.1
-  if length rest == 0 then Ok tt else Err Trailing
+  if length rest == 0 then Ok mti else Err Trailing
+
+-- the type of the message that was read, if one was
+abbrev pub type_of : Result PlainMessage DecodeError → Option (List ℕ)
+type_of (Ok m) = Some m.mti
+type_of (Err e) = None

@@ -2,14 +2,14 @@
 
 ghost use Rattle.std.specs.Prelude.{◌≡◌};
 ghost use Rattle.iso_msg.specs.Table.{form_of, IsForm};
-ghost use Rattle.iso_codec.specs.Reads.{Exactly, form_over, field_over, fields_over, read_over};
+ghost use Rattle.iso_codec.specs.Reads.{Exactly, form_over, field_over, fields_over, read, read_over, type_of};
 
 use crate::bitmap::{check_known, fields_of, read_bitmaps};
 use crate::error::DecodeError;
 use crate::in_place::check_content;
 use crate::numbers::Numbers;
 use crate::parts::{mti_of, read_binary, read_variable, split};
-use iso_msg::{Form, form_at};
+use iso_msg::{Form, Mti, form_at};
 
 /// Passes over a field of this form.
 fn check_form(form: Form, number: u8, bytes: &[u8]) -> Result<&[u8], DecodeError>
@@ -60,13 +60,13 @@ fn check_fields<'a>(numbers: &[u8], bytes: &'a [u8]) -> Result<&'a [u8], DecodeE
     Ok(rest)
 }
 
-/// Refuses bytes that are no message.
+/// The type of the message that the bytes are; refuses bytes that are none.
 #[tactic(auto, unfolding(crate::specs::Reads::read_over))]
-pub fn check(bytes: &[u8]) -> Result<(), DecodeError>
-    ensures { Exactly (λ _. tt) result (read_over bytes.now) }
+pub fn check(bytes: &[u8]) -> Result<Mti, DecodeError>
+    ensures { Exactly (λ m. m) result (read_over bytes.now) }
 {
     let (digits, rest) = split(bytes, 4)?;
-    let _ = mti_of(digits)?;
+    let mti = mti_of(digits)?;
     let mut all = Numbers::new();
     let rest = read_bitmaps(rest, &mut all)?;
     let numbers = fields_of(all.as_slice());
@@ -75,5 +75,16 @@ pub fn check(bytes: &[u8]) -> Result<(), DecodeError>
     if !rest.is_empty() {
         return Err(DecodeError::Trailing);
     }
-    Ok(())
+    Ok(mti)
+}
+
+/// The type of the message that the bytes spell, `None` where they spell none. The bytes are looked over, which takes no
+/// memory.
+pub fn type_in(bytes: &[u8]) -> Option<Mti>
+    ensures { result ≡ type_of (read bytes.now) }
+{
+    match check(bytes) {
+        Ok(mti) => Some(mti),
+        Err(_) => None,
+    }
 }

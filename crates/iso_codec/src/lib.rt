@@ -7,6 +7,7 @@
 //! - `decode` answers a message exactly where the grammar relates it to the bytes, and else the
 //!   first fault from the left, which `read` of `specs/Reads.antt` names. It reads the bytes once
 //!   and copies only the values. Want of memory is told only of bytes that are readable.
+//! - `type_in` answers the type of the message alone, and takes no memory.
 //! - `encode` answers the one spelling with upper case digits and without an empty secondary
 //!   bitmap (`spelling` of `specs/Spelling.antt`), and what `decode` reads of it is the message. It
 //!   has at most 9,999 bytes.
@@ -23,6 +24,7 @@ mod parts;
 mod read;
 mod write;
 
+pub use check::type_in;
 pub use error::DecodeError;
 pub use in_place::{check_content, read_front};
 pub use numbers::Numbers;

@@ -175,7 +175,7 @@ fn settled(e: DecodeError, bytes: &[u8]) -> DecodeError
 {
     match e {
         DecodeError::OutOfMemory => match check(bytes) {
-            Ok(()) => DecodeError::OutOfMemory,
+            Ok(_) => DecodeError::OutOfMemory,
             Err(fault) => fault,
         },
         fault => fault,

@@ -1,5 +1,5 @@
 -- Walks over fields.
--- for: storage::put, storage::take, storage::copy, message::Message
+-- for: storage::put_among, storage::take, storage::copy, message::Message
 use Rattle.std.specs.Result.{OnOk, OnErr}
 use Rattle.iso_msg.specs.declared.table.Form.{Form}
 use Rattle.iso_msg.specs.Table.{form_of}

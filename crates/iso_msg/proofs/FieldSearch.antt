@@ -1,16 +1,17 @@
 -- Where a number is among fields whose numbers rise.
--- for: storage::place, storage::get
-use Rattle.std.proofs.Common.{◌≡◌, ℕ, zero, suc, ◌<◌, ◌≤◌, List, [], ◌∷◌, length, get_or, Some, None, Result, Ok, Err, refl, sym, ap, subst, ◌∙◌, inl, inr, arith}
+-- for: storage::place, storage::is_above, storage::get
+use Rattle.std.proofs.Common.{◌≡◌, ℕ, zero, suc, ◌<◌, ◌≤◌, ◌-◌, List, [], ◌∷◌, ◌++◌, length, get_or, slice_get, Some, None, Result, Ok, Err, refl, sym, ap, subst, ◌∙◌, inl, inr, arith}
 use Rattle.std.specs.List.Sorted.{IsSearchInRange, IsBinarySearchResult, IsNonDecreasingBy}
 use Rattle.std.specs.Ordering.{nat_cmp, ordering_index}
 use Rattle.std.proofs.lemmas.Cmp.{ranked}
 use Rattle.std.proofs.lemmas.Bool.{cases_eq, lt-ltb, le-ltb}
 use Rattle.std.proofs.lemmas.Bool.Decides.{nat_tests}
 use Rattle.iso_msg.specs.declared.field.Field.{Field}
-use Rattle.iso_msg.specs.Messages.{Fields, AreFields, value_at}
+use Rattle.iso_msg.specs.Messages.{Fields, AreFields, value_at, with_value}
 use Rattle.iso_msg.specs.Values.{refusal}
 use Rattle.iso_msg.specs.Storage.{pair, pairs, place_of, shift}
 use Rattle.std.proofs.lemmas.List.{get_or-map, length-map}
+use Rattle.std.proofs.lemmas.Option.{get_or_from_slice_get}
 use Rattle.iso_msg.proofs.FieldLists.{removes_at}
 use Rattle.iso_msg.proofs.Bools.{equal-eqb, eqb-false_from, some_is}
 
@@ -58,6 +59,21 @@ module _ (fs : List Field) (n : ℕ) (a : AreFields 1 (pairs fs)) where
   searched (Err i) within parted =
       let q = parted comparisons_rise in
       sym (place_between fs n i within (λ j d l. ranked _ n _ (sym (q.0 j d (omega arith) l))) (λ j d l m. ranked _ n _ (sym (q.1 j d l m))))
+
+-- a field goes behind those with lower numbers
+behind_all : (fs : List Field) (n : ℕ) (v : List ℕ) → ((i : ℕ) (d : Field) → i < length fs → (get_or fs i d).number < n) → with_value n v (pairs fs) ≡ pairs fs ++ (n, v) ∷ []
+behind_all [] n v under = refl
+behind_all (f ∷ fs) n v under = rw (lt-ltb f.number n (under 0 f (omega arith))) (ap (λ (x : Fields). pair f ∷ x) (behind_all fs n v (λ i d l. under (suc i) d (omega arith))))
+
+-- those of all are lower where that of the last one is
+pub above_last : (fs : List Field) (n : ℕ) (f : Field) → AreFields 1 (pairs fs) → slice_get fs (length fs - 1) ≡ Some f → f.number < n → (v : List ℕ) → with_value n v (pairs fs) ≡ pairs fs ++ (n, v) ∷ []
+above_last fs n f a last less v =
+    behind_all fs n v (λ i d l.
+    let top : (get_or fs (length fs - 1) d).number ≡ f.number = ap (λ (x : Field). x.number) (get_or_from_slice_get fs (length fs - 1) f d last) in
+    elim (cases_eq i (length fs - 1)) [
+      | inl e ↦ let same : (get_or fs i d).number ≡ (get_or fs (length fs - 1) d).number = ap (λ k. (get_or fs k d).number) e in omega (arith, same, top, less)
+      | inr e ↦ let up : (get_or fs i d).number < (get_or fs (length fs - 1) d).number = rises 1 fs i (length fs - 1) d a (omega arith) (omega arith) in omega (arith, up, top, less)
+    ])
 
 -- the value at a number fits its field
 pub value_fits : (low n : ℕ) (v : List ℕ) (ps : Fields) → AreFields low ps → value_at n ps ≡ Some v → refusal n v ≡ None

@@ -1,6 +1,6 @@
 //! Fields in rising order of their numbers.
 
-ghost use Rattle.std.specs.Prelude.{◌≡◌, OnOk, OnErr, IfOk, IfErr, IfSome, None, option_map};
+ghost use Rattle.std.specs.Prelude.{◌≡◌, ◌++◌, ◌∷◌, [], List, ℕ, IsTrue, OnOk, OnErr, IfOk, IfErr, IfSome, None, option_map};
 ghost use Rattle.iso_msg.specs.Messages.{AreFields, value_at, with_value, without};
 ghost use Rattle.iso_msg.specs.Values.{refusal};
 ghost use Rattle.iso_msg.specs.Storage.{pairs, place_of};
@@ -18,7 +18,29 @@ fn place(fields: &[Field], number: u8) -> Result<usize, usize>
     fields.binary_search_by_key(&number, |field| field.number)
 }
 
-pub fn put(fields: &mut Vec<Field>, number: u8, value: Vec<u8>) -> Result<(), MessageError>
+/// Whether a number is above those of all fields, so that its field goes behind them.
+fn is_above(fields: &[Field], number: u8) -> bool
+    requires { AreFields 1 (pairs fields.now) }
+    ensures { IsTrue result → (value : List ℕ) → with_value number value (pairs fields.now)
+        ≡ pairs fields.now ++ (number, value) ∷ [] }
+{
+    match fields.last() {
+        Some(field) => field.number < number,
+        None => true,
+    }
+}
+
+fn put_behind(fields: &mut Vec<Field>, number: u8, value: Vec<u8>) -> Result<(), MessageError>
+    ensures ok { OnOk result (pairs fields.new.items
+        ≡ pairs fields.old.items ++ (number, value.items) ∷ []) }
+    ensures err { OnErr result (fields.new.items ≡ fields.old.items) }
+    ensures memory { IfErr result (λ e. e ≡ OutOfMemory) }
+{
+    fields.push(Field { number, value })?;
+    Ok(())
+}
+
+fn put_among(fields: &mut Vec<Field>, number: u8, value: Vec<u8>) -> Result<(), MessageError>
     requires { AreFields 1 (pairs fields.old.items) }
     ensures ok { OnOk result (pairs fields.new.items
         ≡ with_value number value.items (pairs fields.old.items)) }
@@ -30,6 +52,21 @@ pub fn put(fields: &mut Vec<Field>, number: u8, value: Vec<u8>) -> Result<(), Me
         Err(i) => fields.insert(i, Field { number, value })?,
     }
     Ok(())
+}
+
+/// Decoding puts each field behind the others, which needs no search.
+pub fn put(fields: &mut Vec<Field>, number: u8, value: Vec<u8>) -> Result<(), MessageError>
+    requires { AreFields 1 (pairs fields.old.items) }
+    ensures ok { OnOk result (pairs fields.new.items
+        ≡ with_value number value.items (pairs fields.old.items)) }
+    ensures err { OnErr result (fields.new.items ≡ fields.old.items) }
+    ensures memory { IfErr result (λ e. e ≡ OutOfMemory) }
+{
+    if is_above(fields, number) {
+        put_behind(fields, number, value)
+    } else {
+        put_among(fields, number, value)
+    }
 }
 
 pub fn get(fields: &[Field], number: u8) -> Option<&[u8]>

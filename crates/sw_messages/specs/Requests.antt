@@ -2,7 +2,7 @@
 -- these entries: `request` (a message's bytes), `rc` (the response code), `auth` (the approval
 -- code), `sent` and `late` (the request went to an issuer, and its answer has not come),
 -- `standin` (the switch approved by itself) and `response`.
-use Rattle.std.specs.Prelude.{ℕ, Bool, false, ◌||◌, List, Option, Some, None, is_none}
+use Rattle.std.specs.Prelude.{ℕ, Bool, false, ◌||◌, List, Option, Some, None, is_none, option_and_then}
 use Rattle.std.specs.Prelude.{Result, Ok, Err, if◌then◌else◌, codes}
 use Rattle.std.specs.Str.{bytes_eq}
 use Rattle.iso_msg.specs.Messages.{PlainMessage}
@@ -50,6 +50,10 @@ class_of mti =
     else if is_reversal mti then Some Reversal
     else if is_network_management mti then Some NetworkManagement
     else None
+
+-- what the request of a context is for
+abbrev pub class_in : Pairs → Option Class
+class_in x = option_and_then (λ m. class_of m.mti) (request_in x)
 
 -- the two characters of field 39
 abbrev pub digits_of : ResponseCode → List ℕ

@@ -3,9 +3,9 @@
 //! - [`Class`] is what a request is for, by its message type; [`ResponseCode`] is its field 39.
 //!   [`fault_of`] tells why a request is none, [`amount_of`] what the digits of field 4 spell.
 //! - A transaction's context carries the request as the entry `request`, which [`request_in`]
-//!   reads. Notes stand beside it ([`note`]): `rc` (response code), `auth` (approval code),
-//!   `sent` and `late` (the request went to an issuer, and its answer has not come), `standin`
-//!   (the switch approved by itself) and `response`.
+//!   reads, and [`class_in`] looks over for what it is for. Notes stand beside it ([`note`]): `rc`
+//!   (response code), `auth` (approval code), `sent` and `late` (the request went to an issuer, and
+//!   its answer has not come), `standin` (the switch approved by itself) and `response`.
 //! - [`response_to`], [`reversal_of`], [`authorization_advice`] and [`reversal_advice`] make of a
 //!   request its response, its reversal, and the advices that issuers are told later.
 //!
@@ -28,7 +28,7 @@ pub use build::{copy_fields, place, put_part};
 pub use class::{Class, class_of};
 pub use faults::fault_of;
 pub use notes::{
-    APPROVAL, CODE, LATE, REQUEST, RESPONSE, SENT, STAND_IN, note, note_code, request_in,
+    APPROVAL, CODE, LATE, REQUEST, RESPONSE, SENT, STAND_IN, class_in, note, note_code, request_in,
 };
 pub use response::{response_to, response_type};
 pub use response_code::{ResponseCode, is_approved};

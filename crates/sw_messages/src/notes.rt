@@ -1,10 +1,11 @@
 //! What is read in a context and noted in it.
 
 ghost use Rattle.std.specs.Prelude.{◌≡◌, IfOk, OnOk, OnErr};
-ghost use Rattle.sw_messages.specs.Requests.{request_in, noted, coded};
+ghost use Rattle.sw_messages.specs.Requests.{class_in, request_in, noted, coded};
 
+use crate::class::{Class, class_of};
 use crate::response_code::ResponseCode;
-use iso_codec::{DecodeError, decode};
+use iso_codec::{DecodeError, decode, type_in};
 use iso_msg::Message;
 use std::alloc::Global;
 use sw_context::{Context, ContextError};
@@ -42,6 +43,19 @@ pub fn request_in(alloc: Global, context: &Context) -> Result<Option<Message>, N
         Ok(message) => Ok(Some(message)),
         Err(DecodeError::OutOfMemory) => Err(NoMemory),
         Err(_) => Ok(None),
+    }
+}
+
+/// What the request that a context carries is for, if it is readable and the switch takes its type. It takes no memory.
+pub fn class_in(context: &Context) -> Option<Class>
+    ensures { result ≡ class_in context.now }
+{
+    let Some(bytes) = context.get(REQUEST) else {
+        return None;
+    };
+    match type_in(bytes) {
+        Some(mti) => class_of(mti.digits()),
+        None => None,
     }
 }
 

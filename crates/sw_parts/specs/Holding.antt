@@ -51,6 +51,10 @@ abbrev pub gives_back : Option BookKey → PlainBook → PlainBook
 gives_back None book = book
 gives_back (Some key) book = with_items book (reversed key book.items)
 
+abbrev pub given_back : Option PlainMessage → PlainBook → PlainBook
+given_back None book = book
+given_back (Some m) book = gives_back (original m) book
+
 abbrev pub committed_class : Option Class → PlainMessage → ℕ → PlainBook → PlainBook
 committed_class (Some Authorization) m id book = with_items book (settled id book.items)
 committed_class (Some Reversal) m id book = gives_back (original m) book

@@ -1,13 +1,13 @@
 //! The limits of cards.
 
-ghost use Rattle.std.specs.Prelude.{◌≡◌, ◌+◌, ◌≤◌, length, Some, None, IfOk, OnErr};
+ghost use Rattle.std.specs.Prelude.{◌≡◌, ◌+◌, ◌≤◌, length, Some, None, IfOk, OnErr, OnOk};
 ghost use Rattle.sw_base.specs.Digits.{number_of};
 ghost use Rattle.sw_book.specs.Items.{PlainBook};
 ghost use Rattle.sw_book.specs.declared.item.State.TheVariants.{Open};
 ghost use Rattle.sw_messages.specs.Placing.{put_at};
 ghost use Rattle.sw_parts.specs.Asking.{card_of, key_of, asked, original, code_for};
 ghost use Rattle.sw_parts.specs.Holding.{Holds, HoldsBy, HoldsAsked};
-ghost use Rattle.sw_parts.specs.Holding.{committed, committed_by, aborted};
+ghost use Rattle.sw_parts.specs.Holding.{committed, given_back, aborted};
 ghost use Rattle.sw_parts.specs.ShownBooks.{shown_book};
 ghost use Rattle.sw_parts.specs.Quiet.{PassesOver, SelectsNone, RestoresNothing};
 
@@ -16,7 +16,9 @@ use iso_msg::Message;
 use std::alloc::Global;
 use sw_book::{Book, BookError, BookKey, Card, Item, State};
 use sw_context::Context;
-use sw_messages::{Class, ResponseCode, amount_of, class_of, note_code, put_part, request_in};
+use sw_messages::{
+    Class, ResponseCode, amount_of, class_in, class_of, note_code, put_part, request_in,
+};
 use sw_participant::{AdviceResult, Bytes, NoMemory, Participant, Text};
 
 /// Holds, spends and gives back the amounts of cards.
@@ -139,23 +141,34 @@ fn prepare_book(
     }
 }
 
-fn commit_book(book: &mut Book, id: u64, request: &Option<Message>)
-    ensures { book.new ≡ committed_by request.now id book.old }
+// Gives back what a reversal names.
+fn give_back(book: &mut Book, request: &Option<Message>)
+    ensures { book.new ≡ given_back request.now book.old }
 {
     let Some(message) = request else {
         return;
     };
-    match class_of(message.mti().digits()) {
+    if let Some(key) = original(message) {
+        let _ = book.reverse(&key);
+    }
+}
+
+// Of an authorization only the type is looked at, so that it takes no memory.
+fn commit_book(alloc: Global, book: &mut Book, id: u64, context: &Context) -> Result<(), NoMemory>
+    ensures committed { OnOk result (book.new ≡ committed id context.now book.old) }
+    ensures kept { OnErr result (book.new ≡ book.old) }
+{
+    match class_in(context) {
         Some(Class::Authorization) => {
             let _ = book.settle(id);
         }
         Some(Class::Reversal) => {
-            if let Some(key) = original(message) {
-                let _ = book.reverse(&key);
-            }
+            let request = request_in(alloc, context)?;
+            give_back(book, &request);
         }
         _ => {}
     }
+    Ok(())
 }
 
 impl Limits {
@@ -197,8 +210,7 @@ impl Participant for Limits {
     }
 
     fn commit(&mut self, id: u64, context: &mut Context, recovering: bool) -> AdviceResult {
-        let request = request_in(self.alloc, context)?;
-        commit_book(&mut self.book, id, &request);
+        commit_book(self.alloc, &mut self.book, id, context)?;
         Ok(None)
     }
 

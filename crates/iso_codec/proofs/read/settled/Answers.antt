@@ -3,7 +3,7 @@ use Rattle.iso_codec.proofs.DecodeAnswers.{kept, looked_fault, looked_well}
 use Rattle.iso_codec.proofs.read.settled.Goals as goal
 
 pub returns-in-Ok : goal.returns-in-Ok
-returns-in-Ok c = looked_well c.args.bytes.now c.in-Ok.ensures
+returns-in-Ok c = looked_well c.args.bytes.now _ c.in-Ok.ensures
 
 pub returns-in-Err : goal.returns-in-Err
 returns-in-Err c = looked_fault c.args.bytes.now c.in-Err.fault c.in-Err.ensures

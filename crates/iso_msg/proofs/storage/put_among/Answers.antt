@@ -3,7 +3,7 @@ use Rattle.std.proofs.lemmas.List.{map-set, length-map}
 use Rattle.iso_msg.specs.declared.field.Field.{Field}
 use Rattle.iso_msg.specs.Storage.{pair, pairs, place_of}
 use Rattle.iso_msg.proofs.FieldLists.{found, missing, map-insert}
-use Rattle.iso_msg.proofs.storage.put.Goals as goal
+use Rattle.iso_msg.proofs.storage.put_among.Goals as goal
 
 pub index_mut-requires : goal.index_mut-requires
 index_mut-requires c =
