@@ -1,9 +1,12 @@
 -- The group of a name, found by the table of first steps.
 -- for: code::Code::find_group
-use Rattle.std.proofs.Common.{◌≡◌, ℕ, zero, suc, ◌+◌, ◌<◌, ◌≤◌, Bool, true, false, List, [], ◌∷◌, length, drop, get_or, refl, sym, ap, ◌∙◌, subst, arith, if◌then◌else◌}
+use Rattle.std.proofs.Common.{◌≡◌, ℕ, zero, suc, ◌+◌, ◌<◌, ◌≤◌, Bool, true, false, List, [], ◌∷◌, length, drop, get_or, slice_get, Some, refl, sym, ap, ◌∙◌, subst, arith, if◌then◌else◌}
 use Rattle.std.specs.Str.{bytes_eq}
 use Rattle.std.specs.Prelude.{◌||◌}
 use Rattle.std.proofs.lemmas.List.{drop_all}
+use Rattle.std.proofs.lemmas.Option.{slice_get-get_or}
+use Rattle.std.proofs.lemmas.Slice.Eq.{bytes_eq-Decides}
+use Rattle.std.specs.Option.{option_map}
 use Rattle.flow_model.specs.declared.flow.Flow.{Flow}
 use Rattle.flow_model.specs.declared.flow.Group.{Group}
 use Rattle.flow_model.specs.declared.numbering.Part.{Part}
@@ -42,7 +45,12 @@ group_here f starts k d e h =
 pub group_within : (f : Flow) (starts : List GroupStart) (k : ℕ) → starts ≡ starts_of f → k < length starts → k < length (layout f)
 group_within f starts k e h = subst (λ n. k < n) (ap length e ∙ length-starts f) h
 
--- it has the name
+-- the table has the name at that place
+pub start_named : (f : Flow) (starts : List GroupStart) (k : ℕ) (d : GroupStart) (name : List ℕ) → starts ≡ starts_of f → k < length starts → bytes_eq (get_or starts k d).name name ≡ true → option_map (λ (s : GroupStart). s.name) (slice_get (starts_of f) k) ≡ Some name
+start_named f starts k d name e h same =
+    ap (λ (xs : List GroupStart). option_map (λ (s : GroupStart). s.name) (slice_get xs k)) (sym e) ∙ ap (option_map (λ (s : GroupStart). s.name)) (slice_get-get_or starts k d h) ∙ ap Some ((bytes_eq-Decides (get_or starts k d).name name).0 same)
+
+-- its entries are those of the name
 pub named_here : (f : Flow) (starts : List GroupStart) (k : ℕ) (d : GroupStart) (name : List ℕ) → starts ≡ starts_of f → k < length starts → bytes_eq (get_or starts k d).name name ≡ true → named_from (parts_of f) k (drop k f.groups) name ≡ entries_named f name → entries_named f name ≡ group_at (layout f) k
 named_here f starts k d name e h same is =
     let w = group_here f starts k d e h in

@@ -1,9 +1,10 @@
 //! What stands at a step, and the look-up of a group by its name.
 
-ghost use Rattle.std.specs.Prelude.{◌≡◌, ◌<◌, ◌≤◌, [], length, IfSome, IfNone, false};
+ghost use Rattle.std.specs.Prelude.{◌≡◌, ◌<◌, ◌≤◌, [], length, IfSome, IfNone, Some, false, slice_get};
+ghost use Rattle.std.specs.Option.{option_map};
 ghost use Rattle.flow_model.specs.Check.{is_named};
 ghost use Rattle.flow_model.specs.Places.{entries_named};
-ghost use Rattle.flow_asm.specs.Steps.{layout, stages};
+ghost use Rattle.flow_asm.specs.Steps.{layout, stages, starts_of};
 ghost use Rattle.flow_asm.specs.Places.{group_at};
 ghost use Rattle.flow_asm.specs.Views.{IsStepView};
 
@@ -43,6 +44,8 @@ impl Code {
     /// has no such group.
     pub fn find_group(&self, name: &[u8]) -> Option<usize>
         ensures within { IfSome result (λ g. g < length (layout self.now)) }
+        ensures named { IfSome result
+            (λ g. option_map (λ s. s.name) (slice_get (starts_of self.now) g) ≡ Some name.now) }
         ensures found { IfSome result (λ g. entries_named self.now name.now ≡ group_at (layout self.now) g) }
         ensures none { IfNone result (entries_named self.now name.now ≡ []) }
         ensures unknown { IfNone result (is_named name.now self.now.groups ≡ false) }

@@ -1,5 +1,5 @@
 -- How many participants a flow has, and that the number of each placed entry is one of theirs.
--- for: bounds::participants_are_few, bounds::entries_have_participants, numbering::participants
+-- for: bounds::participants_are_few, bounds::entries_have_participants
 use Rattle.std.specs.Prelude.{nat_lt}
 use Rattle.std.specs.List.{All}
 use Rattle.std.specs.Str.{bytes_eq}

@@ -1,5 +1,5 @@
 -- Numbering participants, a list of entries after another.
--- for: numbering::collect_parts
+-- for: flow_load, flow_asm
 use Rattle.std.proofs.Common.{◌≡◌, List, [], ◌∷◌, ◌++◌, refl}
 use Rattle.flow_model.specs.declared.flow.Entry.{Entry}
 use Rattle.flow_model.specs.declared.numbering.Part.{Part}

@@ -3,8 +3,8 @@
 //! Promised here:
 //! - [`Flow::check`] accepts exactly the flows without a fault, and answers the first fault in one
 //!   written order.
-//! - [`participants`] numbers the participants of a flow by first appearance, and [`number_of`]
-//!   finds a number again, so a participant has one number in whatever form a flow is kept.
+//! - [`number_of`] finds the number of a participant in a list of them, so a participant has one
+//!   number in whatever form a flow is kept.
 //! - A checked flow has at most 16,384 participants, and each placed entry's number is one of theirs.
 #![tactic(auto)]
 
@@ -18,4 +18,4 @@ mod numbering;
 pub use bounds::{entries_have_participants, participants_are_few};
 pub use error::FlowError;
 pub use flow::{Entry, Flow, Group, PlacedEntry};
-pub use numbering::{Part, number_of, participants};
+pub use numbering::{Part, number_of};

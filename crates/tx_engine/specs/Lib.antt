@@ -5,3 +5,4 @@ pub mod Opening
 pub mod Items
 pub mod Cuts
 pub mod Replies
+pub mod Texts

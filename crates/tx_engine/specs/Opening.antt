@@ -1,5 +1,5 @@
 -- What an opening refuses, and what it makes.
-use Rattle.std.specs.Prelude.{◌≡◌, ⊤, ℕ, false, List, [], ◌∷◌, length, Option, Some, None, Result, Ok, Err, nat_lt, ◌||◌, if◌then◌else◌}
+use Rattle.std.specs.Prelude.{◌≡◌, ⊤, ℕ, Bool, false, List, [], ◌∷◌, length, Option, Some, None, Result, Ok, Err, nat_lt, ◌||◌, if◌then◌else◌}
 use Rattle.sw_base.specs.Refusals.{or_else, refused_if, first_of}
 use Rattle.flow_model.specs.declared.flow.Flow.{Flow}
 use Rattle.flow_model.specs.Places.{parts_of}
@@ -40,13 +40,22 @@ abbrev pub unknown_of : Flow → List (ℕ × Row) → Option EngineError
 unknown_of f [] = None
 unknown_of f (r ∷ rows) = or_else (unknown_in f r.0 (to_tell r.1 r.1.doing)) (unknown_of f rows)
 
+-- whether so many sessions are refused
+abbrev pub are_bad_sessions : ℕ → Bool
+are_bad_sessions n = nat_lt n 1 || nat_lt 16 n
+
 abbrev pub open_refusal : Flow → JournalView → ℕ → Option EngineError
-open_refusal f j n = first_of (refused_if (nat_lt n 1 || nat_lt 16 n) BadSessions ∷ unknown_of f j.rows ∷ [])
+open_refusal f j n = first_of (refused_if (are_bad_sessions n) BadSessions ∷ unknown_of f j.rows ∷ [])
 
 -- the error is that refusal, or memory was wanting: the name in a refusal needs some
 abbrev pub IsOpenRefusal : Option EngineError → EngineError → Type 0
 IsOpenRefusal refusal OutOfMemory = ⊤
 IsOpenRefusal refusal e = refusal ≡ Some e
+
+-- memory is taken only once the number of sessions is known to be good
+abbrev pub IsAfterSessions : ℕ → EngineError → Type 0
+IsAfterSessions n OutOfMemory = are_bad_sessions n ≡ false
+IsAfterSessions n e = ⊤
 
 abbrev pub Tells : Option EngineError → Result (Unit {0}) EngineError → Type 0
 Tells refusal (Ok u) = refusal ≡ None

@@ -2,6 +2,7 @@
 
 ghost use Rattle.std.specs.Prelude.{◌≡◌};
 ghost use Rattle.tx_engine.specs.declared.error.EngineError.TheVariants.{OutOfMemory};
+ghost use Rattle.tx_engine.specs.Texts.{text_of};
 
 use std::alloc::{AllocError, AllocFailed};
 use std::error::Error;
@@ -44,7 +45,9 @@ pub enum EngineError {
 
 impl EngineError {
     // What is said of a refusal, without a name that it may have.
-    fn text(&self) -> &'static str {
+    fn text(&self) -> &'static str
+        ensures { result.now ≡ text_of self.now }
+    {
         match self {
             EngineError::UnknownParticipant { .. } => "the flow lacks a participant of the journal",
             EngineError::BadSessions => "bad number of sessions: expected 1 to 16",

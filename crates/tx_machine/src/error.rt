@@ -6,7 +6,8 @@ ghost use Rattle.tx_machine.specs.declared.error.MachineError.TheVariants.{OutOf
 use std::alloc::{AllocError, AllocFailed};
 use thiserror::Error;
 
-/// Why a machine refuses an item. It is then as it was.
+/// Why a machine refuses an item. It is then as it was. The numbers of the refusals are: 0
+/// `OutOfMemory`, 1 `NotDue`.
 #[derive(Clone, Copy, Debug, Error)]
 pub enum MachineError {
     /// Another kind of call is due, or none.

@@ -8,7 +8,8 @@ ghost use Rattle.tx_history.specs.History.{Start, to_tell};
 ghost use Rattle.tx_history.specs.Journal.{entries, to_close};
 ghost use Rattle.tx_history.specs.Lives.{closes_of};
 ghost use Rattle.tx_history.specs.Views.{IsOk, PlacesRise};
-ghost use Rattle.tx_engine.specs.Opening.{IsOpenRefusal, Tells, closing_entry, open_refusal};
+ghost use Rattle.tx_engine.specs.Opening.{IsAfterSessions, IsOpenRefusal, Tells, closing_entry};
+ghost use Rattle.tx_engine.specs.Opening.{open_refusal};
 ghost use Rattle.tx_engine.specs.Opening.{opened_world, unknown_in, unknown_of};
 ghost use Rattle.tx_slots.specs.declared.slot.Slot.TheVariants.{Free};
 
@@ -30,7 +31,7 @@ impl Engine {
     /// closing entry for each row with nobody to tell, and session 0 is to tell on the first other
     /// one. The queue is empty, and no breakpoint is set. Refuses, in this order, `BadSessions`
     /// unless there are 1 to 16, and `UnknownParticipant` of the least id, its members in order
-    /// and then who is doing.
+    /// and then who is doing; out of memory only where the number of sessions is good.
     pub fn open(
         alloc: Global,
         code: &Code,
@@ -41,6 +42,7 @@ impl Engine {
         ensures opened { IfOk result (λ e. e ≡ opened_world code.now view.now sessions) }
         ensures accepted { OnOk result (open_refusal code.now view.now sessions ≡ None) }
         ensures refused { IfErr result (IsOpenRefusal (open_refusal code.now view.now sessions)) }
+        ensures counted { IfErr result (IsAfterSessions sessions) }
     {
         if sessions < 1 || MOST_SESSIONS < sessions {
             return Err(EngineError::BadSessions);
