@@ -1,8 +1,0 @@
-use Rattle.std.proofs.Common.{to_z-of_z}
-use Rattle.sqlite.specs.Held.{state}
-use Rattle.journal_tables.proofs.PutMemberLemmas.{puts_member}
-use Rattle.journal_tables.proofs.statements.put_member.Goals as goal
-
-pub returns-clause-steps : goal.returns-clause-steps
-returns-clause-steps g c clean ready =
-    puts_member (state g.S.Store c.args.tx.now.conn.now) (state g.S.Store c.execute.new.self.conn.now) c.args.id c.args.place c.args.name.now c.execute.result ready (rw (to_z-of_z c.ranges.id, to_z-of_z c.ranges.place) at (c.execute.ensures.runs clean ready.mode))
