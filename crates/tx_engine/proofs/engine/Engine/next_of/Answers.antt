@@ -1,4 +1,4 @@
-use Rattle.std.proofs.Common.{◌<◌, length, arith, ◌∙◌}
+use Rattle.std.proofs.Common.{◌<◌, length, ◌∙◌}
 use Rattle.tx_engine.specs.World.{World}
 use Rattle.tx_engine.specs.contracts.engine.Engine.{the_view}
 use Rattle.tx_engine.proofs.Keeps.{slot_there, slot_sound}

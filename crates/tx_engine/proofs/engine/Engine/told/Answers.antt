@@ -1,4 +1,3 @@
-use Rattle.std.proofs.Common.{None}
 use Rattle.tx_engine.specs.contracts.engine.Engine.{the_view}
 use Rattle.tx_engine.proofs.Dues.{gives_told}
 use Rattle.tx_engine.proofs.engine.Engine.told.Goals as goal
