@@ -6,6 +6,7 @@ use cli_script::ScriptError;
 use cli_step::StepError;
 use std::alloc::{AllocError, AllocFailed};
 use std::fmt;
+use std::io;
 use thiserror::Error;
 use tx_journal::JournalError;
 use tx_plant::PlantError;
@@ -13,7 +14,8 @@ use tx_plant::PlantError;
 /// Why the program ends early. That the disks are cut is no such case.
 #[derive(Drop, Error)]
 pub enum TestError {
-    #[error("expected: silent FLOW JOURNAL, stopped power|kill [twice], stopped refusal, journal PATH COMMITS ENTRIES, \
+    #[error("expected: silent FLOW JOURNAL, stopped power|kill [twice], stopped refusal, opened PATH, \
+         turned power|kill|refusal, journal PATH COMMITS ENTRIES, \
          engine COUNT, or mux mux|map|ticks KEYS ROUNDS")]
     Words,
     #[error("{0}")]
@@ -22,6 +24,8 @@ pub enum TestError {
     Flow,
     #[error("the journal's file was not opened")]
     File,
+    #[error("a statement of the input was refused")]
+    Sql,
     #[error("the run was refused")]
     Run,
     #[error("{0}")]
@@ -58,6 +62,12 @@ impl fmt::Debug for TestError {
 impl From<&'static str> for TestError {
     fn from(text: &'static str) -> TestError {
         TestError::Bench(text)
+    }
+}
+
+impl From<io::Error> for TestError {
+    fn from(error: io::Error) -> TestError {
+        TestError::Write(WriteError::from(error))
     }
 }
 

@@ -14,6 +14,13 @@
 //! opened again, the lines of the recovery, `left` with the journal behind it, and behind the lines of
 //! each plant `calls NAME COUNT` for each of its stations.
 //!
+//! `test_switch opened PATH` prints the layout of the journal in the file, opens it, and prints its view, or why it is
+//! refused: `layout N`, `next NEXTID`, and a line for each row, context on the shelf and advice.
+//!
+//! `test_switch turned power|kill|refusal < SQL` makes a database by the statements of its input, one a line, and opens
+//! it as a journal, cut at the first call of its disks, at the second and so on, up to an opening that is not cut. Each
+//! time what is left is opened again. It prints for each run `run CALLS`, the layout that was left, and the view.
+//!
 //! `test_switch journal PATH COMMITS ENTRIES` makes so many commits of so many entries each in a journal in
 //! the file at the path, or in memory where the path is `memory`.
 //!
@@ -30,6 +37,7 @@ mod disks;
 mod error;
 mod lines;
 mod lives;
+mod openings;
 mod runs;
 mod silent;
 
@@ -37,10 +45,12 @@ use bench::{time_engine, time_journal, time_mux};
 use cli_io::{Input, read_input};
 use disks::Cut;
 use error::TestError;
+use openings::{open_each, open_file};
 use runs::run_each;
 use silent::run_silent;
 use std::io::Write;
 use std::process::ExitCode;
+use std::str;
 
 fn cut_of(word: &str) -> Result<Cut, TestError> {
     match word {
@@ -59,6 +69,15 @@ fn run_stopped(rt: &HostRuntime, cut: Cut, is_twice: bool) -> Result<(), TestErr
     let alloc = rt.alloc();
     let script = read_input(alloc, &mut Input::new(rt.stdin()))?;
     run_each(alloc, script.as_slice(), cut, is_twice, &mut rt.stdout())
+}
+
+fn run_turned(rt: &HostRuntime, cut: Cut) -> Result<(), TestError> {
+    let alloc = rt.alloc();
+    let sql = read_input(alloc, &mut Input::new(rt.stdin()))?;
+    let Ok(sql) = str::from_utf8(sql.as_slice()) else {
+        return Err(TestError::Sql);
+    };
+    open_each(alloc, sql, cut, &mut rt.stdout())
 }
 
 // Times a part of the switch.
@@ -87,6 +106,8 @@ fn run_words(rt: &HostRuntime, words: &[String]) -> Result<(), TestError> {
         [_, test, cut, twice] if test.as_str() == "stopped" && twice.as_str() == "twice" => {
             run_stopped(rt, cut_of(cut.as_str())?, true)
         }
+        [_, test, path] if test.as_str() == "opened" => open_file(rt, path.as_str()),
+        [_, test, cut] if test.as_str() == "turned" => run_turned(rt, cut_of(cut.as_str())?),
         _ => run_bench(rt, words),
     }
 }
