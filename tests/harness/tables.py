@@ -3,13 +3,22 @@
 
     tables PATH
 
-A line for each row: the table's name and the values, in the order of the table's key; bytes as hexadecimal digits.
+A line for each row: the table's name and the values, in the order of the table's key; bytes as hexadecimal digits. In
+layout 2 the table `member` of layout 1 is shown too where it has rows, which it never should.
 """
 
 import sqlite3
 import sys
 
-ORDER = {"meta": "k", "tx": "id", "member": "id, place", "shelf": "id", "advice": "id, place"}
+KEYS = {
+    "meta": "k",
+    "part": "n",
+    "tx": "id",
+    "member": "id, place",
+    "joined": "id, place",
+    "shelf": "id",
+    "advice": "id, place",
+}
 
 
 def shown(value):
@@ -21,7 +30,10 @@ def main():
     for (fault,) in journal.execute("PRAGMA integrity_check"):
         if fault != "ok":
             print(f"integrity: {fault}")
-    for table, key in ORDER.items():
+    there = {name for (name,) in journal.execute("SELECT name FROM sqlite_master WHERE type = 'table'")}
+    for table, key in KEYS.items():
+        if table not in there:
+            continue
         for row in journal.execute(f"SELECT * FROM {table} ORDER BY {key}"):
             print(table, *map(shown, row))
 

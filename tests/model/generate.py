@@ -1,7 +1,7 @@
 """Random inputs of the program, right ones and slightly spoilt ones, each with what the model answers."""
 
 from harness.case import Begins, Case, Exactly
-from model import flows, messages, requests, script, texts
+from model import flows, journal, messages, requests, script, texts
 from model.flows import Entry, Flow, Group, Kind
 from model.law import unlawful
 from model.stops import Runs
@@ -630,6 +630,8 @@ def cases(random, count, is_every=False):
     kinds += [("run", requests.run_case)] * 2
     for number in range(count // 200):
         yield stopped_case(random, f"random/stops {number}")
+    for number in range(count // 10):
+        yield journal.journal_case(random, f"random/journal {number}")
     for number in range(count):
         word, made = kinds[number % len(kinds)]
         yield made(random, f"random/{word} {number}")

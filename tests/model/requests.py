@@ -184,7 +184,8 @@ def served(name, flow, limit, made, is_file):
 
 def tables(switch):
     """What the journal holds at the end: no transaction is unfinished."""
-    lines = [b"meta 1 1", b"meta 2 %d" % switch.next_id]
+    lines = [b"meta 1 2", b"meta 2 %d" % switch.next_id]
+    lines += [b"part %d %s" % (number, name.encode()) for number, name in enumerate(switch.parts)]
     lines += [b"advice %d %d %s" % (*key, switch.advices[key].hex().encode()) for key in sorted(switch.advices)]
     return b"".join(line + b"\n" for line in lines)
 

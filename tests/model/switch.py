@@ -92,6 +92,8 @@ class Switch:
         self.flow, self.book, self.next_id = flow, Book(limit), next_id
         self.first_id = next_id
         self.advices = {}
+        # The names of those who joined, in the order in which they first did.
+        self.parts = []
 
     def check(self, request):
         fields, kind = request.fields, request.kind
@@ -222,7 +224,8 @@ class Switch:
         self.next_id += 1
         transaction = Transaction(self.flow, self.flow.retries)
         while self.step(transaction, request):
-            pass
+            names = [member.name for member in transaction.members]
+            self.parts += dict.fromkeys(name for name in names if name not in self.parts)
         return request.notes.get("response")
 
     def send_advices(self):
