@@ -6,7 +6,7 @@ use Rattle.iso_msg.specs.Messages.{PlainMessage}
 use Rattle.iso_codec.specs.Reads.{read}
 use Rattle.sw_mux.specs.Keys.{key}
 use Rattle.sw_parts.specs.declared.route.Routing.{Routing}
-use Rattle.sw_parts.specs.Queries.{Sending, Receiving}
+use Rattle.sw_parts.specs.Queries.{Sending, Receiving, Starving}
 use Rattle.sw_messages.specs.Requests.{ok_of}
 use Rattle.sw_parts.specs.Routes.{route_of}
 use Rattle.sw_issuers.specs.Delivery.{Delivers}
@@ -76,8 +76,9 @@ module _ {X : Type 0} where
         ap (λ (z : List ℕ × List ℕ). z ∷ ls) made
     kept_at (suc i) (g ∷ gs) x y is own e = ap (λ (z : LinkStates). link_state state g ∷ z) (kept_at i gs x y is own e)
 
-pub sends_ok : (S : Sending) (R : Receiving) (advice : List ℕ) (repeat : Bool) (s : PlainSender) (accepted : Bool) (t : PlainSender) (m : PlainMessage) (r : Routing) → read advice ≡ Ok m → route_of m s.routes ≡ Some r
-    → DeliversTo (Delivers S R (repeated repeat advice) (key m)) r.group s.links accepted t.links → t.routes ≡ s.routes → SendsAdvice S R advice repeat s accepted t
-sends_ok S R advice repeat s accepted t m r is route d same =
-    subst (λ z. SendsMessage (ok_of z) S R (repeated repeat advice) s accepted t) (sym is)
-    (subst (λ z. SendsBy z S R (repeated repeat advice) m s accepted t) (sym route) (d, same))
+module _ (S : Sending) (R : Receiving) (V : Starving) (F : Type 0) where
+  pub sends_ok : (advice : List ℕ) (repeat : Bool) (s : PlainSender) (accepted : Bool) (t : PlainSender) (m : PlainMessage) (r : Routing) → read advice ≡ Ok m → route_of m s.routes ≡ Some r
+      → DeliversTo (Delivers S R V F (repeated repeat advice) (key m)) r.group s.links accepted t.links → t.routes ≡ s.routes → SendsAdvice S R V F advice repeat s accepted t
+  sends_ok advice repeat s accepted t m r is route d same =
+      subst (λ z. SendsMessage S R V F (ok_of z) (repeated repeat advice) s accepted t) (sym is)
+      (subst (λ z. SendsBy S R V F z (repeated repeat advice) m s accepted t) (sym route) (d, same))

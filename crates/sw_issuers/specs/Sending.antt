@@ -4,7 +4,7 @@ use Rattle.std.specs.Str.{bytes_eq}
 use Rattle.iso_msg.specs.Messages.{PlainMessage}
 use Rattle.sw_mux.specs.Keys.{key}
 use Rattle.sw_parts.specs.declared.route.Routing.{Routing}
-use Rattle.sw_parts.specs.Queries.{Sending, Receiving}
+use Rattle.sw_parts.specs.Queries.{Sending, Receiving, Starving}
 use Rattle.sw_messages.specs.Requests.{message_of}
 use Rattle.sw_parts.specs.Routes.{route_of}
 use Rattle.sw_issuers.specs.declared.sender.GroupLink.{GroupLink}
@@ -51,19 +51,20 @@ DeliversTo D group (l ∷ ls) accepted ts =
 abbrev pub SenderStep : Type 1
 SenderStep = PlainSender → Bool → PlainSender → Type 0
 
-abbrev pub SendsBy : Option Routing → Sending → Receiving → List ℕ → PlainMessage → SenderStep
-SendsBy None sends receives bytes m s accepted t = (accepted ≡ false) × (t ≡ s)
-SendsBy (Some r) sends receives bytes m s accepted t =
-    DeliversTo (Delivers sends receives bytes (key m)) r.group s.links accepted t.links
-    × (t.routes ≡ s.routes)
+module _ (sends : Sending) (receives : Receiving) (starves : Starving) (refused : Type 0) where
+  abbrev pub SendsBy : Option Routing → List ℕ → PlainMessage → SenderStep
+  SendsBy None bytes m s accepted t = (accepted ≡ false) × (t ≡ s)
+  SendsBy (Some r) bytes m s accepted t =
+      DeliversTo (Delivers sends receives starves refused bytes (key m)) r.group
+      s.links accepted t.links
+      × (t.routes ≡ s.routes)
 
-abbrev pub SendsMessage : Option PlainMessage → Sending → Receiving → List ℕ → SenderStep
-SendsMessage None sends receives bytes s accepted t = (accepted ≡ false) × (t ≡ s)
-SendsMessage (Some m) sends receives bytes s accepted t =
-    SendsBy (route_of m s.routes) sends receives bytes m s accepted t
+  abbrev pub SendsMessage : Option PlainMessage → List ℕ → SenderStep
+  SendsMessage None bytes s accepted t = (accepted ≡ false) × (t ≡ s)
+  SendsMessage (Some m) bytes s accepted t = SendsBy (route_of m s.routes) bytes m s accepted t
 
--- an advice goes over the link of its card number's route: the advice, whether it is a repeat,
--- the sender before, the answer, the sender after
-abbrev pub SendsAdvice : Sending → Receiving → List ℕ → Bool → SenderStep
-SendsAdvice sends receives advice repeat s accepted t =
-    SendsMessage (message_of (Some advice)) sends receives (repeated repeat advice) s accepted t
+  -- an advice goes over the link of its card number's route: the advice, whether it is a repeat,
+  -- the sender before, the answer, the sender after
+  abbrev pub SendsAdvice : List ℕ → Bool → SenderStep
+  SendsAdvice advice repeat s accepted t =
+      SendsMessage (message_of (Some advice)) (repeated repeat advice) s accepted t

@@ -9,7 +9,7 @@ use std::alloc::Global;
 use sw_messages::is_approved;
 use sw_mux::{Mux, MuxError};
 use sw_participant::NoMemory;
-use sw_parts::{Link, hear};
+use sw_parts::{Link, Memory, hear};
 
 fn is_accepted(response: &Option<Message>) -> bool
     ensures { result ≡ is_accepted response.now }
@@ -21,16 +21,18 @@ fn is_accepted(response: &Option<Message>) -> bool
 }
 
 /// Sends an advice, which these are the bytes of, over a link, and tells whether a response with
-/// its key and response code 00 came within eight messages. Want of memory before the message is
-/// sent is the only refusal, and changes nothing; after it want of memory counts as no response.
-pub fn deliver<L: Link>(
+/// its key and response code 00 came within eight receives. Out of memory before the message is
+/// sent is the only refusal, and changes nothing; after it, out of memory counts as no response.
+pub fn deliver<M: Memory, L: Link>(
     alloc: Global,
+    memory: &M,
     link: &mut L,
     bytes: &[u8],
     advice: &Message,
 ) -> Result<bool, NoMemory>
-    ensures delivered { IfOk result (λ accepted. Delivers L.sends L.receives bytes.now
-        (key advice.now) (L.state link.old) accepted (L.state link.new)) }
+    ensures delivered { IfOk result (λ accepted.
+        Delivers L.sends L.receives L.starves M.refused bytes.now (key advice.now)
+        (L.state link.old) accepted (L.state link.new)) }
     ensures kept { OnErr result (L.state link.new ≡ L.state link.old) }
 {
     let mut mux = Mux::new(alloc);
@@ -43,6 +45,6 @@ pub fn deliver<L: Link>(
         }
     };
     link.send(bytes)?;
-    let heard = hear(alloc, &mut mux, link, key, 0);
+    let heard = hear(memory, &mut mux, link, key, 0);
     Ok(is_accepted(&heard))
 }

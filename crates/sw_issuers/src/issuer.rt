@@ -136,6 +136,9 @@ impl Link for Issuer {
 
     ghost receives = { λ s answer t. Receives s answer t };
 
+    // An answer takes its memory as the request is sent.
+    ghost starves = { λ s. ⊥ };
+
     fn send(&mut self, message: &[u8]) -> Result<(), NoMemory> {
         if self.silent {
             return Ok(());

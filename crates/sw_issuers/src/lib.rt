@@ -2,11 +2,13 @@
 //!
 //! - [`Issuer`] is a [`sw_parts::Link`] that answers each request by a written rule
 //!   (`specs/Issuing.antt`) in the order in which the requests were sent, or answers nothing at
-//!   all.
-//! - [`deliver`] sends an advice once and tells whether its issuer accepted it: a response with
-//!   the advice's key and response code 00 came within eight messages (`specs/Delivery.antt`).
-//! - [`Sender`] does so over the link of the group that the route of the card number names
-//!   (`specs/Sending.antt`).
+//!   all. It may be out of memory as a request is sent, and never as an answer is received.
+//! - [`Sender`] sends an advice once, over the link of the group that the route of the card number
+//!   names, and tells whether its issuer accepted it: a response with the advice's key and response
+//!   code 00 came within eight receives (`specs/Delivery.antt`, `specs/Sending.antt`).
+//!
+//! That a message reaches an issuer, and that one which accepts an advice is heard, is up to the
+//! link: no contract says it of a link that is not simulated.
 #![tactic(auto)]
 
 mod delivery;
@@ -14,7 +16,5 @@ mod issuer;
 mod sender;
 mod verdict;
 
-pub use delivery::deliver;
 pub use issuer::Issuer;
 pub use sender::{GroupLink, Sender};
-pub use verdict::Verdict;

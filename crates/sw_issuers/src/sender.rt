@@ -12,7 +12,7 @@ use iso_msg::Message;
 use std::alloc::{AllocError, Global};
 use std::marker::Model;
 use sw_participant::{NoMemory, Sequence, Text};
-use sw_parts::{Link, Routing, route_of};
+use sw_parts::{Heap, Link, Memory, Routing, route_of};
 
 /// The link to the issuers that a group of the flow asks.
 pub struct GroupLink<L: Link> {
@@ -77,12 +77,13 @@ impl<L: Link> Sender<L> {
 
     /// Sends an advice once, as a repeat where `repeat` says so (the last digit of its type is
     /// then 1), and tells whether a response with its key and response code 00 came within eight
-    /// messages. Bytes that are no message, a card number without a route and a group without a
-    /// link answer no, and nothing is sent. Want of memory before the message is sent is the only
-    /// refusal, and changes nothing; after it want of memory counts as no response.
+    /// receives. Bytes that are no message, a card number without a route and a group without a
+    /// link answer no, and nothing is sent. Out of memory before the message is sent is the only
+    /// refusal, and changes nothing; after it, out of memory counts as no response.
     pub fn send(&mut self, advice: &[u8], repeat: bool) -> Result<bool, NoMemory>
         ensures sent { IfOk result (λ accepted.
-            SendsAdvice L.sends L.receives advice.now repeat self.old accepted self.new) }
+            SendsAdvice L.sends L.receives L.starves (Unit {0})
+            advice.now repeat self.old accepted self.new) }
         ensures kept { OnErr result (self.new ≡ self.old) }
     {
         let message = match decode(self.alloc, advice) {
@@ -95,7 +96,8 @@ impl<L: Link> Sender<L> {
         };
         let bytes = repeated(self.alloc, advice, repeat)?;
         let group = routing.group.as_str();
-        deliver_to(self.alloc, &mut self.links, group, &bytes, &message)
+        let heap = Heap::new(self.alloc);
+        deliver_to(self.alloc, &heap, &mut self.links, group, &bytes, &message)
     }
 }
 
@@ -111,15 +113,17 @@ fn repeated(alloc: Global, advice: &[u8], repeat: bool) -> Result<Vec<u8>, Alloc
 }
 
 // Over the first link of the group, where there is one.
-fn deliver_to<L: Link>(
+fn deliver_to<M: Memory, L: Link>(
     alloc: Global,
+    memory: &M,
     links: &mut Vec<GroupLink<L>>,
     group: &str,
     bytes: &[u8],
     advice: &Message,
 ) -> Result<bool, NoMemory>
     ensures delivered { IfOk result (λ accepted.
-        DeliversTo (Delivers L.sends L.receives bytes.now (key advice.now)) group.now
+        DeliversTo (Delivers L.sends L.receives L.starves M.refused bytes.now (key advice.now))
+        group.now
         (link_states L.state links.old.items) accepted
         (link_states L.state links.new.items)) }
     ensures kept { OnErr result
@@ -128,7 +132,7 @@ fn deliver_to<L: Link>(
     let mut index = 0;
     while index < links.len() {
         if links[index].group.as_str() == group {
-            return deliver(alloc, &mut links[index].link, bytes, advice);
+            return deliver(alloc, memory, &mut links[index].link, bytes, advice);
         }
         index += 1;
     }

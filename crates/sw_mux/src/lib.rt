@@ -9,7 +9,8 @@
 //! - `Mux::expire` takes out exactly the keys whose deadline has come, `Mux::withdraw` the one
 //!   named.
 //!
-//! A request and its response cost the same however many requests wait.
+//! How long a call takes is not promised. By the code, a request and its response take a few
+//! look-ups in maps, and `Mux::expire` looks at what is due alone; no contract says so.
 #![tactic(auto)]
 
 mod error;

@@ -1,31 +1,37 @@
 -- What was heard.
 -- for: query::hear
-use Rattle.std.proofs.Common.{◌≡◌, ℕ, zero, suc, ◌+◌, ◌-◌, ◌<◌, List, Option, Some, None, refl, subst, inl, inr, arith}
+use Rattle.std.proofs.Common.{◌≡◌, ℕ, zero, suc, ◌+◌, ◌-◌, ◌<◌, ◌≤◌, List, Option, Some, None, refl, subst, inl, inr, arith}
 use Rattle.iso_msg.specs.Messages.{PlainMessage}
-use Rattle.sw_parts.specs.Queries.{Receiving, Hears, Came, Taken, answer_in}
+use Rattle.sw_parts.specs.Queries.{Receiving, Starving, Hears, Came, Taken, answer_in}
 
-pub stop : (R : Receiving) (n : ℕ) (k s t : List ℕ) → t ≡ s → Hears R n k s None t
-stop R zero k s t e = (refl, e)
-stop R (suc n) k s t e = inl (refl, e)
+module _ (R : Receiving) (S : Starving) (F : Type 0) where
+  -- all receives were made
+  pub ended : (i : ℕ) (k s : List ℕ) → 8 ≤ i → Hears R S F (8 - i) k s None s
+  ended i k s all =
+      let e : zero ≡ 8 - i = omega arith in
+      subst (λ (n : ℕ). Hears R S F n k s None s) e (refl, refl)
 
-pub came : (R : Receiving) (i : ℕ) (k s : List ℕ) (a : Option (List ℕ)) (u : List ℕ) (r : Option PlainMessage) (t : List ℕ) → i < 8 → R s a u
-    → Came k a u r t (Hears R (8 - (i + 1)) k u r t) → Hears R (8 - i) k s r t
-came R i k s a u r t lt h c =
-    let e : suc (8 - (i + 1)) ≡ 8 - i = omega arith in
-    subst (λ (n : ℕ). Hears R n k s r t) e (inr (a, u, h, c))
+  -- memory is refused to a receive
+  pub starved : (i : ℕ) (k s t : List ℕ) → i < 8 → S s → t ≡ s → Hears R S F (8 - i) k s None t
+  starved i k s t lt h same =
+      let e : suc (8 - (i + 1)) ≡ 8 - i = omega arith in
+      subst (λ (n : ℕ). Hears R S F n k s None t) e (inl (h, (refl, same)))
 
--- not the answer
-pub later : (k bytes u : List ℕ) (r : Option PlainMessage) (t : List ℕ) (P : Type 0) → None ≡ answer_in k bytes → P → Came k (Some bytes) u r t P
-later k bytes u r t P is p = subst (λ (z : Option PlainMessage). Taken z u r t P) is p
+  pub came : (i : ℕ) (k s : List ℕ) (a : Option (List ℕ)) (u : List ℕ) (r : Option PlainMessage) (t : List ℕ) → i < 8 → R s a u
+      → Came F k a u r t (Hears R S F (8 - (i + 1)) k u r t) → Hears R S F (8 - i) k s r t
+  came i k s a u r t lt h c =
+      let e : suc (8 - (i + 1)) ≡ 8 - i = omega arith in
+      subst (λ (n : ℕ). Hears R S F n k s r t) e (inr (a, u, h, c))
 
--- the answer
-pub heard : (k bytes u : List ℕ) (m : PlainMessage) (P : Type 0) → Some m ≡ answer_in k bytes → Came k (Some bytes) u (Some m) u P
-heard k bytes u m P is = subst (λ (z : Option PlainMessage). Taken z u (Some m) u P) is (inl refl, refl)
+module _ (F : Type 0) (k bytes u : List ℕ) where
+  -- not the answer
+  pub later : (r : Option PlainMessage) (t : List ℕ) (P : Type 0) → None ≡ answer_in k bytes → P → Came F k (Some bytes) u r t P
+  later r t P is p = inr (subst (λ (z : Option PlainMessage). Taken z u r t P) is p)
 
--- no memory for it
-pub lost : (k bytes u : List ℕ) (P : Type 0) → P → Came k (Some bytes) u None u P
-lost k bytes u P p = by (answer_in k bytes)
-  where
-    by : (o : Option PlainMessage) → Taken o u None u P
-    by None = p
-    by (Some m) = (inr refl, refl)
+  -- the answer
+  pub heard : (m : PlainMessage) (P : Type 0) → Some m ≡ answer_in k bytes → Came F k (Some bytes) u (Some m) u P
+  heard m P is = inr (subst (λ (z : Option PlainMessage). Taken z u (Some m) u P) is (refl, refl))
+
+  -- memory is refused to read it
+  pub unread : (P : Type 0) → F → Came F k (Some bytes) u None u P
+  unread P f = inl (f, (refl, refl))

@@ -1,6 +1,6 @@
 -- What is stored to be forwarded: the advice of an approval of the switch's own, and each
 -- reversal.
-use Rattle.std.specs.Prelude.{ℕ, List, Option, Some, None, is_some, if◌then◌else◌, codes}
+use Rattle.std.specs.Prelude.{ℕ, Bool, true, false, List, Option, Some, None, is_some, codes}
 use Rattle.iso_msg.specs.Messages.{PlainMessage}
 use Rattle.iso_codec.specs.Spelling.{spelling}
 use Rattle.sw_context.specs.Pairs.{Pairs, find}
@@ -20,15 +20,19 @@ abbrev pub forward_byte : Option PlainMessage → ℕ
 forward_byte None = passes
 forward_byte (Some m) = forward_answer (class_of m.mti)
 
-abbrev pub forwarded_class : Option Class → PlainMessage → Pairs → Option (List ℕ)
-forwarded_class (Some Authorization) m x =
-    if is_some (find (codes "standin") x) then Some (spelling (authorization_advice m x)) else None
-forwarded_class (Some Reversal) m x = Some (spelling (reversal_advice m))
-forwarded_class _ m x = None
+-- the advice of a request: an approval's where the switch approved by itself, whatever the request
+-- is for, and else that of a reversal
+abbrev pub forwarded_class : Option Class → PlainMessage → Option (List ℕ)
+forwarded_class (Some Reversal) m = Some (spelling (reversal_advice m))
+forwarded_class _ m = None
+
+abbrev pub forwarded_of : Bool → PlainMessage → Pairs → Option (List ℕ)
+forwarded_of true m x = Some (spelling (authorization_advice m x))
+forwarded_of false m x = forwarded_class (class_of m.mti) m
 
 abbrev pub forwarded_by : Option PlainMessage → Pairs → Option (List ℕ)
 forwarded_by None x = None
-forwarded_by (Some m) x = forwarded_class (class_of m.mti) m x
+forwarded_by (Some m) x = forwarded_of (is_some (find (codes "standin") x)) m x
 
 -- forward, at commit
 abbrev pub forwarded : Pairs → Option (List ℕ)

@@ -20,6 +20,10 @@ Sending = List ℕ → List ℕ → List ℕ → Type 0
 abbrev pub Receiving : Type 1
 Receiving = List ℕ → Option (List ℕ) → List ℕ → Type 0
 
+-- in which states memory may be refused to a receive
+abbrev pub Starving : Type 1
+Starving = List ℕ → Type 0
+
 abbrev pub has_key : List ℕ → Option (List ℕ) → Bool
 has_key k None = false
 has_key k (Some other) = bytes_eq k other
@@ -32,24 +36,31 @@ with_key k (Some m) = if has_key k (key m) then Some m else None
 abbrev pub answer_in : List ℕ → List ℕ → Option PlainMessage
 answer_in k bytes = with_key k (ok_of (read bytes))
 
--- one message came, and then what came after it, if it was not the answer; an answer may be lost
--- for want of memory
+-- no answer, and nothing more is received
+abbrev pub Stops : List ℕ → Option PlainMessage → List ℕ → Type 0
+Stops s r t = (r ≡ None) × (t ≡ s)
+
+-- a message came: it is the answer, or what comes later decides
 abbrev pub Taken : Option PlainMessage → List ℕ → Option PlainMessage → List ℕ → Type 0 → Type 0
 Taken None u r t later = later
-Taken (Some m) u r t later = ((r ≡ Some m) ⊎ (r ≡ None)) × (t ≡ u)
+Taken (Some m) u r t later = (r ≡ Some m) × (t ≡ u)
 
-abbrev pub Came : List ℕ → Option (List ℕ)
+-- none came, or a message, which memory may be refused to read
+abbrev pub Came : Type 0 → List ℕ → Option (List ℕ)
     → List ℕ → Option PlainMessage → List ℕ → Type 0 → Type 0
-Came k None u r t later = (r ≡ None) × (t ≡ u)
-Came k (Some bytes) u r t later = Taken (answer_in k bytes) u r t later
+Came refused k None u r t later = Stops u r t
+Came refused k (Some bytes) u r t later =
+    (refused × Stops u r t) ⊎ Taken (answer_in k bytes) u r t later
 
--- At most so many receives, until the answer with this key or none; or memory was wanted.
-abbrev pub Hears : Receiving → ℕ → List ℕ → List ℕ → Option PlainMessage → List ℕ → Type 0
-Hears receives zero k s r t = (r ≡ None) × (t ≡ s)
-Hears receives (suc n) k s r t =
-    ((r ≡ None) × (t ≡ s))
-    ⊎ ((a : Option (List ℕ)) × (u : List ℕ)
-    × receives s a u × Came k a u r t (Hears receives n k u r t))
+-- At most so many receives, until the answer with this key or none. Only where memory is refused,
+-- to a receive or to read what came, do they end before.
+abbrev pub Hears : Receiving → Starving → Type 0 → ℕ → List ℕ
+    → List ℕ → Option PlainMessage → List ℕ → Type 0
+Hears receives starves refused zero k s r t = Stops s r t
+Hears receives starves refused (suc n) k s r t =
+    (starves s × Stops s r t)
+    ⊎ ((a : Option (List ℕ)) × (u : List ℕ) × receives s a u
+    × Came refused k a u r t (Hears receives starves refused n k u r t))
 
 -- the context as an answer leaves it: its 39, or 96 without one; its 38; and nothing is late
 abbrev pub or_code : Option (List ℕ) → List ℕ
@@ -71,45 +82,47 @@ asking x = noted (noted x (codes "sent") (codes "1")) (codes "late") (codes "1")
 abbrev pub approves : PlainMessage → Bool
 approves m = bytes_eq (or_code (value_at 39 m.fields)) (codes "00")
 
--- an approval, or unknown, leaves notes, and a refusal refuses; without memory for it an answer
--- is none
-abbrev pub Ends : Option PlainMessage → Pairs → ℕ → Pairs → Type 0
-Ends None x byte y = (byte ≡ leaves_notes) × (y ≡ x)
-Ends (Some m) x byte y =
+-- an approval leaves notes, and a refusal refuses; no answer leaves the request as it was sent,
+-- and so does an answer that memory was refused to note
+abbrev pub Ends : Type 0 → Option PlainMessage → Pairs → ℕ → Pairs → Type 0
+Ends refused None x byte y = (byte ≡ leaves_notes) × (y ≡ x)
+Ends refused (Some m) x byte y =
     ((byte ≡ (if approves m then leaves_notes else refuses)) × (y ≡ answered m x))
-    ⊎ ((byte ≡ leaves_notes) × (y ≡ x))
+    ⊎ (refused × (byte ≡ leaves_notes) × (y ≡ x))
+
+abbrev pub bytes_in : Option (List ℕ) → List ℕ
+bytes_in None = []
+bytes_in (Some bytes) = bytes
 
 -- a preparation over a link: the link's state and the context before, answer byte, state and
 -- context after
 abbrev pub LinkStep : Type 1
 LinkStep = List ℕ → Pairs → ℕ → List ℕ → Pairs → Type 0
 
--- An authorization with a key is sent once, and an answer with its key is waited for.
-abbrev pub Asks : Sending → Receiving → List ℕ → List ℕ → LinkStep
-Asks sends receives bytes k s x byte t y =
-    (u : List ℕ) × (r : Option PlainMessage)
-    × sends s bytes u × Hears receives 8 k u r t × Ends r (asking x) byte y
+-- over a link, and where memory may be refused to read and note what came
+module _ (sends : Sending) (receives : Receiving) (starves : Starving) (refused : Type 0) where
+  -- An authorization with a key is sent once, and an answer with its key is waited for.
+  abbrev pub Asks : List ℕ → List ℕ → LinkStep
+  Asks bytes k s x byte t y =
+      (u : List ℕ) × (r : Option PlainMessage)
+      × sends s bytes u × Hears receives starves refused 8 k u r t
+      × Ends refused r (asking x) byte y
 
-abbrev pub AsksByKey : Option (List ℕ) → Sending → Receiving → List ℕ → LinkStep
-AsksByKey None sends receives bytes s x byte t y =
-    (byte ≡ refuses) × (t ≡ s) × (y ≡ coded SystemMalfunction x)
-AsksByKey (Some k) sends receives bytes s x byte t y = Asks sends receives bytes k s x byte t y
+  abbrev pub AsksByKey : Option (List ℕ) → List ℕ → LinkStep
+  AsksByKey None bytes s x byte t y =
+      (byte ≡ refuses) × (t ≡ s) × (y ≡ coded SystemMalfunction x)
+  AsksByKey (Some k) bytes s x byte t y = Asks bytes k s x byte t y
 
-abbrev pub QueriesByClass : Option Class → PlainMessage → Sending → Receiving → List ℕ → LinkStep
-QueriesByClass (Some Authorization) m sends receives bytes s x byte t y =
-    AsksByKey (key m) sends receives bytes s x byte t y
-QueriesByClass _ m sends receives bytes s x byte t y = (byte ≡ passes) × (t ≡ s) × (y ≡ x)
+  abbrev pub QueriesByClass : Option Class → PlainMessage → List ℕ → LinkStep
+  QueriesByClass (Some Authorization) m bytes s x byte t y =
+      AsksByKey (key m) bytes s x byte t y
+  QueriesByClass _ m bytes s x byte t y = (byte ≡ passes) × (t ≡ s) × (y ≡ x)
 
-abbrev pub QueriesBy : Option PlainMessage → Sending → Receiving → List ℕ → LinkStep
-QueriesBy None sends receives bytes s x byte t y = (byte ≡ passes) × (t ≡ s) × (y ≡ x)
-QueriesBy (Some m) sends receives bytes s x byte t y =
-    QueriesByClass (class_of m.mti) m sends receives bytes s x byte t y
+  abbrev pub QueriesBy : Option PlainMessage → List ℕ → LinkStep
+  QueriesBy None bytes s x byte t y = (byte ≡ passes) × (t ≡ s) × (y ≡ x)
+  QueriesBy (Some m) bytes s x byte t y = QueriesByClass (class_of m.mti) m bytes s x byte t y
 
-abbrev pub bytes_in : Option (List ℕ) → List ℕ
-bytes_in None = []
-bytes_in (Some bytes) = bytes
-
--- query, as it prepares
-abbrev pub Queries : Sending → Receiving → LinkStep
-Queries sends receives s x byte t y =
-    QueriesBy (request_in x) sends receives (bytes_in (find (codes "request") x)) s x byte t y
+  -- query, as it prepares
+  abbrev pub Queries : LinkStep
+  Queries s x byte t y =
+      QueriesBy (request_in x) (bytes_in (find (codes "request") x)) s x byte t y

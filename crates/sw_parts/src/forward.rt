@@ -13,8 +13,8 @@ use sw_messages::{Class, STAND_IN, authorization_advice, class_of, request_in, r
 use sw_participant::{AdviceResult, Bytes, NoMemory, Participant, Text};
 
 /// Stores what issuers have to be told later: at commit an authorization advice (0120) of what
-/// the switch approved by itself, with the approval code and the response code, and a reversal
-/// advice (0420) of each reversal.
+/// the switch approved by itself, with the approval code and the response code, and else a
+/// reversal advice (0420) of each reversal.
 pub struct Forward {
     alloc: Global,
 }
@@ -49,13 +49,10 @@ fn forwarded(
     let Some(message) = request else {
         return Ok(None);
     };
+    if context.get(STAND_IN).is_some() {
+        return Ok(Some(authorization_advice(alloc, message, context)?));
+    }
     match class_of(message.mti().digits()) {
-        Some(Class::Authorization) => {
-            if context.get(STAND_IN).is_none() {
-                return Ok(None);
-            }
-            Ok(Some(authorization_advice(alloc, message, context)?))
-        }
         Some(Class::Reversal) => Ok(Some(reversal_advice(alloc, message)?)),
         _ => Ok(None),
     }

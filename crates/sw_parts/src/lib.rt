@@ -5,7 +5,8 @@
 //!
 //! - [`CheckFields`] refuses what is no request, [`Limits`] holds, spends and gives back the
 //!   amounts of cards, [`Route`] chooses the group that asks the issuer, [`QueryIssuer`] asks it
-//!   over a [`Link`].
+//!   over a [`Link`]. The first message with the request's key within eight receives is the answer
+//!   ([`hear`]), and only where [`Memory`] is refused is it not taken.
 //! - [`StandIn`] decides where the issuer's answer is late, [`Reverse`] and [`Forward`] give the
 //!   advices that are stored for the issuer, [`Respond`] writes the response.
 //!
@@ -21,6 +22,7 @@ mod check;
 mod forward;
 mod limits;
 mod link;
+mod memory;
 mod query;
 mod respond;
 mod reverse;
@@ -32,6 +34,7 @@ pub use check::CheckFields;
 pub use forward::Forward;
 pub use limits::Limits;
 pub use link::Link;
+pub use memory::{Heap, Memory};
 pub use query::{QueryIssuer, hear};
 pub use respond::Respond;
 pub use reverse::Reverse;

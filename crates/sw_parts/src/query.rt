@@ -1,6 +1,6 @@
 //! Asking an issuer.
 
-ghost use Rattle.std.specs.Prelude.{◌≡◌, [], ◌∷◌, None, MatchOption, IfOk, OnErr, codes};
+ghost use Rattle.std.specs.Prelude.{◌≡◌, [], ◌∷◌, MatchOption, IfOk, OnOk, OnErr, codes};
 ghost use Rattle.iso_msg.specs.Messages.{value_at};
 ghost use Rattle.sw_context.specs.Pairs.{find};
 ghost use Rattle.sw_mux.specs.Waiting.{without};
@@ -10,8 +10,8 @@ ghost use Rattle.sw_parts.specs.Quiet.{PassesOver, SelectsNone};
 
 use crate::answers::{LEAVES_NOTES, PASSES, REFUSES};
 use crate::link::Link;
+use crate::memory::{Heap, Memory};
 use crate::unjoined::Unjoined;
-use iso_codec::{DecodeError, decode};
 use iso_msg::Message;
 use std::alloc::Global;
 use sw_context::Context;
@@ -22,8 +22,8 @@ use sw_mux::{Key, Mux, MuxError, Outcome};
 use sw_participant::{NoMemory, Text};
 
 /// The message of these bytes, where it has the key that waits.
-fn answer_in(
-    alloc: Global,
+fn answer_in<M: Memory>(
+    memory: &M,
     mux: &mut Mux,
     bytes: &[u8],
     key: Key,
@@ -33,29 +33,30 @@ fn answer_in(
     ensures answer { IfOk result (λ r. r ≡ answer_in key.bytes bytes.now) }
     ensures waits { IfOk result (λ r.
         MatchOption r (mux.new ≡ (key, deadline) ∷ []) (λ _. mux.new ≡ [])) }
+    ensures refused { OnErr result M.refused }
     ensures kept { OnErr result (mux.new ≡ mux.old) }
 {
-    match decode(alloc, bytes) {
-        Ok(message) => match mux.response(message) {
-            Outcome::Matched(_, answer) => Ok(Some(answer)),
-            Outcome::Unhandled(_) => Ok(None),
-        },
-        Err(DecodeError::OutOfMemory) => Err(NoMemory),
-        Err(_) => Ok(None),
+    let Some(message) = memory.read(bytes)? else {
+        return Ok(None);
+    };
+    match mux.response(message) {
+        Outcome::Matched(_, answer) => Ok(Some(answer)),
+        Outcome::Unhandled(_) => Ok(None),
     }
 }
 
-/// Waits for the answer with the one key that waits, at most 8 messages long. Other messages are
-/// dropped, and want of memory counts as no answer.
-pub fn hear<L: Link>(
-    alloc: Global,
+/// Waits for the answer with the one key that waits, for at most 8 receives. Other messages are
+/// dropped, and out of memory counts as no answer.
+pub fn hear<M: Memory, L: Link>(
+    memory: &M,
     mux: &mut Mux,
     link: &mut L,
     key: Key,
     deadline: u64,
 ) -> Option<Message>
     requires { mux.old ≡ (key, deadline) ∷ [] }
-    ensures heard { Hears L.receives 8 key.bytes (L.state link.old) result (L.state link.new) }
+    ensures heard { Hears L.receives L.starves M.refused 8 key.bytes
+        (L.state link.old) result (L.state link.new) }
     ensures left { without key.bytes mux.new ≡ [] }
 {
     for round in 0..8u8 {
@@ -65,7 +66,7 @@ pub fn hear<L: Link>(
         let Some(bytes) = received else {
             return None;
         };
-        match answer_in(alloc, mux, &bytes, key, deadline) {
+        match answer_in(memory, mux, &bytes, key, deadline) {
             Ok(None) => {}
             Ok(Some(answer)) => return Some(answer),
             Err(NoMemory) => return None,
@@ -94,17 +95,17 @@ fn code_of(answer: &Message) -> &[u8]
     }
 }
 
-/// Notes what an answer says; its answer is late no more.
-fn answered(context: &Context, answer: &Message) -> Result<Context, NoMemory>
-    ensures { IfOk result (λ x. x ≡ answered answer.now context.now) }
+/// Notes what an answer says; it is late no more.
+fn answered<M: Memory>(memory: &M, context: &mut Context, answer: &Message) -> Result<(), NoMemory>
+    ensures noted { OnOk result (context.new ≡ answered answer.now context.old) }
+    ensures refused { OnErr result M.refused }
 {
-    let mut next = context.copy()?;
-    note(&mut next, CODE, code_of(answer))?;
+    memory.note(context, CODE, code_of(answer))?;
     if let Some(approval) = answer.get(38) {
-        note(&mut next, APPROVAL, approval)?;
+        memory.note(context, APPROVAL, approval)?;
     }
-    let _ = next.take(LATE);
-    Ok(next)
+    let _ = context.take(LATE);
+    Ok(())
 }
 
 fn approves(answer: &Message) -> bool
@@ -113,29 +114,35 @@ fn approves(answer: &Message) -> bool
     code_of(answer) == b"00".as_slice()
 }
 
-/// The byte and the context after what was heard; an answer without memory for it is none.
-fn conclude(asked: Context, heard: Option<Message>) -> (u8, Context)
-    ensures { Ends heard asked result.0 result.1 }
+/// The byte and the context after what was heard. The context comes twice: an answer is noted in
+/// one of them, and the other stays for where memory is refused.
+fn conclude<M: Memory>(
+    memory: &M,
+    asked: Context,
+    noted: Context,
+    heard: Option<Message>,
+) -> (u8, Context)
+    requires { noted ≡ asked }
+    ensures { Ends M.refused heard asked result.0 result.1 }
 {
     let Some(answer) = heard else {
         return (LEAVES_NOTES, asked);
     };
-    match answered(&asked, &answer) {
-        Ok(next) => (
-            if approves(&answer) {
-                LEAVES_NOTES
-            } else {
-                REFUSES
-            },
-            next,
-        ),
-        Err(NoMemory) => (LEAVES_NOTES, asked),
+    let mut noted = noted;
+    if answered(memory, &mut noted, &answer).is_err() {
+        return (LEAVES_NOTES, asked);
+    }
+    if approves(&answer) {
+        (LEAVES_NOTES, noted)
+    } else {
+        (REFUSES, noted)
     }
 }
 
-/// Sends a request whose key waits, and waits for its answer.
-fn ask<L: Link>(
-    alloc: Global,
+/// Sends a request whose key waits, and waits for its answer. All contexts are made before the
+/// request is sent.
+fn ask<M: Memory, L: Link>(
+    memory: &M,
     mux: &mut Mux,
     link: &mut L,
     key: Key,
@@ -144,30 +151,34 @@ fn ask<L: Link>(
     context: &mut Context,
 ) -> Result<u8, NoMemory>
     requires { mux.old ≡ (key, deadline) ∷ [] }
-    ensures asked { IfOk result (λ byte. Asks L.sends L.receives bytes.now key.bytes
+    ensures asked { IfOk result (λ byte.
+        Asks L.sends L.receives L.starves M.refused bytes.now key.bytes
         (L.state link.old) context.old byte (L.state link.new) context.new) }
     ensures waits { without key.bytes mux.new ≡ [] }
     ensures link_kept { OnErr result (L.state link.new ≡ L.state link.old) }
     ensures context_kept { OnErr result (context.new ≡ context.old) }
 {
     let asked = asking(context)?;
+    let noted = asked.copy()?;
     link.send(bytes)?;
-    let heard = hear(alloc, mux, link, key, deadline);
-    let (byte, next) = conclude(asked, heard);
+    let heard = hear(memory, mux, link, key, deadline);
+    let (byte, next) = conclude(memory, asked, noted, heard);
     *context = next;
     Ok(byte)
 }
 
 /// Asks for a request, if it is an authorization.
-fn query<L: Link>(
+fn query<M: Memory, L: Link>(
     alloc: Global,
+    memory: &M,
     id: u64,
     mux: &mut Mux,
     link: &mut L,
     context: &mut Context,
 ) -> Result<u8, NoMemory>
     requires { mux.old ≡ [] }
-    ensures queried { IfOk result (λ byte. Queries L.sends L.receives
+    ensures queried { IfOk result (λ byte.
+        Queries L.sends L.receives L.starves M.refused
         (L.state link.old) context.old byte (L.state link.new) context.new) }
     ensures idle { mux.new ≡ [] }
     ensures link_kept { OnErr result (L.state link.new ≡ L.state link.old) }
@@ -182,7 +193,7 @@ fn query<L: Link>(
     let bytes = bytes_in(alloc, context)?;
     match mux.request(&request, id) {
         Ok(key) => {
-            let asked = ask(alloc, mux, link, key, id, &bytes, context);
+            let asked = ask(memory, mux, link, key, id, &bytes, context);
             mux.withdraw(&key);
             asked
         }
@@ -239,14 +250,23 @@ impl<L: Link> QueryIssuer<L> {
 impl<L: Link> Unjoined for QueryIssuer<L> {
     ghost object = { λ query. L.state query.link };
 
-    ghost prepares = { λ id o x byte p y. Queries L.sends L.receives o x byte p y };
+    ghost prepares = { λ id o x byte p y.
+        Queries L.sends L.receives L.starves (Unit {0}) o x byte p y };
 
     ghost prepares_for_abort = { λ id o x byte p y. PassesOver o x byte p y };
 
     ghost selects = { λ id o x text p. SelectsNone o text p };
 
     fn prepare(&mut self, id: u64, context: &mut Context) -> Result<u8, NoMemory> {
-        query(self.alloc, id, &mut self.mux, &mut self.link, context)
+        let heap = Heap::new(self.alloc);
+        query(
+            self.alloc,
+            &heap,
+            id,
+            &mut self.mux,
+            &mut self.link,
+            context,
+        )
     }
 
     fn prepare_for_abort(&mut self, id: u64, context: &mut Context) -> Result<u8, NoMemory> {

@@ -50,6 +50,8 @@ impl Link for OneMessage {
 
     ghost receives = { λ s message t. Unit {0} };
 
+    ghost starves = { λ s. Unit {0} };
+
     fn send(&mut self, message: &[u8]) -> Result<(), NoMemory> {
         self.has_come = message == self.message;
         Ok(())
