@@ -1,19 +1,23 @@
 -- The settings at the head of a script, one line after the other.
 -- for: script::read_head, script::next_setting, script::open_script, actions::Actions::next
-use Rattle.std.proofs.Common.{◌≡◌, ◌≢◌, ◌∙◌, ◌+◌, ◌<◌, ◌++◌, ◌∷◌, [], ℕ, Bool, false, List, length, Option, None, Some, Result, Ok, Err, is_some, refl, sym, ap, arith, length-append, length-drop, append-nil}
+use Rattle.std.proofs.Common.{◌≡◌, ◌≢◌, ◌∙◌, ◌+◌, ◌<◌, ◌++◌, ◌∷◌, [], ℕ, Bool, false, List, length, Option, None, Some, Result, Ok, Err, inl, inr, is_some, refl, sym, ap, arith, length-append, length-drop, append-nil}
 use Rattle.std.proofs.lemmas.List.Concat.{flat_map-append}
 use Rattle.std.proofs.lemmas.List.Folds.{list_any-append}
 use Rattle.std.specs.List.{flat_map, list_any}
 use Rattle.sw_base.specs.Refusals.{or_else}
+use Rattle.flow_model.specs.Check.{first_fault}
+use Rattle.flow_model.specs.declared.error.FlowError.{FlowError}
 use Rattle.flow_model.specs.declared.flow.Flow.{Flow}
-use Rattle.cli_script.specs.Grammar.{Answers}
-use Rattle.cli_script.specs.Scripts.{BeginsWith, IsBehind, IsHeadRead, IsActionRefusal, IsHeadRefused, IsLineRefusal, IsRefusedAt, IsRefusalBehind, IsScriptRefused, error_at, is_misplaced, others_of}
-use Rattle.cli_script.specs.Settings.{AddsSetting, IsKeptOf, advices_in, answers_in, choices_in, groups_in, last_in, restores_in, retries_in, sessions_in}
+use Rattle.cli_script.proofs.Causes.{memory_meant}
+use Rattle.cli_script.specs.Grammar.{Answers, meaning_of}
+use Rattle.cli_script.specs.Scripts.{BeginsWith, BeginsWithAction, HasNoSetting, IsBehind, IsHeadRead, IsActionRefusal, IsHeadRefused, IsLineRefusal, IsMeant, IsRefusedAt, IsRefusalBehind, IsScriptRefused, error_at, is_misplaced, others_of}
+use Rattle.cli_script.specs.Settings.{AddsSetting, IsKeptOf, advices_in, answers_in, choices_in, groups_in, last_in, restores_in, retries_in, sessions_in, stated_flow}
 use Rattle.cli_script.specs.declared.error.LineError.{LineError}
 use Rattle.cli_script.specs.declared.error.LineError.TheVariants.{OutOfMemory}
 use Rattle.cli_script.specs.declared.error.ScriptError.{ScriptError}
 use Rattle.cli_script.specs.declared.error.ScriptError.TheVariants as error
 use Rattle.cli_script.specs.declared.line.ScriptLine.{ScriptLine}
+use Rattle.cli_script.specs.declared.line.ScriptLine.TheVariants as line
 use Rattle.cli_script.specs.declared.line.Setting.{Setting}
 use Rattle.cli_script.specs.declared.settings.Settings.{Settings}
 
@@ -77,21 +81,61 @@ meant (Ok y) x answers = ap Ok (sym answers)
 meant (Err e) x answers = cc
 
 -- what `read_line` refuses is refused at its line
-pub line_refused : (has_file : Bool) (number : ℕ) (text : List ℕ) (meaning : Result ScriptLine LineError)
-    (cause : LineError) → Answers meaning (Err cause)
+line_refused_as : (has_file : Bool) (number : ℕ) (text : List ℕ) (meaning : Result ScriptLine LineError) (cause : LineError)
+    → (Answers meaning (Err OutOfMemory) → IsMeant meaning) → Answers meaning (Err cause)
     → IsLineRefusal has_file number text meaning (error_at number text cause)
-line_refused has_file number text (Ok x) OutOfMemory answers = tt
-line_refused has_file number text (Err e) OutOfMemory answers = tt
-line_refused has_file number text (Ok x) cause answers = cc
-line_refused has_file number text (Err e) cause answers = ((refl, refl), sym answers)
+line_refused_as has_file number text meaning OutOfMemory memory answers = memory answers
+line_refused_as has_file number text (Ok x) cause memory answers = cc
+line_refused_as has_file number text (Err e) cause memory answers = ((refl, refl), sym answers)
+
+pub line_refused : (has_file : Bool) (number : ℕ) (text : List ℕ) (cause : LineError) → Answers (meaning_of text) (Err cause)
+    → IsLineRefusal has_file number text (meaning_of text) (error_at number text cause)
+line_refused has_file number text cause answers =
+    line_refused_as has_file number text (meaning_of text) cause (memory_meant text) answers
 
 -- so it is behind the settings
-pub action_refused : (number : ℕ) (text : List ℕ) (meaning : Result ScriptLine LineError) (cause : LineError)
-    → Answers meaning (Err cause) → IsActionRefusal number text meaning (error_at number text cause)
-action_refused number text (Ok x) OutOfMemory answers = tt
-action_refused number text (Err e) OutOfMemory answers = tt
-action_refused number text (Ok x) cause answers = cc
-action_refused number text (Err e) cause answers = ((refl, refl), sym answers)
+action_refused_as : (number : ℕ) (text : List ℕ) (meaning : Result ScriptLine LineError) (cause : LineError)
+    → (Answers meaning (Err OutOfMemory) → IsMeant meaning) → Answers meaning (Err cause)
+    → IsActionRefusal number text meaning (error_at number text cause)
+action_refused_as number text meaning OutOfMemory memory answers = memory answers
+action_refused_as number text (Ok x) cause memory answers = cc
+action_refused_as number text (Err e) cause memory answers = ((refl, refl), sym answers)
+
+pub action_refused : (number : ℕ) (text : List ℕ) (cause : LineError) → Answers (meaning_of text) (Err cause)
+    → IsActionRefusal number text (meaning_of text) (error_at number text cause)
+action_refused number text cause answers =
+    action_refused_as number text (meaning_of text) cause (memory_meant text) answers
+
+-- memory may be wanting for a setting
+pub setting_refused : (has_file : Bool) (script rest : List ℕ) (kept : Settings) (lines : ℕ) (s : Setting)
+    → IsHeadRead has_file script kept rest lines → BeginsWith rest s → IsHeadRefused has_file script error.OutOfMemory
+setting_refused has_file script rest kept lines s head begins = record {
+  stated = head.stated;
+  rest = rest;
+  behind = head.behind;
+  placed = head.placed;
+  some = begins.0;
+  refused = (line.Setting s, begins.1);
+}
+
+-- where a script goes on behind its settings, it does so with an action
+pub acts : (rest : List ℕ) → HasNoSetting rest → length rest ≢ 0 → BeginsWithAction rest
+acts rest (inl none) some = absurd (some (ap length none))
+acts rest (inr begins) some = begins
+
+-- the flow that the settings state is refused at the first action
+pub flow_refused : (file : Option Flow) (script rest : List ℕ) (kept : Settings) (lines : ℕ) (f : Flow) (cause : FlowError)
+    → IsHeadRead (is_some file) script kept rest lines → BeginsWithAction rest
+    → ((ss : List Setting) → IsKeptOf ss kept → f ≡ stated_flow file ss) → first_fault f ≡ Some cause
+    → IsScriptRefused file script (error.Flow (lines + 1) cause)
+flow_refused file script rest kept lines f cause head begins states fault = record {
+  stated = head.stated;
+  rest = rest;
+  behind = head.behind;
+  placed = head.placed;
+  some = begins.0;
+  refused = (ap (λ n. n + 1) (sym head.count), begins, ap first_fault (sym (states head.stated head.states)) ∙ fault);
+}
 
 -- a refusal at a script's head is one of the script
 pub head_refused : (file : Option Flow) (script : List ℕ) (e : ScriptError) → IsHeadRefused (is_some file) script e
@@ -100,6 +144,7 @@ head_refused file script e head = record {
   stated = head.stated;
   rest = head.rest;
   behind = head.behind;
+  placed = head.placed;
   some = head.some;
   refused = as_script e head.refused;
 } where
@@ -110,4 +155,4 @@ head_refused file script e head = record {
   as_script (error.LateSetting n found) refused = refused
   as_script (error.Crowded n found) refused = refused
   as_script (error.Flow n cause) refused = absurd refused
-  as_script error.OutOfMemory refused = tt
+  as_script error.OutOfMemory refused = refused

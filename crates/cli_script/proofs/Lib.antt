@@ -1,3 +1,4 @@
+mod Causes
 mod Digits
 mod Heads
 mod LineEnds

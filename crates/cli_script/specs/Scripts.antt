@@ -1,5 +1,5 @@
 -- A script: the settings at its head, and the lines behind them.
-use Rattle.std.specs.Prelude.{◌≡◌, ◌≢◌, ⊤, ℕ, ◌+◌, ◌&&◌, Bool, true, false, List, [], ◌∷◌, length, Option, Some, None, Result, Ok, Err, is_some}
+use Rattle.std.specs.Prelude.{◌≡◌, ◌≢◌, ◌⊎◌, ℕ, ◌+◌, ◌&&◌, Bool, true, false, List, [], ◌∷◌, length, Option, Some, None, Result, Ok, Err, is_some}
 use Rattle.std.specs.Borrow.{Bor}
 use Rattle.std.specs.List.{after_first, before_first, list_any}
 use Rattle.flow_model.specs.Check.{IsChecked, first_fault}
@@ -39,9 +39,17 @@ abbrev pub IsBehind : List Setting → List ℕ → List ℕ → Type 0
 IsBehind [] script rest = rest ≡ script
 IsBehind (s ∷ ss) script rest = BeginsWith script s × IsBehind ss (others_of script) rest
 
--- the script is at its end, or its first line is no setting
+-- the line has a meaning, as every line at which want of memory is told
+abbrev pub IsMeant : Result ScriptLine LineError → Type 0
+IsMeant meaning = (x : ScriptLine) × (meaning ≡ Ok x)
+
+-- the first line of the script means an action
+abbrev pub BeginsWithAction : List ℕ → Type 0
+BeginsWithAction script = (script ≢ []) × ((a : Action) × (meaning_of (line_of script) ≡ Ok (line.Action a)))
+
+-- the settings end here: the script is at its end, or its first line means an action
 abbrev pub HasNoSetting : List ℕ → Type 0
-HasNoSetting rest = (s : Setting) → BeginsWith rest s → ⊥
+HasNoSetting rest = (rest ≡ []) ⊎ BeginsWithAction rest
 
 abbrev pub gives_group : Setting → Bool
 gives_group (setting.Flow g) = true
@@ -69,7 +77,7 @@ IsLineRefusal has_file number text meaning (error.FlowBesideFile n found) =
 IsLineRefusal has_file number text meaning (error.LateSetting n found) = ⊥
 IsLineRefusal has_file number text meaning (error.Crowded n found) = ⊥
 IsLineRefusal has_file number text meaning (error.Flow n cause) = ⊥
-IsLineRefusal has_file number text meaning error.OutOfMemory = ⊤
+IsLineRefusal has_file number text meaning error.OutOfMemory = IsMeant meaning
 
 -- the next line is refused, of which so many stand before
 abbrev pub IsRefusedAt : Bool → ℕ → List ℕ → ScriptError → Type 0
@@ -92,31 +100,36 @@ pub record IsHeadRead (has_file : Bool) (script : List ℕ) (kept : Settings) (r
   pub states : IsKeptOf stated kept
   pub placed : list_any (is_misplaced has_file) stated ≡ false
 
--- why a script is refused at its head: a line behind lines of settings
+-- why a script is refused at its head: the first line that is refused, behind lines of settings that are not
 pub record IsHeadRefused (has_file : Bool) (script : List ℕ) (e : ScriptError) : Type 0 where
   pub stated : List Setting
   pub rest : List ℕ
   pub behind : IsBehind stated script rest
+  pub placed : list_any (is_misplaced has_file) stated ≡ false
   pub some : rest ≢ []
   pub refused : IsRefusedAt has_file (length stated) rest e
 
--- why a script is refused behind these settings: a line, or the flow that they state
+-- why a script is refused behind these settings: the next line, or at the first action the flow that they state
 abbrev pub IsRefusalBehind : Option Flow → List Setting → List ℕ → ScriptError → Type 0
 IsRefusalBehind file ss rest (error.Flow n cause) =
-    (n ≡ length ss + 1) × (first_fault (stated_flow file ss) ≡ Some cause)
+    (n ≡ length ss + 1) × BeginsWithAction rest × (first_fault (stated_flow file ss) ≡ Some cause)
 IsRefusalBehind file ss rest e = IsRefusedAt (is_some file) (length ss) rest e
 
+-- the lines before the one that is told are settings where they may stand, so that it is the first fault
 pub record IsScriptRefused (file : Option Flow) (script : List ℕ) (e : ScriptError) : Type 0 where
   pub stated : List Setting
   pub rest : List ℕ
   pub behind : IsBehind stated script rest
+  pub placed : list_any (is_misplaced (is_some file)) stated ≡ false
   pub some : rest ≢ []
   pub refused : IsRefusalBehind file stated rest e
 
--- the script's settings state the flow, which is checked, and the replies; the other lines are to come
+-- all of the script's settings state the flow, which is checked, and the replies; the other lines are to come
 pub record IsOpened (file : Option Flow) (script : List ℕ) (s : Script) : Type 0 where
   pub stated : List Setting
   pub behind : IsBehind stated script s.actions.rest.now
+  pub placed : list_any (is_misplaced (is_some file)) stated ≡ false
+  pub acts : BeginsWithAction s.actions.rest.now
   pub count : length stated ≡ s.actions.lines
   pub flow : s.flow ≡ stated_flow file stated
   pub checked : IsChecked s.flow
@@ -125,7 +138,7 @@ pub record IsOpened (file : Option Flow) (script : List ℕ) (s : Script) : Type
 
 -- a script of settings alone has nothing to come
 abbrev pub IsOpenedAs : Option Flow → List ℕ → Option Script → Type 0
-IsOpenedAs file script None = (ss : List Setting) × IsBehind ss script []
+IsOpenedAs file script None = (ss : List Setting) × IsBehind ss script [] × (list_any (is_misplaced (is_some file)) ss ≡ false)
 IsOpenedAs file script (Some s) = IsOpened file script s
 
 -- the context that the line offers has too many names
@@ -143,16 +156,16 @@ IsActionRefusal number text meaning (error.Crowded n found) =
     Tells number text n found × ((a : Action) × (meaning ≡ Ok (line.Action a)) × (crowds a ≡ true))
 IsActionRefusal number text meaning (error.FlowBesideFile n found) = ⊥
 IsActionRefusal number text meaning (error.Flow n cause) = ⊥
-IsActionRefusal number text meaning error.OutOfMemory = ⊤
+IsActionRefusal number text meaning error.OutOfMemory = IsMeant meaning
 
 -- how many bytes are not read yet
 abbrev pub bytes_left : Actions → ℕ
 bytes_left a = length a.rest.now
 
--- the next action and what follows its line, or the end, or why the next line is refused
+-- the next action and what follows its line, or the end, or why the next line is refused; at the last two it stays there
 abbrev pub IsNextAction : Actions → Actions → Result (Option Action) ScriptError → Type 0
-IsNextAction old new (Ok None) = old.rest.now ≡ []
+IsNextAction old new (Ok None) = (old.rest.now ≡ []) × (new ≡ old)
 IsNextAction old new (Ok (Some a)) = (old.rest.now ≢ []) × (new.rest.now ≡ others_of old.rest.now)
     × (new.lines ≡ old.lines + 1) × (meaning_of (line_of old.rest.now) ≡ Ok (line.Action a)) × (crowds a ≡ false)
 IsNextAction old new (Err e) = let text = line_of old.rest.now in
-    (old.rest.now ≢ []) × IsActionRefusal (old.lines + 1) text (meaning_of text) e
+    (old.rest.now ≢ []) × IsActionRefusal (old.lines + 1) text (meaning_of text) e × (new ≡ old)

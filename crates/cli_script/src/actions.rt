@@ -38,7 +38,8 @@ impl<'a> Actions<'a> {
         self.lines
     }
 
-    /// The next action; `None` at the end of the script.
+    /// The next action; `None` at the end of the script. After `None` and after an error nothing has
+    /// moved: the next call is at the same place again.
     pub fn next(&mut self, alloc: Global) -> Result<Option<Action>, ScriptError>
         ensures next { IsNextAction self.old self.new result }
         ensures fewer { IfOk result (λ o. OnSome o (bytes_left self.new < bytes_left self.old)) }

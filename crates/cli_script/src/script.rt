@@ -22,7 +22,7 @@ fn is_misplaced(has_file: bool, setting: &Setting) -> bool
 }
 
 /// The next setting and what follows its line; `None` at the end of the script or where the line is
-/// none. So many lines stand before it.
+/// an action. So many lines stand before it.
 fn next_setting(
     alloc: Global,
     has_file: bool,
