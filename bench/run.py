@@ -34,11 +34,15 @@ CREATE TABLE tx (id INTEGER PRIMARY KEY NOT NULL, phase INTEGER NOT NULL, told I
     tries INTEGER NOT NULL, context BLOB NOT NULL) STRICT;
 CREATE TABLE member (id INTEGER NOT NULL REFERENCES tx ON DELETE CASCADE, place INTEGER NOT NULL, name TEXT NOT NULL,
     PRIMARY KEY (id, place)) STRICT;
-INSERT INTO meta VALUES (1, 1), (2, 1);
+CREATE TABLE part (n INTEGER PRIMARY KEY NOT NULL, name TEXT NOT NULL UNIQUE) STRICT;
+CREATE TABLE joined (id INTEGER NOT NULL REFERENCES tx ON DELETE CASCADE, place INTEGER NOT NULL,
+    part INTEGER NOT NULL REFERENCES part, PRIMARY KEY (id, place)) STRICT;
+INSERT INTO meta VALUES (1, 2), (2, 1);
 """
 ADD_ROW = "INSERT INTO tx VALUES (?1, ?2, ?3, ?4, 0, ?5)"
 CHANGE_ROW = "UPDATE tx SET phase = ?2, told = ?3, doing = ?4, tries = 0, context = ?5 WHERE id = ?1"
-ADD_MEMBER = "INSERT INTO member VALUES (?1, ?2, ?3)"
+ADD_PART = "INSERT INTO part VALUES (?1, ?2)"
+ADD_MEMBER = "INSERT INTO joined VALUES (?1, ?2, ?3)"
 # The rows of an approved authorization after each of its entries but the last, which drops it: phase, members, told, doing,
 # and the bytes of its context.
 LEAST_ROWS = [
@@ -101,6 +105,7 @@ def commits(rows, count, path, page=4096):
     journal.execute("PRAGMA synchronous = FULL")
     journal.execute("PRAGMA foreign_keys = ON")
     journal.executescript(TABLES)
+    parts = {}
     began = time.monotonic()
     for number in range(1, count + 1):
         joined = 0
@@ -111,7 +116,11 @@ def commits(rows, count, path, page=4096):
             put = CHANGE_ROW if place else ADD_ROW
             journal.execute(put, (number, phase, told, doing, bytes(context)))
             if len(members) > joined:
-                journal.execute(ADD_MEMBER, (number, joined, members[joined]))
+                name = members[joined]
+                if name not in parts:
+                    parts[name] = len(parts)
+                    journal.execute(ADD_PART, (parts[name], name))
+                journal.execute(ADD_MEMBER, (number, joined, parts[name]))
                 joined += 1
             journal.execute("COMMIT")
         journal.execute("DELETE FROM tx WHERE id = ?", (number,))
