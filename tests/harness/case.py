@@ -172,7 +172,8 @@ class Program:
         os.symlink(TABLES, f"{self.room}/bin/tables")
         for name in BESIDE:
             os.symlink(os.path.join(CRATES, name, "out", name), f"{self.room}/bin/{name}")
-        self.environment = {"PATH": f"{self.room}/bin:/usr/local/bin:/usr/bin:/bin", "LANG": "C.UTF-8"}
+        path = f"{self.room}/bin:/usr/local/bin:/usr/bin:/bin"
+        self.environment = {"PATH": path, "LANG": "C.UTF-8", "TESTS": os.path.dirname(os.path.dirname(TABLES))}
         resource.setrlimit(resource.RLIMIT_CORE, (0, 0))
         return self
 
