@@ -15,5 +15,5 @@ mod write;
 
 pub use error::FrameError;
 pub use framer::Framer;
-pub use pieces::{StreamReading, no_stream, one_stream, read_pieces};
+pub use pieces::{StreamReading, one_stream, read_pieces};
 pub use write::frame;

@@ -1,7 +1,7 @@
 //! Whole streams.
 
-ghost use Rattle.std.specs.Prelude.{[], IfOk};
-ghost use Rattle.sw_frame.specs.Stream.{HasOneReading, Stream, blank};
+ghost use Rattle.std.specs.Prelude.{IfOk};
+ghost use Rattle.sw_frame.specs.Stream.{HasOneReading};
 ghost use Rattle.sw_frame.specs.Feeds.{ReadsStream, messages, joined};
 
 use crate::error::FrameError;
@@ -39,9 +39,4 @@ pub fn read_pieces(alloc: Global, pieces: &[Vec<u8>]) -> Result<StreamReading, A
 /// A stream has its frames and no others.
 pub fn one_stream()
     ensures { HasOneReading }
-{}
-
-/// No bytes are no frames: where a reading begins.
-pub fn no_stream()
-    ensures { Stream [] [] blank }
 {}

@@ -3,7 +3,7 @@ pub mod One
 pub mod States
 pub mod Core
 pub mod Plant
-pub mod Drive
+pub mod Runs
 pub mod Stations
 pub mod Owning
 pub mod Words

@@ -107,7 +107,7 @@ shut_ids (i ∷ is) = Closed i ∷ shut_ids is
 abbrev pub made_on : IdView → List ℕ → List PlantDeed → Plant
 made_on j cs ms = record { start = j; late = shut cs; gone = []; mark = 0; kept = none_kept; calls = Halted j ∷ ms }
 
--- Small steps, of which the turns of Drive are made: a call keeps its reply, which is then recorded as an entry; the oldest
+-- Small steps, of which the turns of a plant are made: a call keeps its reply, which is then recorded as an entry; the oldest
 -- entry is put into the journal; and then it is known how many are there. A cut begins a history anew.
 pub data PlantMove : Type 0 where
   Take : (s : ℕ) → (head : Head) → PlantMove

@@ -26,7 +26,6 @@ ghost use Rattle.tx_outcome.specs.Core.{Core, CoreRun, OutcomeLaw, ViewFits, Shu
 ghost use Rattle.tx_outcome.specs.Core.{written};
 ghost use Rattle.tx_outcome.specs.Plant.{Plant, PlantMove, PlantMoves, PlantRun, unfinished};
 ghost use Rattle.tx_outcome.specs.Plant.{made_on, view, shut_ids};
-ghost use Rattle.tx_outcome.specs.Drive.{Turn, Outcome, Driven};
 ghost use Rattle.tx_outcome.specs.Owning.{reply_of, replies, afters, told_row};
 ghost use Rattle.tx_outcome.specs.Stations.{station_call, deed_of, with_context};
 ghost use Rattle.tx_outcome.specs.Example.{SomeRun, ShelvingRun};
@@ -79,16 +78,6 @@ pub fn plant_law()
         → OutcomeLaw calls j → ViewFits j → Shuts j (shut_ids cs)
         → PlantRun f ts (made_on j cs calls) q
         → OutcomeLaw q.calls (view f q) × ViewFits (view f q) }
-{}
-
-/// The outcome law of a driven plant: of the calls made before, the view that was opened, and the
-/// calls that the turns added. It holds after each turn, with refusals and faults among them.
-pub fn drive_law()
-    ensures { (f : Flow) (j : IdView) (cs : List ℕ) (calls new : List PlantDeed) (ts : List Turn)
-        (os : List Outcome) (q : Plant)
-        → OutcomeLaw calls j → ViewFits j → Shuts j (shut_ids cs)
-        → Driven f ts os new (made_on j cs calls) q
-        → OutcomeLaw (new ++ (Halted j ∷ calls)) (view f q) × ViewFits (view f q) }
 {}
 
 /// There are such runs: one through two stops, with a participant that recovers its context twice,

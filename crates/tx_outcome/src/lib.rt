@@ -14,15 +14,14 @@
 //!   to abort.
 //!
 //! It is proved for one transaction first ([`one_keeps`]) of what the written table gives it
-//! ([`table_is_sound`]), then of a core whose events name transactions ([`outcome_law`]), of a
-//! plant whose events name sessions ([`plant_law`]), and of the turns by which a plant is driven
-//! ([`drive_law`]). There is no code here: the engine, the journal and the stations keep what the
-//! small steps of `specs/Plant.antt` ask of them.
+//! ([`table_is_sound`]), then of a core whose events name transactions ([`outcome_law`]), and of a
+//! plant whose events name sessions ([`plant_law`]). There is no code here: the engine, the journal
+//! and the stations keep what the small steps of `specs/Plant.antt` ask of them.
 #![tactic(auto)]
 
 mod laws;
 
 pub use laws::{
-    clauses, drive_law, one_keeps, outcome_law, plant_law, some_run, station_calls, table_is_sound,
+    clauses, one_keeps, outcome_law, plant_law, some_run, station_calls, table_is_sound,
     table_words,
 };
