@@ -1,5 +1,5 @@
 -- What the errors of the parts become: want of memory is told as such, and all else is carried.
-use Rattle.std.specs.Prelude.{◌≡◌, ⊤, ℕ, List, Option, IfSome, Err}
+use Rattle.std.specs.Prelude.{◌≡◌, ⊤, ℕ, List, Option, None, IfSome, Err}
 use Rattle.std.specs.Str.{IsUtf8}
 use Rattle.cli_io.specs.declared.error.ReadError.{ReadError}
 use Rattle.cli_io.specs.declared.error.ReadError.TheVariants as read
@@ -10,7 +10,7 @@ use Rattle.flow_toml.specs.declared.error.FlowTomlError.TheVariants as file
 use Rattle.flow_toml.specs.FlowFile.{Refuses}
 use Rattle.flow_load.specs.declared.error.LoadError.{LoadError}
 use Rattle.flow_load.specs.declared.error.LoadError.TheVariants as image
-use Rattle.flow_load.specs.Load.{load_of}
+use Rattle.flow_load.specs.Load.{line_fault, load_of}
 use Rattle.cli_flows.specs.declared.error.FlowsError.{FlowsError}
 use Rattle.cli_flows.specs.declared.error.FlowsError.TheVariants.{File, Image, NotText, Open, OutOfMemory, Read, Write}
 
@@ -39,9 +39,9 @@ IsFileRefusal bytes (NotText e) = ¬ (IsUtf8 bytes)
 IsFileRefusal bytes (File e found) = Refuses bytes e
 IsFileRefusal bytes _ = ⊥
 
--- what a refusal says of the bytes of an image
+-- what a refusal says of the bytes of an image; memory runs out only where no line is refused by itself
 abbrev pub IsImageRefusal : List ℕ → FlowsError → Type 0
-IsImageRefusal bytes OutOfMemory = ⊤
+IsImageRefusal bytes OutOfMemory = line_fault bytes ≡ None
 IsImageRefusal bytes (Image e found) = load_of bytes ≡ Err e
 IsImageRefusal bytes _ = ⊥
 
