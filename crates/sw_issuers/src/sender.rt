@@ -31,24 +31,26 @@ impl<L: Link + Drop> Drop for GroupLink<L> {
 
 /// Sends advices, each over the link of the group that the route of its card number names.
 /// Contracts see the routes, and each group with the state of its link.
-pub struct Sender<L: Link> {
+pub struct Sender<L: Link, M: Memory = Heap> {
     alloc: Global,
+    memory: M,
     routes: Sequence<Routing>,
     links: Vec<GroupLink<L>>,
 }
 
 // Written out, so that no caller proves again how its parts are dropped.
-impl<L: Link + Drop> Drop for Sender<L> {
+impl<L: Link + Drop, M: Memory + Drop> Drop for Sender<L, M> {
     fn drop(self) {
         let Sender {
             alloc: _,
+            memory: _,
             routes: _,
             links: _,
         } = self;
     }
 }
 
-impl<L: Link> Model for Sender<L> {
+impl<L: Link, M: Memory> Model for Sender<L, M> {
     ghost use Rattle.sw_issuers.specs.Sending.{PlainSender, link_states};
 
     ghost Value = { PlainSender };
@@ -59,10 +61,14 @@ impl<L: Link> Model for Sender<L> {
     } };
 }
 
-impl<L: Link> Sender<L> {
+impl<L: Link> Sender<L, Heap> {
     /// By these routes, over these links. It takes no memory: `alloc` is for the messages that it
     /// reads.
-    pub fn new(alloc: Global, routes: Sequence<Routing>, links: Vec<GroupLink<L>>) -> Sender<L>
+    pub fn new(
+        alloc: Global,
+        routes: Sequence<Routing>,
+        links: Vec<GroupLink<L>>,
+    ) -> Sender<L, Heap>
         ensures { result ≡ record {
           routes = routes;
           links = link_states L.state links.items;
@@ -70,11 +76,14 @@ impl<L: Link> Sender<L> {
     {
         Sender {
             alloc,
+            memory: Heap::new(alloc),
             routes,
             links,
         }
     }
+}
 
+impl<L: Link, M: Memory> Sender<L, M> {
     /// Sends an advice once, as a repeat where `repeat` says so (the last digit of its type is
     /// then 1), and tells whether a response with its key and response code 00 came within eight
     /// receives. Bytes that are no message, a card number without a route and a group without a
@@ -82,7 +91,7 @@ impl<L: Link> Sender<L> {
     /// refusal, and changes nothing; after it, out of memory counts as no response.
     pub fn send(&mut self, advice: &[u8], repeat: bool) -> Result<bool, NoMemory>
         ensures sent { IfOk result (λ accepted.
-            SendsAdvice L.sends L.receives L.starves (Unit {0})
+            SendsAdvice L.sends L.receives L.starves M.refused
             advice.now repeat self.old accepted self.new) }
         ensures kept { OnErr result (self.new ≡ self.old) }
     {
@@ -96,8 +105,14 @@ impl<L: Link> Sender<L> {
         };
         let bytes = repeated(self.alloc, advice, repeat)?;
         let group = routing.group.as_str();
-        let heap = Heap::new(self.alloc);
-        deliver_to(self.alloc, &heap, &mut self.links, group, &bytes, &message)
+        deliver_to(
+            self.alloc,
+            &self.memory,
+            &mut self.links,
+            group,
+            &bytes,
+            &message,
+        )
     }
 }
 

@@ -36,7 +36,7 @@ pub enum Outcome {
 /// transaction; `expire` compares it and nothing else reads it.
 pub struct Mux {
     // The requests by number, the oldest first, and the number of each key: neither a response nor
-    // a withdrawal moves what stands behind. The keys by deadline and number: what is not due is
+    // a withdrawal moves the later ones. The keys by deadline and number: what is not due is
     // not looked at.
     requests: BTreeMap<u64, (Key, u64)>,
     numbers: HashMap<Key, u64>,
@@ -168,7 +168,7 @@ impl Mux {
     }
 
     /// Takes out the keys with a deadline of at most `tick`, and answers them in order of
-    /// request. The only refusal is want of memory, after which all wait as before.
+    /// request. The only refusal is out of memory, after which all wait as before.
     pub fn expire(&mut self, alloc: Global, tick: u64) -> Result<Vec<Key>, AllocError>
         ensures due { IfOk result (λ ks. ks.items ≡ due tick self.old) }
         ensures later { OnOk result (self.new ≡ later tick self.old) }

@@ -12,7 +12,7 @@ use sw_participant::NoMemory;
 
 /// Memory to read messages and to note what they say. What is generic in it can claim that memory
 /// was refused only where one of these calls was.
-pub trait Memory {
+pub trait Memory: Drop {
     /// Memory was refused.
     ghost refused: { Type 0 };
 

@@ -214,9 +214,10 @@ fn bytes_in(alloc: Global, context: &Context) -> Result<Vec<u8>, NoMemory>
     }
 }
 
-/// Asks an issuer over a link.
-pub struct QueryIssuer<L: Link> {
+/// Asks an issuer over a link. It is generic in its memory, so that what it states holds of any.
+pub struct QueryIssuer<L: Link, M: Memory = Heap> {
     alloc: Global,
+    memory: M,
     mux: Mux,
     link: L,
     // between calls nothing waits
@@ -224,44 +225,45 @@ pub struct QueryIssuer<L: Link> {
 }
 
 // Written out, so that no caller proves again how its parts are dropped.
-impl<L: Link + Drop> Drop for QueryIssuer<L> {
+impl<L: Link + Drop, M: Memory + Drop> Drop for QueryIssuer<L, M> {
     fn drop(self) {
         let QueryIssuer {
             alloc: _,
+            memory: _,
             mux: _,
             link: _,
         } = self;
     }
 }
 
-impl<L: Link> QueryIssuer<L> {
+impl<L: Link> QueryIssuer<L, Heap> {
     /// Over this link.
-    pub fn new(alloc: Global, link: L) -> QueryIssuer<L>
-        ensures { ⟦<QueryIssuer<L> as Unjoined>⟧.object result ≡ L.state link }
+    pub fn new(alloc: Global, link: L) -> QueryIssuer<L, Heap>
+        ensures { ⟦<QueryIssuer<L, Heap> as Unjoined>⟧.object result ≡ L.state link }
     {
         QueryIssuer {
             alloc,
+            memory: Heap::new(alloc),
             mux: Mux::new(alloc),
             link,
         }
     }
 }
 
-impl<L: Link> Unjoined for QueryIssuer<L> {
+impl<L: Link, M: Memory> Unjoined for QueryIssuer<L, M> {
     ghost object = { λ query. L.state query.link };
 
     ghost prepares = { λ id o x byte p y.
-        Queries L.sends L.receives L.starves (Unit {0}) o x byte p y };
+        Queries L.sends L.receives L.starves M.refused o x byte p y };
 
     ghost prepares_for_abort = { λ id o x byte p y. PassesOver o x byte p y };
 
     ghost selects = { λ id o x text p. SelectsNone o text p };
 
     fn prepare(&mut self, id: u64, context: &mut Context) -> Result<u8, NoMemory> {
-        let heap = Heap::new(self.alloc);
         query(
             self.alloc,
-            &heap,
+            &self.memory,
             id,
             &mut self.mux,
             &mut self.link,
