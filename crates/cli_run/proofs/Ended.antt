@@ -11,12 +11,12 @@ use Rattle.std.proofs.lemmas.Map.Keys.{ge_from_not_lt}
 use Rattle.sw_context.specs.Pairs.{Pairs}
 use Rattle.sw_frame.specs.Stream.{AreFramed, Framed}
 use Rattle.sw_frame.proofs.Frames.{AreFramed-append}
-use Rattle.cli_run.specs.Answered.{above, last_id, response, responses, with_response}
+use Rattle.cli_run.specs.Points.{above, last_id, response, responses, with_response}
 
-is_above : (a b : ℕ) → a < b → is_lt (nat_cmp a b) ≡ true
+pub is_above : (a b : ℕ) → a < b → is_lt (nat_cmp a b) ≡ true
 is_above a b h = let t : nat_lt a b ≡ true = grind (arith, nat_tests) in rw t refl
 
-not_above : (a b : ℕ) → b ≤ a → is_lt (nat_cmp a b) ≡ false
+pub not_above : (a b : ℕ) → b ≤ a → is_lt (nat_cmp a b) ≡ false
 not_above a b h = let t : nat_lt a b ≡ false = grind (arith, nat_tests) in rw t (either (a == b)) where
   either : (c : Bool) → is_lt (cond c Equal Greater) ≡ false
   either true = refl

@@ -1,3 +1,12 @@
 mod Ended
-mod Legs
+mod Doings
+mod SessionSteps
+mod Transactions
+mod Resting
+mod Rounds
+mod Recoveries
+mod Sendings
+mod Printing
+mod Paths
+mod Runs
 mod Readings

@@ -1,2 +1,10 @@
-pub mod Answered
+pub mod Points
+pub mod Rounds
+pub mod Advices
+pub mod Ran
 pub mod Requests
+pub mod Errors
+pub mod Links
+pub mod Lines
+pub mod Stored
+pub mod Calls

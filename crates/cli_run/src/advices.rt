@@ -1,7 +1,12 @@
 //! The advices that the journal stores.
 
-ghost use Rattle.std.specs.Prelude.{[], OnOk};
-ghost use Rattle.cli_run.specs.Answered.{Acts, IsAllWritten, point_of};
+ghost use Rattle.std.specs.Prelude.{◌≡◌, map, nat_lt, IfOk, OnOk};
+ghost use Rattle.sw_issuers.specs.Sending.{SendsAdvice};
+ghost use Rattle.tx_history.specs.Journal.{advices};
+ghost use Rattle.cli_run.specs.Advices.{Sends, SendsAll, stored_at};
+ghost use Rattle.cli_run.specs.Points.{IsAtRest, point_of, world_at};
+ghost use Rattle.cli_run.specs.Rounds.{IsEmptied};
+ghost use Rattle.cli_run.specs.Stored.{plain};
 
 use crate::error::ServeError;
 use crate::switch::Switch;
@@ -21,7 +26,10 @@ struct Stored {
     advice: Bytes,
 }
 
-fn advices_of(alloc: Global, engine: &Engine) -> Result<Vec<Stored>, AllocError> {
+fn advices_of(alloc: Global, engine: &Engine) -> Result<Vec<Stored>, AllocError>
+    ensures { IfOk result (λ list. map plain list.items
+        ≡ advices engine.now.flow engine.now.start engine.now.past) }
+{
     let mut list = Vec::new(alloc);
     for ((id, place), advice) in engine.advices() {
         list.push(Stored {
@@ -33,38 +41,51 @@ fn advices_of(alloc: Global, engine: &Engine) -> Result<Vec<Stored>, AllocError>
     Ok(list)
 }
 
-// Sends an advice, and drops it where its issuer accepts it. That of a transaction that began before the
-// switch was made goes as a repeat.
+// Sends an advice, as a repeat where its transaction has an id below this one, and drops it where its
+// issuer accepts it.
 fn send_advice<S: Alter, L: Link>(
     alloc: Global,
     switch: &mut Switch<S>,
     sender: &mut Sender<L>,
     stored: &Stored,
+    first: u64,
 ) -> Result<(), ServeError>
-    requires written { IsAllWritten switch.old.plant.running.engine }
-    ensures acts { OnOk result (Acts []
-        (point_of S.Store switch.old) (point_of S.Store switch.new)) }
+    requires rest { IsAtRest (point_of S.Store switch.old) }
+    ensures sends { OnOk result (Sends (SendsAdvice L.sends L.receives L.starves (Unit {0})) (λ id. nat_lt id first)
+        (plain stored.now) sender.old (point_of S.Store switch.old)
+        sender.new (point_of S.Store switch.new)) }
+    ensures rest { OnOk result (IsAtRest (point_of S.Store switch.new)) }
+    ensures emptied { OnOk result (IsEmptied (world_at (point_of S.Store switch.old))
+        → IsEmptied (world_at (point_of S.Store switch.new))) }
 {
-    let repeat = switch.is_old(stored.id);
-    if sender.send(stored.advice.as_slice(), repeat)? {
-        switch.act(alloc, Turn::Ack(stored.id, stored.place))?;
+    let is_old = stored.id < first;
+    let accepted = sender.send(stored.advice.as_slice(), is_old)?;
+    if !accepted {
+        return Ok(());
     }
+    switch.act(alloc, Turn::Ack(stored.id, stored.place))?;
     Ok(())
 }
 
-/// Sends each stored advice once, ids and places rising, and drops those that their issuers accept.
+/// Sends each stored advice once, ids and places rising, and drops those that their issuers accept. Those
+/// of transactions with ids below this one go as repeats.
 pub(crate) fn send_advices<S: Alter, L: Link>(
     alloc: Global,
     switch: &mut Switch<S>,
     sender: &mut Sender<L>,
+    first: u64,
 ) -> Result<(), ServeError>
-    requires written { IsAllWritten switch.old.plant.running.engine }
-    ensures acts { OnOk result (Acts []
-        (point_of S.Store switch.old) (point_of S.Store switch.new)) }
+    requires rest { IsAtRest (point_of S.Store switch.old) }
+    ensures sends { OnOk result (SendsAll (SendsAdvice L.sends L.receives L.starves (Unit {0})) (λ id. nat_lt id first)
+        (stored_at (point_of S.Store switch.old)) sender.old (point_of S.Store switch.old)
+        sender.new (point_of S.Store switch.new)) }
+    ensures rest { OnOk result (IsAtRest (point_of S.Store switch.new)) }
+    ensures emptied { OnOk result (IsEmptied (world_at (point_of S.Store switch.old))
+        → IsEmptied (world_at (point_of S.Store switch.new))) }
 {
     let list = advices_of(alloc, switch.engine())?;
     for stored in &list {
-        send_advice(alloc, switch, sender, stored)?;
+        send_advice(alloc, switch, sender, stored, first)?;
     }
     Ok(())
 }

@@ -1,8 +1,13 @@
 //! Why a run ends early.
 
+ghost use Rattle.std.specs.Prelude.{◌≡◌};
+ghost use Rattle.cli_run.specs.Errors.{error_of_engine, error_of_plant, error_of_read};
+ghost use Rattle.cli_run.specs.Errors.{error_of_write};
+ghost use Rattle.cli_run.specs.declared.error.ServeError.TheVariants as serve;
+
 use cli_io::{ReadError, WriteError};
 use std::alloc::{AllocError, AllocFailed};
-use sw_participant::{NoMemory, StationError, Text};
+use sw_participant::{NoMemory, Text};
 use thiserror::Error;
 use tx_engine::EngineError;
 use tx_journal::JournalError;
@@ -18,7 +23,7 @@ pub enum ServeError {
     /// The engine refused a turn.
     #[error("the engine refused: {0}")]
     Engine(EngineError),
-    /// The journal refused.
+    /// The journal refused, out of memory too.
     #[error("{0}")]
     Journal(JournalError),
     /// The input could not be read to its end.
@@ -46,6 +51,8 @@ pub enum ServeError {
 }
 
 impl From<EngineError> for ServeError {
+    ghost from_gives = { λ e f. f ≡ error_of_engine e };
+
     fn from(error: EngineError) -> ServeError {
         match error {
             EngineError::OutOfMemory => ServeError::OutOfMemory,
@@ -54,16 +61,18 @@ impl From<EngineError> for ServeError {
     }
 }
 
+// Out of memory is told as the journal's own refusal too.
 impl From<JournalError> for ServeError {
+    ghost from_gives = { λ e f. f ≡ serve.Journal e };
+
     fn from(error: JournalError) -> ServeError {
-        match error {
-            JournalError::OutOfMemory => ServeError::OutOfMemory,
-            other => ServeError::Journal(other),
-        }
+        ServeError::Journal(error)
     }
 }
 
 impl From<ReadError> for ServeError {
+    ghost from_gives = { λ e f. f ≡ error_of_read e };
+
     fn from(error: ReadError) -> ServeError {
         match error {
             ReadError::OutOfMemory => ServeError::OutOfMemory,
@@ -73,6 +82,8 @@ impl From<ReadError> for ServeError {
 }
 
 impl From<WriteError> for ServeError {
+    ghost from_gives = { λ e f. f ≡ error_of_write e };
+
     fn from(error: WriteError) -> ServeError {
         match error {
             WriteError::OutOfMemory => ServeError::OutOfMemory,
@@ -82,36 +93,37 @@ impl From<WriteError> for ServeError {
 }
 
 impl From<AllocError> for ServeError {
+    ghost from_gives = { λ _ f. f ≡ serve.OutOfMemory };
+
     fn from(_error: AllocError) -> ServeError {
         ServeError::OutOfMemory
     }
 }
 
 impl<T: Drop> From<AllocFailed<T>> for ServeError {
+    ghost from_gives = { λ _ f. f ≡ serve.OutOfMemory };
+
     fn from(_error: AllocFailed<T>) -> ServeError {
         ServeError::OutOfMemory
     }
 }
 
 impl From<NoMemory> for ServeError {
+    ghost from_gives = { λ _ f. f ≡ serve.OutOfMemory };
+
     fn from(_error: NoMemory) -> ServeError {
         ServeError::OutOfMemory
     }
 }
 
 impl From<PlantError> for ServeError {
+    ghost from_gives = { λ e f. f ≡ error_of_plant e };
+
     fn from(error: PlantError) -> ServeError {
         match error {
             PlantError::Engine(error) => ServeError::from(error),
             PlantError::Journal(error) => ServeError::from(error),
             PlantError::Seating(_) | PlantError::OutOfMemory => ServeError::OutOfMemory,
         }
-    }
-}
-
-impl From<StationError> for ServeError {
-    // The names of the switch's participants are names.
-    fn from(_error: StationError) -> ServeError {
-        ServeError::OutOfMemory
     }
 }

@@ -3,7 +3,7 @@
 ghost use Rattle.std.specs.Prelude.{◌≡◌, ◌++◌, ℕ, List, [], IfOk};
 ghost use Rattle.sw_context.specs.Pairs.{find};
 ghost use Rattle.sw_frame.specs.Stream.{AreFramed};
-ghost use Rattle.cli_run.specs.Answered.{above, last_id, response, responses, with_response};
+ghost use Rattle.cli_run.specs.Points.{above, last_id, response, responses, with_response};
 
 use crate::error::ServeError;
 use std::alloc::Global;

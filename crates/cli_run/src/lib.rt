@@ -10,6 +10,7 @@ mod advices;
 mod error;
 mod given;
 mod issuers;
+mod laws;
 mod serving;
 mod stream;
 mod switch;
@@ -17,6 +18,7 @@ mod told;
 
 pub use error::ServeError;
 pub use issuers::Issuers;
+pub use laws::runs_keep_the_law;
 pub use serving::{Setup, run};
 pub use stream::StreamEnd;
 pub use told::{Told, write_lines};

@@ -1,16 +1,26 @@
 //! The whole run.
 
-ghost use Rattle.std.specs.Prelude.{◌≡◌, ℕ, List, [], IfOk, IfSome, OnOk};
+ghost use Rattle.std.specs.Prelude.{◌≡◌, ◌-◌, ℕ, List, [], IfErr, IfNone, IfOk, IfSome, OnOk};
+ghost use Rattle.tx_engine.specs.Calls.{waits};
+ghost use Rattle.std.specs.Io.KnownBytes.{Appends};
+ghost use Rattle.flow_model.specs.declared.flow.Flow.{Flow};
+ghost use Rattle.sw_issuers.specs.Sending.{SendsAdvice};
+ghost use Rattle.tx_history.specs.declared.journal.JournalView.{JournalView};
 ghost use Rattle.tx_journal.specs.Kept.{kept};
-ghost use Rattle.tx_plant.specs.Plant.{IsEngine, seen};
-ghost use Rattle.cli_run.specs.Answered.{Acts, IsAllWritten, Ran, Serves, point_of, unanswered};
+ghost use Rattle.tx_plant.specs.Plant.{IsEngine, Seen, seen};
+ghost use Rattle.plant_outcome.specs.Lives.{IsMade};
+ghost use Rattle.cli_run.specs.Links.{sender_of};
+ghost use Rattle.cli_run.specs.Lines.{lines_in};
+ghost use Rattle.cli_run.specs.Points.{IsAtRest, point_of};
+ghost use Rattle.cli_run.specs.Ran.{Printed, Ran, ServesAll};
+ghost use Rattle.cli_run.specs.Rounds.{Drains, Recovers};
 ghost use Rattle.cli_run.specs.Requests.{ReadTo, requests};
 
 use crate::advices::send_advices;
 use crate::error::ServeError;
 use crate::issuers::{Issuers, routes, sender_over};
 use crate::stream::{Requests, StreamEnd};
-use crate::switch::{Switch, cause_of, last_before};
+use crate::switch::{Switch, cause_of};
 use crate::told::{Told, write_lines};
 use cli_io::WriteError;
 use flow_asm::Code;
@@ -18,7 +28,7 @@ use sqlite::Alter;
 use std::alloc::Global;
 use std::io::{Read, Write};
 use sw_book::Book;
-use sw_issuers::Sender;
+use sw_issuers::{Issuer, Sender};
 use sw_participant::Station;
 use sw_parts::{
     Bystander, CheckFields, Forward, Limits, Link, QueryIssuer, Respond, Reverse, Route, StandIn,
@@ -32,11 +42,13 @@ use tx_plant::{Plant, Turn};
 const MAX_ROUNDS: u64 = u64::MAX;
 
 impl<S: Alter> Switch<S> {
-    // Finishes what the journal has unfinished.
+    // Finishes what the journal of a new plant has unfinished.
     fn recover(&mut self, alloc: Global) -> Result<(), ServeError>
         requires made { IsEngine self.old.plant.running.engine }
-        ensures acts { OnOk result (Acts []
-            (point_of S.Store self.old) (point_of S.Store self.new)) }
+        ensures recovers { OnOk result ((f : Flow) (n : ℕ) (view : JournalView) (j : Seen)
+            → IsMade f n view j (point_of S.Store self.old).plant
+            → self.old.answered ≡ view.next_id - 1
+            → Recovers (point_of S.Store self.old) (point_of S.Store self.new)) }
     {
         self.plant.recover(alloc)?;
         match self.plant.drive(alloc, &[Turn::Write(None)]) {
@@ -52,9 +64,8 @@ impl<S: Alter> Switch<S> {
         out: &mut O,
         told: &mut Told<'_, E>,
     ) -> Result<(), ServeError>
-        requires written { IsAllWritten self.old.plant.running.engine }
-        requires given { unanswered (point_of S.Store self.old) ≡ [] }
-        ensures serves { OnOk result (Serves []
+        requires rest { IsAtRest (point_of S.Store self.old) }
+        ensures drains { OnOk result (Drains
             (point_of S.Store self.old) (O.contents out.old)
             (point_of S.Store self.new) (O.contents out.new)) }
     {
@@ -71,36 +82,38 @@ impl<S: Alter> Switch<S> {
         Err(ServeError::Endless)
     }
 
-    // Answers the requests of an input and what is on the shelf, and sends the stored advices.
+    // Answers the requests of an input and what is on the shelf, and sends the stored advices, those of
+    // transactions with ids below this one as repeats.
     fn serve_to_end<L: Link, R: Read + Drop, O: Write, E: Write>(
         &mut self,
         alloc: Global,
         sender: &mut Sender<L>,
+        first: u64,
         input: R,
         out: &mut O,
         told: &mut Told<'_, E>,
     ) -> Result<StreamEnd, ServeError>
-        requires written { IsAllWritten self.old.plant.running.engine }
+        requires rest { IsAtRest (point_of S.Store self.old) }
+        requires empty { waits self.old.plant.running.engine ≡ [] }
         ensures serves { IfOk result (λ end. (frames : List (List ℕ))
             × ReadTo end (R.remaining input) frames
-            × Serves (requests frames)
-            (point_of S.Store self.old) (O.contents out.old)
-            (point_of S.Store self.new) (O.contents out.new)) }
+            × ServesAll (SendsAdvice L.sends L.receives L.starves (Unit {0})) first (requests frames)
+            (point_of S.Store self.old) sender.old (O.contents out.old) (O.contents out.new)) }
     {
-        // (A recovery ends none that began in this run, so that this writes nothing.)
-        self.give(alloc, out)?;
+        self.cut_long(alloc, told)?;
         let mut input = input;
         let mut requests = Requests::new(alloc);
         let end = requests.serve_all(alloc, self, &mut input, out, told)?;
         self.drain(alloc, out, told)?;
-        send_advices(alloc, self, sender)?;
-        self.give(alloc, out)?;
+        send_advices(alloc, self, sender, first)?;
         Ok(end)
     }
 }
 
 // Prints the lines of all entries of the engine's history.
-fn print<O: Write>(alloc: Global, engine: &Engine, out: &mut O) -> Result<(), ServeError> {
+fn print<O: Write>(alloc: Global, engine: &Engine, out: &mut O) -> Result<(), ServeError>
+    ensures { OnOk result (Appends (O.contents out.old) (O.contents out.new) (lines_in engine.now)) }
+{
     write_lines(alloc, engine, out)?;
     out.flush().map_err(WriteError::from)?;
     Ok(())
@@ -117,6 +130,19 @@ pub struct Setup {
     pub advised: Issuers,
     /// How many sessions the engine has, 1 to 16.
     pub sessions: usize,
+}
+
+// The error of what was served comes before that of the trace.
+fn end_of(
+    served: Result<StreamEnd, ServeError>,
+    traced: Result<bool, ServeError>,
+) -> Result<StreamEnd, ServeError>
+    ensures served { IfOk result (λ end. served ≡ Ok end) }
+    ensures first { IfErr served (λ error. result ≡ Err error) }
+{
+    let end = served?;
+    traced?;
+    Ok(end)
 }
 
 // What a run takes beside the stations, as one value: where a station is not made, one is let go.
@@ -150,8 +176,11 @@ impl<S: Alter + Drop, R: Read + Drop, L: Link> Over<S, R, L> {
     ) -> Result<StreamEnd, ServeError>
         ensures ran { IfOk result (λ end. IfSome self.input (λ reader. (frames : List (List ℕ))
             × ReadTo end (R.remaining reader) frames
-            × Ran code.now self.sessions (seen (kept S.Store self.journal)) (requests frames)
+            × Ran code.now self.sessions (seen (kept S.Store self.journal))
+            (SendsAdvice L.sends L.receives L.starves (Unit {0})) self.sender (requests frames)
             (O.contents out.old) (O.contents out.new))) }
+        ensures printed { OnOk result (IfNone self.input (Printed code.now self.sessions
+            (seen (kept S.Store self.journal)) (O.contents out.old) (O.contents out.new))) }
     {
         let Over {
             journal,
@@ -164,20 +193,18 @@ impl<S: Alter + Drop, R: Read + Drop, L: Link> Over<S, R, L> {
             Ok(plant) => plant,
             Err((error, _, _)) => return Err(cause_of(alloc, code, error)),
         };
-        let before = last_before(plant.engine());
+        let first = plant.engine().opened().next_id;
         let mut switch = Switch {
             plant,
-            answered: before,
-            before,
+            answered: first.saturating_sub(1),
         };
         switch.recover(alloc)?;
         let Some(input) = input else {
             print(alloc, switch.engine(), out)?;
             return Ok(StreamEnd::Whole);
         };
-        let served = switch.serve_to_end(alloc, &mut sender, input, out, told);
-        told.trace(alloc, switch.engine())?;
-        served
+        let served = switch.serve_to_end(alloc, &mut sender, first, input, out, told);
+        end_of(served, told.trace(alloc, switch.engine()))
     }
 }
 
@@ -191,6 +218,8 @@ fn boxed<P: Unjoined>(alloc: Global, participant: P) -> Result<Box<Bystander<P>>
 /// advices. At the end, also where it ends early, the lines of the trace are written. Where the stream of
 /// frames is refused, what came before is answered, and all else is done.
 ///
+/// Standard error that takes nothing is no error of the run: its result is as if all had been written there.
+///
 /// The stations are made here; no caller has one of them.
 pub fn run<S: Alter + Drop, R: Read + Drop, O: Write, E: Write>(
     alloc: Global,
@@ -203,8 +232,14 @@ pub fn run<S: Alter + Drop, R: Read + Drop, O: Write, E: Write>(
 ) -> Result<StreamEnd, ServeError>
     ensures ran { IfOk result (λ end. IfSome input (λ reader. (frames : List (List ℕ))
         × ReadTo end (R.remaining reader) frames
-        × Ran code.now setup.sessions (seen (kept S.Store journal)) (requests frames)
+        × Ran code.now setup.sessions (seen (kept S.Store journal))
+        (SendsAdvice ⟦<Issuer as Link>⟧.sends ⟦<Issuer as Link>⟧.receives
+        ⟦<Issuer as Link>⟧.starves (Unit {0}))
+        (sender_of (⟦<Issuer as Link>⟧.state setup.advised.alpha)
+        (⟦<Issuer as Link>⟧.state setup.advised.beta)) (requests frames)
         (O.contents out.old) (O.contents out.new))) }
+    ensures printed { OnOk result (IfNone input (Printed code.now setup.sessions
+        (seen (kept S.Store journal)) (O.contents out.old) (O.contents out.new))) }
 {
     let Setup {
         book,

@@ -1,6 +1,6 @@
 //! The frames of a stream, answered as they come.
 
-ghost use Rattle.std.specs.Prelude.{◌≡◌, ◌<◌, ℕ, List, [], IfOk, IfSome, OnOk, Option, Some};
+ghost use Rattle.std.specs.Prelude.{◌≡◌, ◌<◌, ℕ, false, List, [], IfNone, IfOk, IfSome, OnOk, Option, Some};
 ghost use Rattle.std.specs.Prelude.{length, map};
 ghost use Rattle.std.specs.Io.KnownBytes.{IsAtEnd};
 ghost use Rattle.cli_io.specs.declared.error.ReadError.{ReadError};
@@ -8,7 +8,9 @@ ghost use Rattle.sw_frame.specs.declared.error.FrameError.TheVariants as FrameEr
 ghost use Rattle.sw_frame.specs.Feeds.{messages};
 ghost use Rattle.sw_frame.specs.Stream.{blank};
 ghost use Rattle.iso_codec.specs.Reads.{read};
-ghost use Rattle.cli_run.specs.Answered.{IsAllWritten, Serves, point_of, unanswered};
+ghost use Rattle.cli_run.specs.Points.{IsReady, point_of};
+ghost use Rattle.cli_run.specs.Rounds.{Serves, answering};
+ghost use Rattle.cli_run.specs.Errors.{result_of};
 ghost use Rattle.cli_run.specs.Requests.{EndsAs, FramesIn, ReadTo, ReadsOn, if_read, request_of, requests};
 ghost use Rattle.cli_run.specs.declared.stream.StreamEnd.TheVariants.{Unread};
 
@@ -40,7 +42,9 @@ pub enum StreamEnd {
 
 impl StreamEnd {
     /// An error where the stream was refused.
-    pub fn into_result(self) -> Result<(), ServeError> {
+    pub fn into_result(self) -> Result<(), ServeError>
+        ensures { result ≡ result_of self }
+    {
         match self {
             StreamEnd::Whole => Ok(()),
             StreamEnd::BadLength => Err(ServeError::BadLength),
@@ -75,11 +79,12 @@ fn serve<S: Alter, O: Write, E: Write>(
     out: &mut O,
     told: &mut Told<'_, E>,
 ) -> Result<(), ServeError>
-    requires written { IsAllWritten switch.old.plant.running.engine }
-    requires given { unanswered (point_of S.Store switch.old) ≡ [] }
-    ensures serves { OnOk result (Serves (map request_of (if_read (read message.now) message.now))
+    requires ready { IsReady (point_of S.Store switch.old) }
+    ensures serves { OnOk result (Serves (answering
+        (map request_of (if_read (read message.now) message.now)))
         (point_of S.Store switch.old) (O.contents out.old)
         (point_of S.Store switch.new) (O.contents out.new)) }
+    ensures ready { OnOk result (IsReady (point_of S.Store switch.new)) }
 {
     match decode(alloc, message) {
         Ok(_) => switch.answer(alloc, message, told, out),
@@ -100,11 +105,11 @@ fn serve_messages<S: Alter, O: Write, E: Write>(
     out: &mut O,
     told: &mut Told<'_, E>,
 ) -> Result<(), ServeError>
-    requires written { IsAllWritten switch.old.plant.running.engine }
-    requires given { unanswered (point_of S.Store switch.old) ≡ [] }
-    ensures serves { OnOk result (Serves (requests (messages list.now))
+    requires ready { IsReady (point_of S.Store switch.old) }
+    ensures serves { OnOk result (Serves (answering (requests (messages list.now)))
         (point_of S.Store switch.old) (O.contents out.old)
         (point_of S.Store switch.new) (O.contents out.new)) }
+    ensures ready { OnOk result (IsReady (point_of S.Store switch.new)) }
 {
     for message in list {
         *count = count.saturating_add(1);
@@ -132,13 +137,13 @@ impl Requests {
         out: &mut O,
         told: &mut Told<'_, E>,
     ) -> Result<(), ServeError>
-        requires written { IsAllWritten switch.old.plant.running.engine }
-        requires given { unanswered (point_of S.Store switch.old) ≡ [] }
+        requires ready { IsReady (point_of S.Store switch.old) }
         ensures serves { OnOk result ((more : List (List ℕ))
             × FramesIn piece.now more self.old.framer self.new.framer
-            × Serves (requests more)
+            × Serves (answering (requests more))
             (point_of S.Store switch.old) (O.contents out.old)
             (point_of S.Store switch.new) (O.contents out.new)) }
+        ensures ready { OnOk result (IsReady (point_of S.Store switch.new)) }
     {
         match self.framer.feed(piece) {
             Ok(list) => serve_messages(alloc, switch, &mut self.count, &list, out, told),
@@ -148,8 +153,9 @@ impl Requests {
 
     // How the stream ended, where a read gave so many bytes last, if it did.
     fn end_after(&self, count: usize) -> Option<StreamEnd>
-        ensures { (left : Option (List ℕ)) → (count ≡ 0 → IsAtEnd left)
+        ensures ends { (left : Option (List ℕ)) → (count ≡ 0 → IsAtEnd left)
             → IfSome result (λ end. EndsAs end self.now.framer left) }
+        ensures goes_on { IfNone result (self.now.framer.failed ≡ false) }
     {
         if self.framer.failed() {
             return Some(StreamEnd::BadLength);
@@ -173,17 +179,19 @@ impl Requests {
         out: &mut O,
         told: &mut Told<'_, E>,
     ) -> Result<Option<StreamEnd>, ServeError>
-        requires written { IsAllWritten switch.old.plant.running.engine }
-        requires given { unanswered (point_of S.Store switch.old) ≡ [] }
+        requires ready { IsReady (point_of S.Store switch.old) }
         requires room { 0 < length buf.old }
+        requires sound { self.old.framer.failed ≡ false }
         ensures room { length buf.new ≡ length buf.old }
+        ensures goes_on { IfOk result (λ end. IfNone end (self.new.framer.failed ≡ false)) }
         ensures serves { IfOk result (λ end. (more : List (List ℕ))
             × ReadsOn (R.remaining input.old) self.old.framer more
             (R.remaining input.new) self.new.framer
-            × Serves (requests more)
+            × Serves (answering (requests more))
             (point_of S.Store switch.old) (O.contents out.old)
             (point_of S.Store switch.new) (O.contents out.new)
             × IfSome end (λ e. EndsAs e self.new.framer (R.remaining input.new))) }
+        ensures ready { OnOk result (IsReady (point_of S.Store switch.new)) }
     {
         let count = match input.read(buf) {
             Ok(count) => count,
@@ -203,14 +211,14 @@ impl Requests {
         out: &mut O,
         told: &mut Told<'_, E>,
     ) -> Result<StreamEnd, ServeError>
-        requires written { IsAllWritten switch.old.plant.running.engine }
-        requires given { unanswered (point_of S.Store switch.old) ≡ [] }
+        requires ready { IsReady (point_of S.Store switch.old) }
         requires fresh { self.old.framer ≡ blank }
         ensures serves { IfOk result (λ end. (frames : List (List ℕ))
             × ReadTo end (R.remaining input.old) frames
-            × Serves (requests frames)
+            × Serves (answering (requests frames))
             (point_of S.Store switch.old) (O.contents out.old)
             (point_of S.Store switch.new) (O.contents out.new)) }
+        ensures ready { OnOk result (IsReady (point_of S.Store switch.new)) }
     {
         let mut buf = vec![in alloc; 0u8; PIECE]?;
         // More reads than any run makes.

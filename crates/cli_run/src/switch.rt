@@ -1,8 +1,15 @@
 //! The plant of the switch, one transaction after the other.
 
-ghost use Rattle.std.specs.Prelude.{◌≡◌, ◌-◌, ◌∷◌, [], OnOk};
-ghost use Rattle.cli_run.specs.Answered.{Acts, IsAllWritten, IsReady, LeavesGiven, Serves};
-ghost use Rattle.cli_run.specs.Answered.{offer_of, point_of, unanswered};
+ghost use Rattle.std.specs.Prelude.{◌≡◌, ◌∷◌, List, ℕ, [], Option, IfOk, OnOk};
+ghost use Rattle.std.specs.Io.KnownBytes.{Appends};
+ghost use Rattle.sw_context.specs.Pairs.{Pairs};
+ghost use Rattle.sw_frame.specs.Stream.{AreFramed};
+ghost use Rattle.plant_outcome.specs.Seated.{Seated};
+ghost use Rattle.cli_run.specs.Errors.{IsCause, IsNoStation};
+ghost use Rattle.cli_run.specs.Points.{IsAtRest, IsReady, all_answered, point_of};
+ghost use Rattle.cli_run.specs.Points.{responses, unanswered};
+ghost use Rattle.cli_run.specs.Rounds.{Completed, CutsLong, Does, IsDone, Serves};
+ghost use Rattle.cli_run.specs.Rounds.{Transacts, answering};
 ghost use Rattle.cli_run.specs.Requests.{request_of};
 
 use crate::error::ServeError;
@@ -31,8 +38,6 @@ pub(crate) struct Switch<S: Alter> {
     pub(crate) plant: Plant<S>,
     /// The id of the last transaction whose response was given.
     pub(crate) answered: u64,
-    /// The last id before the journal's next one, as the switch was made.
-    pub(crate) before: u64,
 }
 
 impl<S: Alter + Drop> Drop for Switch<S> {
@@ -40,13 +45,14 @@ impl<S: Alter + Drop> Drop for Switch<S> {
         let Switch {
             plant: _,
             answered: _,
-            before: _,
         } = self;
     }
 }
 
 // The participant without a station, told by its name.
-fn no_station(alloc: Global, code: &Code, number: usize) -> ServeError {
+fn no_station(alloc: Global, code: &Code, number: usize) -> ServeError
+    ensures { IsNoStation code.now number result }
+{
     let Some(part) = code.participants().get(number) else {
         return ServeError::OutOfMemory;
     };
@@ -57,18 +63,23 @@ fn no_station(alloc: Global, code: &Code, number: usize) -> ServeError {
 }
 
 /// Why no plant was made.
-pub(crate) fn cause_of(alloc: Global, code: &Code, error: PlantError) -> ServeError {
+pub(crate) fn cause_of(alloc: Global, code: &Code, error: PlantError) -> ServeError
+    ensures { IsCause code.now error result }
+{
     match error {
         PlantError::Seating(SeatingError::NoStation(number)) => no_station(alloc, code, number),
         other => ServeError::from(other),
     }
 }
 
-/// The last id before those that an engine gives.
-pub(crate) fn last_before(engine: &Engine) -> u64
-    ensures { result ≡ engine.now.start.view.next_id - 1 }
+// A refusal of the engine is an error.
+fn unless_refused(outcome: Outcome) -> Result<Outcome, ServeError>
+    ensures { IfOk result (λ done. (done ≡ outcome) × IsDone outcome) }
 {
-    engine.opened().next_id.saturating_sub(1)
+    match outcome {
+        Outcome::Refused(error) => Err(ServeError::from(error)),
+        other => Ok(other),
+    }
 }
 
 impl<S: Alter> Switch<S> {
@@ -79,19 +90,12 @@ impl<S: Alter> Switch<S> {
         self.plant.engine()
     }
 
-    /// Whether the transaction of this id began before the switch was made.
-    pub(crate) fn is_old(&self, id: u64) -> bool {
-        id <= self.before
-    }
-
     /// Does a turn, and writes its entry.
     pub(crate) fn act(&mut self, alloc: Global, turn: Turn) -> Result<Outcome, ServeError>
-        requires written { IsAllWritten self.old.plant.running.engine }
-        requires ready { IsReady (offer_of turn) (point_of S.Store self.old) }
-        ensures acts { OnOk result (Acts (offer_of turn)
+        requires seated { Seated (point_of S.Store self.old).plant.core }
+        ensures does { IfOk result (λ outcome. Does turn outcome
             (point_of S.Store self.old) (point_of S.Store self.new)) }
-        ensures left { OnOk result (LeavesGiven turn
-            (point_of S.Store self.old) (point_of S.Store self.new)) }
+        ensures seated { OnOk result (Seated (point_of S.Store self.new).plant.core) }
     {
         let turns = [turn, Turn::Write(None)];
         let outcomes = match self.plant.drive(alloc, &turns) {
@@ -99,17 +103,17 @@ impl<S: Alter> Switch<S> {
             Err(fault) => return Err(ServeError::from(fault.cause)),
         };
         match outcomes.into_iter().next() {
-            Some(Outcome::Refused(error)) => Err(ServeError::from(error)),
-            Some(outcome) => Ok(outcome),
+            Some(outcome) => unless_refused(outcome),
             None => unreachable!(),
         }
     }
 
     // Runs the transaction of the queue's first context to its end.
     fn serve_next(&mut self, alloc: Global) -> Result<(), ServeError>
-        requires written { IsAllWritten self.old.plant.running.engine }
-        ensures acts { OnOk result (Acts []
-            (point_of S.Store self.old) (point_of S.Store self.new)) }
+        requires rest { IsAtRest (point_of S.Store self.old) }
+        ensures transacts { OnOk result ((own : Option Pairs) × Transacts
+            (point_of S.Store self.old) own (point_of S.Store self.new)) }
+        ensures seated { OnOk result (Seated (point_of S.Store self.new).plant.core) }
     {
         self.act(alloc, Turn::Take(0))?;
         for _ in 0..MAX_STEPS {
@@ -120,34 +124,36 @@ impl<S: Alter> Switch<S> {
         Err(ServeError::Endless)
     }
 
-    /// Writes the responses that were not given, those of transactions that ended since.
-    pub(crate) fn give<O: Write>(&mut self, alloc: Global, out: &mut O) -> Result<(), ServeError>
-        requires written { IsAllWritten self.old.plant.running.engine }
-        ensures serves { OnOk result (Serves []
-            (point_of S.Store self.old) (O.contents out.old)
-            (point_of S.Store self.new) (O.contents out.new)) }
+    // Writes the responses that were not given, those of transactions that ended since.
+    fn give<O: Write>(&mut self, alloc: Global, out: &mut O) -> Result<(), ServeError>
+        ensures gives { OnOk result ((text : List ℕ)
+            × AreFramed text (responses (unanswered (point_of S.Store self.old)))
+            × Appends (O.contents out.old) (O.contents out.new) text) }
+        ensures answered { OnOk result (point_of S.Store self.new
+            ≡ all_answered (point_of S.Store self.old)) }
+        ensures given { OnOk result (unanswered (point_of S.Store self.new) ≡ []) }
     {
         let text = text_above(alloc, self.plant.ended(), self.answered)?;
         self.answered = last_above(self.plant.ended(), self.answered);
         Ok(write_out(out, &text)?)
     }
 
-    // Cuts a long history, its lines told before.
-    fn cut_long<E: Write>(
+    /// Cuts a long history, its lines told before.
+    pub(crate) fn cut_long<E: Write>(
         &mut self,
         alloc: Global,
         told: &mut Told<'_, E>,
     ) -> Result<(), ServeError>
-        requires written { IsAllWritten self.old.plant.running.engine }
-        ensures acts { OnOk result (Acts []
+        requires rest { IsAtRest (point_of S.Store self.old) }
+        ensures cuts { OnOk result (CutsLong
             (point_of S.Store self.old) (point_of S.Store self.new)) }
-        ensures left { OnOk result (unanswered (point_of S.Store self.new)
-            ≡ unanswered (point_of S.Store self.old)) }
+        ensures rest { OnOk result (IsAtRest (point_of S.Store self.new)) }
     {
-        if self.engine().history().len() >= MANY_ENTRIES {
-            told.trace(alloc, self.engine())?;
-            self.act(alloc, Turn::Cut)?;
+        if self.engine().history().len() < MANY_ENTRIES {
+            return Ok(());
         }
+        told.trace(alloc, self.engine())?;
+        self.act(alloc, Turn::Cut)?;
         Ok(())
     }
 
@@ -158,10 +164,11 @@ impl<S: Alter> Switch<S> {
         told: &mut Told<'_, E>,
         out: &mut O,
     ) -> Result<(), ServeError>
-        requires written { IsAllWritten self.old.plant.running.engine }
-        ensures serves { OnOk result (Serves []
+        requires rest { IsAtRest (point_of S.Store self.old) }
+        ensures serves { OnOk result (Serves (Completed ∷ [])
             (point_of S.Store self.old) (O.contents out.old)
             (point_of S.Store self.new) (O.contents out.new)) }
+        ensures rest { OnOk result (IsAtRest (point_of S.Store self.new)) }
     {
         self.serve_next(alloc)?;
         self.give(alloc, out)?;
@@ -176,11 +183,11 @@ impl<S: Alter> Switch<S> {
         told: &mut Told<'_, E>,
         out: &mut O,
     ) -> Result<(), ServeError>
-        requires written { IsAllWritten self.old.plant.running.engine }
-        requires given { unanswered (point_of S.Store self.old) ≡ [] }
-        ensures serves { OnOk result (Serves (request_of request.now ∷ [])
+        requires ready { IsReady (point_of S.Store self.old) }
+        ensures serves { OnOk result (Serves (answering (request_of request.now ∷ []))
             (point_of S.Store self.old) (O.contents out.old)
             (point_of S.Store self.new) (O.contents out.new)) }
+        ensures ready { OnOk result (IsReady (point_of S.Store self.new)) }
     {
         let mut context = Context::new(alloc);
         let Ok(()) = context.put("request", request) else {

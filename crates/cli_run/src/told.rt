@@ -1,5 +1,9 @@
 //! What a run tells beside its responses.
 
+ghost use Rattle.std.specs.Prelude.{◌≡◌, ◌∷◌, ◌++◌, true, [], IfOk, OnOk};
+ghost use Rattle.std.specs.Io.KnownBytes.{Appends};
+ghost use Rattle.cli_run.specs.Lines.{lines_in};
+
 use crate::error::ServeError;
 use cli_io::WriteError;
 use iso_codec::DecodeError;
@@ -8,7 +12,8 @@ use std::io::Write;
 use tx_engine::Engine;
 use tx_trace::Tracer;
 
-/// Where messages that are passed over are told, and the trace goes.
+/// Where messages that are passed over are told, and the trace goes. Where standard error takes nothing
+/// the run goes on, and ends as if it had taken all.
 #[derive(Drop)]
 pub struct Told<'a, E> {
     pub err: &'a mut E,
@@ -17,7 +22,7 @@ pub struct Told<'a, E> {
 }
 
 impl<'a, E: Write> Told<'a, E> {
-    /// Tells that a message is passed over. Where standard error takes nothing the run goes on.
+    /// Tells that a message is passed over.
     pub(crate) fn pass_over(&mut self, number: u64, error: &DecodeError) {
         let _told = writeln!(
             self.err,
@@ -25,27 +30,45 @@ impl<'a, E: Write> Told<'a, E> {
         );
     }
 
-    /// Writes the lines of all entries of the engine's history, if a trace is wanted.
-    pub(crate) fn trace(&mut self, alloc: Global, engine: &Engine) -> Result<(), ServeError> {
-        if self.trace {
-            write_lines(alloc, engine, self.err)?;
+    /// Writes the lines of all entries of the engine's history, if a trace is wanted. Answers whether
+    /// standard error took them; out of memory is the only error.
+    pub(crate) fn trace(&mut self, alloc: Global, engine: &Engine) -> Result<bool, ServeError>
+        ensures lines { IfOk result (λ took. took ≡ true → self.old.trace ≡ true
+            → Appends (E.contents self.old.err.now) (E.contents self.new.err.now)
+            (lines_in engine.now)) }
+    {
+        if !self.trace {
+            return Ok(true);
         }
-        Ok(())
+        match write_lines(alloc, engine, self.err) {
+            Ok(()) => Ok(true),
+            Err(ServeError::Write(_)) => Ok(false),
+            Err(error) => Err(error),
+        }
     }
 }
 
-/// Writes the lines of all entries of the engine's history.
-pub fn write_lines<W: Write>(
-    alloc: Global,
-    engine: &Engine,
-    out: &mut W,
-) -> Result<(), ServeError> {
+fn write_line<W: Write>(out: &mut W, line: &str) -> Result<(), ServeError>
+    ensures { OnOk result (Appends (W.contents out.old) (W.contents out.new)
+        (line.now ++ 10 ∷ [])) }
+{
+    match writeln!(out, "{line}") {
+        Ok(()) => Ok(()),
+        Err(error) => Err(ServeError::from(WriteError::from(error))),
+    }
+}
+
+/// Writes the lines of all entries of the engine's history, the oldest first.
+pub fn write_lines<W: Write>(alloc: Global, engine: &Engine, out: &mut W) -> Result<(), ServeError>
+    ensures { OnOk result (Appends (W.contents out.old) (W.contents out.new) (lines_in engine.now)) }
+{
     let mut tracer = Tracer::new(alloc, engine);
-    for _ in engine.history() {
+    let count = engine.history().len();
+    for number in 0..count {
         let Some(line) = tracer.next(alloc, engine)? else {
             return Ok(());
         };
-        writeln!(out, "{line}").map_err(WriteError::from)?;
+        write_line(out, line.as_str())?;
     }
     Ok(())
 }

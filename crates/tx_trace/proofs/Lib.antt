@@ -1,5 +1,5 @@
 pub mod Tables
-mod Earlier
+pub mod Earlier
 mod Given
 mod Shelved
 mod Begun

@@ -1,7 +1,16 @@
-use Rattle.std.proofs.Common.{[]}
+use Rattle.std.proofs.Common.{map, take}
+use Rattle.std.specs.Prelude.{nat_lt}
+use Rattle.sw_issuers.specs.Sending.{SendsAdvice}
 use Rattle.tx_journal.specs.Kept.{kept}
-use Rattle.cli_run.specs.Answered.{Acts, point}
+use Rattle.cli_run.specs.Advices.{SendsAll}
+use Rattle.cli_run.specs.Points.{IsAtRest, point, world_at}
+use Rattle.cli_run.specs.Rounds.{IsEmptied}
+use Rattle.cli_run.specs.Stored.{plain}
 use Rattle.cli_run.proofs.advices.send_advices.Given as goal
 
 abbrev pub invariant-loop-stored : goal.invariant-loop-stored
-invariant-loop-stored g l = Acts [] (point l.fn.switch.plant.running.engine l.fn.switch.plant.running.seats (kept g.S.Store l.fn.switch.plant.journal) l.fn.switch.answered) (point l.switch.plant.running.engine l.switch.plant.running.seats (kept g.S.Store l.switch.plant.journal) l.switch.answered)
+invariant-loop-stored g l = record {
+  sends : SendsAll (SendsAdvice g.L.Link.sends g.L.Link.receives g.L.Link.starves (Unit {0})) (λ id. nat_lt id l.first) (map plain (take l.stored-index l.stored-items)) l.fn.sender (point l.fn.switch.plant.running.engine l.fn.switch.plant.running.seats (kept g.S.Store l.fn.switch.plant.journal) l.fn.switch.answered) l.sender (point l.switch.plant.running.engine l.switch.plant.running.seats (kept g.S.Store l.switch.plant.journal) l.switch.answered);
+  rest : IsAtRest (point l.switch.plant.running.engine l.switch.plant.running.seats (kept g.S.Store l.switch.plant.journal) l.switch.answered);
+  emptied : IsEmptied l.fn.switch.plant.running.engine → IsEmptied l.switch.plant.running.engine;
+}

@@ -1,6 +1,6 @@
 use Rattle.std.proofs.Common.{◌∙◌, ◌++◌, sym, ap}
 use Rattle.std.specs.Prelude.{option_map}
-use Rattle.cli_run.specs.Answered.{response}
+use Rattle.cli_run.specs.Points.{response}
 use Rattle.cli_run.proofs.Ended.{one_frame}
 use Rattle.cli_run.proofs.given.add_frame.Goals as goal
 

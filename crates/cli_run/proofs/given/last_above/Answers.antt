@@ -1,6 +1,6 @@
 use Rattle.std.proofs.Common.{◌-◌, arith, refl, sym, ap, length}
 use Rattle.std.specs.Map.{keys_of}
-use Rattle.cli_run.specs.Answered.{last_id}
+use Rattle.cli_run.specs.Points.{last_id}
 use Rattle.cli_run.proofs.Ended.{last_is_above, none_above, none_above_more}
 use Rattle.cli_run.proofs.given.last_above.Goals as goal
 

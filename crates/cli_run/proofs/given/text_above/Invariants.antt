@@ -1,6 +1,6 @@
 use Rattle.std.proofs.Common.{map}
 use Rattle.sw_frame.specs.Stream.{AreFramed}
-use Rattle.cli_run.specs.Answered.{responses}
+use Rattle.cli_run.specs.Points.{responses}
 use Rattle.cli_run.proofs.given.text_above.Given as goal
 
 abbrev pub invariant-loop-number : goal.invariant-loop-number

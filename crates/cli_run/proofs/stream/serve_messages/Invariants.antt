@@ -1,9 +1,13 @@
 use Rattle.std.proofs.Common.{take}
 use Rattle.tx_journal.specs.Kept.{kept}
 use Rattle.sw_frame.specs.Feeds.{messages}
-use Rattle.cli_run.specs.Answered.{Serves, point}
+use Rattle.cli_run.specs.Points.{IsReady, point}
+use Rattle.cli_run.specs.Rounds.{Serves, answering}
 use Rattle.cli_run.specs.Requests.{requests}
 use Rattle.cli_run.proofs.stream.serve_messages.Given as goal
 
 abbrev pub invariant-loop-message : goal.invariant-loop-message
-invariant-loop-message g l = Serves (requests (messages (take l.message-index l.list))) (point l.fn.switch.plant.running.engine l.fn.switch.plant.running.seats (kept g.S.Store l.fn.switch.plant.journal) l.fn.switch.answered) (g.O.Write.contents l.fn.out) (point l.switch.plant.running.engine l.switch.plant.running.seats (kept g.S.Store l.switch.plant.journal) l.switch.answered) (g.O.Write.contents l.out)
+invariant-loop-message g l = record {
+  serves : Serves (answering (requests (messages (take l.message-index l.list)))) (point l.fn.switch.plant.running.engine l.fn.switch.plant.running.seats (kept g.S.Store l.fn.switch.plant.journal) l.fn.switch.answered) (g.O.Write.contents l.fn.out) (point l.switch.plant.running.engine l.switch.plant.running.seats (kept g.S.Store l.switch.plant.journal) l.switch.answered) (g.O.Write.contents l.out);
+  ready : IsReady (point l.switch.plant.running.engine l.switch.plant.running.seats (kept g.S.Store l.switch.plant.journal) l.switch.answered);
+}

@@ -1,30 +1,52 @@
-use Rattle.std.proofs.Common.{◌≡◌, ◌-◌, ap, ◌∙◌}
+use Rattle.std.proofs.Common.{◌≡◌, ℕ, List, ◌∙◌, ap, subst}
+use Rattle.std.specs.Io.KnownBytes.{Appends}
+use Rattle.tx_history.specs.declared.journal.JournalView.{JournalView}
 use Rattle.tx_engine.specs.World.{World}
 use Rattle.tx_journal.specs.Kept.{kept}
-use Rattle.tx_plant.specs.Plant.{seen, whole}
-use Rattle.cli_run.specs.Answered.{point}
-use Rattle.cli_run.specs.Requests.{requests}
-use Rattle.cli_run.proofs.Legs.{if_ok, if_ok_err, recovers_first, some_ok}
+use Rattle.tx_plant.specs.Plant.{Whole, seen, whole}
+use Rattle.plant_outcome.specs.Lives.{IsMade}
+use Rattle.cli_run.specs.Lines.{lines_in}
+use Rattle.cli_run.proofs.Rounds.{none_none, some_ok}
+use Rattle.cli_run.proofs.Runs.{begun_recovers, printed, ran, through}
 use Rattle.cli_run.proofs.serving.Over.run.Goals as goal
 
-pub returns-in_err-recover : goal.returns-in_err-recover
-returns-in_err-recover g c = record { ran = if_ok_err _ _ c.from_residual.result c.from_residual.ensures.1 }
+pub returns-in_default-clause-printed : goal.returns-in_default-clause-printed
+returns-in_default-clause-printed g c =
+    let plant = c.in-Ok.plant in
+    let made : Whole = whole plant.running.engine plant.running.seats (seen (kept g.S.Store plant.journal)) in
+    let view : JournalView = c.in-Ok.ensures.opened.0 in
+    let is : IsMade c.args.code.now c.args.self.sessions view (seen (kept g.S.Store c.args.self.journal)) made = record { opened = c.in-Ok.ensures.opened.1; engine = c.in-Ok.ensures.engine } in
+    let first : c.opened.result.now.next_id ≡ made.core.world.start.view.next_id = ap (λ (v : JournalView). v.next_id) (c.opened.ensures ∙ ap (λ (w : World). w.start.view) c.engine.ensures) in
+    let prints = ap (λ (w : World). lines_in w) c.engine-in_default.ensures in
+    none_none _ c.args.self.input c.in_default.is (printed c.args.code.now c.args.self.sessions view (seen (kept g.S.Store c.args.self.journal)) made c.opened.result.now.next_id c.saturating_sub.result _ _ _ is first c.saturating_sub.ensures c.in_ok-recover.ensures.recovers (subst (λ (l : List ℕ). Appends (g.O.Write.contents c.args.out.now) (g.O.Write.contents c.print.new.out) l) prints c.in_ok-print.ensures))
 
-pub returns : goal.returns
-returns g c =
-    let made = c.in-Ok.plant in
-    let last = c.serve_to_end-served.new.self in
-    let begins : c.last_before-before.result ≡ made.running.engine.start.view.next_id - 1 = c.last_before-before.ensures ∙ ap (λ (w : World). w.start.view.next_id - 1) c.engine.ensures in
-    record {
-      ran = if_ok c.serve_to_end-served.result (λ end served. some_ok _ c.args.self.input c.in-Some.input c.in-Some.is (
-        served.0,
-        served.1,
-        record {
-          view = c.in-Ok.ensures.opened.0;
-          made = whole made.running.engine made.running.seats (seen (kept g.S.Store made.journal));
-          opened = c.in-Ok.ensures.opened.1;
-          end = point last.plant.running.engine last.plant.running.seats (kept g.S.Store last.plant.journal) last.answered;
-          serves = recovers_first (requests served.0) _ c.last_before-before.result _ _ _ _ _ begins c.in_ok-recover.ensures.acts served.2;
-        },
-      )) c.serve_to_end-served.ensures.serves;
-    }
+pub serve_to_end-served-requires-clause-rest : goal.serve_to_end-served-requires-clause-rest
+serve_to_end-served-requires-clause-rest g c =
+    let plant = c.in-Ok.plant in
+    let made : Whole = whole plant.running.engine plant.running.seats (seen (kept g.S.Store plant.journal)) in
+    let view : JournalView = c.in-Ok.ensures.opened.0 in
+    let is : IsMade c.args.code.now c.args.self.sessions view (seen (kept g.S.Store c.args.self.journal)) made = record { opened = c.in-Ok.ensures.opened.1; engine = c.in-Ok.ensures.engine } in
+    let first : c.opened.result.now.next_id ≡ made.core.world.start.view.next_id = ap (λ (v : JournalView). v.next_id) (c.opened.ensures ∙ ap (λ (w : World). w.start.view) c.engine.ensures) in
+    (begun_recovers c.args.code.now c.args.self.sessions view (seen (kept g.S.Store c.args.self.journal)) made c.opened.result.now.next_id c.saturating_sub.result _ is first c.saturating_sub.ensures c.in_ok-recover.ensures.recovers).rest
+
+pub serve_to_end-served-requires-clause-empty : goal.serve_to_end-served-requires-clause-empty
+serve_to_end-served-requires-clause-empty g c =
+    let plant = c.in-Ok.plant in
+    let made : Whole = whole plant.running.engine plant.running.seats (seen (kept g.S.Store plant.journal)) in
+    let view : JournalView = c.in-Ok.ensures.opened.0 in
+    let is : IsMade c.args.code.now c.args.self.sessions view (seen (kept g.S.Store c.args.self.journal)) made = record { opened = c.in-Ok.ensures.opened.1; engine = c.in-Ok.ensures.engine } in
+    let first : c.opened.result.now.next_id ≡ made.core.world.start.view.next_id = ap (λ (v : JournalView). v.next_id) (c.opened.ensures ∙ ap (λ (w : World). w.start.view) c.engine.ensures) in
+    (begun_recovers c.args.code.now c.args.self.sessions view (seen (kept g.S.Store c.args.self.journal)) made c.opened.result.now.next_id c.saturating_sub.result _ is first c.saturating_sub.ensures c.in_ok-recover.ensures.recovers).empty
+
+pub returns-clause-ran : goal.returns-clause-ran
+returns-clause-ran g c =
+    let plant = c.in-Ok.plant in
+    let made : Whole = whole plant.running.engine plant.running.seats (seen (kept g.S.Store plant.journal)) in
+    let view : JournalView = c.in-Ok.ensures.opened.0 in
+    let is : IsMade c.args.code.now c.args.self.sessions view (seen (kept g.S.Store c.args.self.journal)) made = record { opened = c.in-Ok.ensures.opened.1; engine = c.in-Ok.ensures.engine } in
+    let first : c.opened.result.now.next_id ≡ made.core.world.start.view.next_id = ap (λ (v : JournalView). v.next_id) (c.opened.ensures ∙ ap (λ (w : World). w.start.view) c.engine.ensures) in
+    through c.serve_to_end-served.result c.end_of.result c.end_of.ensures.served c.serve_to_end-served.ensures.serves (λ end served. some_ok _ c.args.self.input c.in-Some.input c.in-Some.is (
+      served.0,
+      served.1,
+      ran c.args.code.now c.args.self.sessions view (seen (kept g.S.Store c.args.self.journal)) made c.opened.result.now.next_id c.saturating_sub.result _ _ _ _ _ _ is first c.saturating_sub.ensures c.in_ok-recover.ensures.recovers served.2,
+    ))

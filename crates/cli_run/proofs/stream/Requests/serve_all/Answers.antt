@@ -1,15 +1,19 @@
-use Rattle.std.proofs.Common.{◌≡◌, ◌<◌, ◌≤◌, [], ◌++◌, length, drop, arith}
+use Rattle.std.proofs.Common.{◌≡◌, ◌<◌, ◌≤◌, false, [], ◌++◌, length, drop, arith, ap}
+use Rattle.std.specs.Prelude.{IfNone}
+use Rattle.sw_frame.specs.Stream.{State}
 use Rattle.cli_run.specs.Requests.{EndsAs}
-use Rattle.cli_run.proofs.Legs.{if_some, serves_none}
+use Rattle.cli_run.proofs.Rounds.{if_none, if_some, serves_none}
 use Rattle.cli_run.proofs.Readings.{nothing_read, serves_frames, still_room}
 use Rattle.cli_run.proofs.stream.Requests.serve_all.Goals as goal
 
 pub loop-init : goal.loop-init
 loop-init g c = record {
   room = let l : c.in_ok-buf.buf.len ≡ 65536 = c.in_ok-buf.ensures.len in omega (arith, l, c.in_ok-buf.buf.ok.0);
+  sound = ap (λ (s : State). s.failed) c.requires.fresh;
   frames = [];
   reads = nothing_read (g.R.Read.remaining c.args.input.now) c.args.self.now.framer c.requires.fresh;
-  serves = serves_none _ _ c.requires.written c.requires.given;
+  serves = serves_none _ _;
+  ready = c.requires.ready;
 }
 
 pub returns-in-Some : goal.returns-in-Some
@@ -26,6 +30,7 @@ returns-in-Some g c =
         },
         serves_frames c.loop.invariant.frames more _ _ _ _ _ _ c.loop.invariant.serves serves,
       );
+      ready = c.in_ok-end.ensures.ready;
     }
 
 pub loop-preserved : goal.loop-preserved
@@ -37,7 +42,9 @@ loop-preserved g c =
     let room = still_room c.loop.buf.len c.serve_read.new.buf (drop (length c.serve_read.new.buf) c.loop.buf.items) some le in
     record {
       room = room;
+      sound = if_none _ c.in_ok-end.end c.in_default.is c.in_ok-end.ensures.goes_on;
       frames = c.loop.invariant.frames ++ more;
       reads = adds (g.R.Read.remaining c.args.input.now) c.loop.invariant.frames c.loop.invariant.reads;
       serves = serves_frames c.loop.invariant.frames more _ _ _ _ _ _ c.loop.invariant.serves serves;
+      ready = c.in_ok-end.ensures.ready;
     }

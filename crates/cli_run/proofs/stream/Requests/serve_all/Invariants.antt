@@ -1,13 +1,16 @@
-use Rattle.std.proofs.Common.{ℕ, List, ◌<◌, length}
+use Rattle.std.proofs.Common.{◌≡◌, ℕ, false, List, ◌<◌, length}
 use Rattle.tx_journal.specs.Kept.{kept}
-use Rattle.cli_run.specs.Answered.{Serves, point}
+use Rattle.cli_run.specs.Points.{IsReady, point}
+use Rattle.cli_run.specs.Rounds.{Serves, answering}
 use Rattle.cli_run.specs.Requests.{Reads, requests}
 use Rattle.cli_run.proofs.stream.Requests.serve_all.Given as goal
 
 abbrev pub invariant-loop : goal.invariant-loop
 invariant-loop g l = record {
   room : 0 < length l.buf.items;
+  sound : l.self.framer.failed ≡ false;
   frames : List (List ℕ);
   reads : Reads (g.R.Read.remaining l.fn.input) (g.R.Read.remaining l.input) frames l.self.framer;
-  serves : Serves (requests frames) (point l.fn.switch.plant.running.engine l.fn.switch.plant.running.seats (kept g.S.Store l.fn.switch.plant.journal) l.fn.switch.answered) (g.O.Write.contents l.fn.out) (point l.switch.plant.running.engine l.switch.plant.running.seats (kept g.S.Store l.switch.plant.journal) l.switch.answered) (g.O.Write.contents l.out);
+  serves : Serves (answering (requests frames)) (point l.fn.switch.plant.running.engine l.fn.switch.plant.running.seats (kept g.S.Store l.fn.switch.plant.journal) l.fn.switch.answered) (g.O.Write.contents l.fn.out) (point l.switch.plant.running.engine l.switch.plant.running.seats (kept g.S.Store l.switch.plant.journal) l.switch.answered) (g.O.Write.contents l.out);
+  ready : IsReady (point l.switch.plant.running.engine l.switch.plant.running.seats (kept g.S.Store l.switch.plant.journal) l.switch.answered);
 }

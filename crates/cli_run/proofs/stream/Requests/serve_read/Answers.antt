@@ -1,5 +1,5 @@
 use Rattle.std.proofs.Common.{[], take, arith}
-use Rattle.cli_run.proofs.Legs.{if_ok, serves_none}
+use Rattle.cli_run.proofs.Rounds.{if_ok, serves_none}
 use Rattle.cli_run.proofs.Readings.{reads_nothing, reads_piece}
 use Rattle.cli_run.proofs.stream.Requests.serve_read.Goals as goal
 
@@ -7,7 +7,7 @@ pub returns-in-Err-clause-serves : goal.returns-in-Err-clause-serves
 returns-in-Err-clause-serves g c = (
   [],
   reads_nothing (g.R.Read.remaining c.args.input.now) (g.R.Read.remaining c.read.new.self) c.args.self.now.framer c.in-Err.ensures.bytes,
-  serves_none _ _ c.requires.written c.requires.given,
+  serves_none _ _,
   tt,
 )
 
@@ -15,9 +15,12 @@ pub returns-in-Err-2-clause-serves : goal.returns-in-Err-2-clause-serves
 returns-in-Err-2-clause-serves g c = if_ok c.unread.result (λ end is. (
   [],
   reads_nothing (g.R.Read.remaining c.args.input.now) (g.R.Read.remaining c.read.new.self) c.args.self.now.framer c.in-Err.ensures.bytes,
-  serves_none _ _ c.requires.written c.requires.given,
+  serves_none _ _,
   rw is.1 tt,
 )) c.unread.ensures
+
+pub returns-in-Err-2-clause-goes_on : goal.returns-in-Err-2-clause-goes_on
+returns-in-Err-2-clause-goes_on g c = if_ok c.unread.result (λ end is. rw is.1 tt) c.unread.ensures
 
 pub returns-clause-serves : goal.returns-clause-serves
 returns-clause-serves g c =
@@ -25,5 +28,5 @@ returns-clause-serves g c =
       more,
       reads_piece (g.R.Read.remaining c.args.input.now) (g.R.Read.remaining c.read.new.self) (take c.in-Ok.count c.read.new.buf) more c.args.self.now.framer c.serve_piece.new.self.framer c.in-Ok.ensures.bytes.0 adds,
       serves,
-      c.end_after.ensures (g.R.Read.remaining c.read.new.self) (λ none. c.in-Ok.ensures.bytes.1 none (omega (arith, c.requires.room, c.read.auto.buf))),
+      c.end_after.ensures.ends (g.R.Read.remaining c.read.new.self) (λ none. c.in-Ok.ensures.bytes.1 none (omega (arith, c.requires.room, c.read.auto.buf))),
     )

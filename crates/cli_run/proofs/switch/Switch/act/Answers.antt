@@ -1,16 +1,20 @@
+use Rattle.std.proofs.Common.{[], ◌∷◌, ◌∙◌, sym}
 use Rattle.tx_journal.specs.Kept.{kept}
 use Rattle.tx_plant.specs.Plant.{seen, whole}
-use Rattle.cli_run.proofs.Legs.{drove, leaves_given, written_behind}
+use Rattle.plant_outcome.proofs.SeatedTurns.{all_seated}
+use Rattle.cli_run.specs.Rounds.{doing}
+use Rattle.cli_run.proofs.Doings.{does_turn, first_out}
+use Rattle.cli_run.proofs.Rounds.{if_ok, on_if}
 use Rattle.cli_run.proofs.switch.Switch.act.Goals as goal
 
-pub returns-in-Some : goal.returns-in-Some
-returns-in-Some g c =
+pub returns : goal.returns
+returns g c =
     let p = whole c.args.self.now.plant.running.engine c.args.self.now.plant.running.seats (seen (kept g.S.Store c.args.self.now.plant.journal)) in
     let q = whole c.drive.new.self.running.engine c.drive.new.self.running.seats (seen (kept g.S.Store c.drive.new.self.journal)) in
     let (m, driven, led, counts) = c.in-Ok.ensures.done in
-    let two = written_behind c.args.turn c.in-Ok.outcomes.items m p q driven in
-    let id = c.args.self.now.answered in
+    let first = first_out c.in-Ok.outcomes.items _ c.next.result c.in-Some.outcome (sym c.into_iter.ensures.rest ∙ c.next.ensures.items) c.in-Some.is in
+    let turn = does_turn c.args.turn c.in-Ok.outcomes.items _ m p q c.args.self.now.answered c.in-Some.outcome driven first in
     record {
-      acts = drove c.args.turn c.in-Ok.outcomes.items m p q id driven c.requires.ready two.written;
-      left = leaves_given c.args.turn c.in-Ok.outcomes.items m p q id driven;
+      does = if_ok c.unless_refused.result (λ o done. rw done.0 (turn done.1)) c.unless_refused.ensures;
+      seated = on_if c.unless_refused.result (λ o done. (let t = turn done.1 in all_seated (doing c.args.turn (c.in-Some.outcome, t.wrote) ∷ []) t.acts.moved p q c.requires.seated t.acts.driven)) c.unless_refused.ensures;
     }

@@ -1,12 +1,21 @@
-use Rattle.std.proofs.Common.{[], ◌∷◌, ◌∙◌, ap}
+use Rattle.std.proofs.Common.{◌≡◌, [], ◌∷◌, ◌∙◌, ap, subst}
 use Rattle.std.specs.Prelude.{codes}
-use Rattle.sw_context.specs.Pairs.{with_value}
+use Rattle.sw_context.specs.Pairs.{Pairs, with_value}
+use Rattle.tx_plant.specs.declared.turn.Turn.TheVariants.{Offer}
 use Rattle.cli_run.specs.Requests.{request_of}
-use Rattle.cli_run.proofs.Legs.{offers_same, on_ok, serves_behind}
+use Rattle.cli_run.specs.Rounds.{Completed, Does}
+use Rattle.cli_run.proofs.Resting.{offered_rest}
+use Rattle.cli_run.proofs.Rounds.{offer_same, on_both, on_ok, ready_again, serves_offer, the_completed}
 use Rattle.cli_run.proofs.switch.Switch.answer.Goals as goal
+
+pub answer_next-requires : goal.answer_next-requires
+answer_next-requires g c = record { rest = offered_rest _ _ _ _ c.requires.ready.rest c.in_ok-act.ensures.does c.in_ok-act.ensures.seated }
 
 pub returns : goal.returns
 returns g c =
-    let context = c.in-Ok.ensures.put ∙ ap (λ pairs. with_value pairs (codes "request") c.args.request.now) c.new-context.ensures in
-    let offered = offers_same c.put.new.self (request_of c.args.request.now) _ _ context c.in_ok-act.ensures.acts in
-    record { serves = on_ok c.answer_next.result (λ more. serves_behind (request_of c.args.request.now ∷ []) [] _ _ _ _ _ offered more) c.answer_next.ensures.serves }
+    let context = c.in-Ok.ensures.put ∙ ap (λ (pairs : Pairs). with_value pairs (codes "request") c.args.request.now) c.new-context.ensures in
+    let does = offer_same c.put.new.self (request_of c.args.request.now) _ _ _ context c.in_ok-act.ensures.does in
+    record {
+      serves = on_ok c.answer_next.result (λ s. serves_offer (request_of c.args.request.now) _ _ _ _ (Completed ∷ []) _ _ c.requires.ready does s) c.answer_next.ensures.serves;
+      ready = on_ok c.answer_next.result (λ s. (let (bytes, done) = the_completed _ _ _ _ s in ready_again (request_of c.args.request.now) _ _ _ _ bytes c.requires.ready does done)) c.answer_next.ensures.serves;
+    }

@@ -1,9 +1,14 @@
-use Rattle.std.proofs.Common.{[]}
-use Rattle.cli_run.proofs.Legs.{serves_then, still_served}
+use Rattle.std.proofs.Common.{[], ◌∷◌}
+use Rattle.cli_run.specs.Rounds.{Completed, Released}
+use Rattle.cli_run.proofs.Resting.{released_rest}
+use Rattle.cli_run.proofs.Rounds.{drained, empties_none, empties_then, serves_release}
 use Rattle.cli_run.proofs.switch.Switch.drain.Goals as goal
 
+pub loop-init : goal.loop-init
+loop-init g c = empties_none _ _ c.requires.rest
+
 pub loop-preserved-then-queued-gt0 : goal.loop-preserved-then-queued-gt0
-loop-preserved-then-queued-gt0 g c = serves_then [] [] _ _ _ _ _ _ c.loop.invariant c.in_ok-answer_next.ensures.serves
+loop-preserved-then-queued-gt0 g c = empties_then _ _ _ _ _ _ (Completed ∷ []) c.loop.invariant (tt, tt) c.in_ok-answer_next.ensures.serves c.in_ok-answer_next.ensures.rest
 
 pub loop-preserved : goal.loop-preserved
-loop-preserved g c = still_served [] _ _ _ _ _ c.loop.invariant c.in_ok-act.ensures.acts c.in_ok-act.ensures.left
+loop-preserved g c = empties_then _ _ _ _ _ _ (Released ∷ []) c.loop.invariant (tt, tt) (serves_release _ _ _ _ c.in_ok-act.ensures.does) (released_rest _ _ _ c.loop.invariant.rest c.in_ok-act.ensures.does c.in_ok-act.ensures.seated)

@@ -1,8 +1,12 @@
-use Rattle.cli_run.proofs.Legs.{recovered}
+use Rattle.plant_outcome.proofs.SeatedStops.{made_seated}
+use Rattle.plant_outcome.proofs.SeatedTurns.{turned_seated}
+use Rattle.cli_run.proofs.Recoveries.{recovers}
 use Rattle.cli_run.proofs.switch.Switch.recover.Goals as goal
 
 pub returns-in-Ok : goal.returns-in-Ok
 returns-in-Ok g c =
-    let first = c.in_ok-recover.ensures.recovers in
-    let second = c.in-Ok.ensures.done in
-    record { acts = recovered first.0 first.1 _ first.3.0 second.0 _ _ _ _ first.2 first.3.1 second.1 }
+    let (turns, outcomes, own, (m, driven, led, counts), over) = c.in_ok-recover.ensures.recovers in
+    let (k, second, then, after) = c.in-Ok.ensures.done in
+    record {
+      recovers = λ f n view j made begins. recovers turned_seated f n j view _ turns outcomes _ m k _ _ _ made (made_seated f n view j _ made) begins own driven over second;
+    }

@@ -1,0 +1,54 @@
+-- The lines of the first entries of a history.
+-- for: told::write_lines
+use Rattle.std.proofs.Common.{◌≡◌, ◌<◌, ◌≤◌, ℕ, ◌+◌, List, [], ◌∷◌, ◌++◌, length, Option, Some, None, refl, sym, ap, subst, ◌∙◌}
+use Rattle.std.specs.Prelude.{if◌then◌else◌, is_some, option_map}
+use Rattle.std.specs.Io.KnownBytes.{Appends}
+use Rattle.std.proofs.KnownBytes.{Appends-nil, Appends-trans}
+use Rattle.flow_model.specs.declared.flow.Flow.{Flow}
+use Rattle.tx_history.specs.declared.event.Event.{Event}
+use Rattle.tx_history.specs.History.{Start}
+use Rattle.tx_trace.specs.Follow.{earlier}
+use Rattle.tx_trace.specs.Lines.{line_of, line_text}
+use Rattle.tx_trace.proofs.Earlier.{earlier_all, earlier_none, nth}
+use Rattle.cli_run.specs.Lines.{lines_of}
+
+same_line : (x y : List ℕ) → ◌≡◌ {A = Option (List ℕ)} (Some x) (Some y) → x ≡ y
+same_line x y e = cc
+
+-- one line more
+pub lines_next : (f : Flow) (v : Start) (past : List Event) (n : ℕ) (text : List ℕ) → n < length past → line_of f v past (n + 1) ≡ Some text
+    → lines_of f v (earlier (n + 1) past) ≡ lines_of f v (earlier n past) ++ (text ++ 10 ∷ [])
+lines_next f v past n text lt is =
+    let next = nth f v past n lt in
+    let same = same_line (line_text f v (earlier n past) next.event) text (sym next.line ∙ is) in
+    ap (lines_of f v) next.split ∙ ap (λ (l : List ℕ). lines_of f v (earlier n past) ++ (l ++ 10 ∷ [])) same
+
+pub lines_all : (f : Flow) (v : Start) (past : List Event) (n : ℕ) → length past ≤ n → lines_of f v (earlier n past) ≡ lines_of f v past
+lines_all f v past n le = ap (lines_of f v) (earlier_all past n le)
+
+pub lines_none : (f : Flow) (v : Start) (past : List Event) → lines_of f v (earlier 0 past) ≡ []
+lines_none f v past = ap (lines_of f v) (earlier_none past)
+
+-- each entry has a line
+pub line_there : (f : Flow) (v : Start) (past : List Event) (n : ℕ) → n < length past → line_of f v past (n + 1) ≡ None → ⊥
+line_there f v past n lt none = let next = nth f v past n lt in let line = next.line in cc
+
+pub counted_next : {X : Type 0} (o : Option X) (x : X) (a b n : ℕ) → o ≡ Some x → a ≡ (if is_some o then b + 1 else b) → b ≡ n → a ≡ n + 1
+counted_next o x a b n is at same = at ∙ (ap (λ z. if is_some z then b + 1 else b) is ∙ ap (λ (k : ℕ). k + 1) same)
+
+pub first_lines : (f : Flow) (v : Start) (past : List Event) (a : Option (List ℕ)) → Appends a a (lines_of f v (earlier 0 past))
+first_lines f v past a = subst (Appends a a) (sym (lines_none f v past)) (Appends-nil a)
+
+pub more_lines : {X : Type 0} (text : X → List ℕ) (f : Flow) (v : Start) (past : List Event) (n k : ℕ) (o : Option X) (x : X) (written : List ℕ) (a b c : Option (List ℕ)) → n < length past → k ≡ n → o ≡ Some x
+    → option_map text o ≡ line_of f v past (k + 1) → written ≡ text x → Appends a b (lines_of f v (earlier n past)) → Appends b c (written ++ 10 ∷ []) → Appends a c (lines_of f v (earlier (n + 1) past))
+more_lines text f v past n k o x written a b c lt at is line shown first second =
+    let here : line_of f v past (n + 1) ≡ Some (text x) = ap (λ (i : ℕ). line_of f v past (i + 1)) (sym at) ∙ (sym line ∙ ap (option_map text) is) in
+    let last : Appends b c (text x ++ 10 ∷ []) = subst (λ (l : List ℕ). Appends b c (l ++ 10 ∷ [])) shown second in
+    subst (Appends a c) (sym (lines_next f v past n (text x) lt here)) (Appends-trans a b c _ _ first last)
+
+pub none_missing : {X : Type 0} (text : X → List ℕ) (f : Flow) (v : Start) (past : List Event) (n k : ℕ) (o : Option X) → n < length past → k ≡ n → o ≡ None → option_map text o ≡ line_of f v past (k + 1) → ⊥
+none_missing text f v past n k o lt at is line =
+    line_there f v past n lt (ap (λ (i : ℕ). line_of f v past (i + 1)) (sym at) ∙ (sym line ∙ ap (option_map text) is))
+
+pub all_lines : (f : Flow) (v : Start) (past : List Event) (n : ℕ) (a b : Option (List ℕ)) → length past ≤ n → Appends a b (lines_of f v (earlier n past)) → Appends a b (lines_of f v past)
+all_lines f v past n a b le h = subst (Appends a b) (lines_all f v past n le) h

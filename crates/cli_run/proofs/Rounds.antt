@@ -1,0 +1,224 @@
+-- Rounds one after the other, and what they give.
+-- for: switch::Switch, stream::Requests, serving::Switch
+use Rattle.std.proofs.Common.{◌≡◌, ◌<◌, ◌≤◌, ℕ, ◌+◌, Bool, true, false, cond, List, [], ◌∷◌, ◌++◌, drop, Option, Some, None, Result, Ok, Err, refl, sym, ap, subst, arith, ◌∙◌, append_assoc, append-nil}
+use Rattle.std.specs.Prelude.{nat_lt, ◌&&◌}
+use Rattle.std.specs.declared.cmp.Ordering.TheVariants.{Greater}
+use Rattle.std.specs.Ordering.{is_lt, nat_cmp}
+use Rattle.std.specs.BTreeMap.{insert_entry}
+use Rattle.std.specs.Io.KnownBytes.{Appends}
+use Rattle.std.specs.List.{AllByRecursion}
+use Rattle.std.specs.Result.{IsErrAnd}
+use Rattle.std.specs.Prelude.{IfNone, IfOk, IfSome, OnOk}
+use Rattle.std.proofs.KnownBytes.{Appends-nil, Appends-trans}
+use Rattle.std.proofs.lemmas.Bool.Decides.{nat_tests}
+use Rattle.std.proofs.lemmas.Map.Keys.{ge_from_not_lt}
+use Rattle.std.proofs.lemmas.Result.{err_from_is_err_and}
+use Rattle.sw_context.specs.Pairs.{Pairs}
+use Rattle.sw_frame.specs.Stream.{AreFramed}
+use Rattle.tx_engine.specs.Calls.{waits}
+use Rattle.tx_plant.specs.declared.turn.Outcome.{Outcome}
+use Rattle.tx_plant.specs.declared.turn.Turn.TheVariants as turn
+use Rattle.plant_outcome.specs.Seated.{Seated}
+use Rattle.cli_run.specs.Points.{IsAtRest, IsReady, Point, above, all_answered, ended_at, last_id, next_at, response_of, responses, unanswered, with_ended, world_at}
+use Rattle.cli_run.specs.Rounds.{Completed, Completes, CutsLong, Does, Drains, Goes, IsEmptied, IsRetry, Offered, Released, Round, Serves, Transacts, answering}
+use Rattle.cli_run.proofs.Ended.{is_above}
+use Rattle.cli_run.proofs.Resting.{at_rest_recovered, cuts_waits, offered_one}
+
+goes_append : (ds bs : List Round) (p q r : Point) (xs ys : List ℕ) → Goes ds p xs q → Goes bs q ys r → Goes (ds ++ bs) p (xs ++ ys) r
+goes_append [] bs p q r xs ys (none, same) h =
+    subst (λ (l : List ℕ). Goes bs p (l ++ ys) r) (sym none) (subst (λ (z : Point). Goes bs z ys r) same h)
+goes_append (Offered x ∷ ds) bs p q r xs ys (ready, o, w, does, more) h =
+    (ready, o, w, does, goes_append ds bs w q r xs ys more h)
+goes_append (Completed ∷ ds) bs p q r xs ys (w, first, later, completes, more, all) h =
+    (w, first, later ++ ys, completes, goes_append ds bs w q r later ys more h, ap (λ (l : List ℕ). l ++ ys) all ∙ append_assoc first later ys)
+goes_append (Released ∷ ds) bs p q r xs ys (o, w, does, more) h =
+    (o, w, does, goes_append ds bs w q r xs ys more h)
+
+pub serves_none : (p : Point) (o : Option (List ℕ)) → Serves [] p o p o
+serves_none p o = record { bytes = []; goes = (refl, refl); appends = Appends-nil o }
+
+pub serves_then : (ds bs : List Round) (p q r : Point) (a b c : Option (List ℕ)) → Serves ds p a q b → Serves bs q b r c → Serves (ds ++ bs) p a r c
+serves_then ds bs p q r a b c s t = record {
+  bytes = s.bytes ++ t.bytes;
+  goes = goes_append ds bs p q r s.bytes t.bytes s.goes t.goes;
+  appends = Appends-trans a b c s.bytes t.bytes s.appends t.appends;
+}
+
+pub serves_offer : (x : Pairs) (o : Outcome) (p w q : Point) (ds : List Round) (a b : Option (List ℕ)) → IsReady p → Does (turn.Offer x) o p w → Serves ds w a q b → Serves (Offered x ∷ ds) p a q b
+serves_offer x o p w q ds a b ready does s = record { bytes = s.bytes; goes = (ready, o, w, does, s.goes); appends = s.appends }
+
+pub serves_release : (o : Outcome) (p q : Point) (a : Option (List ℕ)) → Does turn.Release o p q → Serves (Released ∷ []) p a q a
+serves_release o p q a does = record { bytes = []; goes = (o, q, does, (refl, refl)); appends = Appends-nil a }
+
+pub serves_completed : (p q : Point) (bytes : List ℕ) (a b : Option (List ℕ)) → Completes p bytes q → Appends a b bytes → Serves (Completed ∷ []) p a q b
+serves_completed p q bytes a b completes appends = record {
+  bytes = bytes;
+  goes = (q, bytes, [], completes, (refl, refl), sym (append-nil bytes));
+  appends = appends;
+}
+
+-- the response of the transaction that ended is the only one that is not given
+
+abbrev pub own_list : ℕ → Option Pairs → List (ℕ × Pairs)
+own_list n None = []
+own_list n (Some x) = (n, x) ∷ []
+
+cons_nil : {A : Type 0} (x : A) (xs : List A) → x ∷ xs ≡ [] → ⊥
+cons_nil x xs e = cc
+
+greater : (n k : ℕ) → k < n → nat_cmp n k ≡ Greater
+greater n k lt = grind (arith, nat_tests)
+
+above_inserted : (a n : ℕ) (x : Pairs) (es : List (ℕ × Pairs)) → a < n → above a es ≡ [] → above a (insert_entry nat_cmp es n x) ≡ (n, x) ∷ []
+above_inserted a n x [] lt none = rw (is_above a n lt) refl
+above_inserted a n x (e ∷ es) lt none = by_test (is_lt (nat_cmp a e.0)) refl none (above_inserted a n x es lt) where
+  by_test : (b : Bool) → is_lt (nat_cmp a e.0) ≡ b → cond (b && true) (e ∷ above a es) (above a es) ≡ [] → (above a es ≡ [] → above a (insert_entry nat_cmp es n x) ≡ (n, x) ∷ [])
+      → above a (insert_entry nat_cmp (e ∷ es) n x) ≡ (n, x) ∷ []
+  by_test true is nothing ih = absurd (cons_nil e (above a es) nothing)
+  by_test false is nothing ih =
+      let le : e.0 ≤ a = ge_from_not_lt a e.0 is in
+      rw (greater n e.0 (omega (arith, le, lt)), is) (ih nothing)
+
+own_above : (a n : ℕ) (own : Option Pairs) (es : List (ℕ × Pairs)) → a < n → above a es ≡ [] → above a (with_ended n own es) ≡ own_list n own
+own_above a n None es lt none = none
+own_above a n (Some x) es lt none = above_inserted a n x es lt none
+
+own_responses : (n : ℕ) (own : Option Pairs) → responses (own_list n own) ≡ response_of own
+own_responses n None = refl
+own_responses n (Some x) = refl
+
+own_last : (a n : ℕ) (own : Option Pairs) → a < n → last_id a (own_list n own) < n + 1
+own_last a n None lt = omega (arith, lt)
+own_last a n (Some x) lt = omega arith
+
+same_answered : (p q : Point) (own : Option Pairs) → Transacts p own q → q.answered ≡ p.answered
+same_answered p q own t = t.acts.answered
+
+pub own_unanswered : (p q : Point) (own : Option Pairs) → IsAtRest p → Transacts p own q → unanswered q ≡ own_list (next_at p) own
+own_unanswered p q own rest t =
+    ap (λ (n : ℕ). above n (ended_at q)) t.acts.answered ∙ (ap (above p.answered) t.ended ∙ own_above p.answered (next_at p) own (ended_at p) rest.below rest.given)
+
+pub rest_given : (p q : Point) (own : Option Pairs) → IsAtRest p → Transacts p own q → Seated q.plant.core → unanswered (all_answered q) ≡ [] → IsAtRest (all_answered q)
+rest_given p q own rest t seated given = record {
+  seated = seated;
+  idle = t.idle;
+  written = t.written;
+  given = given;
+  below = (let at : last_id q.answered (unanswered q) ≡ last_id p.answered (own_list (next_at p) own) = ap (λ (n : ℕ). last_id n (unanswered q)) t.acts.answered ∙ ap (last_id p.answered) (own_unanswered p q own rest t) in
+      let lt = own_last p.answered (next_at p) own rest.below in
+      let next = t.next in
+      omega (arith, at, lt, next));
+}
+
+pub gives_own : (p q : Point) (own : Option Pairs) (text : List ℕ) → IsAtRest p → Transacts p own q → AreFramed text (responses (unanswered q)) → AreFramed text (response_of own)
+gives_own p q own text rest t framed =
+    subst (AreFramed text) (ap responses (own_unanswered p q own rest t) ∙ own_responses (next_at p) own) framed
+
+-- ready for the next request
+
+pub ready_again : (x : Pairs) (o : Outcome) (p w q : Point) (bytes : List ℕ) → IsReady p → Does (turn.Offer x) o p w → Completes w bytes q → IsReady q
+ready_again x o p w q bytes ready does c = record {
+  rest = c.rest;
+  recovered = at_rest_recovered q c.rest;
+  empty = cuts_waits (all_answered c.ended) q c.cuts ∙ (c.transacts.queue ∙ offered_one x o p w ready.empty does);
+  short = c.cuts.short;
+}
+
+-- one completed transaction
+pub the_completed : (p q : Point) (a b : Option (List ℕ)) → Serves (Completed ∷ []) p a q b → (bytes : List ℕ) × Completes p bytes q
+the_completed p q a b s = by_goes s.goes where
+  by_goes : Goes (Completed ∷ []) p s.bytes q → (bytes : List ℕ) × Completes p bytes q
+  by_goes (w, first, later, completes, (none, same), all) = (first, subst (Completes p first) (sym same) completes)
+
+-- requests
+
+pub answering_append : (xs ys : List Pairs) → answering (xs ++ ys) ≡ answering xs ++ answering ys
+answering_append [] ys = refl
+answering_append (x ∷ xs) ys = ap (λ (l : List Round). Offered x ∷ Completed ∷ l) (answering_append xs ys)
+
+pub answers_then : (xs ys : List Pairs) (p q r : Point) (a b c : Option (List ℕ)) → Serves (answering xs) p a q b → Serves (answering ys) q b r c → Serves (answering (xs ++ ys)) p a r c
+answers_then xs ys p q r a b c s t =
+    subst (λ (l : List Round). Serves l p a r c) (sym (answering_append xs ys)) (serves_then (answering xs) (answering ys) p q r a b c s t)
+
+-- the queue and the shelf are emptied by and by
+
+pub retries_append : (ds bs : List Round) → AllByRecursion IsRetry ds → AllByRecursion IsRetry bs → AllByRecursion IsRetry (ds ++ bs)
+retries_append [] bs h k = k
+retries_append (a ∷ ds) bs h k = (h.0, retries_append ds bs h.1 k)
+
+pub record Empties (p : Point) (before : Option (List ℕ)) (q : Point) (after : Option (List ℕ)) : Type 0 where
+  pub rounds : List Round
+  pub retries : AllByRecursion IsRetry rounds
+  pub serves : Serves rounds p before q after
+  pub rest : IsAtRest q
+
+pub empties_none : (p : Point) (a : Option (List ℕ)) → IsAtRest p → Empties p a p a
+empties_none p a rest = record { rounds = []; retries = tt; serves = serves_none p a; rest = rest }
+
+pub empties_then : (p q r : Point) (a b c : Option (List ℕ)) (rounds : List Round) → Empties p a q b → AllByRecursion IsRetry rounds → Serves rounds q b r c → IsAtRest r → Empties p a r c
+empties_then p q r a b c rounds e retries serves rest = record {
+  rounds = e.rounds ++ rounds;
+  retries = retries_append e.rounds rounds e.retries retries;
+  serves = serves_then e.rounds rounds p q r a b c e.serves serves;
+  rest = rest;
+}
+
+pub drained : (p q : Point) (a b : Option (List ℕ)) → Empties p a q b → IsEmptied (world_at q) → Drains p a q b
+drained p q a b e emptied = record { rounds = e.rounds; retries = e.retries; serves = e.serves; rest = e.rest; emptied = emptied }
+
+-- what follows of an Ok
+
+pub on_ok : {T E : Type 0} {P Q : Type 0} (r : Result T E) → (P → Q) → OnOk r P → OnOk r Q
+on_ok (Ok x) f h = f h
+on_ok (Err e) f h = tt
+
+pub on_both : {T E : Type 0} {P Q R : Type 0} (r : Result T E) → (P → Q → R) → OnOk r P → OnOk r Q → OnOk r R
+on_both (Ok x) f h k = f h k
+on_both (Err e) f h k = tt
+
+pub if_ok : {T E : Type 0} {P Q : T → Type 0} (r : Result T E) → ((x : T) → P x → Q x) → IfOk r P → IfOk r Q
+if_ok (Ok x) f h = f x h
+if_ok (Err e) f h = tt
+
+-- what a `?` returns is no Ok
+pub if_ok_err : {T E : Type 0} (Q : E → Type 0) (P : T → Type 0) (r : Result T E) → IsErrAnd r Q → IfOk r P
+if_ok_err Q P r h = let p = err_from_is_err_and r h in rw p.1 tt
+
+pub if_some : {T : Type 0} (P : T → Type 0) (o : Option T) (x : T) → o ≡ Some x → IfSome o P → P x
+if_some P o x is h = subst (λ (z : Option _). IfSome z P) is h
+
+pub some_ok : {T : Type 0} (P : T → Type 0) (o : Option T) (x : T) → o ≡ Some x → P x → IfSome o P
+some_ok P o x is h = subst (λ (z : Option _). IfSome z P) (sym is) h
+
+pub on_if : {T E : Type 0} {P : T → Type 0} {Q : Type 0} (r : Result T E) → ((x : T) → P x → Q) → IfOk r P → OnOk r Q
+on_if (Ok x) f h = f x h
+on_if (Err e) f h = tt
+
+pub completed : (own : Option Pairs) (text : List ℕ) (p q r s : Point) (a b : Option (List ℕ)) → IsAtRest p → Transacts p own q → AreFramed text (responses (unanswered q)) → r ≡ all_answered q → CutsLong r s → IsAtRest s → Appends a b text → Serves (Completed ∷ []) p a s b
+completed own text p q r s a b rest transacts framed same cuts then appends =
+    serves_completed p s text a b (record {
+      own = own;
+      ended = q;
+      transacts = transacts;
+      gives = gives_own p q own text rest transacts framed;
+      cuts = subst (λ (z : Point). CutsLong z s) same cuts;
+      rest = then;
+    }) appends
+
+pub offer_same : (x y : Pairs) (o : Outcome) (p q : Point) → x ≡ y → Does (turn.Offer x) o p q → Does (turn.Offer y) o p q
+offer_same x y o p q same does = subst (λ (z : Pairs). Does (turn.Offer z) o p q) same does
+
+pub if_none : {T : Type 0} (P : Type 0) (o : Option T) → o ≡ None → IfNone o P → P
+if_none P o is h = subst (λ (z : Option _). IfNone z P) is h
+
+pub on_ok_err : {T E : Type 0} (Q : E → Type 0) (P : Type 0) (r : Result T E) → IsErrAnd r Q → OnOk r P
+on_ok_err Q P r h = let p = err_from_is_err_and r h in rw p.1 tt
+
+pub some_none : {T : Type 0} (P : T → Type 0) (o : Option T) → o ≡ None → IfSome o P
+some_none P o is = subst (λ (z : Option _). IfSome z P) (sym is) tt
+
+pub none_some : {T : Type 0} (P : Type 0) (o : Option T) (x : T) → o ≡ Some x → IfNone o P
+none_some P o x is = subst (λ (z : Option _). IfNone z P) (sym is) tt
+
+pub none_none : {T : Type 0} (P : Type 0) (o : Option T) → o ≡ None → P → IfNone o P
+none_none P o is h = subst (λ (z : Option _). IfNone z P) (sym is) h

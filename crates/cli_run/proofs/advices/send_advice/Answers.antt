@@ -1,0 +1,8 @@
+use Rattle.cli_run.proofs.Resting.{acked_emptied, acked_rest}
+use Rattle.cli_run.proofs.advices.send_advice.Goals as goal
+
+pub returns-clause-rest : goal.returns-clause-rest
+returns-clause-rest g c = acked_rest _ _ _ _ _ c.requires.rest c.in_ok-act.ensures.does c.in_ok-act.ensures.seated
+
+pub returns-clause-emptied : goal.returns-clause-emptied
+returns-clause-emptied g c = λ e. acked_emptied _ _ _ _ _ e c.in_ok-act.ensures.does

@@ -1,0 +1,41 @@
+use Rattle.std.proofs.Common.{◌≡◌, ◌<◌, ◌≤◌, ◌∙◌, ap, length, arith}
+use Rattle.std.specs.Prelude.{string_bytes}
+use Rattle.cli_run.proofs.Doings.{entries_length}
+use Rattle.cli_run.proofs.Printing.{all_lines, counted_next, first_lines, more_lines, none_missing}
+use Rattle.cli_run.proofs.told.write_lines.Goals as goal
+
+pub loop-number-init : goal.loop-number-init
+loop-number-init g c =
+    let w = c.args.engine.now in
+    record {
+      follows = c.new-tracer.ensures.follows;
+      counted = c.new-tracer.ensures.first;
+      all = ap length c.history-count.ensures.entries ∙ entries_length w.flow w.start w.past;
+      written = first_lines w.flow w.start w.past (g.W.Write.contents c.args.out.now);
+    }
+
+pub returns-in_default : goal.returns-in_default
+returns-in_default g c =
+    let w = c.args.engine.now in
+    let all = c.loop-number.invariant.all in
+    let lt : c.loop-number.number < length w.past = omega (arith, all, c.loop-number-test.true) in
+    absurd (none_missing string_bytes w.flow w.start w.past c.loop-number.number _ c.in_ok-line.field-0 lt c.loop-number.invariant.counted c.in_default.is c.in_ok-line.ensures.line)
+
+pub loop-number-preserved : goal.loop-number-preserved
+loop-number-preserved g c =
+    let w = c.args.engine.now in
+    let all = c.loop-number.invariant.all in
+    let lt : c.loop-number.number < length w.past = omega (arith, all, c.loop-number-test.true) in
+    record {
+      follows = c.in_ok-line.ensures.follows;
+      counted = counted_next c.in_ok-line.field-0 c.in-Some.line _ _ c.loop-number.number c.in-Some.is c.in_ok-line.ensures.on c.loop-number.invariant.counted;
+      all = all;
+      written = more_lines string_bytes w.flow w.start w.past c.loop-number.number _ c.in_ok-line.field-0 c.in-Some.line c.as_str.result.now _ _ _ lt c.loop-number.invariant.counted c.in-Some.is c.in_ok-line.ensures.line c.as_str.ensures.value c.loop-number.invariant.written c.in_ok-write_line.ensures;
+    }
+
+pub returns : goal.returns
+returns g c =
+    let w = c.args.engine.now in
+    let all = c.loop-number.invariant.all in
+    let le : length w.past ≤ c.loop-number.number = omega (arith, all, c.loop-number-test.false) in
+    all_lines w.flow w.start w.past c.loop-number.number _ _ le c.loop-number.invariant.written

@@ -1,0 +1,123 @@
+-- What a switch does: recoveries, requests offered, transactions run to their end, the shelf released.
+use Rattle.std.specs.Prelude.{◌≡◌, ◌⊎◌, ℕ, ◌+◌, ⊤, Bool, true, false, List, [], ◌∷◌, ◌++◌, map, drop, Option, None}
+use Rattle.std.specs.Io.KnownBytes.{Appends}
+use Rattle.std.specs.List.{AllByRecursion}
+use Rattle.sw_context.specs.Pairs.{Pairs}
+use Rattle.sw_frame.specs.Stream.{AreFramed}
+use Rattle.tx_history.specs.History.{recovering, shelf}
+use Rattle.tx_engine.specs.World.{World}
+use Rattle.tx_engine.specs.Calls.{take_refusal, waits}
+use Rattle.tx_plant.specs.declared.turn.Outcome.{Outcome}
+use Rattle.tx_plant.specs.declared.turn.Outcome.TheVariants as outcome
+use Rattle.tx_plant.specs.declared.turn.Turn.{Turn}
+use Rattle.tx_plant.specs.declared.turn.Turn.TheVariants as turn
+use Rattle.tx_plant.specs.Recovery.{IsRecovery}
+use Rattle.tx_plant.specs.Steps.{Moved}
+use Rattle.plant_outcome.specs.Lives.{AllDriven, Done, Drive}
+use Rattle.cli_run.specs.Points.{IsAllWritten, IsAtRest, IsIdle, IsReady, Point, all_answered, ended_at, is_long, next_at, response_of, with_ended, world_at}
+
+-- calls of `drive`, one after the other; no response is given meanwhile
+pub record Acts (drives : List Drive) (p q : Point) : Type 0 where
+  pub moved : List Moved
+  pub driven : AllDriven drives moved p.plant q.plant
+  pub answered : q.answered ≡ p.answered
+
+-- a turn and the write of its entry, with their outcomes
+abbrev pub doing : Turn → Outcome × Outcome → Drive
+doing t o = Done (t ∷ turn.Write None ∷ []) (o.0 ∷ o.1 ∷ [])
+
+abbrev pub IsDone : Outcome → Type 0
+IsDone (outcome.Refused e) = ⊥
+IsDone o = ⊤
+
+-- the turn was done, with this outcome, and all is written
+pub record Does (t : Turn) (o : Outcome) (p q : Point) : Type 0 where
+  pub wrote : Outcome
+  pub acts : Acts (doing t (o, wrote) ∷ []) p q
+  pub done : IsDone o
+  pub written : IsAllWritten (world_at q)
+
+-- One transaction, from its take to its end: session 0 takes the queue's first context, under the next id, and is stepped until
+-- it is idle. `own` is the context that the transaction ended with; one that was put on the shelf has none.
+pub record Transacts (p : Point) (own : Option Pairs) (q : Point) : Type 0 where
+  pub took : Outcome × Outcome
+  pub steps : List (Outcome × Outcome)
+  pub acts : Acts (doing (turn.Take 0) took ∷ map (doing (turn.Step 0)) steps) p q
+  pub allowed : take_refusal (world_at p) 0 ≡ None
+  pub queue : waits (world_at q) ≡ drop 1 (waits (world_at p))
+  pub next : next_at q ≡ next_at p + 1
+  pub ended : ended_at q ≡ with_ended (next_at p) own (ended_at p)
+  pub idle : IsIdle (world_at q)
+  pub written : IsAllWritten (world_at q)
+
+-- a long history is cut, and no other
+abbrev pub CutsIf : Bool → Point → Point → Type 0
+CutsIf true p q = (o : Outcome) × Does turn.Cut o p q
+CutsIf false p q = q ≡ p
+
+pub record CutsLong (p q : Point) : Type 0 where
+  pub cuts : CutsIf (is_long (world_at p)) p q
+  pub short : is_long (world_at q) ≡ false
+
+-- A transaction runs to its end; then its response is given, and no other. A long history is cut.
+pub record Completes (p : Point) (bytes : List ℕ) (q : Point) : Type 0 where
+  pub own : Option Pairs
+  pub ended : Point
+  pub transacts : Transacts p own ended
+  pub gives : AreFramed bytes (response_of own)
+  pub cuts : CutsLong (all_answered ended) q
+  pub rest : IsAtRest q
+
+-- what is done, from one response to the next
+pub data Round : Type 0 where
+  Offered : (request : Pairs) → Round
+  Completed : Round
+  Released : Round
+
+-- One after the other, with what they give. A request is offered only when the switch is ready for it.
+abbrev pub Goes : List Round → Point → List ℕ → Point → Type 0
+Goes [] p bytes q = (bytes ≡ []) × (q ≡ p)
+Goes (Offered x ∷ rs) p bytes q = IsReady p × (o : Outcome) × (w : Point) × Does (turn.Offer x) o p w × Goes rs w bytes q
+Goes (Completed ∷ rs) p bytes q = (w : Point) × (first : List ℕ) × (later : List ℕ) × Completes p first w × Goes rs w later q × (bytes ≡ first ++ later)
+Goes (Released ∷ rs) p bytes q = (o : Outcome) × (w : Point) × Does turn.Release o p w × Goes rs w bytes q
+
+-- each request is offered, and the queue's first transaction runs to its end before the next is
+abbrev pub answering : List Pairs → List Round
+answering [] = []
+answering (x ∷ xs) = Offered x ∷ Completed ∷ answering xs
+
+-- no request is offered any more
+abbrev pub IsRetry : Round → Type 0
+IsRetry (Offered x) = ⊥
+IsRetry Completed = ⊤
+IsRetry Released = ⊤
+
+-- rounds, with what an output holds before and after, where that is known
+pub record Serves (rounds : List Round) (p : Point) (before : Option (List ℕ)) (q : Point) (after : Option (List ℕ)) : Type 0 where
+  pub bytes : List ℕ
+  pub goes : Goes rounds p bytes q
+  pub appends : Appends before after bytes
+
+-- nothing waits
+pub record IsEmptied (w : World) : Type 0 where
+  pub queue : waits w ≡ []
+  pub shelf : shelf w.flow w.start w.past ≡ []
+
+-- the queue and the shelf are emptied
+pub record Drains (p : Point) (before : Option (List ℕ)) (q : Point) (after : Option (List ℕ)) : Type 0 where
+  pub rounds : List Round
+  pub retries : AllByRecursion IsRetry rounds
+  pub serves : Serves rounds p before q after
+  pub rest : IsAtRest q
+  pub emptied : IsEmptied (world_at q)
+
+-- A recovery: turns that write and step session 0 alone. Then nothing is to recover, and nothing waits in the queue.
+pub record Recovers (p q : Point) : Type 0 where
+  pub turns : List Turn
+  pub outcomes : List Outcome
+  pub wrote : Outcome
+  pub own : AllByRecursion IsRecovery turns
+  pub acts : Acts (Done turns outcomes ∷ Done (turn.Write None ∷ []) (wrote ∷ []) ∷ []) p q
+  pub rest : IsAtRest q
+  pub recovered : recovering (world_at q).flow (world_at q).start (world_at q).past ≡ None
+  pub empty : waits (world_at q) ≡ []

@@ -1,0 +1,6 @@
+-- A stored advice under its transaction's id and its place.
+use Rattle.std.specs.Prelude.{ℕ, List}
+use Rattle.cli_run.specs.declared.advices.Stored.{Stored}
+
+abbrev pub plain : Stored → (ℕ × ℕ) × List ℕ
+plain s = ((s.id, s.place), s.advice)
