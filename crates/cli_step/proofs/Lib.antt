@@ -1,1 +1,6 @@
+mod Adding
+mod Counted
+mod Playing
+mod Puts
 mod Turning
+mod Writing

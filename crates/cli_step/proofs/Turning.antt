@@ -1,6 +1,6 @@
 -- What each turn does to the history, by its outcome.
 -- for: turns::drive_one, turns::do_turn
-use Rattle.std.proofs.Common.{◌≡◌, ◌∷◌, ◌++◌, ◌∙◌, ℕ, [], List, Result, Ok, Err, Option, Some, None, false, length, refl, ap, sym, arith}
+use Rattle.std.proofs.Common.{◌≡◌, ◌∷◌, ◌++◌, ◌∙◌, ℕ, [], List, Result, Ok, Err, Option, Some, None, false, length, refl, ap, append-nil, sym, arith}
 use Rattle.std.specs.declared.alloc.AllocError.{AllocError}
 use Rattle.std.specs.Prelude.{◌⊎◌}
 use Rattle.std.proofs.Common.{inl, inr}
@@ -25,9 +25,11 @@ use Rattle.cli_step.specs.Doing.{IsAhead, Stands, is_fresh}
 
 -- one turn has one outcome
 pub one_driven : (t : Turn) (os : List Outcome) (m : List Moved) (p q : Whole) → Driven (t ∷ []) os m p q
-    → (o : Outcome) × (os ≡ o ∷ []) × ((n : List Moved) × Turned t (Ok o) n p q)
+    → (o : Outcome) × (os ≡ o ∷ []) × Turned t (Ok o) m p q
 one_driven t [] m p q driven = absurd driven
-one_driven t (o ∷ []) m p q driven = (o, refl, (driven.1, rw driven.4.1 driven.3))
+one_driven t (o ∷ []) m p q driven =
+    let all : m ≡ driven.1 = driven.5 ∙ ap (λ later. driven.1 ++ later) driven.4.0 ∙ append-nil driven.1 in
+    (o, refl, rw (all, driven.4.1) driven.3)
 one_driven t (o ∷ x ∷ os) m p q driven = absurd driven.4
 
 world_same : (p q : Core) → q ≡ p → q.world ≡ p.world
@@ -195,7 +197,7 @@ only_one (z ∷ w ∷ ws) x y same = cc
 
 -- the last outcome of one turn is its own
 pub last_driven : (t : Turn) (os xs : List Outcome) (o : Outcome) (m : List Moved) (p q : Whole) → Driven (t ∷ []) os m p q → os ≡ xs ++ (o ∷ [])
-    → (n : List Moved) × Turned t (Ok o) n p q
+    → Turned t (Ok o) m p q
 last_driven t os xs o m p q driven last =
     let one = one_driven t os m p q driven in
     rw (only_one xs o one.0 (sym last ∙ one.1)) one.2

@@ -1,5 +1,9 @@
 -- What the lines of a script do to a plant.
-use Rattle.std.specs.Prelude.{◌≡◌, ℕ, ◌<◌, ⊤, Bool, true, false, List, [], Option, Some, None, Ok}
+use Rattle.std.specs.Prelude.{◌≡◌, ℕ, ◌<◌, ⊤, Bool, true, false, List, [], ◌++◌, map, Option, Some, None, Ok}
+use Rattle.sqlite_trees.specs.declared.store.Store.{Ghosts}
+use Rattle.sw_participant.specs.Chains.{counts_after}
+use Rattle.sw_participant.specs.Stations.{calls_of, name_of}
+use Rattle.tx_journal.specs.Kept.{kept}
 use Rattle.sw_scripted.specs.Puts.{put_all}
 use Rattle.sw_scripted.specs.declared.puts.Put.{Put}
 use Rattle.cli_script.specs.declared.line.Action.{Action}
@@ -10,11 +14,13 @@ use Rattle.tx_plant.specs.declared.turn.Outcome.{Outcome}
 use Rattle.tx_plant.specs.declared.turn.Outcome.TheVariants as outcome
 use Rattle.tx_plant.specs.declared.turn.Turn.{Turn}
 use Rattle.tx_plant.specs.declared.turn.Turn.TheVariants as turn
-use Rattle.tx_plant.specs.Plant.{Turned, Whole}
+use Rattle.tx_plant.specs.declared.plant.Plant.{Plant}
+use Rattle.tx_plant.specs.Plant.{Turned, Whole, seen, whole}
 use Rattle.tx_plant.specs.Steps.{Moved}
 use Rattle.tx_trace.specs.Follow.{count_of}
 use Rattle.tx_trace.specs.declared.tracer.Tracer.{Tracer}
-use Rattle.cli_step.specs.Said.{said, with_line}
+use Rattle.tx_trace.specs.Trace.{Text}
+use Rattle.cli_step.specs.Said.{said, whole_line}
 
 -- the offer of a context with these entries
 abbrev pub offer_of : List Put → Turn
@@ -40,13 +46,33 @@ abbrev pub session_of : Action → ℕ
 session_of (action.Call s) = s
 session_of _ = 0
 
--- the turn was done, with this outcome
-abbrev pub Does : Turn → Outcome → Whole → Whole → Type 0
-Does t o p q = (m : List Moved) × Turned t (Ok o) m p q
+-- a plant between two turns: the plant, and of its stations the names and how many calls were made of each
+pub record Point : Type 0 where
+  pub plant : Whole
+  pub names : List Text
+  pub calls : List ℕ
 
--- the turn was done, and the line of what came of it stands behind the text
-abbrev pub Says : Turn → ℕ → Whole → List ℕ → Whole → List ℕ → Type 0
-Says t s p text q longer = (o : Outcome) × Does t o p q × (longer ≡ with_line text (said q.core.world s o))
+abbrev pub point_of : {S : Type 0} {I : Type 0} {D : I → Type 0} → Ghosts S → Plant S I D → Point
+point_of g p = record {
+  plant = whole p.running.engine p.running.seats (seen (kept g p.journal));
+  names = map name_of p.stations.items;
+  calls = map calls_of p.stations.items;
+}
+
+abbrev pub world_of : Point → World
+world_of p = p.plant.core.world
+
+-- the turn was done, with this outcome
+abbrev pub Does : Turn → Outcome → Point → Point → Type 0
+Does t o p q = (m : List Moved) × Turned t (Ok o) m p.plant q.plant × (q.names ≡ p.names) × (q.calls ≡ counts_after p.calls m)
+
+-- the turn was done, and this is the line of what came of it
+abbrev pub Says : Turn → ℕ → Point → Text → Point → Type 0
+Says t s p text q = (o : Outcome) × Does t o p q × (text ≡ whole_line (said (world_of q) s o))
+
+-- such a text was added
+abbrev pub Adds : (Text → Type 0) → Text → Text → Type 0
+Adds Is old new = (more : Text) × Is more × (new ≡ old ++ more)
 
 -- the history began anew
 abbrev pub is_fresh : Outcome → Bool

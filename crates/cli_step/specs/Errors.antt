@@ -4,7 +4,6 @@ use Rattle.cli_io.specs.declared.error.WriteError.{WriteError}
 use Rattle.cli_io.specs.declared.error.WriteError.TheVariants as write
 use Rattle.cli_script.specs.declared.error.ScriptError.{ScriptError}
 use Rattle.cli_script.specs.declared.error.ScriptError.TheVariants as script
-use Rattle.tx_plant.specs.declared.turn.PlantError.{PlantError}
 use Rattle.tx_plant.specs.declared.turn.PlantError.TheVariants as plant
 use Rattle.cli_step.specs.declared.error.ActionError.{ActionError}
 use Rattle.cli_step.specs.declared.error.ActionError.TheVariants as act

@@ -55,3 +55,7 @@ put_text e = codes " " ++ e.0 ++ codes "=" ++ flat_map hex_text e.1
 -- `saved ID[ N=HEX ..]`
 abbrev pub saved_text : ℕ → Pairs → Text
 saved_text id context = codes "saved " ++ decimal id ++ flat_map put_text context
+
+-- `calls NAME COUNT`
+abbrev pub calls_text : Text → ℕ → Text
+calls_text name count = codes "calls " ++ name ++ codes " " ++ decimal count

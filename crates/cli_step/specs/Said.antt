@@ -1,8 +1,7 @@
 -- The lines of what came of a turn.
-use Rattle.std.specs.Prelude.{ℕ, List, [], ◌∷◌, ◌++◌, codes, Option, Some, None, option_map}
+use Rattle.std.specs.Prelude.{ℕ, [], ◌∷◌, ◌++◌, codes, Option, Some, None, option_map}
 use Rattle.std.specs.Option.{option_map_or}
 use Rattle.std.specs.Fmt.{decimal}
-use Rattle.flow_model.specs.declared.flow.Flow.{Flow}
 use Rattle.tx_engine.specs.declared.error.EngineError.{EngineError}
 use Rattle.tx_engine.specs.declared.error.EngineError.TheVariants as error
 use Rattle.tx_engine.specs.Calls.{at_of}
@@ -61,7 +60,7 @@ said w s o = Some (told w s o)
 abbrev pub where_line : World → ℕ → Text
 where_line w s = option_map_or (where_text w.flow) (place_of w s) (codes "idle " ++ decimal s)
 
--- a text with a line behind it
-abbrev pub with_line : Text → Option Text → Text
-with_line text None = text
-with_line text (Some line) = text ++ line ++ 10 ∷ []
+-- a line with its line feed, where there is one
+abbrev pub whole_line : Option Text → Text
+whole_line None = []
+whole_line (Some line) = line ++ 10 ∷ []

@@ -1,11 +1,9 @@
 //! What the lines of a script do.
 
-ghost use Rattle.std.specs.Prelude.{◌≡◌, IfOk, OnOk, Some, string_bytes};
-ghost use Rattle.tx_journal.specs.Kept.{kept};
-ghost use Rattle.tx_plant.specs.Plant.{seen, whole};
-ghost use Rattle.tx_plant.specs.declared.turn.Turn.{Turn as ATurn};
+ghost use Rattle.std.specs.Prelude.{◌≡◌, IfOk, OnErr, OnOk, string_bytes};
 ghost use Rattle.tx_trace.specs.Follow.{Follows};
-ghost use Rattle.cli_step.specs.Doing.{Says, offer_of, session_of, turn_of};
+ghost use Rattle.cli_step.specs.Doing.{Adds, Says, offer_of, point_of, session_of, turn_of};
+ghost use Rattle.cli_step.specs.Runs.{Acts, IsLeft};
 
 use crate::auto::auto;
 use crate::error::ActionError;
@@ -72,11 +70,10 @@ fn run_turn<S: Alter>(
     text: &mut String,
 ) -> Result<(), ActionError>
     requires { Follows plant.old.running.engine tracer.old }
-    ensures says { OnOk result (Says turn s
-        (whole plant.old.running.engine plant.old.running.seats
-        (seen (kept S.Store plant.old.journal))) (string_bytes text.old)
-        (whole plant.new.running.engine plant.new.running.seats
-        (seen (kept S.Store plant.new.journal))) (string_bytes text.new)) }
+    ensures says { OnOk result (Adds (λ more. Says turn s
+        (point_of S.Store plant.old) more (point_of S.Store plant.new))
+        (string_bytes text.old) (string_bytes text.new)) }
+    ensures failed { OnErr result (string_bytes text.new ≡ string_bytes text.old) }
     ensures follows { OnOk result (Follows plant.new.running.engine tracer.new) }
 {
     let outcome = do_turn(alloc, plant, tracer, turn)?;
@@ -84,7 +81,7 @@ fn run_turn<S: Alter>(
 }
 
 /// Runs a line, and adds what it prints. A line that is a turn does that turn, and the line of what came
-/// of it is added.
+/// of it is added. Where it fails nothing is added, but of `auto` what it had to tell till then.
 pub fn run_action<S: Alter>(
     alloc: Global,
     plant: &mut Plant<S>,
@@ -93,12 +90,11 @@ pub fn run_action<S: Alter>(
     text: &mut String,
 ) -> Result<(), ActionError>
     requires { Follows plant.old.running.engine tracer.old }
-    ensures says { OnOk result ((t : ATurn) → turn_of action.now ≡ Some t
-        → Says t (session_of action.now)
-        (whole plant.old.running.engine plant.old.running.seats
-        (seen (kept S.Store plant.old.journal))) (string_bytes text.old)
-        (whole plant.new.running.engine plant.new.running.seats
-        (seen (kept S.Store plant.new.journal))) (string_bytes text.new)) }
+    ensures acts { OnOk result (Adds (λ more. Acts action.now
+        (point_of S.Store plant.old) more (point_of S.Store plant.new))
+        (string_bytes text.old) (string_bytes text.new)) }
+    ensures failed { OnErr result (Adds (IsLeft action.now)
+        (string_bytes text.old) (string_bytes text.new)) }
     ensures follows { OnOk result (Follows plant.new.running.engine tracer.new) }
 {
     match turn_of(alloc, action)? {

@@ -1,7 +1,10 @@
 //! `auto`: one transaction with an empty context.
 
-ghost use Rattle.std.specs.Prelude.{OnOk};
+ghost use Rattle.std.specs.Prelude.{◌≡◌, ⊤, IfOk, OnErr, OnOk, string_bytes};
+ghost use Rattle.tx_plant.specs.declared.turn.Outcome.{Outcome as AnOutcome};
 ghost use Rattle.tx_trace.specs.Follow.{Follows};
+ghost use Rattle.cli_step.specs.Auto.{Autos, Quietly, Round, ToEnd, is_accepted, is_idle, is_refused};
+ghost use Rattle.cli_step.specs.Doing.{Adds, point_of};
 
 use crate::error::ActionError;
 use crate::said::say;
@@ -15,6 +18,24 @@ use tx_trace::Tracer;
 /// More steps than there are entries in a history, so that each `auto` ends by itself.
 const MOST_STEPS: u32 = 1_048_577;
 
+fn is_refused(outcome: &Outcome) -> bool
+    ensures { result ≡ is_refused outcome.now }
+{
+    matches!(outcome, Outcome::Refused(_))
+}
+
+fn is_idle(outcome: &Outcome) -> bool
+    ensures { result ≡ is_idle outcome.now }
+{
+    matches!(outcome, Outcome::Idle)
+}
+
+fn is_accepted(outcome: &Outcome) -> bool
+    ensures { result ≡ is_accepted outcome.now }
+{
+    matches!(outcome, Outcome::Accepted(_))
+}
+
 // Does a turn of which only a refusal is told.
 fn quiet_turn<S: Alter>(
     alloc: Global,
@@ -24,13 +45,17 @@ fn quiet_turn<S: Alter>(
     text: &mut String,
 ) -> Result<(), ActionError>
     requires { Follows plant.old.running.engine tracer.old }
-    ensures { OnOk result (Follows plant.new.running.engine tracer.new) }
+    ensures quietly { OnOk result (Adds (λ more. Quietly turn
+        (point_of S.Store plant.old) more (point_of S.Store plant.new))
+        (string_bytes text.old) (string_bytes text.new)) }
+    ensures failed { OnErr result (string_bytes text.new ≡ string_bytes text.old) }
+    ensures follows { OnOk result (Follows plant.new.running.engine tracer.new) }
 {
     let outcome = do_turn(alloc, plant, tracer, turn)?;
-    match &outcome {
-        Outcome::Refused(_) => say(alloc, plant.engine(), tracer, 0, &outcome, text),
-        _ => Ok(()),
+    if !is_refused(&outcome) {
+        return Ok(());
     }
+    say(alloc, plant.engine(), tracer, 0, &outcome, text)
 }
 
 // Writes all, and makes the due call of session 0; whether there may be more to do.
@@ -41,15 +66,41 @@ fn auto_step<S: Alter>(
     text: &mut String,
 ) -> Result<bool, ActionError>
     requires { Follows plant.old.running.engine tracer.old }
-    ensures { OnOk result (Follows plant.new.running.engine tracer.new) }
+    ensures round { IfOk result (λ more. (o : AnOutcome) × (is_accepted o ≡ more)
+        × Adds (λ t. Round o (point_of S.Store plant.old) t (point_of S.Store plant.new))
+        (string_bytes text.old) (string_bytes text.new)) }
+    ensures failed { OnErr result (Adds (λ more. ⊤) (string_bytes text.old) (string_bytes text.new)) }
+    ensures follows { OnOk result (Follows plant.new.running.engine tracer.new) }
 {
     quiet_turn(alloc, plant, tracer, Turn::Write(None), text)?;
     let outcome = do_turn(alloc, plant, tracer, Turn::Step(0))?;
-    if let Outcome::Idle = &outcome {
+    if is_idle(&outcome) {
         return Ok(false);
     }
     say(alloc, plant.engine(), tracer, 0, &outcome, text)?;
-    Ok(matches!(outcome, Outcome::Accepted(_)))
+    Ok(is_accepted(&outcome))
+}
+
+// Makes the due calls of session 0, all written before each, until it does not go on.
+fn auto_steps<S: Alter>(
+    alloc: Global,
+    plant: &mut Plant<S>,
+    tracer: &mut Tracer,
+    text: &mut String,
+) -> Result<(), ActionError>
+    requires { Follows plant.old.running.engine tracer.old }
+    ensures rounds { OnOk result (Adds (λ more.
+        ToEnd (point_of S.Store plant.old) more (point_of S.Store plant.new))
+        (string_bytes text.old) (string_bytes text.new)) }
+    ensures failed { OnErr result (Adds (λ more. ⊤) (string_bytes text.old) (string_bytes text.new)) }
+    ensures follows { OnOk result (Follows plant.new.running.engine tracer.new) }
+{
+    for _ in 0..MOST_STEPS {
+        if !auto_step(alloc, plant, tracer, text)? {
+            return Ok(());
+        }
+    }
+    Ok(())
 }
 
 /// Offers an empty context, takes with session 0, and makes that session's due calls, all written before
@@ -61,15 +112,15 @@ pub fn auto<S: Alter>(
     text: &mut String,
 ) -> Result<(), ActionError>
     requires { Follows plant.old.running.engine tracer.old }
-    ensures { OnOk result (Follows plant.new.running.engine tracer.new) }
+    ensures autos { OnOk result (Adds (λ more.
+        Autos (point_of S.Store plant.old) more (point_of S.Store plant.new))
+        (string_bytes text.old) (string_bytes text.new)) }
+    ensures failed { OnErr result (Adds (λ more. ⊤) (string_bytes text.old) (string_bytes text.new)) }
+    ensures follows { OnOk result (Follows plant.new.running.engine tracer.new) }
 {
     let context = Context::new(alloc);
     quiet_turn(alloc, plant, tracer, Turn::Offer(context), text)?;
     quiet_turn(alloc, plant, tracer, Turn::Take(0), text)?;
-    for _ in 0..MOST_STEPS {
-        if !auto_step(alloc, plant, tracer, text)? {
-            break;
-        }
-    }
+    auto_steps(alloc, plant, tracer, text)?;
     quiet_turn(alloc, plant, tracer, Turn::Write(None), text)
 }

@@ -9,6 +9,7 @@
 mod actions;
 mod auto;
 mod error;
+mod output;
 mod places;
 mod said;
 mod script;

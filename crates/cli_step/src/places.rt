@@ -2,7 +2,7 @@
 
 ghost use Rattle.std.specs.Prelude.{◌≡◌, Some};
 ghost use Rattle.cli_step.specs.Places.{act_word, call_text, called_entry, held_text, step_text};
-ghost use Rattle.cli_step.specs.Places.{where_text};
+ghost use Rattle.cli_step.specs.Places.{calls_text, where_text};
 
 use std::fmt;
 use sw_participant::Act;
@@ -125,5 +125,21 @@ impl fmt::Display for WhereText<'_> {
             index: place.index,
         };
         write!(f, "where {id} {phase} {call}{step}{entry}")
+    }
+}
+
+/// `calls NAME COUNT`
+#[derive(Drop)]
+pub struct CallsText<'a> {
+    pub name: &'a str,
+    pub count: u64,
+}
+
+impl fmt::Display for CallsText<'_> {
+    ghost output = { λ c. Some (calls_text c.name.now c.count) };
+
+    fn fmt<W: fmt::Write>(&self, f: &mut fmt::Formatter<W>) -> fmt::Result {
+        let (name, count) = (self.name, self.count);
+        write!(f, "calls {name} {count}")
     }
 }

@@ -1,9 +1,9 @@
 //! The lines of what came of turns.
 
-ghost use Rattle.std.specs.Prelude.{◌≡◌, IfOk, OnOk, option_map, string_bytes};
+ghost use Rattle.std.specs.Prelude.{◌≡◌, ◌++◌, IfOk, OnErr, OnOk, option_map, string_bytes};
 ghost use Rattle.tx_trace.specs.Follow.{Follows};
 ghost use Rattle.cli_step.specs.Doing.{IsAhead};
-ghost use Rattle.cli_step.specs.Said.{held_line, refusal_name, said, told, where_line, with_line};
+ghost use Rattle.cli_step.specs.Said.{held_line, refusal_name, said, told, where_line, whole_line};
 
 use crate::error::ActionError;
 use crate::places::{HeldText, WhereText};
@@ -133,7 +133,8 @@ pub fn say(
     requires follows { Follows engine.now tracer.old }
     requires ahead { IsAhead tracer.old outcome.now }
     ensures line { OnOk result (string_bytes text.new
-        ≡ with_line (string_bytes text.old) (said engine.now s outcome.now)) }
+        ≡ string_bytes text.old ++ whole_line (said engine.now s outcome.now)) }
+    ensures refused { OnErr result (string_bytes text.new ≡ string_bytes text.old) }
     ensures follows { OnOk result (Follows engine.now tracer.new) }
 {
     let line = said(alloc, engine, tracer, s, outcome)?;

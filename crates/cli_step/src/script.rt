@@ -1,13 +1,18 @@
 //! The run of a script.
 
-ghost use Rattle.std.specs.Prelude.{◌≡◌, Ok, OnOk};
+ghost use Rattle.std.specs.Prelude.{◌≡◌, [], IfErr, IfOk, Ok, OnOk, false};
+ghost use Rattle.std.specs.Io.KnownBytes.{Appends, Keeps};
 ghost use Rattle.flow_model.specs.Check.{IsChecked};
 ghost use Rattle.tx_trace.specs.Follow.{Follows};
+ghost use Rattle.cli_step.specs.Doing.{point_of};
+ghost use Rattle.cli_step.specs.Runs.{IsLineFailed, IsRun, IsUnwritten, IsWriting, Played, Ran};
+ghost use Rattle.cli_step.specs.Runs.{RunsLine, Stopped};
 
 use crate::actions::run_action;
 use crate::error::{ActionError, StepError};
+use crate::output::write_text;
 use cli_io::WriteError;
-use cli_script::{Actions, Script, open_script};
+use cli_script::{Action, Actions, Script, open_script};
 use flow_asm::{Code, assemble};
 use flow_model::Flow;
 use sqlite::{Alter, Connection, MemStore};
@@ -20,7 +25,10 @@ use tx_plant::{Plant, PlantError};
 use tx_trace::Tracer;
 
 // Writes what the writer has kept back.
-fn flush<W: Write>(out: &mut W) -> Result<(), StepError> {
+fn flush<W: Write>(out: &mut W) -> Result<(), StepError>
+    ensures kept { Keeps (W.contents out.old) (W.contents out.new) }
+    ensures refused { IfErr result IsWriting }
+{
     Ok(out.flush().map_err(WriteError::from)?)
 }
 
@@ -31,17 +39,42 @@ fn put_out<W: Write>(
     ran: Result<(), ActionError>,
     line: usize,
 ) -> Result<(), StepError>
-    ensures { OnOk result (ran ≡ Ok tt) }
+    ensures ran { OnOk result (ran ≡ Ok tt) }
+    ensures written { OnOk result (Appends (W.contents out.old) (W.contents out.new) text.now) }
+    ensures refused { IfErr result (IsUnwritten
+        (W.contents out.old) (W.contents out.new) text.now ran line) }
 {
-    out.write_all(text.as_bytes()).map_err(WriteError::from)?;
+    write_text(out, text.as_bytes())?;
     match ran {
         Ok(()) => Ok(()),
         Err(error) => Err(error.at_line(line)),
     }
 }
 
+// Runs the line of this number, and writes what it prints.
+fn run_line<S: Alter, W: Write>(
+    alloc: Global,
+    plant: &mut Plant<S>,
+    tracer: &mut Tracer,
+    action: Action,
+    line: usize,
+    out: &mut W,
+) -> Result<(), StepError>
+    requires { Follows plant.old.running.engine tracer.old }
+    ensures ran { OnOk result (RunsLine action
+        (point_of S.Store plant.old) (W.contents out.old)
+        (point_of S.Store plant.new) (W.contents out.new)) }
+    ensures failed { IfErr result (IsLineFailed action
+        (point_of S.Store plant.old) (W.contents out.old) (W.contents out.new) line) }
+    ensures follows { OnOk result (Follows plant.new.running.engine tracer.new) }
+{
+    let mut text = String::new(alloc);
+    let ran = run_action(alloc, plant, tracer, &action, &mut text);
+    put_out(out, text.as_str(), ran, line)
+}
+
 /// Runs the lines behind the settings over a plant, and writes what each prints. Where it ends early,
-/// what the lines before printed stands.
+/// what was written is what the lines before printed, and of the next one a beginning.
 pub fn run_actions<S: Alter, W: Write>(
     alloc: Global,
     plant: &mut Plant<S>,
@@ -50,18 +83,23 @@ pub fn run_actions<S: Alter, W: Write>(
     out: &mut W,
 ) -> Result<(), StepError>
     requires { Follows plant.old.running.engine tracer.old }
+    ensures ran { OnOk result (Ran actions.old actions.new
+        (point_of S.Store plant.old) (W.contents out.old)
+        (point_of S.Store plant.new) (W.contents out.new)) }
+    ensures all { OnOk result (actions.new.rest.now ≡ []) }
+    ensures stopped { IfErr result (λ e. Stopped actions.old
+        (point_of S.Store plant.old) (W.contents out.old) e (W.contents out.new)) }
 {
-    let mut text = String::new(alloc);
     while let Some(action) = actions.next(alloc)? {
-        text.clear();
-        let ran = run_action(alloc, plant, tracer, &action, &mut text);
-        put_out(out, text.as_str(), ran, actions.lines())?;
+        run_line(alloc, plant, tracer, action, actions.lines(), out)?;
     }
     flush(out)
 }
 
 // A journal in memory.
-fn memory_journal(alloc: Global) -> Result<Journal<MemStore>, ActionError> {
+fn memory_journal(alloc: Global) -> Result<Journal<MemStore>, ActionError>
+    ensures { IfOk result (λ journal. journal.failed ≡ false) }
+{
     match Journal::open(alloc, Connection::open_in_memory(alloc)?) {
         Ok(journal) => Ok(journal),
         Err((cause, _)) => Err(ActionError::Plant(PlantError::Journal(cause))),
@@ -77,7 +115,10 @@ fn play_over<W: Write>(
     sessions: usize,
     actions: &mut Actions<'_>,
     out: &mut W,
-) -> Result<(), StepError> {
+) -> Result<(), StepError>
+    ensures { OnOk result (Played code.now sessions actions.old
+        (W.contents out.old) (W.contents out.new)) }
+{
     let first = actions.lines().saturating_add(1);
     let journal = match memory_journal(alloc) {
         Ok(journal) => journal,
@@ -95,6 +136,8 @@ fn play_over<W: Write>(
 // no station out, so that contracts know of every participant whose it is.)
 fn play<W: Write>(alloc: Global, script: Script<'_>, out: &mut W) -> Result<(), StepError>
     requires { IsChecked script.flow }
+    ensures { OnOk result (Played script.entry.flow script.entry.sessions script.entry.actions
+        (W.contents out.old) (W.contents out.new)) }
 {
     let code = assemble(alloc, &script.flow)?;
     let Script {
@@ -127,7 +170,9 @@ pub fn run_script<W: Write>(
     file: Option<Flow>,
     script: &[u8],
     out: &mut W,
-) -> Result<(), StepError> {
+) -> Result<(), StepError>
+    ensures { OnOk result (IsRun file script.now (W.contents out.old) (W.contents out.new)) }
+{
     match open_script(alloc, file, script)? {
         Some(script) => play(alloc, script, out),
         None => flush(out),

@@ -1,11 +1,18 @@
 //! The lines that show something.
 
-ghost use Rattle.std.specs.Prelude.{◌≡◌, IfOk, OnOk, option_map, string_bytes};
+ghost use Rattle.std.specs.Prelude.{◌≡◌, ◌++◌, [], IfOk, OnErr, OnOk, option_map, slice_get};
+ghost use Rattle.std.specs.Prelude.{string_bytes};
+ghost use Rattle.std.specs.List.{flat_map};
+ghost use Rattle.std.specs.Option.{option_map_or};
 ghost use Rattle.tx_engine.specs.Calls.{rest_of};
-ghost use Rattle.cli_step.specs.Places.{entry_text, rest_text};
-ghost use Rattle.cli_step.specs.Said.{with_line};
+ghost use Rattle.tx_trace.specs.Trace.{hex_text};
+ghost use Rattle.cli_step.specs.Doing.{Adds, point_of};
+ghost use Rattle.cli_step.specs.Places.{calls_text, entry_text, put_text, rest_text, saved_text};
+ghost use Rattle.cli_step.specs.Said.{whole_line};
+ghost use Rattle.cli_step.specs.Shown.{IsSavedLine, IsShown, Shows, calls_made};
 
 use crate::error::ActionError;
+use crate::places::CallsText;
 use crate::said::{refusal_name, where_line};
 use cli_script::Action;
 use sqlite::Alter;
@@ -17,14 +24,15 @@ use tx_trace::{Hex, Names, rest};
 
 /// Adds a line to a text, where there is one.
 pub fn push_line(text: &mut String, line: Option<String>) -> Result<(), AllocError>
-    ensures { OnOk result (string_bytes text.new
-        ≡ with_line (string_bytes text.old) (option_map string_bytes line)) }
+    ensures line { OnOk result (string_bytes text.new
+        ≡ string_bytes text.old ++ whole_line (option_map string_bytes line)) }
+    ensures refused { OnErr result (string_bytes text.new ≡ string_bytes text.old) }
 {
-    let Some(line) = line else {
+    let Some(mut line) = line else {
         return Ok(());
     };
-    text.push_str(line.as_str())?;
-    text.push('\n')
+    line.push('\n')?;
+    text.push_str(line.as_str())
 }
 
 // Adds ` GROUP/INDEX`.
@@ -34,14 +42,20 @@ fn push_entry(
     names: Names<'_>,
     group: usize,
     index: usize,
-) -> Result<(), AllocError> {
+) -> Result<(), AllocError>
+    ensures { OnOk result (string_bytes text.new
+        ≡ string_bytes text.old ++ entry_text names.entry.code.now group index) }
+{
     let group = names.group(group);
     let entry = format!(in alloc; " {group}/{index}")?;
     text.push_str(entry.as_str())
 }
 
 // The line of `rest S`: the entries that are to come.
-fn rest_line(alloc: Global, engine: &Engine, s: usize) -> Result<String, AllocError> {
+fn rest_line(alloc: Global, engine: &Engine, s: usize) -> Result<String, AllocError>
+    ensures { IfOk result (λ line.
+        string_bytes line ≡ rest_text engine.now.flow (rest_of engine.now s)) }
+{
     let names = Names {
         code: engine.code(),
     };
@@ -53,7 +67,10 @@ fn rest_line(alloc: Global, engine: &Engine, s: usize) -> Result<String, AllocEr
 }
 
 // Adds bytes in hexadecimal digits.
-fn push_hex(alloc: Global, text: &mut String, bytes: &[u8]) -> Result<(), AllocError> {
+fn push_hex(alloc: Global, text: &mut String, bytes: &[u8]) -> Result<(), AllocError>
+    ensures { OnOk result (string_bytes text.new
+        ≡ string_bytes text.old ++ flat_map hex_text bytes.now) }
+{
     for byte in bytes {
         let digits = Hex(*byte);
         text.push_str(format!(in alloc; "{digits}")?.as_str())?;
@@ -67,7 +84,10 @@ fn push_put(
     text: &mut String,
     context: &Context,
     index: usize,
-) -> Result<(), AllocError> {
+) -> Result<(), AllocError>
+    ensures { OnOk result (string_bytes text.new
+        ≡ string_bytes text.old ++ option_map_or put_text (slice_get context.now index) []) }
+{
     let Some(name) = context.name_at(index) else {
         return Ok(());
     };
@@ -79,7 +99,9 @@ fn push_put(
 }
 
 // `saved ID[ N=HEX ..]`
-fn saved_text(alloc: Global, id: u64, context: &Context) -> Result<String, AllocError> {
+fn saved_text(alloc: Global, id: u64, context: &Context) -> Result<String, AllocError>
+    ensures { IfOk result (λ line. string_bytes line ≡ saved_text id context.now) }
+{
     let mut text = format!(in alloc; "saved {id}")?;
     for index in 0..context.len() {
         push_put(alloc, &mut text, context, index)?;
@@ -88,7 +110,9 @@ fn saved_text(alloc: Global, id: u64, context: &Context) -> Result<String, Alloc
 }
 
 // The line of `saved S`: the saved context of the session's transaction.
-fn saved_line(alloc: Global, engine: &Engine, s: usize) -> Result<String, AllocError> {
+fn saved_line(alloc: Global, engine: &Engine, s: usize) -> Result<String, AllocError>
+    ensures { IfOk result (λ line. IsSavedLine engine.now s (string_bytes line)) }
+{
     match engine.saved(alloc, s) {
         Ok(Some((id, context))) => saved_text(alloc, id, &context),
         Ok(None) => format!(in alloc; "idle {s}"),
@@ -100,10 +124,24 @@ fn saved_line(alloc: Global, engine: &Engine, s: usize) -> Result<String, AllocE
     }
 }
 
-// The line of `calls NAME`: how many calls were made, none where there is no station.
-fn calls_line<S: Alter>(alloc: Global, plant: &Plant<S>, name: &str) -> Result<String, AllocError> {
-    let count = plant.calls(name).unwrap_or(0);
-    format!(in alloc; "calls {name} {count}")
+// How many calls were made of the station of this name, none where there is no such station.
+fn calls_made<S: Alter>(plant: &Plant<S>, name: &str) -> u64
+    ensures { result ≡ calls_made (point_of S.Store plant.now).names
+        (point_of S.Store plant.now).calls name.now }
+{
+    plant.calls(name).unwrap_or(0)
+}
+
+// The line of `calls NAME`.
+fn calls_line<S: Alter>(alloc: Global, plant: &Plant<S>, name: &str) -> Result<String, AllocError>
+    ensures { IfOk result (λ line. string_bytes line ≡ calls_text name.now
+        (calls_made (point_of S.Store plant.now).names (point_of S.Store plant.now).calls name.now)) }
+{
+    let calls = CallsText {
+        name,
+        count: calls_made(plant, name),
+    };
+    format!(in alloc; "{calls}")
 }
 
 // The line of an action that only shows something; of another one none.
@@ -111,7 +149,10 @@ fn shown<S: Alter>(
     alloc: Global,
     plant: &Plant<S>,
     action: &Action,
-) -> Result<Option<String>, AllocError> {
+) -> Result<Option<String>, AllocError>
+    ensures { IfOk result (λ line.
+        IsShown action.now (point_of S.Store plant.now) (option_map string_bytes line)) }
+{
     let engine = plant.engine();
     match action {
         Action::Where(s) => where_line(alloc, engine, *s as usize).map(Some),
@@ -128,7 +169,11 @@ pub fn show<S: Alter>(
     plant: &Plant<S>,
     action: &Action,
     text: &mut String,
-) -> Result<(), ActionError> {
+) -> Result<(), ActionError>
+    ensures shows { OnOk result (Adds (Shows action.now (point_of S.Store plant.now))
+        (string_bytes text.old) (string_bytes text.new)) }
+    ensures failed { OnErr result (string_bytes text.new ≡ string_bytes text.old) }
+{
     let line = shown(alloc, plant, action)?;
     Ok(push_line(text, line)?)
 }

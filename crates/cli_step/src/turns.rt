@@ -1,10 +1,8 @@
 //! Turns of a plant, with a tracer of its history.
 
 ghost use Rattle.std.specs.Prelude.{◌≡◌, IfOk, OnOk, false};
-ghost use Rattle.tx_journal.specs.Kept.{kept};
-ghost use Rattle.tx_plant.specs.Plant.{seen, whole};
 ghost use Rattle.tx_trace.specs.Follow.{Follows};
-ghost use Rattle.cli_step.specs.Doing.{Does, IsAhead, is_fresh};
+ghost use Rattle.cli_step.specs.Doing.{Does, IsAhead, is_fresh, point_of};
 
 use sqlite::Alter;
 use std::alloc::Global;
@@ -19,11 +17,8 @@ fn drive_one<S: Alter>(
     turn: Turn,
 ) -> Result<Outcome, PlantError>
     requires { Follows plant.old.running.engine tracer.now }
-    ensures does { IfOk result (λ o. Does turn o
-        (whole plant.old.running.engine plant.old.running.seats
-        (seen (kept S.Store plant.old.journal)))
-        (whole plant.new.running.engine plant.new.running.seats
-        (seen (kept S.Store plant.new.journal)))) }
+    ensures does { IfOk result (λ o.
+        Does turn o (point_of S.Store plant.old) (point_of S.Store plant.new)) }
     ensures follows { IfOk result (λ o.
         is_fresh o ≡ false → Follows plant.new.running.engine tracer.now) }
     ensures ahead { IfOk result (λ o. IsAhead tracer.now o) }
@@ -53,11 +48,8 @@ pub fn do_turn<S: Alter>(
     turn: Turn,
 ) -> Result<Outcome, PlantError>
     requires { Follows plant.old.running.engine tracer.old }
-    ensures does { IfOk result (λ o. Does turn o
-        (whole plant.old.running.engine plant.old.running.seats
-        (seen (kept S.Store plant.old.journal)))
-        (whole plant.new.running.engine plant.new.running.seats
-        (seen (kept S.Store plant.new.journal)))) }
+    ensures does { IfOk result (λ o.
+        Does turn o (point_of S.Store plant.old) (point_of S.Store plant.new)) }
     ensures follows { OnOk result (Follows plant.new.running.engine tracer.new) }
     ensures ahead { IfOk result (λ o. IsAhead tracer.new o) }
 {

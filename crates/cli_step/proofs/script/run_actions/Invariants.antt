@@ -1,9 +1,14 @@
-use Rattle.tx_trace.specs.Follow.{Follows}
 use Rattle.cli_script.specs.Scripts.{bytes_left}
+use Rattle.tx_trace.specs.Follow.{Follows}
+use Rattle.cli_step.specs.Doing.{point_of}
+use Rattle.cli_step.specs.Runs.{Ran}
 use Rattle.cli_step.proofs.script.run_actions.Given as goal
 
-abbrev pub invariant-loop-text : goal.invariant-loop-text
-invariant-loop-text g l = Follows l.plant.running.engine l.tracer
+abbrev pub invariant-loop-action : goal.invariant-loop-action
+invariant-loop-action g l = record {
+  follows : Follows l.plant.running.engine l.tracer;
+  ran : Ran l.fn.actions l.actions (point_of g.S.Store l.fn.plant) (g.W.Write.contents l.fn.out) (point_of g.S.Store l.plant) (g.W.Write.contents l.out);
+}
 
-abbrev pub decreases-loop-text : goal.decreases-loop-text
-decreases-loop-text g l = bytes_left l.actions
+abbrev pub decreases-loop-action : goal.decreases-loop-action
+decreases-loop-action g l = bytes_left l.actions

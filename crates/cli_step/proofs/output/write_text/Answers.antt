@@ -1,0 +1,16 @@
+use Rattle.std.proofs.Common.{arith, length-drop}
+use Rattle.std.proofs.lemmas.List.{take_rest}
+use Rattle.cli_step.proofs.Writing.{written_more}
+use Rattle.cli_step.proofs.output.write_text.Goals as goal
+
+pub loop-preserved : goal.loop-preserved
+loop-preserved g c =
+    let bytes = c.args.bytes.now in
+    let done = c.loop.done in
+    let n = c.in_ok-done.field-0 in
+    let within = rw (take_rest bytes done) at c.in_ok-done.ensures.within in
+    let written = rw (take_rest bytes done) at c.in_ok-done.ensures.written in
+    record {
+      within = omega (arith, within, length-drop done bytes, c.loop.invariant.within);
+      written = written_more (g.W.Write.contents c.args.out.now) (g.W.Write.contents c.loop.out) (g.W.Write.contents c.write_some.new.out) done n bytes c.loop.invariant.written written;
+    }
