@@ -241,6 +241,13 @@ def spoilt(random, tables):
     return tables
 
 
+def is_database(tables):
+    """Whether each member is of a transaction and of a part that are there: a database in which a reference leads nowhere is
+    not opened."""
+    members = [*tables.member, *tables.joined]
+    return all(number in tables.tx for number, _ in members) and all(n in tables.part for n in tables.joined.values())
+
+
 def opening_lines(tables):
     """What `test_switch opened` prints, and the rows that stand then."""
     layout = tables.meta.get(1, "none")
@@ -264,6 +271,11 @@ def journal_case(random, name):
         tables.part = dict(enumerate(dict.fromkeys(names)))
     case = Case(name, "python3 make.py && test_switch opened journal.db && tables journal.db")
     case.files = {"make.py": maker(tables).encode()}
-    case.stdout = Exactly("".join(f"{line}\n" for line in opening_lines(tables)).encode())
-    case.stderr = Exactly(b"")
+    if is_database(tables):
+        case.stdout = Exactly("".join(f"{line}\n" for line in opening_lines(tables)).encode())
+        case.stderr = Exactly(b"")
+    else:
+        case.stdout = Exactly(b"")
+        case.stderr = Exactly(b"test_switch: the journal's file was not opened\n")
+        case.status = 1
     return case
