@@ -8,6 +8,7 @@ mod contexts;
 mod flows;
 mod frames;
 mod keys;
+mod lines;
 mod machines;
 mod messages;
 mod places;
