@@ -1,4 +1,5 @@
 mod Entries
+mod Places
 -- what crates cite that read names from bytes
 pub mod NameLaws
 mod PairLaws

@@ -2,6 +2,7 @@ ghost use Rattle.std.specs.Prelude.{◌≡◌, ℕ, ◌≤◌, ◌↔◌, IsTrue
 ghost use Rattle.std.specs.Prelude.{IfOk, IfErr, option_map, slice_get};
 ghost use Rattle.sw_context.specs.Pairs.{find, with_value, without, refusal, IsContext, IsRefusal};
 
+mod comparing;
 mod reading;
 mod writing;
 

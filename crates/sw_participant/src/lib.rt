@@ -12,6 +12,7 @@
 
 mod answer;
 mod call;
+mod caller;
 mod kind;
 mod laws;
 mod participant;
@@ -20,6 +21,7 @@ mod values;
 
 pub use answer::{Answer, Reading, read_answer};
 pub use call::{Act, Call, Reply};
+pub use caller::Caller;
 pub use kind::Kind;
 pub use laws::{
     Rules, calls_are_counted, chains_append, chains_widen, others_stay, rules_widen, shown_apart,

@@ -1,7 +1,8 @@
 -- How a breakpoint that is set or cleared keeps what the running parts say of the history.
 -- for: engine::breaks
 use Rattle.std.proofs.Common.{◌≡◌, ◌≢◌, ℕ, ◌<◌, Bool, true, false, List, [], ◌∷◌, length, Option, Some, None, refl, sym, ◌∙◌, ap, subst, arith, suc, zero}
-use Rattle.std.specs.Prelude.{if◌then◌else◌, slice_set, ◌==◌, not, ◌&&◌, ◌||◌}
+use Rattle.std.specs.Prelude.{◌+◌, if◌then◌else◌, slice_get, slice_set, ◌==◌, not, ◌&&◌, ◌||◌}
+use Rattle.std.specs.List.{list_any, range_with_len}
 use Rattle.std.proofs.lemmas.Bool.Decides.{nat_tests}
 use Rattle.flow_model.specs.declared.flow.Flow.{Flow}
 use Rattle.flow_model.specs.Places.{parts_of}
@@ -15,6 +16,7 @@ use Rattle.sw_base.specs.Refusals.{or_else, refused_if}
 use Rattle.tx_engine.specs.declared.error.EngineError.TheVariants.{NoParticipant}
 use Rattle.tx_engine.specs.Calls.{MayBreak, is_participant, offer_refusal}
 use Rattle.tx_slots.specs.Slots.{flag, flag_in}
+use Rattle.tx_engine.specs.Cuts.{is_broken}
 use Rattle.tx_engine.specs.Kept.{AreBreaks, Kept, Running, past_of, world}
 use Rattle.tx_engine.proofs.Keeps.{Steps, slot_keep, length_set, get_set_other}
 use Rattle.tx_engine.proofs.Offers.{entry_room}
@@ -98,3 +100,18 @@ break_room u w es name p same is may = entry_room u w es same is (none_of (offer
 
 pub break_there : (u w : World) (name : List ℕ) (p : ℕ) → u ≡ w → MayBreak w name p → p < length (parts_of u.flow)
 break_there u w name p same may = subst (λ (x : World). p < length (parts_of x.flow)) (sym same) may.there
+
+-- whether one is set
+
+any_flag : (h : ℕ → Bool) (bs : List Bool) (n : ℕ) → ((s : ℕ) → flag bs s ≡ h (n + s)) → list_any (λ (b : Bool). b) bs ≡ list_any h (range_with_len n (length bs))
+any_flag h [] n all = refl
+any_flag h (b ∷ bs) n all =
+    let at : n + 0 ≡ n = omega arith in
+    let here : b ≡ h n = all 0 ∙ ap h at in
+    let later = any_flag h bs (n + 1) (λ s. (let same : n + suc s ≡ (n + 1) + s = omega arith in all (suc s) ∙ ap h same)) in
+    rw (here, later) refl
+
+pub flags_set : (f : Flow) (n : ℕ) (v : Start) (es : List Entry) (mark reserved : ℕ) (r : Running) → Kept (world f n v es mark reserved) es r → list_any (λ (b : Bool). b) r.breaks ≡ is_broken (world f n v es mark reserved)
+flags_set f n v es mark reserved r k =
+    any_flag (has_break v (past_of es)) r.breaks 0 (λ s. (let at : s ≡ 0 + s = omega arith in k.stops.1 s ∙ ap (has_break v (past_of es)) at))
+    ∙ ap (λ (m : ℕ). list_any (has_break v (past_of es)) (range_with_len 0 m)) k.stops.0

@@ -23,6 +23,10 @@ cut_refusal w = first_of (refused_if (is_in_use w) InUse ∷ refused_if (nat_lt 
 abbrev pub breaks_of : Flow → Start → List Event → List ℕ
 breaks_of f v past = filter (has_break v past) (range_with_len 0 (length (parts_of f)))
 
+-- a participant has a breakpoint
+abbrev pub is_broken : World → Bool
+is_broken w = list_any (has_break w.start w.past) (range_with_len 0 (length (parts_of w.flow)))
+
 -- the engine after a cut: an empty history, which begins from the journal, the queue and the breakpoints, and no offer
 -- has reserved memory
 abbrev pub cut_world : World → World

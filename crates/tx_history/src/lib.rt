@@ -14,6 +14,7 @@
 #![tactic(auto)]
 
 mod checks;
+mod comparing;
 mod copy;
 mod event;
 mod journal;

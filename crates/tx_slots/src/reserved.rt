@@ -71,6 +71,16 @@ impl Lists {
         Ok(())
     }
 
+    /// The memory reserved for one offer is free for other entries again.
+    pub fn unreserve_offer(&mut self)
+        requires { 1 ≤ self.old.reserved }
+        ensures entries { self.new.entries.items ≡ self.old.entries.items }
+        ensures queue { self.new.queue.items ≡ self.old.queue.items }
+        ensures reserved { self.new.reserved ≡ self.old.reserved - 1 }
+    {
+        self.reserved -= 1;
+    }
+
     /// An offer in reserved memory.
     pub fn push_offer(&mut self, entry: Entry, waiting: Waiting)
         requires { 1 ≤ self.old.reserved }

@@ -1,16 +1,25 @@
 //! Breakpoints: a due call of a participant that has one is held until its session is let go.
 
 ghost use Rattle.std.specs.Prelude.{◌≡◌, ◌<◌, MatchResult, None, Some};
+ghost use Rattle.std.specs.List.{list_any};
 ghost use Rattle.sw_base.specs.Refusals.{Accepts};
 ghost use Rattle.tx_history.specs.History.{number_of};
 ghost use Rattle.tx_engine.specs.World.{Recorded};
 ghost use Rattle.tx_engine.specs.Calls.{MayBreak, break_refusal, let_go_refusal};
+ghost use Rattle.tx_engine.specs.Cuts.{is_broken};
 
 use super::Engine;
 use crate::error::EngineError;
 use flow_model::number_of;
 use tx_history::{Entry, Event};
 use tx_slots::{is_held_by, let_slot_go, no_change};
+
+// Whether a flag is set.
+fn any_set(flags: &[bool]) -> bool
+    ensures { result ≡ list_any (λ b. b) flags.now }
+{
+    flags.iter().any(|set| *set)
+}
 
 impl Engine {
     // The number of the participant of this name, where a breakpoint may be set on it or cleared.
@@ -26,6 +35,13 @@ impl Engine {
         }
         self.allow_entry()?;
         Ok(participant)
+    }
+
+    /// Whether a participant has a breakpoint.
+    pub fn has_break(&self) -> bool
+        ensures { result ≡ is_broken self.now }
+    {
+        any_set(self.breaks.as_slice())
     }
 
     /// Holds the calls of the participant of this name from now on, and answers the entry's number.

@@ -15,8 +15,8 @@ use tx_history::{JournalView, Waiting};
 use tx_slots::{Slot, is_holding};
 
 impl Engine {
-    // Whether a session holds a transaction.
-    fn is_in_use(&self) -> bool
+    /// Whether a session holds a transaction, a recovered one too.
+    pub fn is_in_use(&self) -> bool
         ensures { result ≡ is_in_use self.now }
     {
         any_holding(self.slots.as_slice())

@@ -79,6 +79,14 @@ impl Engine {
         Ok(())
     }
 
+    /// Gives up the memory that was reserved for one offer. The history does not change.
+    pub fn unreserve_offer(&mut self)
+        requires { 1 ≤ self.old.reserved }
+        ensures { self.new ≡ with_reserved self.old (self.old.reserved - 1) }
+    {
+        self.lists.unreserve_offer();
+    }
+
     /// How many offers can be made by `offer_reserved`. Other calls leave the memory reserved, but
     /// each entry that they add is one that the history has no longer left.
     pub fn spare(&self) -> usize

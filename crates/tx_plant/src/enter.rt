@@ -1,0 +1,149 @@
+//! The record of a call that was made elsewhere.
+
+ghost use Rattle.std.specs.Prelude.{◌≡◌, ◌<◌, ℕ, List, length, get_or, slice_set, IfOk, OnErr, OnOk, None, Some, true};
+ghost use Rattle.sw_context.specs.Pairs.{Pairs};
+ghost use Rattle.sw_base.specs.Refusals.{Accepts};
+ghost use Rattle.tx_slots.specs.DueCalls.{asks_for};
+ghost use Rattle.tx_slots.specs.declared.next.Next.TheVariants.{Due};
+ghost use Rattle.tx_engine.specs.World.{Recorded};
+ghost use Rattle.tx_engine.specs.Calls.{next_of};
+ghost use Rattle.tx_engine.specs.Replies.{kind_of};
+ghost use Rattle.tx_plant.specs.Steps.{event_of};
+ghost use Rattle.tx_plant.specs.Core.{core, ended_by, left_by, newest_fate};
+ghost use Rattle.tx_plant.specs.Entered.{Entered, seat_with};
+
+use crate::seat::{Seat, Seats, newest_fate};
+use crate::serve::record;
+use crate::step::{reserve, settle, unreserve};
+use std::alloc::Global;
+use std::collections::BTreeMap;
+use std::mem;
+use sw_context::Context;
+use sw_participant::{Act, Call, Reply};
+use tx_engine::{Engine, EngineError, Next};
+
+// Whether the reply is of the call's kind.
+fn suits(reply: &Reply, act: Act) -> bool
+    ensures { result ≡ asks_for (kind_of reply.now) act }
+{
+    match reply {
+        Reply::Answer(_) => matches!(act, Act::Prepare | Act::PrepareForAbort),
+        Reply::Chosen(_) => matches!(act, Act::Select),
+        Reply::Told(_) => matches!(act, Act::Commit { .. } | Act::Abort { .. }),
+        Reply::Recovered => matches!(act, Act::Recover { .. }),
+    }
+}
+
+// Whether this call is due to the session.
+fn is_due(engine: &Engine, s: usize, call: &Call) -> bool
+    ensures { result ≡ true → next_of engine.now s ≡ Due call.now }
+{
+    match engine.next(s) {
+        Ok(Next::Due(due)) => due == *call,
+        _ => false,
+    }
+}
+
+// Whether the session holds this transaction, and keeps no reply.
+fn is_seated(seats: &Seats, s: usize, id: u64) -> bool
+    ensures there { result ≡ true → s < length seats.now.by_session.items }
+    ensures seated { result ≡ true
+        → (x : Pairs) × (get_or seats.now.by_session.items s None ≡ Some (seat_with id x)) }
+{
+    if s >= seats.by_session.len() {
+        return false;
+    }
+    match &seats.by_session[s] {
+        Some(seat) => seat.id == id && seat.kept.is_none(),
+        None => false,
+    }
+}
+
+// What becomes of the session's seat; hands back the context that was there.
+fn put_seat(seats: &mut Seats, s: usize, left: Option<Seat>) -> Context
+    requires there { s < length seats.old.by_session.items }
+    requires held { (id : ℕ) × (x : Pairs) × (get_or seats.old.by_session.items s None ≡ Some (seat_with id x)) }
+    ensures before { (id : ℕ) (x : Pairs) → get_or seats.old.by_session.items s None ≡ Some (seat_with id x) → result ≡ x }
+    ensures seats { seats.new.by_session.items ≡ slice_set seats.old.by_session.items s left }
+    ensures waiting { seats.new.waiting ≡ seats.old.waiting }
+    ensures ended { seats.new.ended ≡ seats.old.ended }
+    ensures next { seats.new.next_id ≡ seats.old.next_id }
+{
+    let Some(seat) = mem::replace(&mut seats.by_session[s], left) else {
+        unreachable!()
+    };
+    seat.context
+}
+
+// The transaction goes on with this context, or ends.
+fn enter_seated(
+    alloc: Global,
+    engine: &mut Engine,
+    ended: &mut BTreeMap<u64, Context>,
+    id: u64,
+    s: usize,
+    reply: &Reply,
+    after: Context,
+) -> Result<(usize, Option<Seat>), EngineError>
+    ensures recorded { IfOk result (λ r.
+        Recorded engine.old (event_of s reply.now after) r.0 engine.new) }
+    ensures left { IfOk result (λ r. r.1 ≡ left_by (newest_fate engine.new) (seat_with id after)) }
+    ensures ended_by { OnOk result (ended.new.entries
+        ≡ ended_by (newest_fate engine.new) (seat_with id after) ended.old.entries) }
+    ensures engine { OnErr result (engine.new ≡ engine.old) }
+    ensures ended { OnErr result (ended.new.entries ≡ ended.old.entries) }
+{
+    let Ok(put) = reserve(alloc, ended, id) else {
+        return Err(EngineError::OutOfMemory);
+    };
+    match record(alloc, engine, s, reply, &after) {
+        Ok(number) => {
+            let seat = Seat {
+                id,
+                context: after,
+                kept: None,
+            };
+            Ok((number, settle(ended, seat, newest_fate(engine), put)))
+        }
+        Err(error) => {
+            unreserve(ended, id, put);
+            Err(error)
+        }
+    }
+}
+
+/// Records the reply of a call that was due to the session and was made, with the context that it
+/// left, and hands back the context before it. `NotDue` where that call is not due.
+pub(crate) fn enter(
+    alloc: Global,
+    engine: &mut Engine,
+    seats: &mut Seats,
+    s: usize,
+    call: &Call,
+    reply: &Reply,
+    after: Context,
+) -> Result<(usize, Context), EngineError>
+    requires { length seats.old.by_session.items ≡ engine.old.sessions }
+    ensures entered { IfOk result (λ r. Entered (core engine.old seats.old) s call.now reply.now r.1
+        after r.0 (core engine.new seats.new)) }
+    ensures kept { OnErr result (core engine.new seats.new ≡ core engine.old seats.old) }
+    ensures next { seats.new.next_id ≡ seats.old.next_id }
+{
+    if !suits(reply, call.act) {
+        return Err(EngineError::NotDue);
+    }
+    if !is_due(engine, s, call) {
+        return Err(EngineError::NotDue);
+    }
+    if !is_seated(seats, s, call.id) {
+        return Err(EngineError::NotDue);
+    }
+    let (number, left) = enter_seated(alloc, engine, &mut seats.ended, call.id, s, reply, after)?;
+    let gone = left.is_none();
+    let before = put_seat(seats, s, left);
+    if gone {
+        seats.reseat(engine);
+        return Ok((number, before));
+    }
+    Ok((number, before))
+}
