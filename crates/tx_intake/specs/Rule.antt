@@ -1,0 +1,26 @@
+-- The rule of an intake: what was put is what was got, and then what it holds. At most one pass may put, and it knows what was put. The same for getting.
+use Rattle.std.specs.Prelude.{◌≡◌, ℕ, Bool, true, ◌++◌, List}
+use mathlib.Core.Option.{some}
+use lib.ListN.{get_elem?}
+use Rattle.tx_intake.specs.Ends.{Offers}
+use Rattle.tx_intake.specs.declared.rule.Side.{Side}
+
+abbrev pub side : Bool → Bool → Offers → Offers → Side
+side puts gets put got = record { puts = puts; gets = gets; put = put; got = got }
+
+-- a pass that may put is the putter's, and knows what was put; the same for getting
+abbrev pub Fits : ℕ → ℕ → Offers → Offers → ℕ → Side → Type 0
+Fits putter getter put got pass v =
+    (v.puts ≡ true → (pass ≡ putter) × (v.put ≡ put)) × (v.gets ≡ true → (pass ≡ getter) × (v.got ≡ got))
+
+abbrev pub Passed : Offers → List Side → Type 0
+Passed held views = (putter : ℕ) × (getter : ℕ) × (put : Offers) × (got : Offers) × (put ≡ got ++ held)
+    × ((pass : ℕ) (v : Side) → get_elem? views pass ≡ some v → Fits putter getter put got pass v)
+
+-- what the putter knows of what is held
+abbrev pub HeldOfPut : Side → Offers → Type 0
+HeldOfPut v held = v.puts ≡ true → (got : Offers) × (v.put ≡ got ++ held)
+
+-- what both ends together know of what is held
+abbrev pub HeldOfBoth : Side → Offers → Type 0
+HeldOfBoth v held = v.put ≡ v.got ++ held

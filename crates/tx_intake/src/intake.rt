@@ -1,0 +1,172 @@
+//! A bounded queue of offers between two threads.
+
+ghost use Rattle.std.specs.Prelude.{◌≡◌, ◌++◌, ◌∷◌, [], true, false, OnOk, OnErr, IfErr, ⊤};
+ghost use Rattle.std.specs.Prelude.{MatchOption};
+ghost use Rattle.sw_base.specs.Refusals.{Accepts};
+ghost use Rattle.crossbeam_queue.specs.Passes.{view as view_of};
+ghost use Rattle.tx_intake.specs.Rule.{side};
+ghost use Rattle.tx_intake.specs.Ends.{capacity_refusal, IsBehind, IsNew, WasFull};
+
+use crate::error::IntakeError;
+use crate::rule::{Both, Ends, Gets, Line, Puts, Side};
+use crossbeam_queue::Pass;
+use std::alloc::Global;
+use std::marker::Model;
+use std::sync::Wait;
+use tx_engine::Offer;
+
+/// The largest capacity.
+const MOST_OFFERS: usize = 4_096;
+
+/// A bounded queue of offers, which threads share. Contracts see which it is and its capacity.
+pub struct Intake {
+    line: Line,
+}
+
+// Written out, here and below, so that no caller proves again how its parts are dropped.
+impl Drop for Intake {
+    fn drop(self) {
+        let Intake { line: _ } = self;
+    }
+}
+
+impl Model for Intake {
+    ghost use Rattle.tx_intake.specs.Ends.{Passage, passage};
+
+    ghost Value = { Passage };
+
+    ghost view = { λ i. passage i.line.table.shared.table_id i.line.cap };
+}
+
+/// The end of an intake at which offers are put. Contracts see of which intake it is, and what was
+/// put, oldest first.
+pub struct Putter {
+    pass: Pass<Offer, Side>,
+}
+
+impl Drop for Putter {
+    fn drop(self) {
+        let Putter { pass: _ } = self;
+    }
+}
+
+impl Putter {
+    fn into_pass(self) -> Pass<Offer, Side>
+        ensures queue { result.table_id ≡ self.intake }
+        ensures rest { result.me.1 ≡ [] }
+        ensures knows { view_of result ≡ side true false self.passed [] }
+    {
+        let Putter { pass } = self;
+        pass
+    }
+}
+
+impl Model for Putter {
+    ghost use Rattle.std.specs.Prelude.{◌≡◌, true, false, []};
+    ghost use Rattle.crossbeam_queue.specs.Passes.{view as view_of};
+    ghost use Rattle.tx_intake.specs.Ends.{End, end_of};
+    ghost use Rattle.tx_intake.specs.Rule.{side};
+
+    ghost Value = { End };
+
+    ghost view = { λ p. end_of p.pass.table_id (view_of p.pass).put };
+
+    ghost invariant = { λ p. (p.pass.me.1 ≡ [])
+        × (view_of p.pass ≡ side true false (view_of p.pass).put []) };
+}
+
+/// The end of an intake at which offers are got. Contracts see of which intake it is, and what was
+/// got, oldest first.
+pub struct Getter {
+    pass: Pass<Offer, Side>,
+}
+
+impl Drop for Getter {
+    fn drop(self) {
+        let Getter { pass: _ } = self;
+    }
+}
+
+impl Getter {
+    fn into_pass(self) -> Pass<Offer, Side>
+        ensures queue { result.table_id ≡ self.intake }
+        ensures rest { result.me.1 ≡ [] }
+        ensures knows { view_of result ≡ side false true [] self.passed }
+    {
+        let Getter { pass } = self;
+        pass
+    }
+}
+
+impl Model for Getter {
+    ghost use Rattle.std.specs.Prelude.{◌≡◌, true, false, []};
+    ghost use Rattle.crossbeam_queue.specs.Passes.{view as view_of};
+    ghost use Rattle.tx_intake.specs.Ends.{End, end_of};
+    ghost use Rattle.tx_intake.specs.Rule.{side};
+
+    ghost Value = { End };
+
+    ghost view = { λ p. end_of p.pass.table_id (view_of p.pass).got };
+
+    ghost invariant = { λ p. (p.pass.me.1 ≡ [])
+        × (view_of p.pass ≡ side false true [] (view_of p.pass).got) };
+}
+
+impl Intake {
+    /// An empty intake that holds so many offers at most, with its two ends. Refuses `BadCapacity`
+    /// unless that is 1 to 4,096.
+    pub fn new(alloc: Global, capacity: usize) -> Result<(Intake, Putter, Getter), IntakeError>
+        ensures { Accepts IntakeError.OutOfMemory (capacity_refusal capacity) result
+            (λ r. IsNew capacity r.0 r.1 r.2) ⊤ }
+    {
+        if capacity < 1 || MOST_OFFERS < capacity {
+            return Err(IntakeError::BadCapacity);
+        }
+        let (line, mut first) = Line::ruled(alloc, capacity)?;
+        let second = line.another::<Ends>(&mut first);
+        Ok((
+            Intake { line },
+            Putter { pass: first },
+            Getter { pass: second },
+        ))
+    }
+
+    /// Puts an offer behind the others. It comes back, and nothing has changed, only where the
+    /// intake was full at a moment of the call. It takes no memory.
+    pub fn put<R: Wait>(&self, rt: &R, putter: &mut Putter, offer: Offer) -> Result<(), Offer>
+        requires own { putter.old.intake ≡ self.now.id }
+        ensures own { putter.new.intake ≡ putter.old.intake }
+        ensures put { OnOk result (putter.new.passed ≡ putter.old.passed ++ offer ∷ []) }
+        ensures back { IfErr result (λ same. same ≡ offer) }
+        ensures kept { OnErr result (putter.new.passed ≡ putter.old.passed) }
+        ensures full { OnErr result (WasFull self.now putter.old) }
+    {
+        self.line.push_as::<Puts, R>(rt, &mut putter.pass, offer)
+    }
+
+    /// Gets the oldest offer. It gives none where the intake was empty at a moment of the call:
+    /// that no clause says, since a getter does not know what was put; `settle` says it at the end.
+    /// It takes no memory.
+    pub fn get<R: Wait>(&self, rt: &R, getter: &mut Getter) -> Option<Offer>
+        requires own { getter.old.intake ≡ self.now.id }
+        ensures own { getter.new.intake ≡ getter.old.intake }
+        ensures got { MatchOption result (getter.new.passed ≡ getter.old.passed)
+            (λ offer. getter.new.passed ≡ getter.old.passed ++ offer ∷ []) }
+    {
+        self.line.pop_as::<Gets, R>(rt, &mut getter.pass)
+    }
+
+    /// Ends the intake, and answers whether all that was put was got: what was got is in any case
+    /// the beginning of what was put.
+    pub fn settle(self, putter: Putter, getter: Getter) -> bool
+        requires putter { putter.intake ≡ self.id }
+        requires getter { getter.intake ≡ self.id }
+        ensures order { IsBehind getter putter }
+        ensures all { result ≡ true → getter.passed ≡ putter.passed }
+    {
+        let mut pass = putter.into_pass();
+        self.line.absorb::<Ends>(&mut pass, getter.into_pass());
+        self.line.learn_as::<Both>(&mut pass);
+        self.line.is_empty_as::<Both>(&mut pass)
+    }
+}

@@ -1,0 +1,31 @@
+//! Where offers come from.
+
+ghost use Rattle.std.specs.Prelude.{◌≡◌, ◌||◌, ◌++◌, Bool, List, IfOk, IfNone, OnErr, is_none};
+ghost use Rattle.std.specs.Prelude.{option_to_list};
+ghost use Rattle.sw_context.specs.Pairs.{Pairs};
+
+use sw_context::Context;
+use sw_participant::NoMemory;
+
+/// What gives contexts one after the other, until it answers that there is none left.
+pub trait Source: Drop {
+    /// The contexts that it has given, oldest first.
+    ghost given: { Self → List Pairs };
+
+    /// Whether it has answered that there is none left.
+    ghost ended: { Self → Bool };
+
+    /// Which contexts it may have given when it answers that there is none left. A call allows no
+    /// others, so who hands a source out and gets it back ended knows what it gave.
+    ghost ends_with: { Self → List Pairs → Type 0 };
+
+    /// The next context, or that there is none left. Want of memory changes nothing.
+    fn next(&mut self) -> Result<Option<Context>, NoMemory>
+        ensures given { IfOk result (λ next.
+            given self.new ≡ given self.old ++ option_to_list next) }
+        ensures ended { IfOk result (λ next. ended self.new ≡ (is_none next || ended self.old)) }
+        ensures whole { IfOk result (λ next. IfNone next (ends_with self.old (given self.new))) }
+        ensures plan { (all : List Pairs) → ends_with self.new all → ends_with self.old all }
+        ensures given_kept { OnErr result (given self.new ≡ given self.old) }
+        ensures ended_kept { OnErr result (ended self.new ≡ ended self.old) };
+}
