@@ -1,1 +1,2 @@
 mod KnownBytes
+pub mod Writing

@@ -41,7 +41,7 @@ impl From<AllocError> for ReadError {
     }
 }
 
-/// Why bytes were not written. How many of them the writer has taken no contract says.
+/// Why bytes were not written. A beginning of them was.
 #[derive(Debug, Drop, Error)]
 pub enum WriteError {
     /// A write or a flush of the output failed.

@@ -5,7 +5,8 @@
 //!   comes only where it has made them all;
 //! - a piece is the next bytes of the reader, empty only at its end, and [`read_input`] gives all
 //!   bytes that the reader has still to give;
-//! - [`write_out`] adds its bytes to the writer's and flushes;
+//! - [`write_whole`] and [`write_out`] add their bytes to the writer's, the latter flushes, and after an
+//!   error a beginning of the bytes is added;
 //! - want of memory is told as such, whether it is a reader's, a writer's or our own.
 #![tactic(auto)]
 
@@ -17,4 +18,4 @@ mod write;
 pub use error::{ReadError, WriteError};
 pub use input::{Input, MAX_READS};
 pub use read::read_input;
-pub use write::write_out;
+pub use write::{write_out, write_whole};

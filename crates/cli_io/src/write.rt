@@ -1,14 +1,51 @@
 //! Writes to an output.
-ghost use Rattle.std.specs.Prelude.{OnOk};
-ghost use Rattle.std.specs.Io.KnownBytes.{Appends};
+ghost use Rattle.std.specs.Prelude.{◌≤◌, IfOk, OnErr, OnOk, length, take};
+ghost use Rattle.std.specs.Io.KnownBytes.{Appends, Keeps};
+ghost use Rattle.cli_io.specs.Written.{AppendsBeginning};
 
 use crate::error::WriteError;
-use std::io::Write;
+use std::io::{self, ErrorKind, Write};
 
-/// Writes all bytes, and what the writer has kept back.
-pub fn write_out<W: Write>(out: &mut W, bytes: &[u8]) -> Result<(), WriteError>
-    ensures { OnOk result (Appends (W.contents out.old) (W.contents out.new) bytes.now) }
+// A writer that is interrupted so often is given up.
+const MOST_WRITES: u64 = u64::MAX;
+
+// Writes some of the bytes, none where it was interrupted; how many.
+fn write_some<W: Write>(out: &mut W, bytes: &[u8]) -> Result<usize, WriteError>
+    ensures within { IfOk result (λ n. n ≤ length bytes.now) }
+    ensures written { IfOk result (λ n.
+        Appends (W.contents out.old) (W.contents out.new) (take n bytes.now)) }
+    ensures failed { OnErr result (Keeps (W.contents out.old) (W.contents out.new)) }
 {
-    out.write_all(bytes)?;
+    match out.write(bytes) {
+        Ok(0) => Err(WriteError::from(io::Error::from(ErrorKind::WriteZero))),
+        Ok(count) => Ok(count),
+        Err(error) if error.kind() == ErrorKind::Interrupted => Ok(0),
+        Err(error) => Err(WriteError::from(error)),
+    }
+}
+
+/// Writes all bytes. After an error a beginning of them is written. (The library's `write_all` does not
+/// say what is written then.)
+pub fn write_whole<W: Write>(out: &mut W, bytes: &[u8]) -> Result<(), WriteError>
+    ensures written { OnOk result (Appends (W.contents out.old) (W.contents out.new) bytes.now) }
+    ensures beginning { AppendsBeginning (W.contents out.old) (W.contents out.new) bytes.now }
+{
+    let mut done = 0;
+    for _ in 0..MOST_WRITES {
+        if done == bytes.len() {
+            return Ok(());
+        }
+        done += write_some(out, &bytes[done..])?;
+    }
+    Err(WriteError::from(io::Error::from(ErrorKind::TimedOut)))
+}
+
+/// Writes all bytes, and what the writer has kept back. After an error a beginning of the bytes is
+/// written.
+pub fn write_out<W: Write>(out: &mut W, bytes: &[u8]) -> Result<(), WriteError>
+    ensures written { OnOk result (Appends (W.contents out.old) (W.contents out.new) bytes.now) }
+    ensures beginning { AppendsBeginning (W.contents out.old) (W.contents out.new) bytes.now }
+{
+    write_whole(out, bytes)?;
     Ok(out.flush()?)
 }
