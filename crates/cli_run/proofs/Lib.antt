@@ -10,3 +10,5 @@ mod Printing
 mod Paths
 mod Runs
 mod Readings
+mod Stops
+mod Halted

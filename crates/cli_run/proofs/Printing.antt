@@ -1,9 +1,11 @@
 -- The lines of the first entries of a history.
 -- for: told::write_lines
-use Rattle.std.proofs.Common.{◌≡◌, ◌<◌, ◌≤◌, ℕ, ◌+◌, List, [], ◌∷◌, ◌++◌, length, Option, Some, None, refl, sym, ap, subst, ◌∙◌}
-use Rattle.std.specs.Prelude.{if◌then◌else◌, is_some, option_map}
+use Rattle.std.proofs.Common.{◌≡◌, ◌<◌, ◌≤◌, ℕ, ◌+◌, Bool, true, false, List, [], ◌∷◌, ◌++◌, length, Option, Some, None, refl, sym, ap, subst, ◌∙◌, append_assoc, append-nil}
+use Rattle.std.specs.Prelude.{if◌then◌else◌, is_some, nat_lt, option_map}
 use Rattle.std.specs.Io.KnownBytes.{Appends}
 use Rattle.std.proofs.KnownBytes.{Appends-nil, Appends-trans}
+use Rattle.cli_io.specs.Written.{AppendsBeginning}
+use Rattle.cli_io.proofs.Writing.{beginning_behind, beginning_front}
 use Rattle.flow_model.specs.declared.flow.Flow.{Flow}
 use Rattle.tx_history.specs.declared.event.Event.{Event}
 use Rattle.tx_history.specs.History.{Start}
@@ -52,3 +54,29 @@ none_missing text f v past n k o lt at is line =
 
 pub all_lines : (f : Flow) (v : Start) (past : List Event) (n : ℕ) (a b : Option (List ℕ)) → length past ≤ n → Appends a b (lines_of f v (earlier n past)) → Appends a b (lines_of f v past)
 all_lines f v past n a b le h = subst (Appends a b) (lines_all f v past n le) h
+
+-- the lines of the first entries are a beginning of all
+
+lines_front : (f : Flow) (v : Start) (past : List Event) (n : ℕ) → (rest : List ℕ) × (lines_of f v past ≡ lines_of f v (earlier n past) ++ rest)
+lines_front f v [] n = ([], refl)
+lines_front f v (e ∷ past) n = by_test (nat_lt n (length past + 1)) (lines_front f v past n) where
+  by_test : (b : Bool) → (rest : List ℕ) × (lines_of f v past ≡ lines_of f v (earlier n past) ++ rest)
+      → (rest : List ℕ) × (lines_of f v (e ∷ past) ≡ lines_of f v (if b then earlier n past else e ∷ past) ++ rest)
+  by_test true (rest, is) =
+      let line : List ℕ = line_text f v past e ++ 10 ∷ [] in
+      (rest ++ line, ap (λ (l : List ℕ). l ++ line) is ∙ append_assoc (lines_of f v (earlier n past)) rest line)
+  by_test false ih = ([], sym (append-nil (lines_of f v (e ∷ past))))
+
+pub some_lines : (f : Flow) (v : Start) (past : List Event) (n : ℕ) (a b : Option (List ℕ)) → Appends a b (lines_of f v (earlier n past)) → AppendsBeginning a b (lines_of f v past)
+some_lines f v past n a b h = let (rest, is) = lines_front f v past n in (lines_of f v (earlier n past), rest, is, h)
+
+-- and so is a beginning of the next line behind them
+pub part_line : {X : Type 0} (text : X → List ℕ) (f : Flow) (v : Start) (past : List Event) (n k : ℕ) (o : Option X) (x : X) (written : List ℕ) (a b c : Option (List ℕ)) → n < length past → k ≡ n → o ≡ Some x
+    → option_map text o ≡ line_of f v past (k + 1) → written ≡ text x → Appends a b (lines_of f v (earlier n past)) → AppendsBeginning b c (written ++ 10 ∷ []) → AppendsBeginning a c (lines_of f v past)
+part_line text f v past n k o x written a b c lt at is line shown first second =
+    let here : line_of f v past (n + 1) ≡ Some (text x) = ap (λ (i : ℕ). line_of f v past (i + 1)) (sym at) ∙ (sym line ∙ ap (option_map text) is) in
+    let last : AppendsBeginning b c (text x ++ 10 ∷ []) = subst (λ (l : List ℕ). AppendsBeginning b c (l ++ 10 ∷ [])) shown second in
+    let both : AppendsBeginning a c (lines_of f v (earlier n past) ++ (text x ++ 10 ∷ [])) = beginning_behind a b c (lines_of f v (earlier n past)) (text x ++ 10 ∷ []) first last in
+    let next : AppendsBeginning a c (lines_of f v (earlier (n + 1) past)) = subst (AppendsBeginning a c) (sym (lines_next f v past n (text x) lt here)) both in
+    let (rest, whole) = lines_front f v past (n + 1) in
+    subst (AppendsBeginning a c) (sym whole) (beginning_front a c (lines_of f v (earlier (n + 1) past)) rest next)

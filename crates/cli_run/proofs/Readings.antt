@@ -1,6 +1,6 @@
 -- What is read of a stream of frames, and which of its messages are requests.
 -- for: stream::serve, stream::serve_messages, stream::Requests
-use Rattle.std.proofs.Common.{◌≡◌, ◌<◌, ◌≤◌, ℕ, ◌+◌, List, [], ◌∷◌, ◌++◌, length, map, take, get_or, Option, Result, Ok, Err, refl, sym, ap, subst, arith, ◌∙◌, inl, append_assoc, append-nil}
+use Rattle.std.proofs.Common.{◌≡◌, ◌<◌, ◌≤◌, ℕ, ◌+◌, List, [], ◌∷◌, ◌++◌, length, map, take, drop, take-append-drop, get_or, Option, Result, Ok, Err, refl, sym, ap, subst, arith, ◌∙◌, inl, append_assoc, append-nil}
 use Rattle.std.proofs.KnownBytes.{Consumes-kept, Consumes-nil, Consumes-trans}
 use Rattle.std.proofs.lemmas.List.{length-append, length-take-le, map-append, take_more}
 use Rattle.std.specs.Io.KnownBytes.{Consumes, Keeps}
@@ -43,6 +43,12 @@ pub requests_next : (list : List (Vec ℕ)) (i : ℕ) (m : Vec ℕ) (bytes : Lis
 requests_next list i m bytes lt at is =
     let more : take (i + 1) list ≡ take i list ++ m ∷ [] = take_more list i m lt ∙ ap (λ (v : Vec ℕ). take i list ++ v ∷ []) (sym at) in
     rw (is, more, map-append) (requests_more (messages (take i list)) m.items)
+
+-- the requests of the first messages, and those of the others
+pub requests_front : (list : List (Vec ℕ)) (n : ℕ) → requests (messages list) ≡ requests (messages (take n list)) ++ requests (messages (drop n list))
+requests_front list n =
+    let halves : messages (take n list ++ drop n list) ≡ messages (take n list) ++ messages (drop n list) = map-append (λ (v : Vec ℕ). v.items) (take n list) (drop n list) in
+    ap (λ (l : List (Vec ℕ)). requests (messages l)) (sym (take-append-drop n list)) ∙ (ap requests halves ∙ requests_append (messages (take n list)) (messages (drop n list)))
 
 -- streams
 

@@ -8,3 +8,4 @@ pub mod Links
 pub mod Lines
 pub mod Stored
 pub mod Calls
+pub mod Stopped

@@ -1,6 +1,7 @@
 //! The whole run.
 
-ghost use Rattle.std.specs.Prelude.{◌≡◌, ◌-◌, ℕ, List, [], IfErr, IfNone, IfOk, IfSome, OnOk};
+ghost use Rattle.std.specs.Prelude.{◌≡◌, ◌-◌, ℕ, List, [], IfErr, IfNone, IfOk, IfSome, OnErr, OnOk};
+ghost use Rattle.std.specs.Prelude.{option_map};
 ghost use Rattle.tx_engine.specs.Calls.{waits};
 ghost use Rattle.std.specs.Io.KnownBytes.{Appends};
 ghost use Rattle.flow_model.specs.declared.flow.Flow.{Flow};
@@ -15,6 +16,8 @@ ghost use Rattle.cli_run.specs.Points.{IsAtRest, point_of};
 ghost use Rattle.cli_run.specs.Ran.{Printed, Ran, ServesAll};
 ghost use Rattle.cli_run.specs.Rounds.{Drains, Recovers};
 ghost use Rattle.cli_run.specs.Requests.{ReadTo, requests};
+ghost use Rattle.cli_run.specs.Stopped.{DrainsSome, IsStopped, ServesSome};
+ghost use Rattle.cli_io.specs.Written.{AppendsBeginning};
 
 use crate::advices::send_advices;
 use crate::error::ServeError;
@@ -68,6 +71,8 @@ impl<S: Alter> Switch<S> {
         ensures drains { OnOk result (Drains
             (point_of S.Store self.old) (O.contents out.old)
             (point_of S.Store self.new) (O.contents out.new)) }
+        ensures stops { OnErr result (DrainsSome
+            (point_of S.Store self.old) (O.contents out.old) (O.contents out.new)) }
     {
         for _ in 0..MAX_ROUNDS {
             if self.engine().queued() > 0 {
@@ -99,6 +104,8 @@ impl<S: Alter> Switch<S> {
             × ReadTo end (R.remaining input) frames
             × ServesAll (SendsAdvice L.sends L.receives L.starves (Unit {0})) first (requests frames)
             (point_of S.Store self.old) sender.old (O.contents out.old) (O.contents out.new)) }
+        ensures stops { OnErr result (ServesSome (R.remaining input)
+            (point_of S.Store self.old) (O.contents out.old) (O.contents out.new)) }
     {
         self.cut_long(alloc, told)?;
         let mut input = input;
@@ -112,7 +119,10 @@ impl<S: Alter> Switch<S> {
 
 // Prints the lines of all entries of the engine's history.
 fn print<O: Write>(alloc: Global, engine: &Engine, out: &mut O) -> Result<(), ServeError>
-    ensures { OnOk result (Appends (O.contents out.old) (O.contents out.new) (lines_in engine.now)) }
+    ensures lines { OnOk result (Appends
+        (O.contents out.old) (O.contents out.new) (lines_in engine.now)) }
+    ensures beginning { AppendsBeginning
+        (O.contents out.old) (O.contents out.new) (lines_in engine.now) }
 {
     write_lines(alloc, engine, out)?;
     out.flush().map_err(WriteError::from)?;
@@ -181,6 +191,9 @@ impl<S: Alter + Drop, R: Read + Drop, L: Link> Over<S, R, L> {
             (O.contents out.old) (O.contents out.new))) }
         ensures printed { OnOk result (IfNone self.input (Printed code.now self.sessions
             (seen (kept S.Store self.journal)) (O.contents out.old) (O.contents out.new))) }
+        ensures stopped { OnErr result (IsStopped (option_map R.remaining self.input)
+            code.now self.sessions (seen (kept S.Store self.journal))
+            (O.contents out.old) (O.contents out.new)) }
     {
         let Over {
             journal,
@@ -240,6 +253,9 @@ pub fn run<S: Alter + Drop, R: Read + Drop, O: Write, E: Write>(
         (O.contents out.old) (O.contents out.new))) }
     ensures printed { OnOk result (IfNone input (Printed code.now setup.sessions
         (seen (kept S.Store journal)) (O.contents out.old) (O.contents out.new))) }
+    ensures stopped { OnErr result (IsStopped (option_map R.remaining input)
+        code.now setup.sessions (seen (kept S.Store journal))
+        (O.contents out.old) (O.contents out.new)) }
 {
     let Setup {
         book,

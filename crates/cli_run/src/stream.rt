@@ -1,7 +1,7 @@
 //! The frames of a stream, answered as they come.
 
-ghost use Rattle.std.specs.Prelude.{◌≡◌, ◌<◌, ℕ, false, List, [], IfNone, IfOk, IfSome, OnOk, Option, Some};
-ghost use Rattle.std.specs.Prelude.{length, map};
+ghost use Rattle.std.specs.Prelude.{◌≡◌, ◌<◌, ℕ, false, List, [], IfNone, IfOk, IfSome, OnErr, OnOk, Option, Some};
+ghost use Rattle.std.specs.Prelude.{◌⊎◌, length, map};
 ghost use Rattle.std.specs.Io.KnownBytes.{IsAtEnd};
 ghost use Rattle.cli_io.specs.declared.error.ReadError.{ReadError};
 ghost use Rattle.sw_frame.specs.declared.error.FrameError.TheVariants as FrameError;
@@ -12,6 +12,7 @@ ghost use Rattle.cli_run.specs.Points.{IsReady, point_of};
 ghost use Rattle.cli_run.specs.Rounds.{Serves, answering};
 ghost use Rattle.cli_run.specs.Errors.{result_of};
 ghost use Rattle.cli_run.specs.Requests.{EndsAs, FramesIn, ReadTo, ReadsOn, if_read, request_of, requests};
+ghost use Rattle.cli_run.specs.Stopped.{Halts, HaltsOn, StopsWithin};
 ghost use Rattle.cli_run.specs.declared.stream.StreamEnd.TheVariants.{Unread};
 
 use crate::error::ServeError;
@@ -84,6 +85,9 @@ fn serve<S: Alter, O: Write, E: Write>(
         (map request_of (if_read (read message.now) message.now)))
         (point_of S.Store switch.old) (O.contents out.old)
         (point_of S.Store switch.new) (O.contents out.new)) }
+    ensures halts { OnErr result (Halts (answering
+        (map request_of (if_read (read message.now) message.now)))
+        (point_of S.Store switch.old) (O.contents out.old) (O.contents out.new)) }
     ensures ready { OnOk result (IsReady (point_of S.Store switch.new)) }
 {
     match decode(alloc, message) {
@@ -109,6 +113,8 @@ fn serve_messages<S: Alter, O: Write, E: Write>(
     ensures serves { OnOk result (Serves (answering (requests (messages list.now)))
         (point_of S.Store switch.old) (O.contents out.old)
         (point_of S.Store switch.new) (O.contents out.new)) }
+    ensures halts { OnErr result (Halts (answering (requests (messages list.now)))
+        (point_of S.Store switch.old) (O.contents out.old) (O.contents out.new)) }
     ensures ready { OnOk result (IsReady (point_of S.Store switch.new)) }
 {
     for message in list {
@@ -143,6 +149,10 @@ impl Requests {
             × Serves (answering (requests more))
             (point_of S.Store switch.old) (O.contents out.old)
             (point_of S.Store switch.new) (O.contents out.new)) }
+        ensures halts { OnErr result ((more : List (List ℕ))
+            × (FramesIn piece.now more self.old.framer self.new.framer ⊎ (more ≡ []))
+            × Halts (answering (requests more))
+            (point_of S.Store switch.old) (O.contents out.old) (O.contents out.new)) }
         ensures ready { OnOk result (IsReady (point_of S.Store switch.new)) }
     {
         match self.framer.feed(piece) {
@@ -191,6 +201,8 @@ impl Requests {
             (point_of S.Store switch.old) (O.contents out.old)
             (point_of S.Store switch.new) (O.contents out.new)
             × IfSome end (λ e. EndsAs e self.new.framer (R.remaining input.new))) }
+        ensures halts { OnErr result (HaltsOn (R.remaining input.old) self.old.framer
+            (point_of S.Store switch.old) (O.contents out.old) (O.contents out.new)) }
         ensures ready { OnOk result (IsReady (point_of S.Store switch.new)) }
     {
         let count = match input.read(buf) {
@@ -218,6 +230,8 @@ impl Requests {
             × Serves (answering (requests frames))
             (point_of S.Store switch.old) (O.contents out.old)
             (point_of S.Store switch.new) (O.contents out.new)) }
+        ensures stops { OnErr result (StopsWithin (R.remaining input.old)
+            (point_of S.Store switch.old) (O.contents out.old) (O.contents out.new)) }
         ensures ready { OnOk result (IsReady (point_of S.Store switch.new)) }
     {
         let mut buf = vec![in alloc; 0u8; PIECE]?;

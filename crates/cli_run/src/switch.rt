@@ -1,6 +1,6 @@
 //! The plant of the switch, one transaction after the other.
 
-ghost use Rattle.std.specs.Prelude.{◌≡◌, ◌∷◌, List, ℕ, [], Option, IfOk, OnOk};
+ghost use Rattle.std.specs.Prelude.{◌≡◌, ◌∷◌, List, ℕ, [], Option, IfOk, OnErr, OnOk};
 ghost use Rattle.std.specs.Io.KnownBytes.{Appends};
 ghost use Rattle.sw_context.specs.Pairs.{Pairs};
 ghost use Rattle.sw_frame.specs.Stream.{AreFramed};
@@ -11,6 +11,7 @@ ghost use Rattle.cli_run.specs.Points.{responses, unanswered};
 ghost use Rattle.cli_run.specs.Rounds.{Completed, CutsLong, Does, IsDone, Serves};
 ghost use Rattle.cli_run.specs.Rounds.{Transacts, answering};
 ghost use Rattle.cli_run.specs.Requests.{request_of};
+ghost use Rattle.cli_run.specs.Stopped.{GivesSome, Halts};
 
 use crate::error::ServeError;
 use crate::given::{last_above, text_above};
@@ -131,6 +132,8 @@ impl<S: Alter> Switch<S> {
             × Appends (O.contents out.old) (O.contents out.new) text) }
         ensures answered { OnOk result (point_of S.Store self.new
             ≡ all_answered (point_of S.Store self.old)) }
+        ensures stopped { OnErr result (GivesSome (point_of S.Store self.old)
+            (O.contents out.old) (O.contents out.new)) }
         ensures given { OnOk result (unanswered (point_of S.Store self.new) ≡ []) }
     {
         let text = text_above(alloc, self.plant.ended(), self.answered)?;
@@ -168,6 +171,8 @@ impl<S: Alter> Switch<S> {
         ensures serves { OnOk result (Serves (Completed ∷ [])
             (point_of S.Store self.old) (O.contents out.old)
             (point_of S.Store self.new) (O.contents out.new)) }
+        ensures halts { OnErr result (Halts (Completed ∷ [])
+            (point_of S.Store self.old) (O.contents out.old) (O.contents out.new)) }
         ensures rest { OnOk result (IsAtRest (point_of S.Store self.new)) }
     {
         self.serve_next(alloc)?;
@@ -187,6 +192,8 @@ impl<S: Alter> Switch<S> {
         ensures serves { OnOk result (Serves (answering (request_of request.now ∷ []))
             (point_of S.Store self.old) (O.contents out.old)
             (point_of S.Store self.new) (O.contents out.new)) }
+        ensures halts { OnErr result (Halts (answering (request_of request.now ∷ []))
+            (point_of S.Store self.old) (O.contents out.old) (O.contents out.new)) }
         ensures ready { OnOk result (IsReady (point_of S.Store self.new)) }
     {
         let mut context = Context::new(alloc);

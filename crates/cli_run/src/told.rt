@@ -2,10 +2,11 @@
 
 ghost use Rattle.std.specs.Prelude.{◌≡◌, ◌∷◌, ◌++◌, true, [], IfOk, OnOk};
 ghost use Rattle.std.specs.Io.KnownBytes.{Appends};
+ghost use Rattle.cli_io.specs.Written.{AppendsBeginning};
 ghost use Rattle.cli_run.specs.Lines.{lines_in};
 
 use crate::error::ServeError;
-use cli_io::WriteError;
+use cli_io::{WriteError, write_whole};
 use iso_codec::DecodeError;
 use std::alloc::Global;
 use std::io::Write;
@@ -48,19 +49,23 @@ impl<'a, E: Write> Told<'a, E> {
     }
 }
 
-fn write_line<W: Write>(out: &mut W, line: &str) -> Result<(), ServeError>
-    ensures { OnOk result (Appends (W.contents out.old) (W.contents out.new)
+fn write_line<W: Write>(out: &mut W, line: &str) -> Result<(), WriteError>
+    ensures written { OnOk result (Appends (W.contents out.old) (W.contents out.new)
         (line.now ++ 10 ∷ [])) }
+    ensures beginning { AppendsBeginning (W.contents out.old) (W.contents out.new)
+        (line.now ++ 10 ∷ []) }
 {
-    match writeln!(out, "{line}") {
-        Ok(()) => Ok(()),
-        Err(error) => Err(ServeError::from(WriteError::from(error))),
-    }
+    write_whole(out, line.as_bytes())?;
+    write_whole(out, b"\n")
 }
 
-/// Writes the lines of all entries of the engine's history, the oldest first.
+/// Writes the lines of all entries of the engine's history, the oldest first. After an error a beginning of
+/// them is written.
 pub fn write_lines<W: Write>(alloc: Global, engine: &Engine, out: &mut W) -> Result<(), ServeError>
-    ensures { OnOk result (Appends (W.contents out.old) (W.contents out.new) (lines_in engine.now)) }
+    ensures lines { OnOk result (Appends
+        (W.contents out.old) (W.contents out.new) (lines_in engine.now)) }
+    ensures beginning { AppendsBeginning
+        (W.contents out.old) (W.contents out.new) (lines_in engine.now) }
 {
     let mut tracer = Tracer::new(alloc, engine);
     let count = engine.history().len();

@@ -1,4 +1,6 @@
-use Rattle.std.proofs.Common.{◌≡◌, ℕ, List, ◌∙◌, ap, subst}
+use Rattle.std.proofs.Common.{◌≡◌, ℕ, List, ◌∙◌, ap, inl, inr, subst}
+use Rattle.std.proofs.KnownBytes.{Keeps-refl}
+use Rattle.cli_io.specs.Written.{AppendsBeginning}
 use Rattle.std.specs.Io.KnownBytes.{Appends}
 use Rattle.tx_history.specs.declared.journal.JournalView.{JournalView}
 use Rattle.tx_engine.specs.World.{World}
@@ -8,6 +10,8 @@ use Rattle.plant_outcome.specs.Lives.{IsMade}
 use Rattle.cli_run.specs.Lines.{lines_in}
 use Rattle.cli_run.proofs.Rounds.{none_none, some_ok}
 use Rattle.cli_run.proofs.Runs.{begun_recovers, printed, ran, through}
+use Rattle.cli_run.proofs.Halted.{served_all, stopped, stopped_some, stops_none, stops_some, unprinted}
+use Rattle.cli_run.proofs.Stops.{either_way, on_err_of}
 use Rattle.cli_run.proofs.serving.Over.run.Goals as goal
 
 pub returns-in_default-clause-printed : goal.returns-in_default-clause-printed
@@ -18,7 +22,7 @@ returns-in_default-clause-printed g c =
     let is : IsMade c.args.code.now c.args.self.sessions view (seen (kept g.S.Store c.args.self.journal)) made = record { opened = c.in-Ok.ensures.opened.1; engine = c.in-Ok.ensures.engine } in
     let first : c.opened.result.now.next_id ≡ made.core.world.start.view.next_id = ap (λ (v : JournalView). v.next_id) (c.opened.ensures ∙ ap (λ (w : World). w.start.view) c.engine.ensures) in
     let prints = ap (λ (w : World). lines_in w) c.engine-in_default.ensures in
-    none_none _ c.args.self.input c.in_default.is (printed c.args.code.now c.args.self.sessions view (seen (kept g.S.Store c.args.self.journal)) made c.opened.result.now.next_id c.saturating_sub.result _ _ _ is first c.saturating_sub.ensures c.in_ok-recover.ensures.recovers (subst (λ (l : List ℕ). Appends (g.O.Write.contents c.args.out.now) (g.O.Write.contents c.print.new.out) l) prints c.in_ok-print.ensures))
+    none_none _ c.args.self.input c.in_default.is (printed c.args.code.now c.args.self.sessions view (seen (kept g.S.Store c.args.self.journal)) made c.opened.result.now.next_id c.saturating_sub.result _ _ _ is first c.saturating_sub.ensures c.in_ok-recover.ensures.recovers (subst (λ (l : List ℕ). Appends (g.O.Write.contents c.args.out.now) (g.O.Write.contents c.print.new.out) l) prints c.in_ok-print.ensures.lines))
 
 pub serve_to_end-served-requires-clause-rest : goal.serve_to_end-served-requires-clause-rest
 serve_to_end-served-requires-clause-rest g c =
@@ -50,3 +54,30 @@ returns-clause-ran g c =
       served.1,
       ran c.args.code.now c.args.self.sessions view (seen (kept g.S.Store c.args.self.journal)) made c.opened.result.now.next_id c.saturating_sub.result _ _ _ _ _ _ is first c.saturating_sub.ensures c.in_ok-recover.ensures.recovers served.2,
     ))
+
+pub returns-in-Err-clause-stopped : goal.returns-in-Err-clause-stopped
+returns-in-Err-clause-stopped g c = inl (Keeps-refl _)
+
+pub returns-in_err-recover-clause-stopped : goal.returns-in_err-recover-clause-stopped
+returns-in_err-recover-clause-stopped g c = on_err_of c.from_residual.result (inl (Keeps-refl _))
+
+pub returns-in_err-print-clause-stopped : goal.returns-in_err-print-clause-stopped
+returns-in_err-print-clause-stopped g c =
+    let plant = c.in-Ok.plant in
+    let made : Whole = whole plant.running.engine plant.running.seats (seen (kept g.S.Store plant.journal)) in
+    let view : JournalView = c.in-Ok.ensures.opened.0 in
+    let is : IsMade c.args.code.now c.args.self.sessions view (seen (kept g.S.Store c.args.self.journal)) made = record { opened = c.in-Ok.ensures.opened.1; engine = c.in-Ok.ensures.engine } in
+    let first : c.opened.result.now.next_id ≡ made.core.world.start.view.next_id = ap (λ (v : JournalView). v.next_id) (c.opened.ensures ∙ ap (λ (w : World). w.start.view) c.engine.ensures) in
+    let prints = ap (λ (w : World). lines_in w) c.engine-in_default.ensures in
+    on_err_of c.from_residual-in_err-print.result (inr (stops_none g.R.Read.remaining c.args.self.input c.in_default.is (unprinted c.args.code.now c.args.self.sessions view (seen (kept g.S.Store c.args.self.journal)) made c.opened.result.now.next_id c.saturating_sub.result _ _ _ is first c.saturating_sub.ensures c.in_ok-recover.ensures.recovers (subst (λ (l : List ℕ). AppendsBeginning (g.O.Write.contents c.args.out.now) (g.O.Write.contents c.print.new.out) l) prints c.in_err-print.ensures.beginning))))
+
+pub returns-clause-stopped : goal.returns-clause-stopped
+returns-clause-stopped g c =
+    let plant = c.in-Ok.plant in
+    let made : Whole = whole plant.running.engine plant.running.seats (seen (kept g.S.Store plant.journal)) in
+    let view : JournalView = c.in-Ok.ensures.opened.0 in
+    let is : IsMade c.args.code.now c.args.self.sessions view (seen (kept g.S.Store c.args.self.journal)) made = record { opened = c.in-Ok.ensures.opened.1; engine = c.in-Ok.ensures.engine } in
+    let first : c.opened.result.now.next_id ≡ made.core.world.start.view.next_id = ap (λ (v : JournalView). v.next_id) (c.opened.ensures ∙ ap (λ (w : World). w.start.view) c.engine.ensures) in
+    either_way c.serve_to_end-served.result c.end_of.result c.serve_to_end-served.ensures.serves c.serve_to_end-served.ensures.stops
+    (λ end served. inr (stops_some g.R.Read.remaining c.args.self.input c.in-Some.input c.in-Some.is (stopped c.args.code.now c.args.self.sessions view (seen (kept g.S.Store c.args.self.journal)) made c.opened.result.now.next_id c.saturating_sub.result _ _ _ _ is first c.saturating_sub.ensures c.in_ok-recover.ensures.recovers (served_all _ _ _ _ _ _ _ end served.0 served.1 served.2))))
+    (λ some. stopped_some g.R.Read.remaining c.args.self.input c.in-Some.input c.in-Some.is c.args.code.now c.args.self.sessions view (seen (kept g.S.Store c.args.self.journal)) made c.opened.result.now.next_id c.saturating_sub.result _ _ _ is first c.saturating_sub.ensures c.in_ok-recover.ensures.recovers some)

@@ -4,6 +4,7 @@ use Rattle.sw_frame.specs.Stream.{State}
 use Rattle.cli_run.specs.Requests.{EndsAs}
 use Rattle.cli_run.proofs.Rounds.{if_none, if_some, serves_none}
 use Rattle.cli_run.proofs.Readings.{nothing_read, serves_frames, still_room}
+use Rattle.cli_run.proofs.Stops.{on_err_of, stops_fresh, stops_on}
 use Rattle.cli_run.proofs.stream.Requests.serve_all.Goals as goal
 
 pub loop-init : goal.loop-init
@@ -30,6 +31,7 @@ returns-in-Some g c =
         },
         serves_frames c.loop.invariant.frames more _ _ _ _ _ _ c.loop.invariant.serves serves,
       );
+      stops = tt;
       ready = c.in_ok-end.ensures.ready;
     }
 
@@ -48,3 +50,10 @@ loop-preserved g c =
       serves = serves_frames c.loop.invariant.frames more _ _ _ _ _ _ c.loop.invariant.serves serves;
       ready = c.in_ok-end.ensures.ready;
     }
+
+pub returns-in_err-buf-clause-stops : goal.returns-in_err-buf-clause-stops
+returns-in_err-buf-clause-stops g c = on_err_of c.from_residual.result (stops_fresh (g.R.Read.remaining c.args.input.now) c.args.self.now.framer _ _ c.requires.fresh)
+
+pub returns-in_err-end-clause-stops : goal.returns-in_err-end-clause-stops
+returns-in_err-end-clause-stops g c =
+    on_err_of c.from_residual-in_err-end.result (stops_on (g.R.Read.remaining c.args.input.now) _ c.loop.invariant.frames _ _ _ _ _ _ c.loop.invariant.reads c.loop.invariant.serves c.in_err-end.ensures.halts)

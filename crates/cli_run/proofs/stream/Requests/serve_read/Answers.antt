@@ -1,6 +1,7 @@
 use Rattle.std.proofs.Common.{[], take, arith}
 use Rattle.cli_run.proofs.Rounds.{if_ok, serves_none}
 use Rattle.cli_run.proofs.Readings.{reads_nothing, reads_piece}
+use Rattle.cli_run.proofs.Stops.{halts_piece, halts_unread, on_err_of}
 use Rattle.cli_run.proofs.stream.Requests.serve_read.Goals as goal
 
 pub returns-in-Err-clause-serves : goal.returns-in-Err-clause-serves
@@ -30,3 +31,11 @@ returns-clause-serves g c =
       serves,
       c.end_after.ensures.ends (g.R.Read.remaining c.read.new.self) (λ none. c.in-Ok.ensures.bytes.1 none (omega (arith, c.requires.room, c.read.auto.buf))),
     )
+
+pub returns-in_err-serve_piece-clause-halts : goal.returns-in_err-serve_piece-clause-halts
+returns-in_err-serve_piece-clause-halts g c =
+    let (more, are, halts) = c.in_err-serve_piece.ensures.halts in
+    on_err_of c.from_residual.result (halts_piece (g.R.Read.remaining c.args.input.now) (g.R.Read.remaining c.read.new.self) (take c.in-Ok.count c.read.new.buf) more c.args.self.now.framer c.serve_piece.new.self.framer _ _ _ c.in-Ok.ensures.bytes.0 are halts)
+
+pub returns-in-Err-2-clause-halts : goal.returns-in-Err-2-clause-halts
+returns-in-Err-2-clause-halts g c = on_err_of c.unread.result (halts_unread (g.R.Read.remaining c.args.input.now) c.args.self.now.framer _ _)

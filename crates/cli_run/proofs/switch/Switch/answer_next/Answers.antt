@@ -1,8 +1,9 @@
-use Rattle.std.proofs.Common.{◌≡◌, [], sym, subst}
+use Rattle.std.proofs.Common.{◌≡◌, [], ◌∷◌, sym, subst}
 use Rattle.tx_journal.specs.Kept.{kept}
 use Rattle.cli_run.specs.Points.{IsAtRest, Point, point, unanswered}
-use Rattle.cli_run.specs.Rounds.{CutsLong}
+use Rattle.cli_run.specs.Rounds.{Completed, CutsLong}
 use Rattle.cli_run.proofs.Rounds.{completed, on_both, rest_given}
+use Rattle.cli_run.proofs.Stops.{halts_given, halts_gives, halts_none, on_err_of}
 use Rattle.cli_run.proofs.switch.Switch.answer_next.Goals as goal
 
 pub returns : goal.returns
@@ -11,6 +12,7 @@ returns g c =
     let (text, framed, appends) = c.in_ok-give.ensures.gives in
     record {
       serves = on_both c.cut_long.result (λ cuts rest. completed own text _ _ _ _ _ _ c.requires.rest transacts framed c.in_ok-give.ensures.answered cuts rest appends) c.cut_long.ensures.cuts c.cut_long.ensures.rest;
+      halts = on_err_of c.cut_long.result (halts_given own text _ _ _ _ c.requires.rest transacts framed appends);
       rest = c.cut_long.ensures.rest;
     }
 
@@ -19,3 +21,11 @@ cut_long-requires g c =
     let (own, transacts) = c.in_ok-serve_next.ensures.transacts in
     let same = c.in_ok-give.ensures.answered in
     record { rest = subst IsAtRest (sym same) (rest_given _ _ own c.requires.rest transacts c.in_ok-serve_next.ensures.seated (subst (λ (z : Point). unanswered z ≡ []) same c.in_ok-give.ensures.given)) }
+
+pub returns-in_err-serve_next-clause-halts : goal.returns-in_err-serve_next-clause-halts
+returns-in_err-serve_next-clause-halts g c = on_err_of c.from_residual.result (halts_none (Completed ∷ []) _ _)
+
+pub returns-in_err-give-clause-halts : goal.returns-in_err-give-clause-halts
+returns-in_err-give-clause-halts g c =
+    let (own, transacts) = c.in_ok-serve_next.ensures.transacts in
+    on_err_of c.from_residual-in_err-give.result (halts_gives own _ _ _ _ c.requires.rest transacts c.in_err-give.ensures.stopped)

@@ -2,6 +2,7 @@ use Rattle.std.proofs.Common.{[], ◌∷◌}
 use Rattle.cli_run.specs.Rounds.{Completed, Released}
 use Rattle.cli_run.proofs.Resting.{released_rest}
 use Rattle.cli_run.proofs.Rounds.{drained, empties_none, empties_then, serves_release}
+use Rattle.cli_run.proofs.Stops.{drains_next, drains_none, on_err_of}
 use Rattle.cli_run.proofs.switch.Switch.drain.Goals as goal
 
 pub loop-init : goal.loop-init
@@ -12,3 +13,12 @@ loop-preserved-then-queued-gt0 g c = empties_then _ _ _ _ _ _ (Completed ∷ [])
 
 pub loop-preserved : goal.loop-preserved
 loop-preserved g c = empties_then _ _ _ _ _ _ (Released ∷ []) c.loop.invariant (tt, tt) (serves_release _ _ _ _ c.in_ok-act.ensures.does) (released_rest _ _ _ c.loop.invariant.rest c.in_ok-act.ensures.does c.in_ok-act.ensures.seated)
+
+pub returns-in_err-answer_next-clause-stops : goal.returns-in_err-answer_next-clause-stops
+returns-in_err-answer_next-clause-stops g c = on_err_of c.from_residual.result (drains_next _ _ _ _ _ c.loop.invariant c.in_err-answer_next.ensures.halts)
+
+pub returns-in_err-act-clause-stops : goal.returns-in_err-act-clause-stops
+returns-in_err-act-clause-stops g c = on_err_of c.from_residual-in_err-act.result (drains_none _ _ _ _ c.loop.invariant)
+
+pub returns-clause-stops : goal.returns-clause-stops
+returns-clause-stops g c = drains_none _ _ _ _ c.loop.invariant

@@ -1,4 +1,7 @@
 use Rattle.cli_run.proofs.Resting.{ready_cut}
+use Rattle.std.proofs.Common.{inl, inr}
+use Rattle.std.proofs.KnownBytes.{Keeps-refl}
+use Rattle.cli_run.proofs.Stops.{drains_all, on_err_of}
 use Rattle.cli_run.proofs.switch.Switch.serve_to_end.Goals as goal
 
 pub serve_all-requires : goal.serve_all-requires
@@ -11,6 +14,7 @@ pub returns : goal.returns
 returns g c =
     let (frames, read, serves) = c.in_ok-end.ensures.serves in
     record {
+      stops = tt;
       serves = (
         frames,
         read,
@@ -31,3 +35,34 @@ returns g c =
         },
       );
     }
+
+pub returns-in_err-cut_long-clause-stops : goal.returns-in_err-cut_long-clause-stops
+returns-in_err-cut_long-clause-stops g c = on_err_of c.from_residual.result (inl (Keeps-refl _))
+
+pub returns-in_err-end-clause-stops : goal.returns-in_err-end-clause-stops
+returns-in_err-end-clause-stops g c = on_err_of c.from_residual-in_err-end.result (inr (record {
+  begun = _;
+  cuts = c.in_ok-cut_long.ensures.cuts;
+  ready = ready_cut _ _ c.in_ok-cut_long.ensures.cuts c.in_ok-cut_long.ensures.rest c.requires.empty;
+  serves = inl c.in_err-end.ensures.stops;
+}))
+
+pub returns-in_err-drain-clause-stops : goal.returns-in_err-drain-clause-stops
+returns-in_err-drain-clause-stops g c =
+    let (frames, read, serves) = c.in_ok-end.ensures.serves in
+    on_err_of c.from_residual-in_err-drain.result (inr (record {
+      begun = _;
+      cuts = c.in_ok-cut_long.ensures.cuts;
+      ready = ready_cut _ _ c.in_ok-cut_long.ensures.cuts c.in_ok-cut_long.ensures.rest c.requires.empty;
+      serves = inr (record { end = _; frames = frames; read = read; served = _; between = _; serves = serves; drains = c.in_err-drain.ensures.stops });
+    }))
+
+pub returns-in_err-send_advices-clause-stops : goal.returns-in_err-send_advices-clause-stops
+returns-in_err-send_advices-clause-stops g c =
+    let (frames, read, serves) = c.in_ok-end.ensures.serves in
+    on_err_of c.from_residual-in_err-send_advices.result (inr (record {
+      begun = _;
+      cuts = c.in_ok-cut_long.ensures.cuts;
+      ready = ready_cut _ _ c.in_ok-cut_long.ensures.cuts c.in_ok-cut_long.ensures.rest c.requires.empty;
+      serves = inr (record { end = _; frames = frames; read = read; served = _; between = _; serves = serves; drains = drains_all _ _ _ _ c.in_ok-drain.ensures.drains });
+    }))

@@ -1,0 +1,207 @@
+-- What is written where a switch ends with an error.
+-- for: switch::Switch, stream::Requests, serving::Switch, serving::Over
+use Rattle.std.proofs.Common.{◌≡◌, ◌<◌, ◌⊎◌, ℕ, ◌+◌, List, [], ◌∷◌, ◌++◌, length, map, take, drop, get_or, Option, Result, Ok, Err, refl, sym, ap, subst, ◌∙◌, append_assoc, append-nil, inl, inr}
+use Rattle.std.specs.Global.{Vec}
+use Rattle.std.specs.Prelude.{IfOk, OnErr, OnOk}
+use Rattle.std.specs.Io.KnownBytes.{Appends, Consumes}
+use Rattle.std.specs.List.{AllByRecursion}
+use Rattle.cli_io.specs.Written.{AppendsBeginning}
+use Rattle.cli_io.proofs.Writing.{beginning_all, beginning_none}
+use Rattle.sw_context.specs.Pairs.{Pairs}
+use Rattle.sw_frame.specs.Feeds.{messages}
+use Rattle.sw_frame.specs.Stream.{AreFramed, State, blank}
+use Rattle.iso_codec.specs.Reads.{read}
+use Rattle.tx_plant.specs.declared.turn.Outcome.{Outcome}
+use Rattle.tx_plant.specs.declared.turn.Turn.TheVariants as turn
+use Rattle.cli_run.specs.Points.{IsAtRest, IsReady, Point, all_answered, responses, unanswered}
+use Rattle.cli_run.specs.Requests.{FramesIn, Reads, if_read, request_of, requests}
+use Rattle.cli_run.specs.Rounds.{Completed, Does, Drains, IsRetry, Offered, Released, Round, Serves, Transacts, answering}
+use Rattle.cli_run.specs.Stopped.{Answers, BeginsWith, DrainsSome, GivesSome, Halts, HaltsOn, IsOfNext, StopsBehind, StopsWithin}
+use Rattle.cli_run.proofs.Readings.{nothing_read, reads_piece, requests_append, requests_front, requests_next}
+use Rattle.cli_run.proofs.Rounds.{Empties, answering_append, gives_own, retries_append, serves_none, serves_offer, serves_then}
+
+nothing_next : (rounds : List Round) (p : Point) → IsOfNext rounds p []
+nothing_next [] p = refl
+nothing_next (Offered x ∷ rounds) p = refl
+nothing_next (Completed ∷ rounds) p = inl refl
+nothing_next (Released ∷ rounds) p = refl
+
+-- none of them was done
+pub halts_none : (rounds : List Round) (p : Point) (a : Option (List ℕ)) → Halts rounds p a a
+halts_none rounds p a = record {
+  done = [];
+  rest = rounds;
+  order = refl;
+  at = p;
+  between = a;
+  serves = serves_none p a;
+  next = [];
+  is_next = nothing_next rounds p;
+  written = beginning_none a [];
+}
+
+-- all of them were
+pub halts_all : (rounds : List Round) (p q : Point) (a b : Option (List ℕ)) → Serves rounds p a q b → Halts rounds p a b
+halts_all rounds p q a b serves = record {
+  done = rounds;
+  rest = [];
+  order = sym (append-nil rounds);
+  at = q;
+  between = b;
+  serves = serves;
+  next = [];
+  is_next = refl;
+  written = beginning_none b [];
+}
+
+-- others were done before
+pub halts_then : (ds bs : List Round) (p q : Point) (a b c : Option (List ℕ)) → Serves ds p a q b → Halts bs q b c → Halts (ds ++ bs) p a c
+halts_then ds bs p q a b c serves h = record {
+  done = ds ++ h.done;
+  rest = h.rest;
+  order = ap (λ (l : List Round). ds ++ l) h.order ∙ sym (append_assoc ds h.done h.rest);
+  at = h.at;
+  between = h.between;
+  serves = serves_then ds h.done p q h.at a b h.between serves h.serves;
+  next = h.next;
+  is_next = h.is_next;
+  written = h.written;
+}
+
+more_next : (rounds others : List Round) (p : Point) (text : List ℕ) → IsOfNext rounds p text → IsOfNext (rounds ++ others) p text
+more_next [] others p text none = subst (IsOfNext others p) (sym none) (nothing_next others p)
+more_next (Offered x ∷ rounds) others p text h = h
+more_next (Completed ∷ rounds) others p text h = h
+more_next (Released ∷ rounds) others p text h = h
+
+-- others were to come
+pub halts_before : (ds bs : List Round) (p : Point) (a b : Option (List ℕ)) → Halts ds p a b → Halts (ds ++ bs) p a b
+halts_before ds bs p a b h = record {
+  done = h.done;
+  rest = h.rest ++ bs;
+  order = ap (λ (l : List Round). l ++ bs) h.order ∙ append_assoc h.done h.rest bs;
+  at = h.at;
+  between = h.between;
+  serves = h.serves;
+  next = h.next;
+  is_next = more_next h.rest bs h.at h.next h.is_next;
+  written = h.written;
+}
+
+pub halts_offer : (x : Pairs) (o : Outcome) (p w : Point) (ds : List Round) (a b : Option (List ℕ)) → IsReady p → Does (turn.Offer x) o p w → Halts ds w a b → Halts (Offered x ∷ ds) p a b
+halts_offer x o p w ds a b ready does h = record {
+  done = Offered x ∷ h.done;
+  rest = h.rest;
+  order = ap (λ (l : List Round). Offered x ∷ l) h.order;
+  at = h.at;
+  between = h.between;
+  serves = serves_offer x o p w h.at h.done a h.between ready does h.serves;
+  next = h.next;
+  is_next = h.is_next;
+  written = h.written;
+}
+
+halts_next : (p : Point) (text : List ℕ) (a b : Option (List ℕ)) → IsOfNext (Completed ∷ []) p text → AppendsBeginning a b text → Halts (Completed ∷ []) p a b
+halts_next p text a b is written = record {
+  done = [];
+  rest = Completed ∷ [];
+  order = refl;
+  at = p;
+  between = a;
+  serves = serves_none p a;
+  next = text;
+  is_next = is;
+  written = written;
+}
+
+-- a transaction ran to its end, and its response was not written, or what comes behind it failed
+pub halts_gives : (own : Option Pairs) (p q : Point) (a b : Option (List ℕ)) → IsAtRest p → Transacts p own q → GivesSome q a b → Halts (Completed ∷ []) p a b
+halts_gives own p q a b rest transacts (text, is, written) = halts_next p text a b (by_text is) written where
+  by_text : (text ≡ []) ⊎ AreFramed text (responses (unanswered q)) → IsOfNext (Completed ∷ []) p text
+  by_text (inl none) = inl none
+  by_text (inr framed) = inr (record { own = own; ended = q; transacts = transacts; framed = gives_own p q own text rest transacts framed })
+
+pub halts_given : (own : Option Pairs) (text : List ℕ) (p q : Point) (a b : Option (List ℕ)) → IsAtRest p → Transacts p own q → AreFramed text (responses (unanswered q)) → Appends a b text → Halts (Completed ∷ []) p a b
+halts_given own text p q a b rest transacts framed written =
+    halts_gives own p q a b rest transacts (text, inr framed, beginning_all a b text written)
+
+-- requests
+
+pub halts_answering : (xs ys : List Pairs) (p q : Point) (a b c : Option (List ℕ)) → Serves (answering xs) p a q b → Halts (answering ys) q b c → Halts (answering (xs ++ ys)) p a c
+halts_answering xs ys p q a b c serves h =
+    subst (λ (l : List Round). Halts l p a c) (sym (answering_append xs ys)) (halts_then (answering xs) (answering ys) p q a b c serves h)
+
+pub halts_answers : (xs ys : List Pairs) (p : Point) (a b : Option (List ℕ)) → Halts (answering xs) p a b → Halts (answering (xs ++ ys)) p a b
+halts_answers xs ys p a b h =
+    subst (λ (l : List Round). Halts l p a b) (sym (answering_append xs ys)) (halts_before (answering xs) (answering ys) p a b h)
+
+pub halts_frames : (frames more : List (List ℕ)) (p q : Point) (a b c : Option (List ℕ)) → Serves (answering (requests frames)) p a q b → Halts (answering (requests more)) q b c → Halts (answering (requests (frames ++ more))) p a c
+halts_frames frames more p q a b c serves h =
+    subst (λ (l : List Pairs). Halts (answering l) p a c) (sym (requests_append frames more)) (halts_answering (requests frames) (requests more) p q a b c serves h)
+
+-- the queue and the shelf
+
+pub drains_none : (p q : Point) (a b : Option (List ℕ)) → Empties p a q b → DrainsSome p a b
+drains_none p q a b e = record { rounds = e.rounds; retries = e.retries; halts = halts_all e.rounds p q a b e.serves }
+
+pub drains_next : (p q : Point) (a b c : Option (List ℕ)) → Empties p a q b → Halts (Completed ∷ []) q b c → DrainsSome p a c
+drains_next p q a b c e h = record {
+  rounds = e.rounds ++ Completed ∷ [];
+  retries = retries_append e.rounds (Completed ∷ []) e.retries (tt, tt);
+  halts = halts_then e.rounds (Completed ∷ []) p q a b c e.serves h;
+}
+
+pub drains_all : (p q : Point) (a b : Option (List ℕ)) → Drains p a q b → DrainsSome p a b
+drains_all p q a b d = record { rounds = d.rounds; retries = d.retries; halts = halts_all d.rounds p q a b d.serves }
+
+-- what follows of an Err
+
+pub on_err : {T E : Type 0} {P Q : Type 0} (r : Result T E) → (P → Q) → OnErr r P → OnErr r Q
+on_err (Ok x) f h = tt
+on_err (Err e) f h = f h
+
+pub on_ok_or_err : {T E : Type 0} {P Q R : Type 0} (r : Result T E) → (P → R) → (Q → R) → OnOk r P → OnErr r Q → OnErr r R
+on_ok_or_err (Ok x) f g h k = tt
+on_ok_or_err (Err e) f g h k = g k
+
+-- of what was served, whatever came of the call behind it
+pub either_way : {T E : Type 0} {P : T → Type 0} {Q R : Type 0} (s r : Result T E) → IfOk s P → OnErr s Q → ((x : T) → P x → R) → (Q → R) → OnErr r R
+either_way s (Ok y) h k f g = tt
+either_way (Ok x) (Err e) h k f g = f x h
+either_way (Err d) (Err e) h k f g = g k
+
+pub on_err_of : {T E : Type 0} {P : Type 0} (r : Result T E) → P → OnErr r P
+on_err_of (Ok x) h = tt
+on_err_of (Err e) h = h
+
+-- one message of a list, behind those before it
+pub halts_message : (list : List (Vec ℕ)) (i : ℕ) (m : Vec ℕ) (bytes : List ℕ) (p q : Point) (a b c : Option (List ℕ)) → i < length list → m ≡ get_or list i m → bytes ≡ m.items
+    → Serves (answering (requests (messages (take i list)))) p a q b → Halts (answering (map request_of (if_read (read bytes) bytes))) q b c → Halts (answering (requests (messages list))) p a c
+halts_message list i m bytes p q a b c lt at is serves h =
+    let first : Halts (answering (requests (messages (take i list)) ++ map request_of (if_read (read bytes) bytes))) p a c =
+    halts_answering (requests (messages (take i list))) (map request_of (if_read (read bytes) bytes)) p q a b c serves h in
+    let here : Halts (answering (requests (messages (take (i + 1) list)))) p a c = subst (λ (l : List Pairs). Halts (answering l) p a c) (sym (requests_next list i m bytes lt at is)) first in
+    subst (λ (l : List Pairs). Halts (answering l) p a c) (sym (requests_front list (i + 1)))
+    (halts_answers (requests (messages (take (i + 1) list))) (requests (messages (drop (i + 1) list))) p a c here)
+
+-- a piece of an input
+
+pub halts_piece : (left then : Option (List ℕ)) (piece : List ℕ) (more : List (List ℕ)) (s t : State) (p : Point) (a b : Option (List ℕ)) → Consumes left then piece → FramesIn piece more s t ⊎ (more ≡ [])
+    → Halts (answering (requests more)) p a b → HaltsOn left s p a b
+halts_piece left then piece more s t p a b consumes are h = by_frames are where
+  by_frames : FramesIn piece more s t ⊎ (more ≡ []) → HaltsOn left s p a b
+  by_frames (inl adds) = λ input frames reads. (more, record { left = then; state = t; reads = reads_piece left then piece more s t consumes adds input frames reads }, h)
+  by_frames (inr none) = λ input frames reads. (more, record { left = left; state = s; reads = subst (λ (l : List (List ℕ)). Reads input left (frames ++ l) s) (sym none) (subst (λ (l : List (List ℕ)). Reads input left l s) (sym (append-nil frames)) reads) }, h)
+
+pub halts_unread : (left : Option (List ℕ)) (s : State) (p : Point) (a : Option (List ℕ)) → HaltsOn left s p a a
+halts_unread left s p a = λ input frames reads. ([], record { left = left; state = s; reads = subst (λ (l : List (List ℕ)). Reads input left l s) (sym (append-nil frames)) reads }, halts_none [] p a)
+
+-- a whole input
+
+pub stops_fresh : (input : Option (List ℕ)) (s : State) (p : Point) (a : Option (List ℕ)) → s ≡ blank → StopsWithin input p a a
+stops_fresh input s p a fresh = record { frames = []; begins = record { left = input; state = s; reads = nothing_read input s fresh }; halts = halts_none [] p a }
+
+pub stops_on : (input left : Option (List ℕ)) (frames : List (List ℕ)) (s : State) (p q : Point) (a b c : Option (List ℕ)) → Reads input left frames s → Serves (answering (requests frames)) p a q b → HaltsOn left s q b c → StopsWithin input p a c
+stops_on input left frames s p q a b c reads serves on =
+    let (more, begins, halts) = on input frames reads in
+    record { frames = frames ++ more; begins = begins; halts = halts_frames frames more p q a b c serves halts }
