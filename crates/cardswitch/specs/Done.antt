@@ -1,22 +1,28 @@
 -- What a subcommand has done, by the status with which it ends.
 use Rattle.std.specs.Prelude.{◌≡◌, ⊤, ℕ, true, false, List, Option, None, Some}
+use Rattle.sqlite_trees.specs.declared.store.Store.{Ghosts}
+use Rattle.flow_model.specs.Check.{IsChecked}
+use Rattle.flow_model.specs.declared.flow.Flow.{Flow}
+use Rattle.cli_io.specs.declared.error.WriteError.{WriteError}
 use Rattle.cli_decode.specs.Decoded.{IsDecodedStream}
 use Rattle.cli_flows.specs.Errors.{IsUnwritten, RefusesFile, RefusesImage}
 use Rattle.cli_flows.specs.Subcommands.{IsAssembled, IsListed}
 use Rattle.cli_options.specs.declared.choice.Options.{Options}
 use Rattle.cli_options.specs.declared.choice.Options.TheVariants.{Asm, Decode, List as ListImage, Recover, Run, Step}
-use Rattle.cardswitch.specs.Errors.{run_status}
+use Rattle.cardswitch.specs.Errors.{error_of_write, run_status}
+use Rattle.cardswitch.specs.Runs.{Answered, IsRecoverFault, IsRunFault, Recovered}
 use Rattle.cardswitch.specs.declared.error.RunError.{RunError}
 use Rattle.cardswitch.specs.declared.error.RunError.TheVariants as error
 
--- what is said of the bytes that were to be read and those that are written; of a script, a run and a recovery nothing
-abbrev pub IsDone : Options → Option (List ℕ) → Option (List ℕ) → Option (List ℕ) → Type 0
-IsDone (Step flow) unread written written_now = ⊤
-IsDone (Recover flow journal) unread written written_now = ⊤
-IsDone (Run o) unread written written_now = ⊤
-IsDone Asm unread written written_now = IsAssembled unread written written_now
-IsDone ListImage unread written written_now = IsListed unread written written_now
-IsDone Decode unread written written_now = IsDecodedStream unread written written_now false
+-- what is said of the bytes that were to be read and those that are written, `files` being the store over files; of a script
+-- nothing
+abbrev pub IsDone : {S : Type 0} → Ghosts S → Options → Option (List ℕ) → Option (List ℕ) → Option (List ℕ) → Type 0
+IsDone files (Step flow) unread written written_now = ⊤
+IsDone files (Recover flow journal) unread written written_now = (f : Flow) × IsChecked f × Recovered files f journal.now written written_now
+IsDone files (Run o) unread written written_now = (f : Flow) × IsChecked f × Answered files f o unread written written_now
+IsDone files Asm unread written written_now = IsAssembled unread written written_now
+IsDone files ListImage unread written written_now = IsListed unread written written_now
+IsDone files Decode unread written written_now = IsDecodedStream unread written written_now false
 
 -- why a flow file from standard input is refused: it has the fault that is told, and nothing is written
 abbrev pub IsAsmError : Option (List ℕ) → Option (List ℕ) → Option (List ℕ) → RunError → Type 0
@@ -45,8 +51,8 @@ IsDecodeError unread written written_now _ = ⊥
 -- what an error says of the bytes that were to be read and those that are written; of a script nothing
 abbrev pub IsErrorOf : Options → Option (List ℕ) → Option (List ℕ) → Option (List ℕ) → RunError → Type 0
 IsErrorOf (Step flow) unread written written_now e = ⊤
-IsErrorOf (Recover flow journal) unread written written_now e = ⊤
-IsErrorOf (Run o) unread written written_now e = ⊤
+IsErrorOf (Recover flow journal) unread written written_now e = IsRecoverFault flow.now journal.now written written_now e
+IsErrorOf (Run o) unread written written_now e = IsRunFault o written written_now e
 IsErrorOf Asm unread written written_now e = IsAsmError unread written written_now e
 IsErrorOf ListImage unread written written_now e = IsListError unread written written_now e
 IsErrorOf Decode unread written written_now e = IsDecodeError unread written written_now e
@@ -61,10 +67,10 @@ abbrev pub IsFailed : Options → Option (List ℕ) → Option (List ℕ) → Op
 IsFailed o unread written written_now status =
     (e : RunError) × (status ≡ run_status e) × IsErrorOf o unread written written_now e
 
-abbrev pub shown_status : Option RunError → ℕ
+abbrev pub shown_status : Option WriteError → ℕ
 shown_status None = 0
-shown_status (Some e) = run_status e
+shown_status (Some fault) = run_status (error_of_write fault)
 
 -- the status of a text that was asked for: 0, or that of the failed write
 abbrev pub IsShown : ℕ → Type 0
-IsShown status = (e : Option RunError) × (status ≡ shown_status e)
+IsShown status = (fault : Option WriteError) × (status ≡ shown_status fault)

@@ -1,2 +1,4 @@
 pub mod Errors
+pub mod Journals
+pub mod Runs
 pub mod Done

@@ -1,7 +1,8 @@
 //! The flow file that an option names.
 
-ghost use Rattle.std.specs.Prelude.{IfOk};
+ghost use Rattle.std.specs.Prelude.{IfErr, IfOk};
 ghost use Rattle.flow_model.specs.Check.{IsChecked};
+ghost use Rattle.cardswitch.specs.Runs.{IsFlowFault};
 
 use crate::error::RunError;
 use cli_flows::{FlowsError, open_flow};
@@ -12,7 +13,8 @@ use sw_participant::Text;
 
 /// The flow of the flow file at a path.
 pub fn flow_at<F: Files>(alloc: Global, files: &F, path: &str) -> Result<Flow, RunError>
-    ensures { IfOk result (λ flow. IsChecked flow) }
+    ensures checked { IfOk result (λ flow. IsChecked flow) }
+    ensures failed { IfErr result (IsFlowFault path.now) }
 {
     match open_flow(alloc, files, path) {
         Ok(flow) => Ok(flow),

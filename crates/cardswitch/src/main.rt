@@ -8,6 +8,7 @@
 mod error;
 mod flow_file;
 mod journal_file;
+mod journals;
 mod program;
 mod requests;
 

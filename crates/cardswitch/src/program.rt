@@ -17,6 +17,9 @@ use cli_io::{Input, WriteError, read_input};
 use cli_options::OptionsError;
 use cli_options::choice::Options;
 use cli_step::run_script;
+use sqlite_std_file::File;
+use sqlite_store::FileStore;
+use sqlite_trees::store::Store;
 use std::alloc::Global;
 use std::io::{self, ErrorKind, Read, Write};
 
@@ -33,7 +36,7 @@ pub fn run<R: Read + Drop, O: Write, E: Write>(
 ) -> u8
     ensures quiet { IsQuiet options.now → result ≡ 0
         → Keeps (E.contents err.old) (E.contents err.new) }
-    ensures done { result ≡ 0 → IsDone options.now
+    ensures done { result ≡ 0 → IsDone ⟦<FileStore<File> as Store>⟧ options.now
         (R.remaining input) (O.contents out.old) (O.contents out.new) }
     ensures failed { result ≢ 0 → IsFailed options.now
         (R.remaining input) (O.contents out.old) (O.contents out.new) result }
@@ -110,7 +113,7 @@ fn run_subcommand<R: Read + Drop, O: Write, E: Write>(
     err: &mut E,
 ) -> Result<(), RunError>
     ensures quiet { IsQuiet options.now → Keeps (E.contents err.old) (E.contents err.new) }
-    ensures done { OnOk result (IsDone options.now
+    ensures done { OnOk result (IsDone ⟦<FileStore<File> as Store>⟧ options.now
         (R.remaining input) (O.contents out.old) (O.contents out.new)) }
     ensures failed { IfErr result (IsErrorOf options.now
         (R.remaining input) (O.contents out.old) (O.contents out.new)) }

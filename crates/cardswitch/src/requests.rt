@@ -1,33 +1,60 @@
 //! The subcommands `run` and `recover`: the switch with its own participants, over a journal.
 
+ghost use Rattle.std.specs.Prelude.{◌≡◌, ◌<◌, ◌≤◌, [], IfErr, IfNone, IfOk, IfSome, OnOk};
 ghost use Rattle.flow_model.specs.Check.{IsChecked};
+ghost use Rattle.flow_model.specs.declared.flow.Flow.{Flow};
+ghost use Rattle.tx_journal.specs.Kept.{kept};
+ghost use Rattle.tx_plant.specs.Plant.{seen};
+ghost use Rattle.cli_run.specs.Links.{sender_of};
+ghost use Rattle.cli_run.specs.Ran.{Printed};
+ghost use Rattle.cardswitch.specs.Runs.{Answered, IsFlowFault, IsRecoverFault, IsRunFault};
+ghost use Rattle.cardswitch.specs.Runs.{IsServeFault, Recovered, Served, new_sender};
 
 use crate::error::RunError;
 use crate::flow_file::flow_at;
-use crate::journal_file::lay;
+use crate::journals::{open_file, open_in_memory};
 use cli_options::choice::RunOptions;
-use cli_run::{Issuers, ServeError, Setup, Told, run};
+use cli_run::{Issuers, Setup, Told, run};
 use flow_asm::{Code, assemble};
-use sqlite::{Alter, Connection};
+use sqlite::Alter;
+use sqlite_std_file::File;
+use sqlite_store::FileStore;
+use sqlite_trees::store::Store;
 use std::alloc::Global;
 use std::io::{Empty, Read, Write};
 use sw_book::Book;
 use sw_issuers::Issuer;
-use sw_participant::Text;
+use sw_parts::Link;
 use tx_journal::Journal;
 
 /// What a card may spend where nothing is said.
 const LIMIT: u64 = 10_000;
 
-// The two simulated issuers.
-fn issuers(alloc: Global) -> Issuers {
+/// The greatest limit: that of a book, of which `Book::new` says only that it takes every smaller one.
+const MOST_LIMIT: u64 = 999_999_999_999_999;
+
+// The two simulated issuers, with nothing on their links.
+fn issuers(alloc: Global) -> Issuers
+    ensures { sender_of (⟦<Issuer as Link>⟧.state result.alpha)
+        (⟦<Issuer as Link>⟧.state result.beta) ≡ new_sender }
+{
     Issuers {
         alpha: Issuer::new(alloc, false),
         beta: Issuer::new(alloc, false),
     }
 }
 
-fn setup(alloc: Global, limit: u64, sessions: usize) -> Result<Setup, RunError> {
+fn setup(alloc: Global, limit: u64, sessions: usize) -> Result<Setup, RunError>
+    ensures limit { IfOk result (λ _. limit ≤ 999999999999999) }
+    ensures book { IfOk result (λ s. s.book ≡ record { limit = limit; items = [] }) }
+    ensures sessions { IfOk result (λ s. s.sessions ≡ sessions) }
+    ensures sender { IfOk result (λ s. sender_of (⟦<Issuer as Link>⟧.state s.advised.alpha)
+        (⟦<Issuer as Link>⟧.state s.advised.beta) ≡ new_sender) }
+    ensures refused { IfErr result (λ e. (e ≡ RunError.BadLimit) × (999999999999999 < limit)) }
+{
+    if limit > MOST_LIMIT {
+        return Err(RunError::BadLimit);
+    }
     match Book::new(alloc, limit) {
         Ok(book) => Ok(Setup {
             book,
@@ -35,64 +62,84 @@ fn setup(alloc: Global, limit: u64, sessions: usize) -> Result<Setup, RunError> 
             advised: issuers(alloc),
             sessions,
         }),
-        Err(_) => Err(RunError::BadLimit),
+        Err(_) => unreachable!(),
     }
 }
 
-// Opens the journal of a connection, and runs over it.
+// Runs over a journal.
 fn serve<S: Alter + Drop, R: Read + Drop, O: Write, E: Write>(
     alloc: Global,
     code: &Code,
-    conn: Connection<S>,
+    journal: Journal<S>,
     setup: Setup,
     input: Option<R>,
     out: &mut O,
     told: &mut Told<'_, E>,
-) -> Result<(), ServeError> {
-    match Journal::open(alloc, conn) {
-        Ok(journal) => run(alloc, code, journal, setup, input, out, told)?.into_result(),
-        Err((cause, _)) => Err(ServeError::from(cause)),
-    }
-}
-
-// Runs over the journal of the file at a path.
-fn serve_file<R: Read + Drop, O: Write, E: Write>(
-    alloc: Global,
-    rt: &HostRuntime,
-    code: &Code,
-    path: &str,
-    setup: Setup,
-    input: Option<R>,
-    out: &mut O,
-    told: &mut Told<'_, E>,
-) -> Result<(), RunError> {
-    // Where no file was laid, the journal is made as it is opened.
-    let _laid = lay(rt, alloc, path);
-    match Connection::open(rt, path) {
-        Ok(conn) => Ok(serve(alloc, code, conn, setup, input, out, told)?),
-        Err(_) => Err(RunError::JournalFile {
-            path: Text::from_str(alloc, path)?,
-        }),
-    }
-}
-
-// Runs over a journal in memory.
-fn serve_memory<R: Read + Drop, O: Write, E: Write>(
-    alloc: Global,
-    code: &Code,
-    setup: Setup,
-    input: R,
-    out: &mut O,
-    told: &mut Told<'_, E>,
-) -> Result<(), RunError> {
-    let conn = Connection::open_in_memory(alloc)?;
-    Ok(serve(alloc, code, conn, setup, Some(input), out, told)?)
+) -> Result<(), RunError>
+    requires { sender_of (⟦<Issuer as Link>⟧.state setup.advised.alpha)
+        (⟦<Issuer as Link>⟧.state setup.advised.beta) ≡ new_sender }
+    ensures served { OnOk result (IfSome input (λ reader. Served code.now setup.sessions
+        (seen (kept S.Store journal)) new_sender
+        (R.remaining reader) (O.contents out.old) (O.contents out.new))) }
+    ensures printed { OnOk result (IfNone input (Printed code.now setup.sessions
+        (seen (kept S.Store journal)) (O.contents out.old) (O.contents out.new))) }
+    ensures failed { IfErr result IsServeFault }
+{
+    Ok(run(alloc, code, journal, setup, input, out, told)?.into_result()?)
 }
 
 // The steps of the flow in the file at a path.
-fn code_at(alloc: Global, rt: &HostRuntime, path: &str) -> Result<Code, RunError> {
+fn code_at(alloc: Global, rt: &HostRuntime, path: &str) -> Result<Code, RunError>
+    ensures checked { IfOk result (λ flow. IsChecked flow) }
+    ensures failed { IfErr result (IsFlowFault path.now) }
+{
     let flow = flow_at(alloc, rt, path)?;
     Ok(assemble(alloc, &flow)?)
+}
+
+// What a run tells: the trace where the options want it.
+fn told_by<'a, E>(options: &RunOptions<'_>, err: &'a mut E) -> Told<'a, E>
+    ensures { result.trace ≡ options.now.trace }
+{
+    Told {
+        err,
+        trace: options.trace,
+    }
+}
+
+// Answers the requests of an input by a flow. (The flow comes as what became of its file, so that contracts can say that
+// its fault is the first.)
+fn answer_by<R: Read + Drop, O: Write, E: Write>(
+    alloc: Global,
+    rt: &HostRuntime,
+    code: Result<Code, RunError>,
+    options: &RunOptions<'_>,
+    input: R,
+    out: &mut O,
+    err: &mut E,
+) -> Result<(), RunError>
+    ensures no_flow { IfErr code (λ e. (result ≡ Err e)
+        × (O.contents out.new ≡ O.contents out.old)) }
+    ensures bad_limit { IfOk code (λ _. 999999999999999 < options.now.limit
+        → (result ≡ Err RunError.BadLimit) × (O.contents out.new ≡ O.contents out.old)) }
+    ensures answered { IfOk code (λ flow. OnOk result (Answered ⟦<FileStore<File> as Store>⟧
+        flow options.now (R.remaining input) (O.contents out.old) (O.contents out.new))) }
+    ensures failed { IfOk code (λ _. IfErr result
+        (IsRunFault options.now (O.contents out.old) (O.contents out.new))) }
+{
+    let code = code?;
+    let setup = setup(alloc, options.limit, options.sessions as usize)?;
+    let mut told = told_by(options, err);
+    match options.journal {
+        Some(path) => {
+            let journal = open_file(alloc, rt, path)?;
+            serve(alloc, &code, journal, setup, Some(input), out, &mut told)
+        }
+        None => {
+            let journal = open_in_memory(alloc)?;
+            serve(alloc, &code, journal, setup, Some(input), out, &mut told)
+        }
+    }
 }
 
 /// Answers the requests of an input, over a journal in memory or in the file that the options name.
@@ -103,17 +150,15 @@ pub fn answer_requests<R: Read + Drop, O: Write, E: Write>(
     input: R,
     out: &mut O,
     err: &mut E,
-) -> Result<(), RunError> {
-    let code = code_at(alloc, rt, options.flow)?;
-    let setup = setup(alloc, options.limit, options.sessions as usize)?;
-    let mut told = Told {
-        err,
-        trace: options.trace,
-    };
-    match options.journal {
-        Some(path) => serve_file(alloc, rt, &code, path, setup, Some(input), out, &mut told),
-        None => serve_memory(alloc, &code, setup, input, out, &mut told),
-    }
+) -> Result<(), RunError>
+    ensures answered { OnOk result ((flow : Flow) × IsChecked flow
+        × Answered ⟦<FileStore<File> as Store>⟧ flow options.now
+        (R.remaining input) (O.contents out.old) (O.contents out.new)) }
+    ensures failed { IfErr result
+        (IsRunFault options.now (O.contents out.old) (O.contents out.new)) }
+{
+    let code = code_at(alloc, rt, options.flow);
+    answer_by(alloc, rt, code, options, input, out, err)
 }
 
 /// Finishes what the journal in a file has unfinished, and prints the lines.
@@ -123,14 +168,21 @@ pub fn recover<O: Write>(
     flow: &str,
     journal: &str,
     out: &mut O,
-) -> Result<(), RunError> {
+) -> Result<(), RunError>
+    ensures recovered { OnOk result ((f : Flow) × IsChecked f
+        × Recovered ⟦<FileStore<File> as Store>⟧ f journal.now
+        (O.contents out.old) (O.contents out.new)) }
+    ensures failed { IfErr result
+        (IsRecoverFault flow.now journal.now (O.contents out.old) (O.contents out.new)) }
+{
     let code = code_at(alloc, rt, flow)?;
     let setup = setup(alloc, LIMIT, 1)?;
+    let journal = open_file(alloc, rt, journal)?;
     let mut sink = std::io::sink();
     let mut told = Told {
         err: &mut sink,
         trace: false,
     };
     let input: Option<Empty> = None;
-    serve_file(alloc, rt, &code, journal, setup, input, out, &mut told)
+    serve(alloc, &code, journal, setup, input, out, &mut told)
 }

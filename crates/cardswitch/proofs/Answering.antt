@@ -1,0 +1,82 @@
+-- What `run` and `recover` have done, of their parts.
+-- for: requests::answer_by, requests::recover
+use Rattle.std.proofs.Common.{◌≡◌, ◌<◌, ◌≤◌, ℕ, List, Option, Some, None, Result, Ok, Err, IfErr, IfOk, OnOk, Bor, arith, refl, sym, subst}
+use Rattle.sqlite_trees.specs.declared.store.Store.{Ghosts}
+use Rattle.sqlite_trees.specs.declared.memory.MemStore.{MemStore}
+use Rattle.sqlite.specs.Steps.{over_memory}
+use Rattle.flow_model.specs.Check.{IsChecked}
+use Rattle.flow_model.specs.declared.flow.Flow.{Flow}
+use Rattle.tx_journal.specs.Kept.{Kept, kept}
+use Rattle.tx_plant.specs.Plant.{Seen, seen}
+use Rattle.cli_options.specs.declared.choice.RunOptions.{RunOptions}
+use Rattle.cli_run.specs.Ran.{Printed}
+use Rattle.cardswitch.specs.Journals.{IsFound, IsNewJournal, IsOfFile}
+use Rattle.cardswitch.specs.Runs.{Answered, IsRunFault, IsServeFault, Recovered, Served, new_sender}
+use Rattle.cardswitch.specs.declared.error.RunError.{RunError}
+use Rattle.cardswitch.specs.declared.error.RunError.TheVariants as error
+
+on_ok : {T E : Type 0} (P Q : Type 0) (r : Result T E) → (P → Q) → OnOk r P → OnOk r Q
+on_ok P Q (Ok x) f h = f h
+on_ok P Q (Err e) f h = h
+
+-- of the flow that was taken
+taken : {E : Type 0} (P : Flow → Type 0) (code : Result Flow E) (flow : Flow) → code ≡ Ok flow → P flow → IfOk code P
+taken {E} P code flow same h = subst (λ (c : Result Flow E). IfOk c P) (sym same) h
+
+answered : {S : Type 0} (files : Ghosts S) (flow : Flow) (o : RunOptions) (sessions : ℕ) (j : Seen) (unread before after : Option (List ℕ))
+    → o.limit ≤ 999999999999999 → sessions ≡ o.sessions → IsFound files o.journal j
+    → Served flow sessions j new_sender unread before after → Answered files flow o unread before after
+answered files flow o sessions j unread before after limit same found h =
+    record { limit = limit; journal = j; found = found; served = subst (λ (n : ℕ). Served flow n j new_sender unread before after) same h }
+
+pub answered_by_file : {S : Type 0} (files : Ghosts S) (flow : Flow) (code : Result Flow RunError) (o : RunOptions) (sessions : ℕ) (path : Bor (List ℕ)) (journal : Kept S) (unread before after : Option (List ℕ)) (r : Result (Unit {0}) RunError)
+    → code ≡ Ok flow → o.limit ≤ 999999999999999 → sessions ≡ o.sessions → o.journal ≡ Some path → IsOfFile files path.now journal
+    → OnOk r (Served flow sessions (seen (kept files journal)) new_sender unread before after)
+    → IfOk code (λ f. OnOk r (Answered files f o unread before after))
+answered_by_file files flow code o sessions path journal unread before after r took limit same named opened h =
+    let found : IsFound files o.journal (seen (kept files journal)) = subst (λ (x : Option (Bor (List ℕ))). IsFound files x (seen (kept files journal))) (sym named) (journal, opened, refl) in
+    taken (λ f. OnOk r (Answered files f o unread before after)) code flow took
+    (on_ok _ _ r (answered files flow o sessions (seen (kept files journal)) unread before after limit same found) h)
+
+pub answered_in_memory : {S : Type 0} (files : Ghosts S) (flow : Flow) (code : Result Flow RunError) (o : RunOptions) (sessions : ℕ) (journal : Kept MemStore) (unread before after : Option (List ℕ)) (r : Result (Unit {0}) RunError)
+    → code ≡ Ok flow → o.limit ≤ 999999999999999 → sessions ≡ o.sessions → o.journal ≡ None → IsNewJournal journal
+    → OnOk r (Served flow sessions (seen (kept over_memory journal)) new_sender unread before after)
+    → IfOk code (λ f. OnOk r (Answered files f o unread before after))
+answered_in_memory files flow code o sessions journal unread before after r took limit same none opened h =
+    let found : IsFound files o.journal (seen (kept over_memory journal)) = subst (λ (x : Option (Bor (List ℕ))). IsFound files x (seen (kept over_memory journal))) (sym none) (journal, opened, refl) in
+    taken (λ f. OnOk r (Answered files f o unread before after)) code flow took
+    (on_ok _ _ r (answered files flow o sessions (seen (kept over_memory journal)) unread before after limit same found) h)
+
+served_fault : (o : RunOptions) (before after : Option (List ℕ)) (e : RunError) → o.limit ≤ 999999999999999 → IsServeFault e → IsRunFault o before after e
+served_fault o before after (error.Serve e) limit h = (limit, h)
+served_fault o before after error.OutOfMemory limit h = λ over. absurd (omega arith)
+served_fault o before after (error.FlowFile path cause) limit h = absurd h
+served_fault o before after error.BadLimit limit h = absurd h
+served_fault o before after (error.JournalFile path) limit h = absurd h
+served_fault o before after error.Refused limit h = absurd h
+served_fault o before after (error.Read e) limit h = absurd h
+served_fault o before after (error.Write e) limit h = absurd h
+served_fault o before after (error.Step e) limit h = absurd h
+served_fault o before after (error.Input e) limit h = absurd h
+
+-- a run that is refused behind its limit
+pub refused : (code : Result Flow RunError) (o : RunOptions) (before after : Option (List ℕ)) (r : Result (Unit {0}) RunError)
+    → o.limit ≤ 999999999999999 → IfErr r IsServeFault → IfOk code (λ f. IfErr r (IsRunFault o before after))
+refused (Ok flow) o before after (Ok u) limit h = h
+refused (Ok flow) o before after (Err e) limit h = served_fault o before after e limit h
+refused (Err e) o before after r limit h = tt
+
+pub recovered : {S : Type 0} (files : Ghosts S) (flow : Flow) (sessions : ℕ) (path : List ℕ) (journal : Kept S) (before after : Option (List ℕ)) (r : Result (Unit {0}) RunError)
+    → IsChecked flow → sessions ≡ 1 → IsOfFile files path journal
+    → OnOk r (Printed flow sessions (seen (kept files journal)) before after)
+    → OnOk r ((f : Flow) × IsChecked f × Recovered files f path before after)
+recovered files flow sessions path journal before after r checked one opened h =
+    on_ok _ _ r (λ (printed : Printed flow sessions (seen (kept files journal)) before after). (
+      flow,
+      checked,
+      record {
+        journal = seen (kept files journal);
+        found = (journal, opened, refl);
+        printed = subst (λ (n : ℕ). Printed flow n (seen (kept files journal)) before after) one printed;
+      },
+    )) h

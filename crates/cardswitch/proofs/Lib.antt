@@ -1,0 +1,4 @@
+mod Answering
+mod Doing
+mod Openings
+mod Serving

@@ -1,0 +1,57 @@
+//! The journal of a run, in a file or in memory.
+
+ghost use Rattle.std.specs.Prelude.{IfErr, IfOk};
+ghost use Rattle.cardswitch.specs.Journals.{IsNewJournal, IsOfFile, IsOpenedOf};
+ghost use Rattle.cardswitch.specs.Runs.{IsOpenFault, IsServeFault};
+
+use crate::error::RunError;
+use crate::journal_file::lay;
+use cli_run::ServeError;
+use sqlite::{Alter, Connection, MemStore};
+use sqlite_std_file::File;
+use sqlite_store::FileStore;
+use sqlite_trees::store::Store;
+use std::alloc::Global;
+use sw_participant::Text;
+use tx_journal::Journal;
+
+// Opens the journal of a connection.
+fn open<S: Alter + Drop>(alloc: Global, conn: Connection<S>) -> Result<Journal<S>, RunError>
+    ensures journal { IfOk result (IsOpenedOf S.Store conn) }
+    ensures failed { IfErr result IsServeFault }
+{
+    match Journal::open(alloc, conn) {
+        Ok(journal) => Ok(journal),
+        Err((cause, _)) => Err(RunError::Serve(ServeError::Journal(cause))),
+    }
+}
+
+/// Opens the journal of the file at a path. Where no file is, one is made.
+pub fn open_file(
+    alloc: Global,
+    rt: &HostRuntime,
+    path: &str,
+) -> Result<Journal<FileStore<File>>, RunError>
+    ensures journal { IfOk result (IsOfFile ⟦<FileStore<File> as Store>⟧ path.now) }
+    ensures failed { IfErr result (IsOpenFault path.now) }
+{
+    // Where no file was laid, the journal is made as it is opened.
+    let _laid = lay(rt, alloc, path);
+    match Connection::open(rt, path) {
+        Ok(conn) => open(alloc, conn),
+        Err(_) => Err(RunError::JournalFile {
+            path: Text::from_str(alloc, path)?,
+        }),
+    }
+}
+
+/// A new journal in memory.
+pub fn open_in_memory(alloc: Global) -> Result<Journal<MemStore>, RunError>
+    ensures journal { IfOk result IsNewJournal }
+    ensures failed { IfErr result IsServeFault }
+{
+    match Connection::open_in_memory(alloc) {
+        Ok(conn) => open(alloc, conn),
+        Err(_) => Err(RunError::OutOfMemory),
+    }
+}
