@@ -131,8 +131,8 @@ impl Intake {
         ))
     }
 
-    /// Puts an offer behind the others. It comes back, and nothing has changed, only where the
-    /// intake was full at a moment of the call. It takes no memory.
+    /// Puts an offer at the end of the queue. It comes back, and nothing has changed, only where
+    /// the intake was full at a moment of the call. It takes no memory.
     pub fn put<R: Wait>(&self, rt: &R, putter: &mut Putter, offer: Offer) -> Result<(), Offer>
         requires own { putter.old.intake ≡ self.now.id }
         ensures own { putter.new.intake ≡ putter.old.intake }

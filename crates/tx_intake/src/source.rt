@@ -7,19 +7,19 @@ ghost use Rattle.sw_context.specs.Pairs.{Pairs};
 use sw_context::Context;
 use sw_participant::NoMemory;
 
-/// What gives contexts one after the other, until it answers that there is none left.
+/// Gives contexts one at a time, until it answers that none is left.
 pub trait Source: Drop {
     /// The contexts that it has given, oldest first.
     ghost given: { Self → List Pairs };
 
-    /// Whether it has answered that there is none left.
+    /// Whether it has answered that none is left.
     ghost ended: { Self → Bool };
 
-    /// Which contexts it may have given when it answers that there is none left. A call allows no
+    /// Which contexts it may have given when it answers that none is left. A call allows no
     /// others, so who hands a source out and gets it back ended knows what it gave.
     ghost ends_with: { Self → List Pairs → Type 0 };
 
-    /// The next context, or that there is none left. Want of memory changes nothing.
+    /// The next context, or `None` where none is left. `NoMemory` changes nothing.
     fn next(&mut self) -> Result<Option<Context>, NoMemory>
         ensures given { IfOk result (λ next.
             given self.new ≡ given self.old ++ option_to_list next) }
