@@ -1,0 +1,11 @@
+mod counting;
+mod disks;
+mod faults;
+mod flags;
+mod gates;
+mod meeting;
+mod participants;
+mod plants;
+mod refusing;
+mod sources;
+mod stopping;

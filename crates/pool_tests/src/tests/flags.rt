@@ -1,0 +1,26 @@
+//! Flags by which threads wait for one another.
+
+use std::alloc::Global;
+use std::sync::Arc;
+use std::sync::atomic::{AtomicBool, Ordering};
+use std::test::*;
+use std::thread;
+
+/// How often a thread looks before it gives up. A turn is one look and one yield.
+const TURNS: u64 = 1_000_000;
+
+/// A flag that is not set.
+pub fn new_flag(alloc: Global) -> Result<Arc<AtomicBool>, Fail> {
+    Ok(Arc::new(alloc, AtomicBool::new(false))?)
+}
+
+/// Waits until the flag is set, for so many turns at most. Whether it is set.
+pub fn is_set_in_time(flag: &AtomicBool) -> bool {
+    for _ in 0..TURNS {
+        if flag.load(Ordering::SeqCst) {
+            return true;
+        }
+        thread::yield_now();
+    }
+    false
+}

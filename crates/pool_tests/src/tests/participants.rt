@@ -1,0 +1,106 @@
+//! The participant of the tests.
+
+use crate::tests::flags::is_set_in_time;
+use std::alloc::Global;
+use std::sync::Arc;
+use std::sync::atomic::{AtomicBool, Ordering};
+use std::test::*;
+use sw_context::Context;
+use sw_participant::{AdviceResult, NoMemory, Participant, Station, Text};
+
+/// What a participant does in a preparation.
+#[derive(Drop)]
+pub enum Deed {
+    /// It answers this byte.
+    Answer(u8),
+    /// It sets its own flag and waits for the other: it answers 01 where that is set in time, else
+    /// 00.
+    Meet {
+        own: Arc<AtomicBool>,
+        other: Arc<AtomicBool>,
+    },
+    /// So many times it answers 01, once it is refused memory, and then it answers 01 again.
+    Fail {
+        calls: u64,
+    },
+}
+
+/// A participant. As a selector it selects the groups that the context's entry `go` names; told an
+/// outcome it gives no advice.
+#[derive(Drop)]
+pub struct Actor {
+    alloc: Global,
+    deed: Deed,
+}
+
+/// A station of such a participant.
+pub fn station_of(alloc: Global, name: &str, deed: Deed) -> Result<Station, Fail> {
+    let actor = Box::new(alloc, Actor { alloc, deed })?;
+    Ok(Station::new(alloc, name, actor)?)
+}
+
+impl Deed {
+    fn answer(&mut self) -> Result<u8, NoMemory> {
+        match self {
+            Deed::Answer(byte) => Ok(*byte),
+            Deed::Meet { own, other } => {
+                own.store(true, Ordering::SeqCst);
+                Ok(if is_set_in_time(other) { 0x01 } else { 0x00 })
+            }
+            Deed::Fail { calls: 0 } => {
+                *self = Deed::Answer(0x01);
+                Err(NoMemory)
+            }
+            Deed::Fail { calls } => {
+                *calls = calls.saturating_sub(1);
+                Ok(0x01)
+            }
+        }
+    }
+}
+
+// Contracts see nothing of it, and it promises nothing.
+impl Participant for Actor {
+    ghost use Rattle.std.specs.Prelude.{⊤, []};
+
+    ghost object = { λ actor. [] };
+
+    ghost prepares = { λ id o x byte p y. ⊤ };
+
+    ghost prepares_for_abort = { λ id o x byte p y. ⊤ };
+
+    ghost selects = { λ id o x text p. ⊤ };
+
+    ghost commits = { λ id recovering o x advice p y. ⊤ };
+
+    ghost aborts = { λ id recovering o x advice p y. ⊤ };
+
+    ghost recovers = { λ id commit o x p y. ⊤ };
+
+    fn prepare(&mut self, _id: u64, _context: &mut Context) -> Result<u8, NoMemory> {
+        self.deed.answer()
+    }
+
+    fn prepare_for_abort(&mut self, _id: u64, _context: &mut Context) -> Result<u8, NoMemory> {
+        self.deed.answer()
+    }
+
+    fn select(&mut self, _id: u64, context: &Context) -> Result<Text, NoMemory> {
+        match context.get("go").map(|go| str::from_utf8(go)) {
+            Some(Ok(go)) => Ok(Text::from_str(self.alloc, go)?),
+            _ => Ok(Text::from_str(self.alloc, "")?),
+        }
+    }
+
+    fn commit(&mut self, _id: u64, _context: &mut Context, _recovering: bool) -> AdviceResult {
+        Ok(None)
+    }
+
+    fn abort(&mut self, _id: u64, _context: &mut Context, _recovering: bool) -> AdviceResult {
+        Ok(None)
+    }
+
+    fn recover(&mut self, _id: u64, _context: &mut Context, _commit: bool) -> Result<(), NoMemory> {
+        Ok(())
+    }
+}

@@ -1,0 +1,107 @@
+//! What the program prints.
+
+use crate::error::TestError;
+use crate::runs::Ran;
+use crate::watch::Called;
+use flow_asm::Code;
+use sqlite::MemStore;
+use std::alloc::Global;
+use std::io::{self, Write};
+use sw_context::Context;
+use sw_participant::Act;
+use tx_engine::Engine;
+use tx_plant::Plant;
+use tx_trace::{Hex, Tracer};
+
+fn write_trace<W: Write>(alloc: Global, engine: &Engine, out: &mut W) -> Result<(), TestError> {
+    let mut tracer = Tracer::new(alloc, engine);
+    for _ in 0..engine.history().len() {
+        if let Some(line) = tracer.next(alloc, engine)? {
+            writeln!(out, "{line}")?;
+        }
+    }
+    Ok(())
+}
+
+fn write_run<W: Write>(ran: &Ran, out: &mut W) -> io::Result<()> {
+    let (from, to) = (ran.from, ran.to);
+    writeln!(out, "run {from} {to}")?;
+    for (session, numbers) in ran.report.receipts.iter().enumerate() {
+        write!(out, "receipts {session}")?;
+        for number in numbers.iter() {
+            write!(out, " {number}")?;
+        }
+        writeln!(out)?;
+    }
+    let (finished, shelved) = (ran.report.finished, ran.report.shelved);
+    writeln!(out, "finished {finished}")?;
+    writeln!(out, "shelved {shelved}")
+}
+
+fn word_of(act: Act) -> &'static str {
+    match act {
+        Act::Prepare => "prepare",
+        Act::PrepareForAbort => "prepare_for_abort",
+        Act::Select => "select",
+        Act::Commit { .. } => "commit",
+        Act::Abort { .. } => "abort",
+        Act::Recover { .. } => "recover",
+    }
+}
+
+fn write_called<W: Write>(code: &Code, called: &Called, out: &mut W) -> io::Result<()> {
+    let (session, id) = (called.session, called.call.id);
+    let word = word_of(called.call.act);
+    match code
+        .participants()
+        .get(usize::from(called.call.participant))
+    {
+        Some(part) => {
+            let name = part.name.as_str();
+            writeln!(out, "called {session} {id} {word} {name}")
+        }
+        None => writeln!(out, "called {session} {id} {word} nobody"),
+    }
+}
+
+fn write_ended<W: Write>(id: u64, context: &Context, out: &mut W) -> io::Result<()> {
+    write!(out, "ended {id}")?;
+    for place in 0..context.len() {
+        let (name, value) = (context.name_at(place), context.value_at(place));
+        let (name, value) = (name.unwrap_or(""), value.unwrap_or(&[]));
+        write!(out, " {name}=")?;
+        for byte in value {
+            let hex = Hex(*byte);
+            write!(out, "{hex}")?;
+        }
+    }
+    writeln!(out)
+}
+
+/// Writes the trace of the plant's history, its runs, its stations' counts, the calls that were
+/// made, and the contexts of the transactions that are done.
+pub fn write_all<W: Write>(
+    alloc: Global,
+    code: &Code,
+    plant: &Plant<MemStore>,
+    runs: &[Ran],
+    calls: &[Called],
+    out: &mut W,
+) -> Result<(), TestError> {
+    write_trace(alloc, plant.engine(), out)?;
+    for ran in runs {
+        write_run(ran, out)?;
+    }
+    for part in code.participants() {
+        let name = part.name.as_str();
+        let count = plant.calls(name).unwrap_or(0);
+        writeln!(out, "calls {name} {count}")?;
+    }
+    for called in calls {
+        write_called(code, called, out)?;
+    }
+    for (id, context) in plant.ended() {
+        write_ended(*id, context, out)?;
+    }
+    Ok(out.flush()?)
+}

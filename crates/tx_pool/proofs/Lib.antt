@@ -1,0 +1,12 @@
+mod Lengths
+mod Linking
+mod Growth
+mod Keeping
+mod Calls
+mod Drove
+mod Writing
+mod Ends
+mod Stations
+mod Concluding
+mod Starts
+mod Handed

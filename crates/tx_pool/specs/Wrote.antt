@@ -1,0 +1,25 @@
+-- What the keeper of the journal did.
+use Rattle.std.specs.Prelude.{◌≡◌, ◌⊎◌, ◌≤◌, false, List, []}
+use Rattle.sqlite_trees.specs.View.{doubt}
+use Rattle.journal_rows.specs.Tables.{Tables, all_made}
+use Rattle.journal_rows.specs.Law.{changes_of}
+use Rattle.tx_history.specs.declared.event.Entry.{Entry}
+use Rattle.tx_journal.specs.Kept.{IsCleanJournal, JournalState}
+use Rattle.tx_plant.specs.Plant.{seen}
+
+-- what a stop leaves of the one it leaves of the other
+abbrev pub LeavesLess : JournalState → JournalState → Type 0
+LeavesLess j k = (t : Tables) → k.may_leave t → j.may_leave t
+
+-- a stop leaves the tables as they are
+abbrev pub LeavesThese : JournalState → Type 0
+LeavesThese k = (t : Tables) → k.may_leave t → t ≡ k.tables
+
+-- These entries were written, in one write or more. A stop then leaves the tables with them all; where none was written, what
+-- it left before.
+pub record Wrote (j : JournalState) (es : List Entry) (k : JournalState) : Type 0 where
+  pub clean : doubt j.is_clean ≤ doubt k.is_clean
+  pub fresh : k.failed ≡ false → j.failed ≡ false
+  pub none : es ≡ [] → seen k ≡ seen j
+  pub tables : IsCleanJournal k → k.failed ≡ false → k.tables ≡ all_made (changes_of es) j.tables
+  pub left : ((es ≡ []) × LeavesLess j k) ⊎ ((k.failed ≡ false) × (IsCleanJournal k → LeavesThese k))

@@ -1,0 +1,102 @@
+//! What the thread of a session does.
+
+use crate::fault::Fault;
+use crate::gate::Gate;
+use crate::run::Run;
+use crate::session::{Plan, Session};
+use crate::shared::Shared;
+use std::alloc::Global;
+use std::sync::Wait;
+use std::thread::{self, Threads};
+use sw_context::Context;
+use sw_participant::{Call, Caller, NoMemory};
+
+/// Runs one session until it leaves.
+fn attend<K: Run, C: Caller, G: Gate, R: Wait>(
+    rt: &R,
+    alloc: Global,
+    shared: &Shared<K, C>,
+    gate: &G,
+    session: Session<K>,
+) -> Session<K> {
+    let mut session = session;
+    for _ in rt.forever() {
+        let mut locked = shared.locked.lock(rt);
+        match locked.plan(rt, alloc, &shared.intake, &mut session) {
+            Plan::Again => {
+                drop(locked);
+                shared.changed.notify_all();
+            }
+            Plan::Rest => {
+                let locked = shared.changed.wait(rt, locked);
+                drop(locked);
+            }
+            Plan::Leave => {
+                drop(locked);
+                shared.changed.notify_all();
+                break;
+            }
+            Plan::Make(call, context) => {
+                drop(locked);
+                make(rt, alloc, shared, gate, &mut session, &call, context);
+                shared.changed.notify_all();
+            }
+        }
+    }
+    session
+}
+
+// Makes one call. The station's lock is held until the reply is recorded, and the engine's is not
+// held while the participant is called.
+fn make<K: Run, C: Caller, G: Gate, R: Wait>(
+    rt: &R,
+    alloc: Global,
+    shared: &Shared<K, C>,
+    gate: &G,
+    session: &mut Session<K>,
+    call: &Call,
+    context: Context,
+) {
+    let number = usize::from(call.participant);
+    let count = shared.stations.len();
+    if number >= count {
+        shared.stop(rt, Fault::OutOfMemory);
+        return;
+    }
+    let mut station = shared.stations[count - 1 - number].lock(rt);
+    gate.enter(session.index, call);
+    let made = station.call(call, context);
+    gate.leave(session.index, call);
+    let mut locked = shared.locked.lock(rt);
+    let _ = match made {
+        Ok((reply, after)) => locked.record(alloc, session, call, reply, after),
+        Err(NoMemory) => locked.stop(Fault::OutOfMemory),
+    };
+}
+
+/// Runs all sessions, each in a thread. None where memory was refused.
+pub(crate) fn attend_all<
+    K: Run + Send + Sync,
+    C: Caller + Send,
+    G: Gate + Sync,
+    R: Threads + Wait + Sync,
+>(
+    rt: &R,
+    alloc: Global,
+    shared: &Shared<K, C>,
+    gate: &G,
+    sessions: Vec<Session<K>>,
+) -> Option<Vec<Session<K>>> {
+    let attended = thread::map_vec(
+        rt,
+        sessions,
+        &|session| { attend(rt, alloc, shared, gate, session) },
+    );
+    match attended {
+        Ok(back) => Some(back),
+        Err(_) => {
+            shared.stop(rt, Fault::OutOfMemory);
+            None
+        }
+    }
+}

@@ -1,0 +1,247 @@
+//! The pool.
+
+ghost use Rattle.std.specs.Prelude.{◌≡◌, ◌≤◌, [], None, IfErr, IfOk, MatchResult, map, vec_len, vec_capacity};
+ghost use Rattle.sw_participant.specs.Chains.{rule_at};
+ghost use Rattle.sw_participant.specs.Stations.{name_of, calls_of, object_of, rule_of};
+ghost use Rattle.tx_journal.specs.Kept.{kept};
+ghost use Rattle.tx_plant.specs.Plant.{IsEngine, whole_of};
+ghost use Rattle.tx_plant.specs.Written.{IsWritten};
+ghost use Rattle.tx_pool.specs.Drives.{Drove};
+ghost use Rattle.tx_pool.specs.Early.{IsRefused, early_refusal};
+ghost use Rattle.tx_pool.specs.Settled.{IsSettled};
+ghost use Rattle.tx_pool.specs.Went.{Grown, Offered, Reports};
+
+use crate::ending::{Lost, Ran};
+use crate::gate::Gate;
+use crate::refusal::{Early, Late, PoolError};
+use crate::report::Report;
+use crate::running::{Work, run_parts};
+use crate::station::StationParts;
+use sqlite::Alter;
+use std::alloc::Global;
+use std::sync::Wait;
+use std::thread::Threads;
+use sw_participant::{Participant, Station};
+use tx_engine::Engine;
+use tx_intake::{Getter, Intake, IntakeError, Putter, Source};
+use tx_plant::Plant;
+
+type Boxed = Box<dyn Participant + Send>;
+
+// The parts of the stations, into a list with room for them.
+fn take_apart(stations: Vec<Station>, parts: Vec<StationParts<Boxed>>) -> Vec<StationParts<Boxed>>
+    requires room { vec_len stations ≤ vec_capacity parts }
+    requires empty { parts.items ≡ [] }
+    ensures participants { map (λ s. s.participant) result.items
+        ≡ map (λ s. s.participant) stations.items }
+    ensures names { map (λ s. s.name) result.items ≡ map name_of stations.items }
+    ensures calls { map (λ s. s.calls) result.items ≡ map calls_of stations.items }
+{
+    let mut parts = parts;
+    for station in stations {
+        let (name, participant, calls) = station.into_parts();
+        parts.push_reserved(StationParts {
+            name,
+            participant,
+            calls,
+        });
+    }
+    parts
+}
+
+// The stations of these parts, into a list with room for them.
+fn put_together(parts: Vec<StationParts<Boxed>>, stations: Vec<Station>) -> Vec<Station>
+    requires room { vec_len parts ≤ vec_capacity stations }
+    requires empty { stations.items ≡ [] }
+    ensures participants { map (λ s. s.participant) result.items
+        ≡ map (λ s. s.participant) parts.items }
+    ensures names { map name_of result.items ≡ map (λ s. s.name) parts.items }
+    ensures calls { map calls_of result.items ≡ map (λ s. s.calls) parts.items }
+{
+    let mut stations = stations;
+    for part in parts {
+        let StationParts {
+            name,
+            participant,
+            calls,
+        } = part;
+        stations.push_reserved(Station::from_parts(name, participant, calls));
+    }
+    stations
+}
+
+/// Runs the sessions of a plant as threads.
+pub struct Pool;
+
+// Why the plant is not run, memory aside.
+fn allow(engine: &Engine, capacity: usize) -> Result<(), Early>
+    ensures { MatchResult result
+        (λ _. early_refusal engine.now capacity ≡ None)
+        (λ e. early_refusal engine.now capacity ≡ Some e) }
+{
+    if engine.has_break() {
+        return Err(Early::BreakSet);
+    }
+    if engine.is_in_use() {
+        return Err(Early::InUse);
+    }
+    if !(1..=4_096).contains(&capacity) {
+        return Err(Early::BadCapacity);
+    }
+    Ok(())
+}
+
+/// What a run needs beside the plant, with its memory.
+struct Needs {
+    intake: Intake,
+    putter: Putter,
+    getter: Getter,
+    parts: Vec<StationParts<Boxed>>,
+    stations: Vec<Station>,
+}
+
+fn make_needs(alloc: Global, capacity: usize, stations: usize) -> Result<Needs, Early>
+    ensures putter { IfOk result (λ n. (n.putter.intake ≡ n.intake.id) × (n.putter.passed ≡ [])) }
+    ensures getter { IfOk result (λ n. (n.getter.intake ≡ n.intake.id) × (n.getter.passed ≡ [])) }
+    ensures parts { IfOk result (λ n. (n.parts.items ≡ []) × (stations ≤ vec_capacity n.parts)) }
+    ensures stations { IfOk result (λ n. (n.stations.items ≡ [])
+        × (stations ≤ vec_capacity n.stations)) }
+    ensures refused { IfErr result (λ e. e ≡ Early.OutOfMemory) }
+{
+    let Ok((intake, putter, getter)) = Intake::new(alloc, capacity) else {
+        return Err(Early::OutOfMemory);
+    };
+    let Ok(parts) = Vec::with_capacity(alloc, stations) else {
+        return Err(Early::OutOfMemory);
+    };
+    let Ok(list) = Vec::with_capacity(alloc, stations) else {
+        return Err(Early::OutOfMemory);
+    };
+    Ok(Needs {
+        intake,
+        putter,
+        getter,
+        parts,
+        stations: list,
+    })
+}
+
+// The plant of what a run left.
+fn plant_of<S: Alter + Drop, O: Source>(
+    ran: Ran<S, Boxed, O>,
+    stations: Vec<Station>,
+) -> (Plant<S>, O, Report)
+    requires room { vec_len ran.stations ≤ vec_capacity stations }
+    requires empty { stations.items ≡ [] }
+    ensures running { result.0.running ≡ ran.running }
+    ensures journal { result.0.journal ≡ ran.journal }
+    ensures participants { map (λ s. s.participant) result.0.stations.items
+        ≡ map (λ s. s.participant) ran.stations.items }
+    ensures names { map name_of result.0.stations.items ≡ map (λ s. s.name) ran.stations.items }
+    ensures calls { map calls_of result.0.stations.items ≡ map (λ s. s.calls) ran.stations.items }
+    ensures source { result.1 ≡ ran.source }
+    ensures report { result.2 ≡ ran.report }
+{
+    let Ran {
+        running,
+        journal,
+        stations: parts,
+        source,
+        report,
+    } = ran;
+    let stations = put_together(parts, stations);
+    (
+        Plant::from_running(running, journal, stations),
+        source,
+        report,
+    )
+}
+
+// What a run that was given up leaves.
+fn late<S: Alter + Drop>(lost: Lost<S, Boxed>, stations: Vec<Station>) -> Late<S>
+    requires room { vec_len lost.stations ≤ vec_capacity stations }
+    requires empty { stations.items ≡ [] }
+    ensures journal { result.journal ≡ lost.journal }
+    ensures names { map name_of result.stations.items ≡ map (λ s. s.name) lost.stations.items }
+{
+    let Lost {
+        fault,
+        journal,
+        stations: parts,
+    } = lost;
+    Late {
+        cause: fault,
+        journal,
+        stations: put_together(parts, stations),
+    }
+}
+
+impl Pool {
+    /// Runs all sessions of the plant, each in a thread, until the source has ended, every offer was
+    /// taken and every session is idle; the calling thread writes the journal.
+    ///
+    /// Refuses `Early`, with the plant as it was, in this order: `BreakSet`, `InUse`, `BadCapacity`,
+    /// `OutOfMemory`. A run that cannot go on is `Late`: it hands journal and stations back.
+    pub fn run<S: Alter + Drop, O: Source + Send, G: Gate + Sync, R: Threads + Wait + Sync>(
+        rt: &R,
+        alloc: Global,
+        plant: Plant<S>,
+        source: O,
+        capacity: usize,
+        gate: &G,
+    ) -> Result<(Plant<S>, O, Report), PoolError<S>>
+        requires engine { IsEngine plant.running.engine }
+        ensures drove { IfOk result (λ r.
+            Drove (rule_at (rule_of Participant-dyn) plant.stations.items)
+            (map (object_of Participant-dyn) plant.stations.items) (map calls_of plant.stations.items)
+            (whole_of plant.running.engine plant.running.seats (kept S.Store plant.journal))
+            (map (object_of Participant-dyn) r.0.stations.items) (map calls_of r.0.stations.items)
+            (whole_of r.0.running.engine r.0.running.seats (kept S.Store r.0.journal))) }
+        ensures names { IfOk result (λ r.
+            map name_of r.0.stations.items ≡ map name_of plant.stations.items) }
+        ensures settled { IfOk result (λ r. IsSettled r.0.running.engine) }
+        ensures grown { IfOk result (λ r. Grown plant.running.engine r.0.running.engine) }
+        ensures reports { IfOk result (λ r. Reports (λ v. v.items) plant.running.engine
+            r.0.running.engine r.2.receipts.items r.2.finished r.2.shelved) }
+        ensures offered { IfOk result (λ r. Offered plant.running.engine r.0.running.engine
+            (O.given source) (O.given r.1) (O.ended r.1)) }
+        ensures whole { IfOk result (λ r. O.ends_with source (O.given r.1)) }
+        ensures written { IfOk result (λ r.
+            IsWritten plant.running.engine (kept S.Store plant.journal)
+            → IsWritten r.0.running.engine (kept S.Store r.0.journal)) }
+        ensures allowed { IfOk result (λ _. early_refusal plant.running.engine capacity ≡ None) }
+        ensures refused { IfErr result (λ e. IsRefused plant
+            (early_refusal plant.running.engine capacity) e) }
+    {
+        if let Err(cause) = allow(plant.engine(), capacity) {
+            return Err(PoolError::Early(plant, cause));
+        }
+        let (running, journal, stations) = plant.into_running();
+        let Needs {
+            intake,
+            putter,
+            getter,
+            parts,
+            stations: back,
+        } = match make_needs(alloc, capacity, stations.len()) {
+            Ok(needs) => needs,
+            Err(cause) => {
+                let plant = Plant::from_running(running, journal, stations);
+                return Err(PoolError::Early(plant, cause));
+            }
+        };
+        let work = Work {
+            running,
+            journal,
+            stations: take_apart(stations, parts),
+            source,
+            intake,
+            putter,
+            getter,
+        };
+        match run_parts(rt, alloc, work, gate) {
+            Ok(ran) => Ok(plant_of(ran, back)),
+            Err(lost) => Err(PoolError::Late(late(lost, back))),
+        }
+    }
+}

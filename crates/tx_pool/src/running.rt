@@ -1,0 +1,221 @@
+//! A run, from the plant's parts to what it leaves.
+
+ghost use Rattle.std.specs.Prelude.{◌≡◌, ◌≤◌, ◌+◌, List, [], length, map, IfErr, IfOk, vec_len, vec_capacity};
+ghost use Rattle.sw_context.specs.Pairs.{Pairs};
+ghost use Rattle.sw_participant.specs.Chains.{rule_at};
+ghost use Rattle.tx_journal.specs.Kept.{kept};
+ghost use Rattle.tx_plant.specs.Core.{core};
+ghost use Rattle.tx_plant.specs.Plant.{seen};
+ghost use Rattle.tx_plant.specs.Written.{IsWritten};
+ghost use Rattle.tx_pool.specs.AllStations.{AreReady};
+ghost use Rattle.tx_pool.specs.Drives.{Drove};
+ghost use Rattle.tx_pool.specs.Went.{Grown, Offered, Reports};
+ghost use Rattle.tx_pool.specs.Settled.{IsSettled};
+
+use crate::ending::{Lost, Ran, Remains, conclude};
+use crate::fault::Fault;
+use crate::gate::Gate;
+use crate::locked::{Locked, RunIntake};
+use crate::moving::{lock_stations, open_sessions, unlock_stations};
+use crate::run::Run;
+use crate::session::Session;
+use crate::shared::Shared;
+use crate::station::{MadeCall, StationLog, StationParts};
+use crate::threads::work;
+use sqlite::Alter;
+use std::alloc::{AllocError, Global};
+use std::marker::{Brand, PhantomData};
+use std::sync::ledger::{Blank, Share};
+use std::sync::{Condvar, Mutex, Wait};
+use std::thread::Threads;
+use sw_participant::Caller;
+use tx_intake::{Getter, Intake, Putter, Source};
+use tx_journal::Journal;
+use tx_plant::Running;
+
+/// Empty lists with the room that a run needs on its way in and back, and its sessions. All its
+/// memory is taken before the threads start, so that journal and stations can always be handed back.
+#[derive(Drop)]
+struct Rooms<K: Run, C: Caller> {
+    sessions: Vec<Session<K>>,
+    locks: Vec<Mutex<StationLog<K, C>>>,
+    stations: Vec<StationParts<C>>,
+    logs: Vec<Vec<MadeCall>>,
+    receipts: Vec<Vec<usize>>,
+}
+
+fn make_rooms<K: Run, C: Caller>(
+    alloc: Global,
+    sessions: usize,
+    stations: usize,
+    share: &mut Share<K>,
+) -> Result<Rooms<K, C>, AllocError>
+    requires parts { share.old.parts ≡ sessions + 1 }
+    requires amount { share.old.amount ≡ 0 }
+    ensures share { IfOk result (λ _. (share.new.parts ≡ 1) × (share.new.amount ≡ 0)) }
+    ensures sessions { IfOk result (λ r. vec_len r.sessions ≡ sessions) }
+    ensures locks { IfOk result (λ r. (vec_len r.locks ≡ 0) × (stations ≤ vec_capacity r.locks)) }
+    ensures stations { IfOk result (λ r. (r.stations.items ≡ [])
+        × (stations ≤ vec_capacity r.stations)) }
+    ensures logs { IfOk result (λ r. (r.logs.items ≡ []) × (stations ≤ vec_capacity r.logs)) }
+    ensures receipts { IfOk result (λ r. (r.receipts.items ≡ [])
+        × (sessions ≤ vec_capacity r.receipts)) }
+{
+    Ok(Rooms {
+        sessions: open_sessions(alloc, sessions, share)?,
+        locks: Vec::with_capacity(alloc, stations)?,
+        stations: Vec::with_capacity(alloc, stations)?,
+        logs: Vec::with_capacity(alloc, stations)?,
+        receipts: Vec::with_capacity(alloc, sessions)?,
+    })
+}
+
+/// What a run works on.
+pub(crate) struct Work<S: Alter, C: Caller, O: Source> {
+    pub(crate) running: Running,
+    pub(crate) journal: Journal<S>,
+    pub(crate) stations: Vec<StationParts<C>>,
+    pub(crate) source: O,
+    pub(crate) intake: Intake,
+    pub(crate) putter: Putter,
+    pub(crate) getter: Getter,
+}
+
+// A run, by the names of its ledger, its intake and its start.
+fn run_in<
+    S: Alter + Drop,
+    K: Run + Send + Sync,
+    C: Caller + Send,
+    O: Source + Send,
+    G: Gate + Sync,
+    R: Threads + Wait + Sync,
+>(
+    rt: &R,
+    alloc: Global,
+    task: Work<S, C, O>,
+    blank: Blank,
+    gate: &G,
+) -> Result<Ran<S, C, O>, Lost<S, C>>
+    requires start { core task.running.engine task.running.seats ≡ K.start }
+    requires ready { AreReady K.rule K.objects K.counts K.names (λ s. C.rule s.participant)
+        (λ s. C.object s.participant) (λ s. s.calls) (λ s. s.name) task.stations.items }
+    requires lists { (length K.objects ≡ vec_len task.stations)
+        × (length K.counts ≡ length K.objects) × (length K.names ≡ length K.objects) }
+    requires queue { (task.intake.id ≡ K.intake) × (task.putter.intake ≡ K.intake)
+        × (task.getter.intake ≡ K.intake) }
+    requires none { (task.putter.passed ≡ []) × (task.getter.passed ≡ []) }
+    requires source { O.given task.source ≡ K.given }
+    requires plan { (all : List Pairs) → O.ends_with task.source all → K.ends_with all }
+    requires marked { K.start.world.mark ≤ length K.start.world.past }
+    requires seats { length K.start.seats ≡ K.start.world.sessions }
+    requires blank { (blank.name ≡ K.name) × (blank.parts ≡ K.parts)
+        × (blank.parts ≡ K.start.world.sessions + 1) }
+    ensures drove { IfOk result (λ r. Drove K.rule K.objects K.counts
+        (record { core = K.start; journal = seen (kept S.Store task.journal) })
+        (map (λ s. C.object s.participant) r.stations.items) (map (λ s. s.calls) r.stations.items)
+        (record { core = core r.running.engine r.running.seats; journal = seen (kept S.Store r.journal) })) }
+    ensures names { IfOk result (λ r. map (λ s. s.name) r.stations.items ≡ K.names) }
+    ensures settled { IfOk result (λ r. IsSettled r.running.engine) }
+    ensures grown { IfOk result (λ r. Grown K.start.world r.running.engine) }
+    ensures reports { IfOk result (λ r. Reports (λ v. v.items) K.start.world r.running.engine
+        r.report.receipts.items r.report.finished r.report.shelved) }
+    ensures offered { IfOk result (λ r. Offered K.start.world r.running.engine
+        K.given (O.given r.source) (O.ended r.source)) }
+    ensures whole { IfOk result (λ r. K.ends_with (O.given r.source)) }
+    ensures written { IfOk result (λ r. IsWritten K.start.world (kept S.Store task.journal)
+        → IsWritten r.running.engine (kept S.Store r.journal)) }
+    ensures lost { IfErr result (λ e. vec_len e.stations ≡ vec_len task.stations) }
+{
+    let Work {
+        running,
+        journal,
+        stations,
+        source,
+        intake,
+        putter,
+        getter,
+    } = task;
+    let mark = running.engine().mark();
+    let from = running.engine().history().len();
+    let sessions = running.engine().sessions();
+    let (book, mut share) = blank.open::<K>();
+    let Ok(rooms) = make_rooms::<K, C>(alloc, sessions, stations.len(), &mut share) else {
+        return Err(Lost {
+            fault: Fault::OutOfMemory,
+            journal,
+            stations,
+        });
+    };
+    let shared = Shared {
+        locked: Mutex::new(Locked::new(alloc, running, getter, book)),
+        changed: Condvar::new(),
+        stations: lock_stations(alloc, stations, rooms.locks),
+        intake: RunIntake {
+            intake,
+            of: PhantomData,
+        },
+    };
+    let worked = work(
+        rt,
+        alloc,
+        &shared,
+        gate,
+        source,
+        putter,
+        rooms.sessions,
+        journal,
+    );
+    let Shared {
+        locked,
+        changed: _,
+        stations,
+        intake,
+    } = shared;
+    conclude(Remains {
+        mark,
+        from,
+        locked: locked.into_inner(),
+        intake,
+        worked,
+        share,
+        back: unlock_stations(stations, rooms.stations, rooms.logs),
+        receipts: rooms.receipts,
+    })
+}
+
+/// A run of stations that are outside of their plant: a drive of the plant, by their own rules, from
+/// their own objects and counts.
+pub(crate) fn run_parts<
+    S: Alter + Drop,
+    C: Caller + Send,
+    O: Source + Send,
+    G: Gate + Sync,
+    R: Threads + Wait + Sync,
+>(rt: &R, alloc: Global, task: Work<S, C, O>, gate: &G) -> Result<Ran<S, C, O>, Lost<S, C>>
+    requires putter { (task.putter.intake ≡ task.intake.id) × (task.putter.passed ≡ []) }
+    requires getter { (task.getter.intake ≡ task.intake.id) × (task.getter.passed ≡ []) }
+    ensures drove { IfOk result (λ r. Drove (rule_at (λ s. C.rule s.participant) task.stations.items)
+        (map (λ s. C.object s.participant) task.stations.items)
+        (map (λ s. s.calls) task.stations.items)
+        (record { core = core task.running.engine task.running.seats; journal = seen (kept S.Store task.journal) })
+        (map (λ s. C.object s.participant) r.stations.items) (map (λ s. s.calls) r.stations.items)
+        (record { core = core r.running.engine r.running.seats; journal = seen (kept S.Store r.journal) })) }
+    ensures names { IfOk result (λ r.
+        map (λ s. s.name) r.stations.items ≡ map (λ s. s.name) task.stations.items) }
+    ensures settled { IfOk result (λ r. IsSettled r.running.engine) }
+    ensures grown { IfOk result (λ r. Grown task.running.engine r.running.engine) }
+    ensures reports { IfOk result (λ r. Reports (λ v. v.items) task.running.engine
+        r.running.engine r.report.receipts.items r.report.finished r.report.shelved) }
+    ensures offered { IfOk result (λ r. Offered task.running.engine r.running.engine
+        (O.given task.source) (O.given r.source) (O.ended r.source)) }
+    ensures whole { IfOk result (λ r. O.ends_with task.source (O.given r.source)) }
+    ensures written { IfOk result (λ r.
+        IsWritten task.running.engine (kept S.Store task.journal)
+        → IsWritten r.running.engine (kept S.Store r.journal)) }
+    ensures lost { IfErr result (λ e. vec_len e.stations ≡ vec_len task.stations) }
+{
+    task.running.is_engine();
+    let sessions = task.running.engine().sessions();
+    let blank = Blank::new(sessions as u64 + 1);
+    run_in::<S, Brand, C, O, G, R>(rt, alloc, task, blank, gate)
+}

@@ -1,0 +1,45 @@
+//! Sessions in a run.
+
+ghost use Rattle.std.specs.Prelude.{◌≡◌, vec_len};
+
+use crate::run::Run;
+use std::alloc::Global;
+use std::sync::ledger::Share;
+use sw_context::Context;
+use sw_participant::Call;
+
+/// A session, with the numbers of its entries in the run, and its share of their count.
+#[derive(Drop)]
+pub(crate) struct Session<K: Run> {
+    pub(crate) index: usize,
+    pub(crate) share: Share<K>,
+    pub(crate) receipts: Vec<usize>,
+    pub(crate) ghost one: { share.parts ≡ 1 },
+    pub(crate) ghost counted: { share.amount ≡ vec_len receipts },
+}
+
+impl<K: Run> Session<K> {
+    pub(crate) fn new(alloc: Global, index: usize, share: Share<K>) -> Session<K>
+        requires parts { share.parts ≡ 1 }
+        requires amount { share.amount ≡ 0 }
+    {
+        Session {
+            index,
+            share,
+            receipts: Vec::new(alloc),
+        }
+    }
+}
+
+/// What a session does next.
+#[derive(Drop)]
+pub(crate) enum Plan {
+    /// It asks again.
+    Again,
+    /// It waits until something has changed.
+    Rest,
+    /// It ends.
+    Leave,
+    /// It makes this call, with this context.
+    Make(Call, Context),
+}

@@ -1,0 +1,105 @@
+//! All threads of a run.
+
+ghost use Rattle.std.specs.Prelude.{◌≡◌, [], List, true};
+ghost use Rattle.sw_context.specs.Pairs.{Pairs};
+ghost use Rattle.tx_journal.specs.Kept.{kept};
+ghost use Rattle.tx_pool.specs.Wrote.{Wrote};
+
+use crate::attending::attend_all;
+use crate::fault::Fault;
+use crate::feeding::{Fed, feed};
+use crate::gate::Gate;
+use crate::keeper::{Kept, keep};
+use crate::run::Run;
+use crate::session::Session;
+use crate::shared::Shared;
+use sqlite::Alter;
+use std::alloc::Global;
+use std::sync::Wait;
+use std::thread::{self, Threads};
+use sw_participant::Caller;
+use tx_intake::{Putter, Source};
+use tx_journal::Journal;
+
+/// What comes back of the threads. The source or the sessions are not there where no thread was to
+/// be had, and the sessions where memory was refused.
+#[derive(Drop)]
+pub(crate) struct Worked<S: Alter, K: Run, O: Source> {
+    pub(crate) fed: Option<Fed<K, O>>,
+    pub(crate) sessions: Option<Vec<Session<K>>>,
+    pub(crate) kept: Kept<S>,
+}
+
+/// Runs all threads until each has ended: the feeder's, that of the sessions, each of which has one
+/// of its own, and the calling one, which keeps the journal. Where one is not to be had the run is
+/// given up.
+pub(crate) fn work<
+    S: Alter + Drop,
+    K: Run + Send + Sync,
+    C: Caller + Send,
+    O: Source + Send,
+    G: Gate + Sync,
+    R: Threads + Wait + Sync,
+>(
+    rt: &R,
+    alloc: Global,
+    shared: &Shared<K, C>,
+    gate: &G,
+    source: O,
+    putter: Putter,
+    sessions: Vec<Session<K>>,
+    journal: Journal<S>,
+) -> Worked<S, K, O>
+    requires queue { putter.intake ≡ K.intake }
+    requires none { putter.passed ≡ [] }
+    requires given { O.given source ≡ K.given }
+    requires plan { (all : List Pairs) → O.ends_with source all → K.ends_with all }
+    ensures kept { result.kept.all_done ≡ true
+        → Wrote (kept S.Store journal) result.kept.written.items (kept S.Store result.kept.journal) }
+{
+    thread::scope(
+        thread::scope_env(),
+        rt,
+        move |scope| -> Worked<S, K, O>
+            requires queue { putter.intake ≡ K.intake }
+            requires none { putter.passed ≡ [] }
+            requires given { O.given source ≡ K.given }
+            requires plan { (all : List Pairs) → O.ends_with source all → K.ends_with all }
+            ensures { result.kept.all_done ≡ true → Wrote (kept S.Store journal)
+                result.kept.written.items (kept S.Store result.kept.journal) }
+        {
+            let feeder = match scope.spawn(
+                move || -> Fed<K, O>
+                    requires queue { putter.intake ≡ K.intake }
+                    requires none { putter.passed ≡ [] }
+                    requires given { O.given source ≡ K.given }
+                    requires plan { (all : List Pairs) → O.ends_with source all → K.ends_with all }
+                { feed(rt, shared, source, putter) },
+            ) {
+                Ok(handle) => Some(handle),
+                Err(_refused) => None,
+            };
+            let server = match scope.spawn(move || attend_all(rt, alloc, shared, gate, sessions)) {
+                Ok(handle) => Some(handle),
+                Err(_refused) => None,
+            };
+            if feeder.is_none() || server.is_none() {
+                shared.stop(rt, Fault::OutOfMemory);
+            }
+            let kept = keep(rt, alloc, shared, journal);
+            let fed = match feeder {
+                Some(handle) => Some(handle.join(rt)),
+                None => None,
+            };
+            let sessions = match server {
+                Some(handle) => handle.join(rt),
+                None => None,
+            };
+            Worked {
+                fed,
+                sessions,
+                kept,
+            }
+        },
+    )
+}
