@@ -151,7 +151,8 @@ def check_run(engine, run, lines):
         need(came == of_model, f"run from {first}: receipts {came}\nof the model: {of_model}")
     ends = Counter(line.rpartition(" ")[2] for line in lines[first:to])
     for word, end in (("finished", "done"), ("shelved", "shelve")):
-        need(run[word] == ends[end], f"run from {first}: {word} {run[word]}, not {ends[end]}")
+        came = run.get(word)
+        need(came == ends[end], f"run from {first}: {word} {came}, not {ends[end]}")
 
 
 def is_between(line):
@@ -225,4 +226,6 @@ def wrong_with(flow, sessions, offers, text):
         check_ended(engine, output)
     except Wrong as wrong:
         return str(wrong)
+    except (IndexError, KeyError, ValueError) as fault:
+        return f"a line is none of the program's: {fault!r}"
     return None
