@@ -80,14 +80,13 @@ def requests(count):
     return b"".join(made)
 
 
-def run(program, flow, count, journal=None):
-    """The seconds of a run on so many requests, and the most memory that it had, in kilobytes."""
-    command = [program, "run", "--flow", flow] + (["--journal", journal] if journal else [])
+def timed(command, count, environment=None):
+    """The seconds of a command on so many requests, and the most memory that it had, in kilobytes."""
     with tempfile.TemporaryFile() as given, tempfile.TemporaryFile() as made:
         given.write(requests(count))
         given.seek(0)
         began = time.monotonic()
-        process = subprocess.Popen(command, stdin=given, stdout=made)
+        process = subprocess.Popen(command, stdin=given, stdout=made, env=environment)
         _, status, used = os.wait4(process.pid, 0)
         process.returncode = status
         took = time.monotonic() - began
@@ -95,6 +94,11 @@ def run(program, flow, count, journal=None):
         out = made.read()
     assert status == 0 and out.count(b"TERM0001") == count, (status, out[:200])
     return took, used.ru_maxrss
+
+
+def run(program, flow, count, journal=None):
+    """The same of a run by a flow."""
+    return timed([program, "run", "--flow", flow] + (["--journal", journal] if journal else []), count)
 
 
 def commits(rows, count, path, page=4096):

@@ -1,14 +1,17 @@
 #!/usr/bin/env python3
 """Kills `cardswitch run` at random moments of a run on a journal's file, and starts it again on the rest.
 
-    tests/kills.py [--seed N] [--count N] [--program PATH]
+    tests/kills.py [--threads] [--seed N] [--count N] [--program PATH]
 
-After each kill, and at the end, SQLite's own library reads the journal. Of each kill holds: no transaction whose
-response was read is unfinished, so that no later run aborts it; a stored reversal is of a request that got no response,
-or whose issuer is silent. At the end every row is gone and the file is sound.
+With --threads the runs have 8 sessions as threads, and the requests come in pieces, each of which is a batch: a kill may leave
+several transactions unfinished. After each kill, and at the end, SQLite's own library reads the journal. Of each kill holds: no
+transaction whose response was read is unfinished, so that no later run aborts it; a stored reversal is of a request that got no
+response, or whose issuer is silent; no row is at fault, and what `recover` prints and leaves, on a copy, is what the plain model
+makes of the rows. At the end every row is gone and the file is sound.
 """
 
 import argparse
+import contextlib
 import glob
 import os
 import random
@@ -19,9 +22,18 @@ import sys
 import tempfile
 import time
 
+sys.dont_write_bytecode = True
+
+from harness import inputs  # noqa: E402
+from harness.case import difference  # noqa: E402
+from model import flows, journal, messages, stops  # noqa: E402
+from model.engine import Engine  # noqa: E402
+from model.switch import Participants  # noqa: E402
+
 TOP = os.path.dirname(os.path.dirname(os.path.abspath(__file__)))
 BUILT = os.path.join(TOP, "crates", "cardswitch", "out", "cardswitch")
-REQUESTS = 60
+FLOW = os.path.join(TOP, "examples", "switch.toml")
+REQUESTS, SESSIONS, KILLS = 60, 8, 6
 
 
 def frames(chosen):
@@ -35,97 +47,144 @@ def frames(chosen):
     return made, silent
 
 
-def rows(path, query):
-    """What a query finds in a copy of the journal, which stays as it is."""
+def pieces(chosen, made):
+    """These frames in pieces of some each."""
+    at = 0
+    while at < len(made):
+        count = chosen.randint(1, 16)
+        yield b"".join(made[at : at + count])
+        at += count
+
+
+@contextlib.contextmanager
+def copied(path):
+    """A copy of the journal, which stays as it is."""
     with tempfile.TemporaryDirectory() as room:
         for name in glob.glob(glob.escape(path) + "*"):
             shutil.copy(name, room)
-        journal = sqlite3.connect(os.path.join(room, os.path.basename(path)))
-        try:
-            return journal.execute(query).fetchall()
-        finally:
-            journal.close()
+        yield os.path.join(room, os.path.basename(path))
 
 
-def responses(text):
-    """How many whole frames the output has."""
-    count, at = 0, 0
-    while len(text) >= at + 4 and len(text) >= at + 4 + int(text[at : at + 4]):
-        at += 4 + int(text[at : at + 4])
-        count += 1
-    return count
-
-
-def killed(command, given, seconds):
-    """What a run wrote before it was killed, or ended."""
-    with subprocess.Popen(command, stdin=subprocess.PIPE, stdout=subprocess.PIPE, stderr=subprocess.PIPE) as process:
-        try:
-            out, _ = process.communicate(given, timeout=seconds)
-            return out, True
-        except subprocess.TimeoutExpired:
-            process.kill()
-            return process.communicate()[0], False
-
-
-def faults_of(path, answered, silent):
-    """What is wrong with the journal after a kill: ids begin with 1, one for each request."""
-    for (number,) in rows(path, "SELECT id FROM tx"):
-        if number - 1 in answered:
-            yield f"transaction {number} was answered and is unfinished"
-    for number, body in rows(path, "SELECT id, body FROM advice"):
-        if bytes(body[:3]) == b"042" and number - 1 in answered and answered[number - 1] not in silent:
-            yield f"transaction {number} was answered and is reversed"
-
-
-def one(chosen, program, room):
-    """One journal, with runs that are killed until one ends."""
-    made, silent = frames(chosen)
-    path = os.path.join(room, f"{chosen.random()}.db")
-    command = [program, "run", "--flow", os.path.join(TOP, "examples", "switch.toml"), "--journal", path]
-    answered, at, kills, ended = {}, 0, 0, False
-    while not ended:
-        first = rows(path, "SELECT v FROM meta WHERE k = 2")[0][0] if kills and has_tables(path) else 1
-        seconds = chosen.uniform(0.001, 0.03) if kills < 6 else None
-        out, ended = killed(command, b"".join(made[at:]), seconds)
-        count = responses(out)
-        answered |= {first - 1 + number: at + number for number in range(count)}
-        at += count
-        kills += not ended
-        if has_tables(path):
-            yield from faults_of(path, answered, silent)
-        elif answered:
-            yield "the journal of what was answered is gone"
-    if rows(path, "SELECT id FROM tx") or rows(path, "SELECT id FROM advice"):
-        yield "at the end a row or an advice is left"
-    if rows(path, "PRAGMA integrity_check") != [("ok",)]:
-        yield "the file is not sound"
-
-
-def has_tables(path):
-    """Whether the journal is made. A run that is killed before that may leave a file which is no database, where a file of
-    an earlier kill stands beside it (see `journal_file.rt`); the next run takes it."""
+def tables_of(path):
+    """The journal's tables, None where it is not made yet. A run that is killed before that may leave a file which is no
+    database, where a file of an earlier kill stands beside it (see `journal_file.rt`); the next run takes it."""
     try:
-        return os.path.exists(path) and bool(rows(path, "SELECT 1 FROM sqlite_master WHERE name = 'meta'"))
+        with copied(path) as copy:
+            return journal.read(copy)
     except sqlite3.DatabaseError as error:
-        if "not a database" in str(error):
-            return False
+        if "not a database" in str(error) or "no such table: meta" in str(error):
+            return None
         raise
 
 
-def main():
+def answer_faults(tables, answered, silent):
+    """What is wrong with the rows by what was answered: ids begin with 1, one for each request."""
+    for number in tables.tx:
+        if number - 1 in answered:
+            yield f"transaction {number} was answered and is unfinished"
+    for (number, _), body in tables.advice.items():
+        if body[:3] == b"042" and number - 1 in answered and answered[number - 1] not in silent:
+            yield f"transaction {number} was answered and is reversed"
+
+
+def recovery_faults(program, tables, path):
+    """What is wrong with a recovery of a copy."""
+    with open(FLOW, "rb") as file:
+        engine = Engine(flows.read_flow(file.read()), 1, Participants(0))
+    engine.written = journal.view(tables)
+    # (what a recovery finds and leaves stands before and behind them)
+    wanted = "".join(f"{line}\n" for line in [*stops.recovery_lines(engine)][1:-1]).encode()
+    with copied(path) as copy:
+        command = [program, "recover", "--flow", FLOW, "--journal", copy]
+        ran = subprocess.run(command, stdout=subprocess.PIPE, check=False)
+        if ran.returncode != 0 or ran.stdout != wanted:
+            yield f"recover ended with {ran.returncode}\n{difference('its lines', wanted, ran.stdout)}"
+        after = journal.read(copy)
+    if after.tx or after.advice != engine.now.advices:
+        yield f"recover left {after}"
+
+
+def faults_of(program, tables, path, answered, silent):
+    """What is wrong with the journal after a kill."""
+    if tables is None:
+        if answered:
+            yield "the journal of what was answered is gone"
+    elif bad := journal.fault(tables):
+        yield f"a row is at fault: {bad}"
+    else:
+        yield from answer_faults(tables, answered, silent)
+        yield from recovery_faults(program, tables, path)
+
+
+def end_faults(path):
+    """What is wrong with the journal at the end."""
+    tables = tables_of(path)
+    if tables.tx or tables.advice:
+        yield "at the end a row or an advice is left"
+    with copied(path) as copy, contextlib.closing(sqlite3.connect(copy)) as database:
+        if database.execute("PRAGMA integrity_check").fetchall() != [("ok",)]:
+            yield "the file is not sound"
+
+
+def ran(chosen, given, path, made, seconds=None):
+    """What comes of a run on these frames, killed after so many seconds."""
+    command = [given.program, "run", "--flow", FLOW, "--journal", path]
+    command += ["--threads", "--sessions", str(SESSIONS)] * given.threads
+    given_in = [*pieces(chosen, made)] if given.threads else [b"".join(made)]
+    return inputs.run_in_packets(command, given_in, seconds, {})
+
+
+def whole(given, room):
+    """The seconds of a run that is not killed."""
+    chosen, began = random.Random(0), time.monotonic()
+    ran(chosen, given, os.path.join(room, "whole.db"), frames(chosen)[0])
+    return time.monotonic() - began
+
+
+def one(chosen, given, room, most, left):
+    """One journal, with runs that are killed, each after so many seconds at most, until one ends. How many transactions each
+    kill leaves is added to `left`."""
+    made, silent = frames(chosen)
+    path = os.path.join(room, f"{chosen.random()}.db")
+    answered, at, kills, status, tables = {}, 0, 0, None, None
+    while status is None:
+        first = tables.meta[2] if tables else 1
+        seconds = chosen.uniform(0.001, most) if kills < KILLS else None
+        out, told, status = ran(chosen, given, path, made[at:], seconds)
+        count = len(messages.frames(out))
+        answered |= {first - 1 + number: at + number for number in range(count)}
+        at, kills, tables = at + count, kills + 1, tables_of(path)
+        yield from faults_of(given.program, tables, path, answered, silent)
+        left += [len(tables.tx)] if tables and status is None else []
+    if status != 0:
+        yield f"it ended with {status}: {told.decode()}"
+    yield from end_faults(path)
+
+
+def arguments():
+    """The words of the command line."""
     parser = argparse.ArgumentParser(description="Kills runs of the program.")
+    parser.add_argument("--threads", action="store_true", help="runs with sessions as threads")
     parser.add_argument("--seed", type=int, default=random.SystemRandom().randrange(10**9))
-    parser.add_argument("--count", type=int, default=20, help="how many journals; each has up to six kills")
+    parser.add_argument("--count", type=int, default=20, help=f"how many journals; each has up to {KILLS} kills")
     parser.add_argument("--program", default=BUILT)
-    given = parser.parse_args()
-    began, failed = time.monotonic(), 0
+    return parser.parse_args()
+
+
+def main():
+    given = arguments()
+    began, failed, left = time.monotonic(), 0, []
     with tempfile.TemporaryDirectory() as room:
+        most = whole(given, room) / 3
         for number in range(given.count):
-            faults = list(one(random.Random(given.seed + number), given.program, room))
+            faults = list(one(random.Random(given.seed + number), given, room, most, left))
             for fault in faults:
-                print(f"FAILED kills --seed {given.seed + number} --count 1: {fault}")
+                words = "--threads " * given.threads
+                print(f"FAILED kills {words}--seed {given.seed + number} --count 1: {fault}")
             failed += bool(faults)
+    several = sum(count > 1 for count in left)
     print(f"{time.monotonic() - began:.1f} seconds; kills of --seed {given.seed}")
+    print(f"{len(left)} kills of a journal that was made, {sum(map(bool, left))} with something unfinished, {several} with several")
     print(f"{given.count - failed} passed, {failed} failed")
     return 1 if failed else 0
 

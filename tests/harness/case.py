@@ -4,10 +4,10 @@ import difflib
 import os
 import resource
 import shutil
-import subprocess
 import tempfile
-import threading
 from dataclasses import dataclass, field
+
+from harness import inputs
 
 # Long enough for recoveries that are cut at each of their calls, on a busy machine.
 SECONDS = 300
@@ -191,9 +191,8 @@ class Program:
             words[0] = f"{self.room}/bin/cardswitch"
         folder = f"{self.room}/empty" if is_plain and not case.files else self.folder_of(case)
         try:
-            return self.run_in(folder, case, words)
-        except subprocess.TimeoutExpired:
-            return f"$ {case.command}\nit had not ended after {SECONDS} seconds"
+            came = self.run_in(folder, case, words)
+            return f"$ {case.command}\nit had not ended after {SECONDS} seconds" if came.status is None else came
         finally:
             if folder != f"{self.room}/empty":
                 shutil.rmtree(folder, ignore_errors=True)
@@ -206,36 +205,7 @@ class Program:
         return folder
 
     def run_in(self, folder, case, words):
-        how = {"cwd": folder, "env": self.environment, "stdout": subprocess.PIPE, "stderr": subprocess.PIPE}
+        how = {"cwd": folder, "env": self.environment}
         if case.pieces is None:
-            ran = subprocess.run(words, input=case.stdin, timeout=SECONDS, **how)
-            return Came(ran.stdout, ran.stderr, ran.returncode)
-        return run_in_pieces(words, case.pieces, how)
-
-
-def run_in_pieces(words, pieces, how):
-    """Runs a command whose every read of its input gives one piece: a pipe that keeps packets apart."""
-    to_read, to_write = os.pipe2(os.O_DIRECT | os.O_CLOEXEC)
-    with subprocess.Popen(words, stdin=to_read, **how) as process:
-        os.close(to_read)
-        feeding = threading.Thread(target=feed, args=(to_write, pieces))
-        feeding.start()
-        try:
-            stdout, stderr = process.communicate(timeout=SECONDS)
-        except subprocess.TimeoutExpired:
-            process.kill()
-            raise
-        finally:
-            feeding.join()
-    return Came(stdout, stderr, process.returncode)
-
-
-def feed(to_write, pieces):
-    try:
-        for piece in filter(None, pieces):
-            os.write(to_write, piece)
-    except BrokenPipeError:
-        # It has read what it wanted.
-        pass
-    finally:
-        os.close(to_write)
+            return Came(*inputs.run_on_pipe(words, [(0, case.stdin)], SECONDS, how))
+        return Came(*inputs.run_in_packets(words, case.pieces, SECONDS, how))

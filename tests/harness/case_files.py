@@ -4,6 +4,7 @@ import os
 import re
 
 from harness.case import Begins, Case, Exactly, Lines
+from model.messages import framed
 from model.stops import Runs
 
 ESCAPES = {b"n": b"\n", b"t": b"\t", b"r": b"\r", b"s": b" ", b"\\": b"\\", b".": b""}
@@ -40,11 +41,6 @@ def repeated(lines):
     for line in lines:
         found = re.fullmatch(r"([0-9]+) \* (.*)", line)
         yield from [found[2]] * int(found[1]) if found else [line]
-
-
-def framed(message):
-    """The frame of a message: four digits of length, and the message."""
-    return b"%04d" % len(message) + message
 
 
 def bytes_of(section, lines):

@@ -7,6 +7,7 @@ A line for each row: the table's name and the values, in the order of the table'
 layout 2 the table `member` of layout 1 is shown too where it has rows, which it never should.
 """
 
+import contextlib
 import sqlite3
 import sys
 
@@ -25,17 +26,19 @@ def shown(value):
     return value.hex() if isinstance(value, bytes) else str(value)
 
 
-def main():
-    journal = sqlite3.connect(f"file:{sys.argv[1]}?mode=ro", uri=True)
-    for (fault,) in journal.execute("PRAGMA integrity_check"):
-        if fault != "ok":
-            print(f"integrity: {fault}")
-    there = {name for (name,) in journal.execute("SELECT name FROM sqlite_master WHERE type = 'table'")}
-    for table, key in KEYS.items():
-        if table not in there:
-            continue
-        for row in journal.execute(f"SELECT * FROM {table} ORDER BY {key}"):
-            print(table, *map(shown, row))
+def lines(path):
+    """The lines of a journal's file."""
+    with contextlib.closing(sqlite3.connect(f"file:{path}?mode=ro", uri=True)) as journal:
+        for (fault,) in journal.execute("PRAGMA integrity_check"):
+            if fault != "ok":
+                yield f"integrity: {fault}"
+        there = {name for (name,) in journal.execute("SELECT name FROM sqlite_master WHERE type = 'table'")}
+        for table, key in KEYS.items():
+            if table in there:
+                for row in journal.execute(f"SELECT * FROM {table} ORDER BY {key}"):
+                    yield " ".join([table, *map(shown, row)])
 
 
-main()
+if __name__ == "__main__":
+    for line in lines(sys.argv[1]):
+        print(line)

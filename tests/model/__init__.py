@@ -2,9 +2,16 @@
 
 flows       a flow, its check, its image, and what an image or a flow file states
 table       the written table of a transaction, and its trace
+engine      several sessions, their queue and their journal
 script      the lines of a script
+stops       runs of a script whose journal is cut, and their recoveries
+law         the outcome law, as the lines of a trace show it
+journal     the tables of a journal
 pool        what sessions that run as threads did
 messages    messages of ISO 8583:1987, their frames, and what `decode` prints
+switch      the participants of the switch, and what `run` answers
+requests    random requests for `run`
+threads     what the trace of `run --threads` tells, followed line by line
 texts       how the program's messages begin
 generate    random inputs, each with what the model answers
 """

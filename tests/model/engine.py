@@ -1,6 +1,7 @@
 """Several sessions on one queue, their journal, breakpoints, stops and recoveries: what the lines of a script print.
 
 The journal is kept twice: `now`, by all entries, and `written`, by those that were written. A stop leaves `written`.
+What participants reply is asked of `replies`, by the transaction and its due call.
 """
 
 import copy
@@ -22,6 +23,12 @@ class View:
     rows: dict = field(default_factory=dict)
     shelf: dict = field(default_factory=dict)
     advices: dict = field(default_factory=dict)
+    # The names of those who joined, in the order in which they first did.
+    parts: list = field(default_factory=list)
+
+    def put(self, number, row):
+        self.rows[number] = row
+        self.parts += [name for name in row.joined if name not in self.parts]
 
 
 @dataclass
@@ -132,7 +139,7 @@ def steps_of(flow):
 
 
 class Engine:
-    """The engine with its journal and its stations, which answer by queues."""
+    """The engine with its journal and its stations."""
 
     def __init__(self, flow, sessions, replies):
         self.flow, self.replies = flow, replies
@@ -149,6 +156,8 @@ class Engine:
         """Begins from what is written."""
         self.now = copy.deepcopy(self.written)
         self.history, self.mark, self.queue, self.breaks = [], 0, [], set()
+        # The live contexts of the transactions that ended by `done`, by their ids.
+        self.ended = {}
         self.sessions = [None] * len(self.sessions)
         self.recovering = []
         for number, row in sorted(self.now.rows.items()):
@@ -200,7 +209,7 @@ class Engine:
         def change(view, row=its.row()):
             view.next_id += 1
             if row:
-                view.rows[its.id] = row
+                view.put(its.id, row)
 
         self.sessions[number] = its
         self.record(number, its, change)
@@ -211,6 +220,8 @@ class Engine:
         its.last = self.enter(change)
         its.is_let_go = False
         if its.row() is None:
+            if its.due()[0] == "done":
+                self.ended[its.id] = its.live
             self.sessions[number] = None
             self.hold_next()
 
@@ -271,11 +282,11 @@ class Engine:
         if call in ("prepare", "prepare_for_abort"):
             line = self.answer(its, due)
         elif call == "select":
-            text = self.replies.choice(entry.name)
+            text = self.replies.choice(its, due)
             line = table.choice_text(its.table, due, text)
             its.table.chose(text)
         elif call == "recover":
-            put_all(its.live, self.replies.restored(entry.name))
+            put_all(its.live, self.replies.restored(its, due))
             its.is_restored = True
             line = f"{its.phase} recover {entry.name} recovering"
         else:
@@ -285,7 +296,7 @@ class Engine:
         return f"{its.id} {line}{bound} -> {next_text(its.due())}"
 
     def answer(self, its, due):
-        byte, pairs = self.replies.answer(due[1].name)
+        byte, pairs = self.replies.answer(its, due)
         line = table.answer_text(its.table, due, byte)
         put_all(its.live, pairs)
         if not reading(byte) & READONLY:
@@ -296,7 +307,7 @@ class Engine:
     def tell(self, its, due):
         """The line of a told, and its advice with its key."""
         call, entry = due
-        body, place, phase = self.replies.advice(entry.name), its.place(), its.phase
+        body, place, phase = self.replies.advice(its, due), its.place(), its.phase
         if isinstance(its, Running):
             its.table.was_told()
         else:
@@ -314,7 +325,7 @@ class Engine:
             if call == "recover":
                 return
             if row:
-                view.rows[its.id] = row
+                view.put(its.id, row)
             else:
                 view.rows.pop(its.id, None)
             if advice:

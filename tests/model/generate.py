@@ -1,5 +1,6 @@
 """Random inputs of the program, right ones and slightly spoilt ones, each with what the model answers."""
 
+from harness import inputs
 from harness.case import Begins, Case, Exactly
 from model import flows, journal, messages, requests, script, texts
 from model.flows import Entry, Flow, Group, Kind
@@ -551,7 +552,7 @@ def stream(random):
         text = message(random)
         while random.random() < 0.3:
             text = spoil_message(random, text)
-        made.append(b"%04d" % len(text) + text)
+        made.append(messages.framed(text))
     if made and random.random() < 0.3:
         made[-1] = made[-1][: random.randrange(len(made[-1]) + 1)]
     if random.random() < 0.2:
@@ -573,8 +574,7 @@ def decoded(name, text, random=None):
     """The case of `decode` on a stream, in random pieces where there is randomness."""
     case = Case(name, "cardswitch decode", text)
     if random:
-        cuts = sorted(random.randrange(len(text) + 1) for _ in range(random.randint(1, 8)))
-        case.pieces = [text[begin:end] for begin, end in zip([0, *cuts], [*cuts, len(text)])]
+        case.pieces = inputs.cut(random, text)
     printed, is_refused = messages.decoded(text)
     case.stdout = Exactly(printed)
     case.stderr, case.status = (Begins(REFUSED), 1) if is_refused else (Exactly(b""), 0)
@@ -588,7 +588,7 @@ def spoilt_messages():
     """Each proper prefix of a message, and each byte of it by each other value: a frame for each, in one stream."""
     for at in range(len(NETWORK)):
         texts = [NETWORK[:at]] + [NETWORK[:at] + bytes([byte]) + NETWORK[at + 1 :] for byte in range(256)]
-        stream = b"".join(b"%04d" % len(text) + text for text in texts)
+        stream = b"".join(map(messages.framed, texts))
         yield decoded(f"spoilt/decode: byte {at} of a message as any other", stream)
 
 

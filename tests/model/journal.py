@@ -1,9 +1,12 @@
 """A journal's tables in both layouts, their first row at fault, and the view that they hold. docs/FORMATS.md has them."""
 
+import contextlib
 import re
+import sqlite3
 from dataclasses import dataclass, field
 
 from harness.case import Case, Exactly
+from model.engine import Row, View
 
 NAME = re.compile(r"[A-Za-z0-9_.-]{1,32}\Z")
 PHASES = "PACU"
@@ -45,23 +48,28 @@ class Tables:
         return {place: name for (of, place), name in self.names().items() if of == number}
 
 
-def is_context(data):
-    """Whether these are the bytes of a context, which have one spelling."""
+def context_of(data):
+    """The context of which these are the bytes, which have one spelling; None: there is none."""
     if not data:
-        return False
-    count, at, names = data[0], 1, set()
+        return None
+    count, at, context = data[0], 1, {}
     for _ in range(count):
         if at >= len(data):
-            return False
-        name = data[at + 1 : at + 1 + data[at]]
+            return None
+        name = data[at + 1 : at + 1 + data[at]].decode("latin-1")
         at += 1 + data[at]
-        if at + 2 > len(data) or not NAME.match(name.decode("latin-1")) or name in names:
-            return False
-        names.add(name)
-        at += 2 + int.from_bytes(data[at : at + 2], "big")
+        if at + 2 > len(data) or not NAME.match(name) or name in context:
+            return None
+        size = int.from_bytes(data[at : at + 2], "big")
+        context[name] = data[at + 2 : at + 2 + size]
+        at += 2 + size
         if at > len(data):
-            return False
-    return at == len(data) and count <= 64
+            return None
+    return context if at == len(data) and count <= 64 else None
+
+
+def is_context(data):
+    return context_of(data) is not None
 
 
 def tx_fits(tables, number, row, next_id):
@@ -127,6 +135,27 @@ def turned(tables):
         shelf=tables.shelf,
         advice=tables.advice,
     )
+
+
+def view(tables):
+    """The view of tables without a fault."""
+    rows = {}
+    for number, (phase, told, doing, tries, context) in tables.tx.items():
+        joined = [*tables.members(number).values()]
+        rows[number] = Row(PHASES[phase], joined, told, doing or None, tries, context_of(context))
+    shelf = {number: (tries, context_of(context)) for number, (tries, context) in tables.shelf.items()}
+    return View(tables.meta[2], rows, shelf, dict(tables.advice), [*tables.part.values()])
+
+
+def read(path):
+    """The tables of a journal's file of layout 2, as SQLite's own library reads them."""
+    made = Tables(2)
+    with contextlib.closing(sqlite3.connect(path)) as journal:
+        for name, count in (("meta", 1), ("tx", 1), ("part", 1), ("joined", 2), ("shelf", 1), ("advice", 2)):
+            for row in journal.execute(f"SELECT * FROM {name} ORDER BY 1, 2"):
+                key, values = row[:count], row[count:]
+                getattr(made, name)[key if count > 1 else key[0]] = values if len(values) > 1 else values[0]
+    return made
 
 
 def view_lines(tables):

@@ -85,6 +85,34 @@ def decode(text):
     return mti, fields
 
 
+def is_message(text):
+    try:
+        decode(text)
+    except Refused:
+        return False
+    return True
+
+
+def framed(message):
+    """The frame of a message: four digits of length, and the message."""
+    return b"%04d" % len(message) + message
+
+
+def frames(text):
+    """The whole frames with which a text begins."""
+    made, at = [], 0
+    while len(text) >= at + 4 and len(text) >= (end := at + 4 + int(text[at : at + 4])):
+        made.append(text[at:end])
+        at = end
+    return made
+
+
+def shown(text):
+    """Frames as lines, and what is left behind them."""
+    made = frames(text)
+    return b"\n".join([*made, text[sum(map(len, made)) :]])
+
+
 def paragraph(number, message):
     """What is printed for one frame, and whether the message is refused."""
     try:

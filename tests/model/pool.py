@@ -35,15 +35,15 @@ class Shown:
     def show(self, words, live):
         self.words, self.live = words, live
 
-    def answer(self, name):
+    def answer(self, its, due):
         """Each preparation puts the participant's number behind the path."""
         byte = int(self.words[5], 16)
-        return byte, [("path", self.live.get("path", b"") + bytes([self.numbers[name]]))]
+        return byte, [("path", self.live.get("path", b"") + bytes([self.numbers[due[1].name]]))]
 
-    def choice(self, name):
+    def choice(self, its, due):
         return self.words[5].strip("[]")
 
-    def advice(self, name):
+    def advice(self, its, due):
         return b"" if "advice" in self.words else None
 
 

@@ -1,6 +1,6 @@
 """Random streams of requests for `run`, each with the responses and the journal that the model answers."""
 
-from harness.case import Case, Exactly
+from harness.case import Case, Exactly, difference
 from model import messages
 from model.flows import Entry, Flow, Group, Kind
 from model.switch import Switch
@@ -148,6 +148,9 @@ def fields_case(random, name):
     return served(name, whole_flow(), 999_999_999_999_999, made, True)
 
 
+UNREADABLE = [b"", b"0100", b"x" * 30]
+
+
 def stream(random):
     """The messages of a run."""
     before, made = [], []
@@ -157,7 +160,50 @@ def stream(random):
         before.append((mti, fields))
         made.append(messages.encode(mti, fields))
     if random.random() < 0.2:
-        made.insert(random.randrange(len(made) + 1), random.choice([b"", b"0100", b"x" * 30, made[0][:-1]]))
+        made.insert(random.randrange(len(made) + 1), random.choice([*UNREADABLE, made[0][:-1]]))
+    return made
+
+
+def apart(random, count):
+    """Messages whose transactions do not see one another: no card stands in two of them that its limit is asked for."""
+    made = []
+    for number in range(count):
+        mti, fields = request(random, [])
+        if random.random() < 0.15:
+            # (the reversal of a request that never came)
+            mti, fields = reversal(random, (mti, fields))
+        fields = spoilt(random, fields)
+        if len(fields.get(2, b"")) >= 12:
+            fields = fields | {2: fields[2][:2] + b"%010d" % number + fields[2][12:]}
+        made.append(messages.encode(mti, fields))
+    return made
+
+
+def meeting(random, limit, before):
+    """Requests that meet where they are under way at once."""
+    original = mti, fields = authorization(random)
+    what = random.randrange(5)
+    if what == 0:
+        return [original] * random.choice([2, 2, 3, 5])
+    if what == 1:
+        amount = b"%012d" % min((limit // 200 + 1) * 100, 999_999_999_900)
+        return [(mti, fields | {4: amount, 11: b"%06d" % random.randrange(10**6)}) for _ in range(random.choice([2, 3]))]
+    if what == 2:
+        undone = reversal(random, original)
+        return random.choice([[original, undone], [original, undone, undone], [undone, original], [original, undone, original]])
+    return [request(random, before)]
+
+
+def crowd(random, limit, count):
+    """Messages of all classes, at least so many, of which those that meet stand together."""
+    before, made = [], []
+    while len(made) < count:
+        for mti, fields in meeting(random, limit, before):
+            fields = spoilt(random, fields) if random.random() < 0.3 else fields
+            before.append((mti, fields))
+            made.append(messages.encode(mti, fields))
+        if random.random() < 0.05:
+            made.append(random.choice(UNREADABLE))
     return made
 
 
@@ -174,8 +220,8 @@ def served(name, flow, limit, made, is_file):
     frames = switch.run(made)
     if is_file:
         command += " --journal journal.db && tables journal.db"
-        frames += tables(switch)
-    case = Case(name, command, b"".join(b"%04d" % len(it) + it for it in made))
+        frames += "".join(f"{line}\n" for line in tables(switch)).encode()
+    case = Case(name, command, b"".join(map(messages.framed, made)))
     case.files = {"flow.toml": flow_file(flow)}
     case.stdout = Exactly(frames)
     case.stderr = Told(made)
@@ -183,18 +229,25 @@ def served(name, flow, limit, made, is_file):
 
 
 def tables(switch):
-    """What the journal holds at the end: no transaction is unfinished."""
-    lines = [b"meta 1 2", b"meta 2 %d" % switch.next_id]
-    lines += [b"part %d %s" % (number, name.encode()) for number, name in enumerate(switch.parts)]
-    lines += [b"advice %d %d %s" % (*key, switch.advices[key].hex().encode()) for key in sorted(switch.advices)]
-    return b"".join(line + b"\n" for line in lines)
+    """The rows that the journal has at the end: no transaction is unfinished."""
+    now = switch.engine.now
+    lines = ["meta 1 2", f"meta 2 {now.next_id}"]
+    lines += [f"part {number} {name}" for number, name in enumerate(now.parts)]
+    return lines + [f"advice {number} {place} {it.hex()}" for (number, place), it in sorted(now.advices.items())]
+
+
+class Frames(Exactly):
+    """Exactly these frames, each of which is shown as a line where they differ."""
+
+    def wrong(self, name, came):
+        return None if came == self.text else difference(name, *map(messages.shown, (self.text, came)))
 
 
 class Told:
     """On standard error: a line for each message that cannot be read, and no other."""
 
     def __init__(self, made):
-        self.numbers = [number for number, it in enumerate(made, 1) if not is_message(it)]
+        self.numbers = [number for number, it in enumerate(made, 1) if not messages.is_message(it)]
 
     def wrong(self, name, came):
         wanted = [b"cardswitch: message %d is passed over: " % number for number in self.numbers]
@@ -202,11 +255,3 @@ class Told:
         if len(lines) == len(wanted) and all(line.startswith(it) for line, it in zip(lines, wanted)):
             return None
         return f"{name}: wanted messages {self.numbers} to be told, came {came!r}"
-
-
-def is_message(text):
-    try:
-        messages.decode(text)
-    except messages.Refused:
-        return False
-    return True

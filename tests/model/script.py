@@ -43,6 +43,10 @@ def lines_of(script):
     return lines
 
 
+def next_of(queue, otherwise):
+    return queue.popleft() if queue else otherwise
+
+
 class Replies:
     """What the participants reply, each by queues in the order of the lines."""
 
@@ -50,17 +54,17 @@ class Replies:
         self.answers, self.choices = defaultdict(deque), defaultdict(deque)
         self.advices, self.restores = defaultdict(deque), defaultdict(deque)
 
-    def answer(self, name):
-        return self.answers[name].popleft() if self.answers[name] else (0x01, [])
+    def answer(self, _, due):
+        return next_of(self.answers[due[1].name], (0x01, []))
 
-    def choice(self, name):
-        return self.choices[name].popleft() if self.choices[name] else ""
+    def choice(self, _, due):
+        return next_of(self.choices[due[1].name], "")
 
-    def advice(self, name):
-        return self.advices[name].popleft() if self.advices[name] else None
+    def advice(self, _, due):
+        return next_of(self.advices[due[1].name], None)
 
-    def restored(self, name):
-        return self.restores[name].popleft() if self.restores[name] else []
+    def restored(self, _, due):
+        return next_of(self.restores[due[1].name], [])
 
 
 def need(is_right):

@@ -1,9 +1,9 @@
 """The participants of the switch, and what `run` answers. docs/PARTICIPANTS.md and docs/OPERATING.md have them."""
 
-from dataclasses import dataclass, field
+import functools
 
 from model import messages
-from model.table import Transaction
+from model.engine import Engine
 
 # Where the issuers of cards are, by the first digits: the longest counts.
 ROUTES = {b"4": "alpha", b"5": "beta", b"55": "alpha"}
@@ -70,30 +70,28 @@ class Book:
                 item[3] = "reversed"
 
 
-@dataclass
-class Request:
-    """A transaction's context."""
+# A request is read at each call.
+read = functools.lru_cache(messages.decode)
 
-    number: int
-    mti: bytes
-    fields: dict
-    kind: str
-    notes: dict = field(default_factory=dict)
+
+class Request:
+    """A transaction's context, as participants see it: its request, and what they note."""
+
+    def __init__(self, its):
+        self.number, self.notes, self.is_recovered = its.id, its.live, its.recovering != ""
+        self.mti, self.fields = read(its.live["request"])
+        self.kind = CLASSES.get(self.mti)
 
     def refuse(self, code):
         self.notes["rc"] = code
         return 0x40
 
 
-class Switch:
-    """The switch over its flow: answers one message after the other."""
+class Participants:
+    """What the switch's participants reply to the calls of all transactions, made one after the other."""
 
-    def __init__(self, flow, limit, next_id=1):
-        self.flow, self.book, self.next_id = flow, Book(limit), next_id
-        self.first_id = next_id
-        self.advices = {}
-        # The names of those who joined, in the order in which they first did.
-        self.parts = []
+    def __init__(self, limit):
+        self.book = Book(limit)
 
     def check(self, request):
         fields, kind = request.fields, request.kind
@@ -183,60 +181,67 @@ class Switch:
         notes = request.notes
         if name == "limits":
             self.book.release(request.number)
-        if name == "reverse" and "sent" in notes and ("late" in notes or notes.get("rc") == b"00"):
+        may_stand = "sent" in notes and ("late" in notes or notes.get("rc") == b"00")
+        if name == "reverse" and request.kind == "authorization" and (request.is_recovered or may_stand):
             return self.reversal(request)
         return None
 
-    def prepared(self, name, request):
-        return getattr(self, "query" if name.startswith("query_") else name)(request)
+    # What an engine asks of its stations: of a transaction, and its due call with the entry called.
 
-    def selected(self, request):
+    def answer(self, its, due):
+        """The byte; what was put into the context is there."""
+        call, entry = due
+        if call == "prepare_for_abort":
+            return self.respond(Request(its), b"96"), []
+        return getattr(self, "query" if entry.name.startswith("query_") else entry.name)(Request(its)), []
+
+    def choice(self, its, _):
+        request = Request(its)
         if request.kind != "authorization" or "rc" in request.notes:
             return ""
         return route_of(request.fields[2]) or ""
 
-    def step(self, transaction, request):
-        """Makes the due call; whether there was one."""
-        call, entry = transaction.due()
-        if call == "prepare":
-            transaction.answered(self.prepared(entry.name, request))
-        elif call == "prepare_for_abort":
-            transaction.answered(self.respond(request, b"96"))
-        elif call == "select":
-            transaction.chose(self.selected(request))
-        elif call in ("commit", "abort"):
-            made = self.committed if call == "commit" else self.aborted
-            advice = made(entry.name, request)
-            if advice is not None:
-                self.advices[request.number, transaction.told] = advice
-            transaction.was_told()
-        else:
-            return False
-        return True
+    def advice(self, its, due):
+        call, entry = due
+        return (self.committed if call == "commit" else self.aborted)(entry.name, Request(its))
+
+
+def is_accepted(advice):
+    """Whether an issuer accepts an advice."""
+    _, fields = messages.decode(advice)
+    return 2 in fields and route_of(fields[2]) is not None and 11 in fields and 41 in fields
+
+
+class Switch:
+    """The switch over its flow: an engine over its participants."""
+
+    def __init__(self, flow, limit, sessions=1):
+        self.engine = Engine(flow, sessions, Participants(limit))
+
+    def offer(self, message):
+        return self.engine.offer({"request": message})
 
     def answer(self, message):
-        """The response to a message, or None; None for one that cannot be read."""
-        try:
-            mti, fields = messages.decode(message)
-        except messages.Refused:
-            return None
-        request = Request(self.next_id, mti, fields, CLASSES.get(mti))
-        self.next_id += 1
-        transaction = Transaction(self.flow, self.flow.retries)
-        while self.step(transaction, request):
-            names = [member.name for member in transaction.members]
-            self.parts += dict.fromkeys(name for name in names if name not in self.parts)
-        return request.notes.get("response")
+        """Runs the transaction of a request from its offer to its end."""
+        self.offer(message)
+        self.engine.take(0)
+        while self.engine.sessions[0]:
+            self.engine.write()
+            self.engine.call(0)
 
     def send_advices(self):
-        """Sends the stored advices; those that an issuer accepts are dropped."""
-        for place in sorted(self.advices):
-            _, fields = messages.decode(self.advices[place])
-            if 2 in fields and route_of(fields[2]) and 11 in fields and 41 in fields:
-                del self.advices[place]
+        """Sends the stored advices; those that an issuer accepts are dropped. The lines of that."""
+        stored = sorted(self.engine.now.advices.items())
+        return [self.engine.ack(*key) for key, advice in stored if is_accepted(advice)]
+
+    def responses(self):
+        """The frames of the responses to the transactions that ended, ids rising."""
+        contexts = [context for _, context in sorted(self.engine.ended.items())]
+        return b"".join(messages.framed(it["response"]) for it in contexts if "response" in it)
 
     def run(self, requests):
-        """The frames of the responses to these messages."""
-        responses = [self.answer(message) for message in requests]
+        """The frames of the responses to these messages, answered one after the other."""
+        for message in filter(messages.is_message, requests):
+            self.answer(message)
         self.send_advices()
-        return b"".join(b"%04d" % len(response) + response for response in responses if response is not None)
+        return self.responses()

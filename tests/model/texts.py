@@ -25,6 +25,13 @@ FILE = {
     "WrongKind": "{place}: key {key} has a value of the wrong kind",
 }
 
+# Why the stream of `run` is refused, and that a journal is.
+END = {
+    "BadLength": "cardswitch: a frame's length is bad; expected four digits",
+    "Truncated": "cardswitch: the input ends within a frame; found {at} bytes of it",
+}
+REFUSED = "cardswitch: the store of the journal refused: Refused"
+
 
 def place_of(at):
     """A table of a flow file, or a place of a flow: (), (group,) or (group, index)."""

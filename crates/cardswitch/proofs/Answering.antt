@@ -1,6 +1,6 @@
 -- What `run` and `recover` have done, of their parts.
 -- for: requests::answer_by, requests::recover
-use Rattle.std.proofs.Common.{◌≡◌, ◌<◌, ◌≤◌, ℕ, List, Option, Some, None, Result, Ok, Err, IfErr, IfOk, OnOk, Bor, arith, refl, sym, subst}
+use Rattle.std.proofs.Common.{◌≡◌, ◌<◌, ◌≤◌, ℕ, Bool, List, Option, Some, None, Result, Ok, Err, IfErr, IfOk, OnOk, Bor, arith, refl, sym, subst}
 use Rattle.sqlite_trees.specs.declared.store.Store.{Ghosts}
 use Rattle.sqlite_trees.specs.declared.memory.MemStore.{MemStore}
 use Rattle.sqlite.specs.Steps.{over_memory}
@@ -23,29 +23,29 @@ on_ok P Q (Err e) f h = h
 taken : {E : Type 0} (P : Flow → Type 0) (code : Result Flow E) (flow : Flow) → code ≡ Ok flow → P flow → IfOk code P
 taken {E} P code flow same h = subst (λ (c : Result Flow E). IfOk c P) (sym same) h
 
-answered : {S : Type 0} (files : Ghosts S) (flow : Flow) (o : RunOptions) (sessions : ℕ) (j : Seen) (unread before after : Option (List ℕ))
-    → o.limit ≤ 999999999999999 → sessions ≡ o.sessions → IsFound files o.journal j
-    → Served flow sessions j new_sender unread before after → Answered files flow o unread before after
-answered files flow o sessions j unread before after limit same found h =
-    record { limit = limit; journal = j; found = found; served = subst (λ (n : ℕ). Served flow n j new_sender unread before after) same h }
+answered : {S : Type 0} (files : Ghosts S) (flow : Flow) (o : RunOptions) (threads : Bool) (sessions : ℕ) (j : Seen) (unread before after : Option (List ℕ))
+    → o.limit ≤ 999999999999999 → threads ≡ o.threads → sessions ≡ o.sessions → IsFound files o.journal j
+    → Served threads flow sessions j new_sender unread before after → Answered files flow o unread before after
+answered files flow o threads sessions j unread before after limit as_threads same found h =
+    record { limit = limit; journal = j; found = found; served = subst (λ (n : ℕ). Served o.threads flow n j new_sender unread before after) same (subst (λ (b : Bool). Served b flow sessions j new_sender unread before after) as_threads h) }
 
-pub answered_by_file : {S : Type 0} (files : Ghosts S) (flow : Flow) (code : Result Flow RunError) (o : RunOptions) (sessions : ℕ) (path : Bor (List ℕ)) (journal : Kept S) (unread before after : Option (List ℕ)) (r : Result (Unit {0}) RunError)
-    → code ≡ Ok flow → o.limit ≤ 999999999999999 → sessions ≡ o.sessions → o.journal ≡ Some path → IsOfFile files path.now journal
-    → OnOk r (Served flow sessions (seen (kept files journal)) new_sender unread before after)
+pub answered_by_file : {S : Type 0} (files : Ghosts S) (flow : Flow) (code : Result Flow RunError) (o : RunOptions) (threads : Bool) (sessions : ℕ) (path : Bor (List ℕ)) (journal : Kept S) (unread before after : Option (List ℕ)) (r : Result (Unit {0}) RunError)
+    → code ≡ Ok flow → o.limit ≤ 999999999999999 → threads ≡ o.threads → sessions ≡ o.sessions → o.journal ≡ Some path → IsOfFile files path.now journal
+    → OnOk r (Served threads flow sessions (seen (kept files journal)) new_sender unread before after)
     → IfOk code (λ f. OnOk r (Answered files f o unread before after))
-answered_by_file files flow code o sessions path journal unread before after r took limit same named opened h =
+answered_by_file files flow code o threads sessions path journal unread before after r took limit as_threads same named opened h =
     let found : IsFound files o.journal (seen (kept files journal)) = subst (λ (x : Option (Bor (List ℕ))). IsFound files x (seen (kept files journal))) (sym named) (journal, opened, refl) in
     taken (λ f. OnOk r (Answered files f o unread before after)) code flow took
-    (on_ok _ _ r (answered files flow o sessions (seen (kept files journal)) unread before after limit same found) h)
+    (on_ok _ _ r (answered files flow o threads sessions (seen (kept files journal)) unread before after limit as_threads same found) h)
 
-pub answered_in_memory : {S : Type 0} (files : Ghosts S) (flow : Flow) (code : Result Flow RunError) (o : RunOptions) (sessions : ℕ) (journal : Kept MemStore) (unread before after : Option (List ℕ)) (r : Result (Unit {0}) RunError)
-    → code ≡ Ok flow → o.limit ≤ 999999999999999 → sessions ≡ o.sessions → o.journal ≡ None → IsNewJournal journal
-    → OnOk r (Served flow sessions (seen (kept over_memory journal)) new_sender unread before after)
+pub answered_in_memory : {S : Type 0} (files : Ghosts S) (flow : Flow) (code : Result Flow RunError) (o : RunOptions) (threads : Bool) (sessions : ℕ) (journal : Kept MemStore) (unread before after : Option (List ℕ)) (r : Result (Unit {0}) RunError)
+    → code ≡ Ok flow → o.limit ≤ 999999999999999 → threads ≡ o.threads → sessions ≡ o.sessions → o.journal ≡ None → IsNewJournal journal
+    → OnOk r (Served threads flow sessions (seen (kept over_memory journal)) new_sender unread before after)
     → IfOk code (λ f. OnOk r (Answered files f o unread before after))
-answered_in_memory files flow code o sessions journal unread before after r took limit same none opened h =
+answered_in_memory files flow code o threads sessions journal unread before after r took limit as_threads same none opened h =
     let found : IsFound files o.journal (seen (kept over_memory journal)) = subst (λ (x : Option (Bor (List ℕ))). IsFound files x (seen (kept over_memory journal))) (sym none) (journal, opened, refl) in
     taken (λ f. OnOk r (Answered files f o unread before after)) code flow took
-    (on_ok _ _ r (answered files flow o sessions (seen (kept over_memory journal)) unread before after limit same found) h)
+    (on_ok _ _ r (answered files flow o threads sessions (seen (kept over_memory journal)) unread before after limit as_threads same found) h)
 
 served_fault : (o : RunOptions) (before after : Option (List ℕ)) (e : RunError) → o.limit ≤ 999999999999999 → IsServeFault e → IsRunFault o before after e
 served_fault o before after (error.Serve e) limit h = (limit, h)

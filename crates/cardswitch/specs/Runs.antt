@@ -1,6 +1,6 @@
 -- What `run` and `recover` have done, and why they end early. What a file holds no clause can say; the flow of a flow
 -- file is one that is checked.
-use Rattle.std.specs.Prelude.{◌≡◌, ◌≢◌, ◌<◌, ◌≤◌, ⊤, ℕ, false, List, [], Option, Some}
+use Rattle.std.specs.Prelude.{◌≡◌, ◌≢◌, ◌<◌, ◌≤◌, ⊤, ℕ, Bool, false, List, [], Option, Some}
 use Rattle.std.specs.Borrow.{Bor}
 use Rattle.sqlite_trees.specs.declared.store.Store.{Ghosts}
 use Rattle.flow_model.specs.Check.{IsChecked}
@@ -14,6 +14,7 @@ use Rattle.cli_run.specs.Advices.{AdviceStep}
 use Rattle.cli_run.specs.Links.{sender_of}
 use Rattle.cli_run.specs.Ran.{Printed, Ran}
 use Rattle.cli_run.specs.Requests.{ReadTo, requests}
+use Rattle.cli_run.specs.Rounds.{Round, RoundsFor}
 use Rattle.cli_run.specs.declared.stream.StreamEnd.TheVariants.{Whole}
 use Rattle.cli_run.specs.declared.error.ServeError.TheVariants as serve
 use Rattle.cardswitch.specs.Journals.{IsFound, IsFoundAt}
@@ -28,19 +29,21 @@ issuer_step = SendsAdvice Sends Receives (λ s. ⊥) (Unit {0})
 abbrev pub new_sender : PlainSender
 new_sender = sender_of (shown_issuer false []) (shown_issuer false [])
 
--- over this journal the requests of a whole input were answered
-pub record Served (flow : Flow) (sessions : ℕ) (j : Seen) (sender : PlainSender) (unread before after : Option (List ℕ)) : Type 0 where
+-- over this journal the requests of a whole input were answered, one after the other, or by threads in batches
+pub record Served (threads : Bool) (flow : Flow) (sessions : ℕ) (j : Seen) (sender : PlainSender) (unread before after : Option (List ℕ)) : Type 0 where
   pub frames : List (List ℕ)
   pub reads : ReadTo Whole unread frames
-  pub ran : Ran flow sessions j issuer_step sender (requests frames) before after
+  pub rounds : List Round
+  pub answers : RoundsFor threads (requests frames) rounds
+  pub ran : Ran flow sessions j issuer_step sender rounds before after
 
 -- `run` has answered the requests of its input by this flow, over the journal that it found, with as many sessions as it was
--- given, under a limit that a card may have
+-- given, as threads or not, under a limit that a card may have
 pub record Answered {S : Type 0} (files : Ghosts S) (flow : Flow) (o : RunOptions) (unread before after : Option (List ℕ)) : Type 0 where
   pub limit : o.limit ≤ 999999999999999
   pub journal : Seen
   pub found : IsFound files o.journal journal
-  pub served : Served flow o.sessions journal new_sender unread before after
+  pub served : Served o.threads flow o.sessions journal new_sender unread before after
 
 -- `recover` has finished what the journal of the file has unfinished, and printed its lines
 pub record Recovered {S : Type 0} (files : Ghosts S) (flow : Flow) (path : List ℕ) (before after : Option (List ℕ)) : Type 0 where

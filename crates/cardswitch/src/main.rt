@@ -31,7 +31,7 @@ fn main(rt: HostRuntime) -> ExitCode {
         Err(error) => return ExitCode::from(program::refuse_words(error, &mut err)),
     };
     ExitCode::from(match options(alloc, words.as_slice()) {
-        Ok(options) => program::run(alloc, &rt, &options, rt.stdin(), &mut out, &mut err),
+        Ok(options) => program::run(&rt, alloc, &rt, &options, rt.stdin(), &mut out, &mut err),
         Err(error) => program::refuse(&error, &mut out, &mut err),
     })
 }

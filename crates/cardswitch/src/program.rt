@@ -22,11 +22,14 @@ use sqlite_store::FileStore;
 use sqlite_trees::store::Store;
 use std::alloc::Global;
 use std::io::{self, ErrorKind, Read, Write};
+use std::sync::Wait;
+use std::thread::Threads;
 
 /// Runs a subcommand, and gives the exit status: 0 where it is done, or else that of the error, which
 /// is told. What it prints goes to `out`, and the error's text to `err`. Files that the options name
-/// are opened through `rt`.
-pub fn run<R: Read + Drop, O: Write, E: Write>(
+/// are opened through `rt`, and sessions run as threads by `threads`.
+pub fn run<T: Threads + Wait + Sync, R: Read + Drop, O: Write, E: Write>(
+    threads: &T,
     alloc: Global,
     rt: &HostRuntime,
     options: &Options<'_>,
@@ -41,7 +44,7 @@ pub fn run<R: Read + Drop, O: Write, E: Write>(
     ensures failed { result ≢ 0 → IsFailed options.now
         (R.remaining input) (O.contents out.old) (O.contents out.new) result }
 {
-    match run_subcommand(options, alloc, rt, input, out, err) {
+    match run_subcommand(options, threads, alloc, rt, input, out, err) {
         Ok(()) => 0,
         Err(error) => tell(&error, err),
     }
@@ -104,8 +107,9 @@ fn decode<R: Read + Drop, O: Write>(alloc: Global, input: R, out: &mut O) -> Res
     Ok(())
 }
 
-fn run_subcommand<R: Read + Drop, O: Write, E: Write>(
+fn run_subcommand<T: Threads + Wait + Sync, R: Read + Drop, O: Write, E: Write>(
     options: &Options<'_>,
+    threads: &T,
     alloc: Global,
     rt: &HostRuntime,
     input: R,
@@ -123,8 +127,8 @@ fn run_subcommand<R: Read + Drop, O: Write, E: Write>(
         Options::Asm => asm(alloc, input, out),
         Options::List => list(alloc, input, out),
         Options::Decode => decode(alloc, input, out),
-        Options::Recover { flow, journal } => recover(alloc, rt, flow, journal, out),
-        Options::Run(options) => answer_requests(alloc, rt, options, input, out, err),
+        Options::Recover { flow, journal } => recover(threads, alloc, rt, flow, journal, out),
+        Options::Run(options) => { answer_requests(threads, alloc, rt, options, input, out, err) }
     }
 }
 

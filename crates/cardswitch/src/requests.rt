@@ -22,6 +22,8 @@ use sqlite_store::FileStore;
 use sqlite_trees::store::Store;
 use std::alloc::Global;
 use std::io::{Empty, Read, Write};
+use std::sync::Wait;
+use std::thread::Threads;
 use sw_book::Book;
 use sw_issuers::Issuer;
 use sw_parts::Link;
@@ -44,10 +46,11 @@ fn issuers(alloc: Global) -> Issuers
     }
 }
 
-fn setup(alloc: Global, limit: u64, sessions: usize) -> Result<Setup, RunError>
+fn setup(alloc: Global, limit: u64, sessions: usize, threads: bool) -> Result<Setup, RunError>
     ensures limit { IfOk result (λ _. limit ≤ 999999999999999) }
     ensures book { IfOk result (λ s. s.book ≡ record { limit = limit; items = [] }) }
     ensures sessions { IfOk result (λ s. s.sessions ≡ sessions) }
+    ensures threads { IfOk result (λ s. s.threads ≡ threads) }
     ensures sender { IfOk result (λ s. sender_of (⟦<Issuer as Link>⟧.state s.advised.alpha)
         (⟦<Issuer as Link>⟧.state s.advised.beta) ≡ new_sender) }
     ensures refused { IfErr result (λ e. (e ≡ RunError.BadLimit) × (999999999999999 < limit)) }
@@ -61,13 +64,15 @@ fn setup(alloc: Global, limit: u64, sessions: usize) -> Result<Setup, RunError>
             queried: issuers(alloc),
             advised: issuers(alloc),
             sessions,
+            threads,
         }),
         Err(_) => unreachable!(),
     }
 }
 
 // Runs over a journal.
-fn serve<S: Alter + Drop, R: Read + Drop, O: Write, E: Write>(
+fn serve<S: Alter + Drop, T: Threads + Wait + Sync, R: Read + Drop, O: Write, E: Write>(
+    threads: &T,
     alloc: Global,
     code: &Code,
     journal: Journal<S>,
@@ -78,14 +83,14 @@ fn serve<S: Alter + Drop, R: Read + Drop, O: Write, E: Write>(
 ) -> Result<(), RunError>
     requires { sender_of (⟦<Issuer as Link>⟧.state setup.advised.alpha)
         (⟦<Issuer as Link>⟧.state setup.advised.beta) ≡ new_sender }
-    ensures served { OnOk result (IfSome input (λ reader. Served code.now setup.sessions
+    ensures served { OnOk result (IfSome input (λ reader. Served setup.threads code.now setup.sessions
         (seen (kept S.Store journal)) new_sender
         (R.remaining reader) (O.contents out.old) (O.contents out.new))) }
     ensures printed { OnOk result (IfNone input (Printed code.now setup.sessions
         (seen (kept S.Store journal)) (O.contents out.old) (O.contents out.new))) }
     ensures failed { IfErr result IsServeFault }
 {
-    Ok(run(alloc, code, journal, setup, input, out, told)?.into_result()?)
+    Ok(run(threads, alloc, code, journal, setup, input, out, told)?.into_result()?)
 }
 
 // The steps of the flow in the file at a path.
@@ -109,7 +114,8 @@ fn told_by<'a, E>(options: &RunOptions<'_>, err: &'a mut E) -> Told<'a, E>
 
 // Answers the requests of an input by a flow. (The flow comes as what became of its file, so that contracts can say that
 // its fault is the first.)
-fn answer_by<R: Read + Drop, O: Write, E: Write>(
+fn answer_by<T: Threads + Wait + Sync, R: Read + Drop, O: Write, E: Write>(
+    threads: &T,
     alloc: Global,
     rt: &HostRuntime,
     code: Result<Code, RunError>,
@@ -128,22 +134,46 @@ fn answer_by<R: Read + Drop, O: Write, E: Write>(
         (IsRunFault options.now (O.contents out.old) (O.contents out.new))) }
 {
     let code = code?;
-    let setup = setup(alloc, options.limit, options.sessions as usize)?;
+    let setup = setup(
+        alloc,
+        options.limit,
+        options.sessions as usize,
+        options.threads,
+    )?;
     let mut told = told_by(options, err);
     match options.journal {
         Some(path) => {
             let journal = open_file(alloc, rt, path)?;
-            serve(alloc, &code, journal, setup, Some(input), out, &mut told)
+            serve(
+                threads,
+                alloc,
+                &code,
+                journal,
+                setup,
+                Some(input),
+                out,
+                &mut told,
+            )
         }
         None => {
             let journal = open_in_memory(alloc)?;
-            serve(alloc, &code, journal, setup, Some(input), out, &mut told)
+            serve(
+                threads,
+                alloc,
+                &code,
+                journal,
+                setup,
+                Some(input),
+                out,
+                &mut told,
+            )
         }
     }
 }
 
 /// Answers the requests of an input, over a journal in memory or in the file that the options name.
-pub fn answer_requests<R: Read + Drop, O: Write, E: Write>(
+pub fn answer_requests<T: Threads + Wait + Sync, R: Read + Drop, O: Write, E: Write>(
+    threads: &T,
     alloc: Global,
     rt: &HostRuntime,
     options: &RunOptions<'_>,
@@ -158,11 +188,12 @@ pub fn answer_requests<R: Read + Drop, O: Write, E: Write>(
         (IsRunFault options.now (O.contents out.old) (O.contents out.new)) }
 {
     let code = code_at(alloc, rt, options.flow);
-    answer_by(alloc, rt, code, options, input, out, err)
+    answer_by(threads, alloc, rt, code, options, input, out, err)
 }
 
 /// Finishes what the journal in a file has unfinished, and prints the lines.
-pub fn recover<O: Write>(
+pub fn recover<T: Threads + Wait + Sync, O: Write>(
+    threads: &T,
     alloc: Global,
     rt: &HostRuntime,
     flow: &str,
@@ -176,7 +207,7 @@ pub fn recover<O: Write>(
         (IsRecoverFault flow.now journal.now (O.contents out.old) (O.contents out.new)) }
 {
     let code = code_at(alloc, rt, flow)?;
-    let setup = setup(alloc, LIMIT, 1)?;
+    let setup = setup(alloc, LIMIT, 1, false)?;
     let journal = open_file(alloc, rt, journal)?;
     let mut sink = std::io::sink();
     let mut told = Told {
@@ -184,5 +215,5 @@ pub fn recover<O: Write>(
         trace: false,
     };
     let input: Option<Empty> = None;
-    serve(alloc, &code, journal, setup, input, out, &mut told)
+    serve(threads, alloc, &code, journal, setup, input, out, &mut told)
 }

@@ -52,9 +52,9 @@ decode_app = new_app (codes "decode")
 abbrev pub recover_app : App
 recover_app = with_rule (with_rule (new_app (codes "recover")) (needed_rule (codes "flow"))) (needed_rule (codes "journal"))
 
--- `run --flow PATH [--journal PATH] [--sessions N] [--limit N] [--trace]`
+-- `run --flow PATH [--journal PATH] [--sessions N] [--limit N] [--threads] [--trace]`
 abbrev pub run_app : App
-run_app = with_rule (with_rule (with_rule (with_rule (with_rule (new_app (codes "run")) (needed_rule (codes "flow"))) (option_rule (codes "journal"))) (option_rule (codes "sessions"))) (option_rule (codes "limit"))) (flag_rule (codes "trace"))
+run_app = with_rule (with_rule (with_rule (with_rule (with_rule (with_rule (new_app (codes "run")) (needed_rule (codes "flow"))) (option_rule (codes "journal"))) (option_rule (codes "sessions"))) (option_rule (codes "limit"))) (flag_rule (codes "threads"))) (flag_rule (codes "trace"))
 
 -- the program itself: it has a version, and wants a subcommand
 abbrev pub program_app : App
@@ -89,6 +89,7 @@ pub record AreRunOptions (rows : List Row) (o : RunOptions) : Type 0 where
   pub journal : text_of o.journal ≡ first_of (codes "journal") rows
   pub sessions : number_in 1 (first_of (codes "sessions") rows) ≡ Some o.sessions
   pub limit : number_in 10000 (first_of (codes "limit") rows) ≡ Some o.limit
+  pub threads : o.threads ≡ is_set (first_of (codes "threads") rows)
   pub trace : o.trace ≡ is_set (first_of (codes "trace") rows)
 
 -- the options are those of the subcommand `name`, whose own options are in the rows

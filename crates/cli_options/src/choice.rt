@@ -36,6 +36,8 @@ pub struct RunOptions<'a> {
     pub sessions: u64,
     /// What a card may spend, in minor units of its currency; 10,000 where nothing is said.
     pub limit: u64,
+    /// Whether the sessions run as threads.
+    pub threads: bool,
     /// Whether the trace is printed on standard error at the end.
     pub trace: bool,
 }

@@ -81,6 +81,7 @@ fn run_options<'a>(found: &ArgMatches<'a>) -> Result<RunOptions<'a>, OptionsErro
         journal: text_at(found, "journal"),
         sessions: number_in("sessions", text_at(found, "sessions"), 1)?,
         limit: number_in("limit", text_at(found, "limit"), 10_000)?,
+        threads: is_set(text_at(found, "threads")),
         trace: is_set(text_at(found, "trace")),
     })
 }

@@ -98,9 +98,15 @@ const COMMANDS: [CommandRow<'static>; 6] = [
                 is_required: false,
             },
             OptionRow {
+                name: "threads",
+                value: None,
+                help: "Runs the sessions as threads, many requests at once; without it session 0 runs each",
+                is_required: false,
+            },
+            OptionRow {
                 name: "trace",
                 value: None,
-                help: "Prints all lines of the trace on standard error at the end",
+                help: "Prints all lines of the trace on standard error at the end, with --threads as they come",
                 is_required: false,
             },
         ],

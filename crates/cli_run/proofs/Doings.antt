@@ -12,13 +12,11 @@ use Rattle.tx_engine.specs.World.{World}
 use Rattle.tx_journal.specs.declared.error.JournalError.{JournalError}
 use Rattle.tx_plant.specs.declared.turn.Outcome.{Outcome}
 use Rattle.tx_plant.specs.declared.turn.Outcome.TheVariants as outcome
-use Rattle.tx_plant.specs.declared.turn.PlantError.{PlantError}
 use Rattle.tx_plant.specs.declared.turn.Turn.{Turn}
 use Rattle.tx_plant.specs.declared.turn.Turn.TheVariants as turn
-use Rattle.tx_plant.specs.Core.{Core}
 use Rattle.tx_plant.specs.Steps.{Moved}
 use Rattle.tx_plant.specs.Plant.{Driven, GoesOn, Seen, Turned, Whole, Writes, journal_fault, raised}
-use Rattle.plant_outcome.specs.Lives.{AllDriven, Done, Drive, DrivenBy}
+use Rattle.plant_outcome.specs.Lives.{AllDriven, Done, Drive}
 use Rattle.cli_run.specs.Points.{IsAllWritten, Point}
 use Rattle.cli_run.specs.Rounds.{Acts, Does, IsDone, doing}
 

@@ -12,3 +12,5 @@ mod Runs
 mod Readings
 mod Stops
 mod Halted
+mod Below
+mod Batched

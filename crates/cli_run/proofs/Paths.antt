@@ -1,6 +1,6 @@
 -- All calls of `drive` that a run makes, one after the other.
 -- for: laws::runs_keep_the_law
-use Rattle.std.proofs.Common.{◌≡◌, ℕ, Bool, true, false, List, [], ◌∷◌, ◌++◌, Option, refl, sym, ap, subst, ◌∙◌}
+use Rattle.std.proofs.Common.{◌≡◌, ◌⊎◌, ℕ, Bool, true, false, inl, inr, List, [], ◌∷◌, ◌++◌, Option, refl, sym, ap, subst}
 use Rattle.flow_model.specs.declared.flow.Flow.{Flow}
 use Rattle.sw_context.specs.Pairs.{Pairs}
 use Rattle.sw_issuers.specs.Sending.{PlainSender}
@@ -10,10 +10,10 @@ use Rattle.tx_plant.specs.declared.turn.Turn.TheVariants as turn
 use Rattle.tx_plant.specs.Plant.{Seen, Whole}
 use Rattle.tx_plant.specs.Steps.{Moved}
 use Rattle.plant_outcome.specs.Lives.{AllDriven, Drive}
-use Rattle.cli_run.specs.Advices.{Acks, AdviceStep, Sends, SendsAll}
+use Rattle.cli_run.specs.Advices.{Acks, AdviceStep, SendsAll}
 use Rattle.cli_run.specs.Points.{Point, is_long, world_at}
 use Rattle.cli_run.specs.Ran.{Begins, Ran, ServesAll}
-use Rattle.cli_run.specs.Rounds.{Acts, Completed, Completes, CutsIf, CutsLong, Does, Goes, Offered, Released, Round}
+use Rattle.cli_run.specs.Rounds.{Acts, Batched, Completed, Completes, CutsIf, CutsLong, Does, Goes, Offered, Released, Round, Runs, Trimmed}
 use Rattle.cli_run.proofs.Doings.{all_driven_append}
 
 pub record Path (p q : Whole) : Type 0 where
@@ -47,11 +47,20 @@ cuts_path p q cuts = cuts_by (is_long (world_at p)) p q cuts.cuts
 completes_path : (p q : Point) (bytes : List ℕ) → Completes p bytes q → Path p.plant q.plant
 completes_path p q bytes c = path_then p.plant c.ended.plant q.plant (acts_path _ p c.ended c.transacts.acts) (cuts_path _ q c.cuts)
 
+runs_path : (xs : List Pairs) (p q : Point) (bytes : List ℕ) → Runs xs p bytes q → Path p.plant q.plant
+runs_path xs p q bytes runs = subst (λ (z : Point). Path p.plant z.plant) (sym runs.answered) (acts_path _ p runs.ended runs.together.acts)
+
+may_cut_path : (p q : Point) → (q ≡ p) ⊎ ((o : Outcome) × Does turn.Cut o p q) → Path p.plant q.plant
+may_cut_path p q (inl same) = path_none p.plant q.plant (ap (λ (z : Point). z.plant) same)
+may_cut_path p q (inr (o, does)) = does_path turn.Cut o p q does
+
 goes_path : (rounds : List Round) (p q : Point) (bytes : List ℕ) → Goes rounds p bytes q → Path p.plant q.plant
 goes_path [] p q bytes (none, same) = path_none p.plant q.plant (ap (λ (z : Point). z.plant) same)
 goes_path (Offered x ∷ rs) p q bytes (ready, o, w, does, more) = path_then p.plant w.plant q.plant (does_path (turn.Offer x) o p w does) (goes_path rs w q bytes more)
 goes_path (Completed ∷ rs) p q bytes (w, first, later, completes, more, all) = path_then p.plant w.plant q.plant (completes_path p w first completes) (goes_path rs w q later more)
 goes_path (Released ∷ rs) p q bytes (o, w, does, more) = path_then p.plant w.plant q.plant (does_path turn.Release o p w does) (goes_path rs w q bytes more)
+goes_path (Batched xs ∷ rs) p q bytes (ready, w, first, later, runs, more, all) = path_then p.plant w.plant q.plant (runs_path xs p w first runs) (goes_path rs w q later more)
+goes_path (Trimmed ∷ rs) p q bytes (w, cuts, more) = path_then p.plant w.plant q.plant (may_cut_path p w cuts.cuts) (goes_path rs w q bytes more)
 
 acks_path : (b : Bool) (place : ℕ × ℕ) (p q : Point) → Acks b place p q → Path p.plant q.plant
 acks_path true place p q (o, does) = does_path (turn.Ack place.0 place.1) o p q does
@@ -62,8 +71,8 @@ sends_path step is_old [] s t p q (sent, same) = path_none p.plant q.plant (ap (
 sends_path step is_old (a ∷ xs) s t p q (u, w, first, more) =
     path_then p.plant w.plant q.plant (acks_path first.accepted a.0 p w first.acks) (sends_path step is_old xs u t w q more)
 
-serves_path : (step : AdviceStep) (first : ℕ) (offers : List Pairs) (p : Point) (sender : PlainSender) (before after : Option (List ℕ)) → (s : ServesAll step first offers p sender before after) → Path p.plant s.end.plant
-serves_path step first offers p sender before after s =
+serves_path : (step : AdviceStep) (first : ℕ) (rounds : List Round) (p : Point) (sender : PlainSender) (before after : Option (List ℕ)) → (s : ServesAll step first rounds p sender before after) → Path p.plant s.end.plant
+serves_path step first rounds p sender before after s =
     path_then p.plant s.begun.plant s.end.plant (cuts_path p s.begun s.cuts)
     (path_then s.begun.plant s.served.plant s.end.plant (goes_path _ s.begun s.served s.serves.bytes s.serves.goes)
     (path_then s.served.plant s.drained.plant s.end.plant (goes_path s.drains.rounds s.served s.drained s.drains.serves.bytes s.drains.serves.goes)
@@ -72,7 +81,7 @@ serves_path step first offers p sender before after s =
 pub begins_path : (f : Flow) (n : ℕ) (j : Seen) (p : Point) → (b : Begins f n j p) → Path b.made p.plant
 begins_path f n j p b = acts_path _ _ p b.recovers.acts
 
-pub ran_path : (f : Flow) (n : ℕ) (j : Seen) (step : AdviceStep) (sender : PlainSender) (offers : List Pairs) (before after : Option (List ℕ)) → (r : Ran f n j step sender offers before after) → Path r.begins.made r.serves.end.plant
-ran_path f n j step sender offers before after r =
+pub ran_path : (f : Flow) (n : ℕ) (j : Seen) (step : AdviceStep) (sender : PlainSender) (rounds : List Round) (before after : Option (List ℕ)) → (r : Ran f n j step sender rounds before after) → Path r.begins.made r.serves.end.plant
+ran_path f n j step sender rounds before after r =
     path_then r.begins.made r.recovered.plant r.serves.end.plant (begins_path f n j r.recovered r.begins)
-    (serves_path step r.begins.view.next_id offers r.recovered sender before after r.serves)
+    (serves_path step r.begins.view.next_id rounds r.recovered sender before after r.serves)

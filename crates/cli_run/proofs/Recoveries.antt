@@ -1,6 +1,6 @@
 -- A new plant recovers, and is at rest then.
 -- for: serving::Switch::recover
-use Rattle.std.proofs.Common.{◌≡◌, ◌<◌, ◌≤◌, ℕ, zero, suc, ◌+◌, ◌-◌, Bool, true, false, inl, inr, List, [], ◌∷◌, ◌++◌, drop, get_or, Option, Some, None, Result, Ok, Err, refl, sym, ap, subst, arith, ◌∙◌}
+use Rattle.std.proofs.Common.{◌≡◌, ◌<◌, ◌≤◌, ℕ, zero, suc, ◌-◌, Bool, true, false, inl, inr, List, [], ◌∷◌, ◌++◌, get_or, Option, Some, None, Result, Ok, refl, sym, ap, subst, arith, ◌∙◌}
 use Rattle.std.specs.Prelude.{◌⊎◌, replicate}
 use Rattle.std.specs.List.{AllByRecursion}
 use Rattle.std.specs.declared.alloc.AllocError.{AllocError}
@@ -17,34 +17,33 @@ use Rattle.tx_machine.specs.Due.{due_of, participant_of}
 use Rattle.tx_history.specs.declared.event.Event.{Event}
 use Rattle.tx_history.specs.declared.event.Event.TheVariants.{Closed}
 use Rattle.tx_history.specs.declared.journal.JournalView.{JournalView}
-use Rattle.tx_history.specs.History.{Start, arrivals, has_break, is_held_at, is_let_go, on_break, or_taken, recovering, serves, state_of, taken, takes}
-use Rattle.tx_history.specs.Lives.{closes_of, opened}
+use Rattle.tx_history.specs.History.{Start, arrivals, has_break, is_held_at, on_break, recovering, state_of, taken, takes}
+use Rattle.tx_history.specs.Lives.{closes_of}
 use Rattle.tx_history.specs.Journal.{to_close}
 use Rattle.tx_history.proofs.OwnItems.{holds_serves}
 use Rattle.tx_history.proofs.RecoveredSessions.{none_taken}
 use Rattle.tx_history.proofs.Sessions.{recovering_below, serves_who}
-use Rattle.tx_slots.specs.declared.next.Next.{Next}
 use Rattle.tx_slots.specs.declared.next.Next.TheVariants as next
 use Rattle.tx_slots.specs.DueCalls.{next_by}
 use Rattle.tx_engine.specs.World.{World, happened}
-use Rattle.tx_engine.specs.Calls.{held_id, next_in, next_of, waits}
+use Rattle.tx_engine.specs.Calls.{held_id, next_in, waits}
 use Rattle.tx_engine.specs.Opening.{first_start, opened_world}
 use Rattle.tx_plant.specs.declared.seat.Seat.{Seat}
 use Rattle.tx_plant.specs.declared.turn.Outcome.{Outcome}
 use Rattle.tx_plant.specs.declared.turn.PlantError.{PlantError}
 use Rattle.tx_plant.specs.declared.turn.Turn.{Turn}
 use Rattle.tx_plant.specs.declared.turn.Turn.TheVariants as turn
-use Rattle.tx_plant.specs.Core.{Core, Reseats, Stepped, newcomer, seat_of}
-use Rattle.tx_plant.specs.Plant.{Driven, Fresh, GoesOn, Seen, Turned, Whole}
+use Rattle.tx_plant.specs.Core.{Core, Stepped, newcomer, seat_of}
+use Rattle.tx_plant.specs.Plant.{Driven, GoesOn, Seen, Turned, Whole}
 use Rattle.tx_plant.specs.Recovery.{IsHeld, IsRecovered, IsRecovery}
 use Rattle.tx_plant.specs.Steps.{Moved, event_of}
-use Rattle.plant_outcome.specs.Lives.{Done, Drive, IsMade}
+use Rattle.plant_outcome.specs.Lives.{Done, IsMade}
 use Rattle.plant_outcome.specs.Seated.{Seated, seat_id}
-use Rattle.cli_run.specs.Points.{IsAllWritten, IsAtRest, Point, above}
+use Rattle.cli_run.specs.Points.{above}
 use Rattle.cli_run.specs.Rounds.{Acts, Recovers}
 use Rattle.cli_run.proofs.Doings.{Marked, acts_once, acts_then, marked, unraised}
 use Rattle.cli_run.proofs.Ended.{not_above}
-use Rattle.cli_run.proofs.SessionSteps.{Adds, Enters, Steps, gives_by, steps_of}
+use Rattle.cli_run.proofs.SessionSteps.{Adds, Enters, gives_by, steps_of}
 
 -- what the laws of plants say of a turn's seats
 abbrev pub TurnsSeat : Type 0
@@ -53,7 +52,7 @@ TurnsSeat = (t : Turn) (r : Result Outcome PlantError) (m : List Moved) (p q : W
 abbrev pub AreBelow : ℕ → List (ℕ × Pairs) → Type 0
 AreBelow n es = AllByRecursion (λ e. e.0 < n) es
 
-below_insert : (n id : ℕ) (x : Pairs) (es : List (ℕ × Pairs)) → id < n → AreBelow n es → AreBelow n (insert_entry nat_cmp es id x)
+pub below_insert : (n id : ℕ) (x : Pairs) (es : List (ℕ × Pairs)) → id < n → AreBelow n es → AreBelow n (insert_entry nat_cmp es id x)
 below_insert n id x [] lt h = (lt, tt)
 below_insert n id x (e ∷ es) lt h = by_order (nat_cmp id e.0) (below_insert n id x es lt h.1) where
   by_order : (r : Ordering) → AreBelow n (insert_entry nat_cmp es id x) → AreBelow n (match_ordering r ((id, x) ∷ e ∷ es) ((e.0, x) ∷ es) (e ∷ insert_entry nat_cmp es id x))
@@ -127,7 +126,7 @@ quiet_reply w reply.Recovered x = record { view_is = refl; taken = refl; arrived
 quiet_same : (w to : World) → to ≡ w → Quiet w to
 quiet_same w to same = rw same (record { view_is = refl; taken = refl; arrived = refl; breaks = λ p. refl })
 
-quiet : (w to : World) → Enters w to → Quiet w to
+quiet : (w to : World) → Enters 0 w to → Quiet w to
 quiet w to (inl same) = quiet_same w to same
 quiet w to (inr (r, x, is)) = subst (Quiet w) (sym is) (quiet_reply w r x)
 
@@ -141,7 +140,7 @@ recovered_low view c l b there =
       who (inl own) = subst (λ (v : JournalView). l.id < v.next_id) b.view_is (recovering_below c.world.flow c.world.start c.world.past l.id b.seated.engine.start.view.ordered own.0)
       who (inr took) = absurd (let none = none_taken c.world.start c.world.past 0 b.taken in cc)
 
-low_then : (view : JournalView) (p q : Core) → Begun view p → Adds p q → AreBelow view.next_id q.ended
+low_then : (view : JournalView) (p q : Core) → Begun view p → Adds 0 p q → AreBelow view.next_id q.ended
 low_then view p q b (inl same) = subst (AreBelow view.next_id) (sym same) b.low
 low_then view p q b (inr (l, x, there, more)) = subst (AreBelow view.next_id) (sym more) (below_insert view.next_id l.id x p.ended (recovered_low view p l b there) b.low)
 

@@ -1,8 +1,6 @@
 -- Turns by which no session goes on leave a switch at rest.
 -- for: switch::Switch, serving::Switch, advices::send_advices
-use Rattle.std.proofs.Common.{◌≡◌, ◌<◌, ◌≤◌, ℕ, ◌+◌, Bool, true, false, List, [], ◌∷◌, ◌++◌, drop, length, Option, Some, None, Result, Ok, Err, refl, sym, ap, subst, arith, ◌∙◌}
-use Rattle.std.specs.Prelude.{⊤}
-use Rattle.std.specs.declared.alloc.AllocError.{AllocError}
+use Rattle.std.proofs.Common.{◌≡◌, ◌<◌, ◌≤◌, ℕ, ◌+◌, Bool, true, false, List, [], ◌∷◌, ◌++◌, drop, length, Option, Some, None, Ok, refl, sym, ap, subst, arith, ◌∙◌, inl, inr}
 use Rattle.std.proofs.lemmas.List.{drop_all, length-append, length-drop}
 use Rattle.sw_context.specs.Pairs.{Pairs}
 use Rattle.sw_context.specs.Spelling.{bytes_of}
@@ -20,13 +18,12 @@ use Rattle.tx_engine.specs.Calls.{ack_refusal, held_id, offer_refusal, waits}
 use Rattle.tx_engine.specs.Cuts.{cut_world}
 use Rattle.tx_plant.specs.declared.turn.Outcome.{Outcome}
 use Rattle.tx_plant.specs.declared.turn.Outcome.TheVariants as outcome
-use Rattle.tx_plant.specs.declared.turn.Turn.{Turn}
 use Rattle.tx_plant.specs.declared.turn.Turn.TheVariants as turn
 use Rattle.tx_plant.specs.Core.{Core, seat_of}
 use Rattle.tx_plant.specs.Turns.{Cuts, Logs}
 use Rattle.plant_outcome.specs.Seated.{Seated, seat_id}
-use Rattle.cli_run.specs.Points.{IsAllWritten, IsAtRest, IsReady, Point, above, ended_at, is_long, next_at, unanswered, world_at}
-use Rattle.cli_run.specs.Rounds.{CutsIf, CutsLong, Does, IsDone, IsEmptied}
+use Rattle.cli_run.specs.Points.{IsAllWritten, IsAtRest, IsReady, Point, above, ended_at, is_long, next_at, world_at}
+use Rattle.cli_run.specs.Rounds.{CutsIf, CutsLong, Does, IsDone, IsEmptied, MayCut}
 use Rattle.cli_run.proofs.Doings.{did, entries_length, unraised}
 
 -- the world is another, and all else of the plant's core is the same
@@ -147,6 +144,12 @@ cut_short p q o does = let cut = cut_to o p q does in subst (λ (w : World). is_
 pub long_cut : (p q : Point) (o : Outcome) → is_long (world_at p) ≡ true → Does turn.Cut o p q → CutsLong p q
 long_cut p q o long does = record { cuts = rw long (o, does); short = cut_short p q o does }
 
+pub may_cut : (p q : Point) (o : Outcome) → Does turn.Cut o p q → MayCut p q
+may_cut p q o does = record { cuts = inr (o, does); short = cut_short p q o does }
+
+pub may_keep : (p : Point) → is_long (world_at p) ≡ false → MayCut p p
+may_keep p short = record { cuts = inl refl; short = short }
+
 pub short_kept : (p : Point) → is_long (world_at p) ≡ false → CutsLong p p
 short_kept p short = record { cuts = rw short refl; short = short }
 
@@ -163,6 +166,12 @@ cuts_waits p q cuts = cuts_waits_by (is_long (world_at p)) p q cuts.cuts
 
 pub ready_cut : (p q : Point) → CutsLong p q → IsAtRest q → waits (world_at p) ≡ [] → IsReady q
 ready_cut p q cuts rest empty = record { rest = rest; recovered = at_rest_recovered q rest; empty = cuts_waits p q cuts ∙ empty; short = cuts.short }
+
+pub kept_ready : (p : Point) → IsAtRest p → waits (world_at p) ≡ [] → is_long (world_at p) ≡ false → IsReady p
+kept_ready p rest empty short = record { rest = rest; recovered = at_rest_recovered p rest; empty = empty; short = short }
+
+pub cut_ready : (p q : Point) (o : Outcome) → IsAtRest p → waits (world_at p) ≡ [] → Does turn.Cut o p q → Seated q.plant.core → IsReady q
+cut_ready p q o rest empty does seated = kept_ready q (cut_rest p q o rest does seated) (cut_waits p q (cut_to o p q does) ∙ empty) (cut_short p q o does)
 
 -- events at rest
 

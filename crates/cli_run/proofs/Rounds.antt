@@ -1,7 +1,7 @@
 -- Rounds one after the other, and what they give.
 -- for: switch::Switch, stream::Requests, serving::Switch
-use Rattle.std.proofs.Common.{◌≡◌, ◌<◌, ◌≤◌, ℕ, ◌+◌, Bool, true, false, cond, List, [], ◌∷◌, ◌++◌, drop, Option, Some, None, Result, Ok, Err, refl, sym, ap, subst, arith, ◌∙◌, append_assoc, append-nil}
-use Rattle.std.specs.Prelude.{nat_lt, ◌&&◌}
+use Rattle.std.proofs.Common.{◌≡◌, ◌<◌, ◌≤◌, ℕ, ◌+◌, Bool, true, false, cond, List, [], ◌∷◌, ◌++◌, Option, Some, None, Result, Ok, Err, refl, sym, ap, subst, arith, ◌∙◌, append_assoc, append-nil}
+use Rattle.std.specs.Prelude.{◌&&◌}
 use Rattle.std.specs.declared.cmp.Ordering.TheVariants.{Greater}
 use Rattle.std.specs.Ordering.{is_lt, nat_cmp}
 use Rattle.std.specs.BTreeMap.{insert_entry}
@@ -15,12 +15,11 @@ use Rattle.std.proofs.lemmas.Map.Keys.{ge_from_not_lt}
 use Rattle.std.proofs.lemmas.Result.{err_from_is_err_and}
 use Rattle.sw_context.specs.Pairs.{Pairs}
 use Rattle.sw_frame.specs.Stream.{AreFramed}
-use Rattle.tx_engine.specs.Calls.{waits}
 use Rattle.tx_plant.specs.declared.turn.Outcome.{Outcome}
 use Rattle.tx_plant.specs.declared.turn.Turn.TheVariants as turn
 use Rattle.plant_outcome.specs.Seated.{Seated}
 use Rattle.cli_run.specs.Points.{IsAtRest, IsReady, Point, above, all_answered, ended_at, last_id, next_at, response_of, responses, unanswered, with_ended, world_at}
-use Rattle.cli_run.specs.Rounds.{Completed, Completes, CutsLong, Does, Drains, Goes, IsEmptied, IsRetry, Offered, Released, Round, Serves, Transacts, answering}
+use Rattle.cli_run.specs.Rounds.{Batched, Completed, Completes, CutsLong, Does, Drains, Goes, IsEmptied, IsRetry, MayCut, Offered, Released, Round, Runs, Serves, Transacts, Trimmed, answering}
 use Rattle.cli_run.proofs.Ended.{is_above}
 use Rattle.cli_run.proofs.Resting.{at_rest_recovered, cuts_waits, offered_one}
 
@@ -33,6 +32,10 @@ goes_append (Completed ∷ ds) bs p q r xs ys (w, first, later, completes, more,
     (w, first, later ++ ys, completes, goes_append ds bs w q r later ys more h, ap (λ (l : List ℕ). l ++ ys) all ∙ append_assoc first later ys)
 goes_append (Released ∷ ds) bs p q r xs ys (o, w, does, more) h =
     (o, w, does, goes_append ds bs w q r xs ys more h)
+goes_append (Batched rs ∷ ds) bs p q r xs ys (ready, w, first, later, runs, more, all) h =
+    (ready, w, first, later ++ ys, runs, goes_append ds bs w q r later ys more h, ap (λ (l : List ℕ). l ++ ys) all ∙ append_assoc first later ys)
+goes_append (Trimmed ∷ ds) bs p q r xs ys (w, cuts, more) h =
+    (w, cuts, goes_append ds bs w q r xs ys more h)
 
 pub serves_none : (p : Point) (o : Option (List ℕ)) → Serves [] p o p o
 serves_none p o = record { bytes = []; goes = (refl, refl); appends = Appends-nil o }
@@ -56,6 +59,16 @@ serves_completed p q bytes a b completes appends = record {
   goes = (q, bytes, [], completes, (refl, refl), sym (append-nil bytes));
   appends = appends;
 }
+
+pub serves_batch : (xs : List Pairs) (p q : Point) (bytes : List ℕ) (a b : Option (List ℕ)) → IsReady p → Runs xs p bytes q → Appends a b bytes → Serves (Batched xs ∷ []) p a q b
+serves_batch xs p q bytes a b ready runs appends = record {
+  bytes = bytes;
+  goes = (ready, q, bytes, [], runs, (refl, refl), sym (append-nil bytes));
+  appends = appends;
+}
+
+pub serves_trimmed : (p q : Point) (a : Option (List ℕ)) → MayCut p q → Serves (Trimmed ∷ []) p a q a
+serves_trimmed p q a cuts = record { bytes = []; goes = (q, cuts, (refl, refl)); appends = Appends-nil a }
 
 -- the response of the transaction that ended is the only one that is not given
 

@@ -1,9 +1,8 @@
 -- A whole run of its parts.
 -- for: serving::Over::run
-use Rattle.std.proofs.Common.{◌≡◌, ℕ, ◌-◌, List, Option, Some, None, Result, Ok, Err, refl, sym, ap, subst, ◌∙◌}
+use Rattle.std.proofs.Common.{◌≡◌, ℕ, ◌-◌, List, Option, Result, Ok, Err, ap, subst, ◌∙◌}
 use Rattle.std.specs.Prelude.{IfOk}
 use Rattle.std.specs.Io.KnownBytes.{Appends}
-use Rattle.sw_context.specs.Pairs.{Pairs}
 use Rattle.flow_model.specs.declared.flow.Flow.{Flow}
 use Rattle.sw_issuers.specs.Sending.{PlainSender}
 use Rattle.tx_history.specs.declared.journal.JournalView.{JournalView}
@@ -12,8 +11,8 @@ use Rattle.plant_outcome.specs.Lives.{IsMade}
 use Rattle.cli_run.specs.Advices.{AdviceStep}
 use Rattle.cli_run.specs.Lines.{lines_in}
 use Rattle.cli_run.specs.Points.{Point, world_at}
-use Rattle.cli_run.specs.Ran.{Begins, Printed, Ran, ServesAll, made_at}
-use Rattle.cli_run.specs.Rounds.{Recovers}
+use Rattle.cli_run.specs.Ran.{Begins, Printed, Ran, ServesAll}
+use Rattle.cli_run.specs.Rounds.{Recovers, Round}
 use Rattle.cli_run.proofs.Recoveries.{made_view}
 
 -- the id from which on a run's own transactions are
@@ -34,14 +33,14 @@ begun f n view j made first id r is first_at before recovers =
       recovers = subst (λ (k : ℕ). Recovers (record { plant = made; answered = k }) r) answered (recovers f n view j is answered);
     }
 
-pub ran : (f : Flow) (n : ℕ) (view : JournalView) (j : Seen) (made : Whole) (first id : ℕ) (r : Point) (step : AdviceStep) (sender : PlainSender) (offers : List Pairs) (a b : Option (List ℕ))
+pub ran : (f : Flow) (n : ℕ) (view : JournalView) (j : Seen) (made : Whole) (first id : ℕ) (r : Point) (step : AdviceStep) (sender : PlainSender) (rounds : List Round) (a b : Option (List ℕ))
     → IsMade f n view j made → first ≡ made.core.world.start.view.next_id → id ≡ first - 1 → FirstRecovers (record { plant = made; answered = id }) r
-    → ServesAll step first offers r sender a b → Ran f n j step sender offers a b
+    → ServesAll step first rounds r sender a b → Ran f n j step sender rounds a b
 unfolding begun
-ran f n view j made first id r step sender offers a b is first_at before recovers serves = record {
+ran f n view j made first id r step sender rounds a b is first_at before recovers serves = record {
   recovered = r;
   begins = begun f n view j made first id r is first_at before recovers;
-  serves = subst (λ (k : ℕ). ServesAll step k offers r sender a b) (first_is f n view j made first is first_at) serves;
+  serves = subst (λ (k : ℕ). ServesAll step k rounds r sender a b) (first_is f n view j made first is first_at) serves;
 }
 
 pub printed : (f : Flow) (n : ℕ) (view : JournalView) (j : Seen) (made : Whole) (first id : ℕ) (r : Point) (a b : Option (List ℕ))

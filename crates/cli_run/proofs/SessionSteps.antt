@@ -1,6 +1,6 @@
--- A step of session 0: what it leaves of queue and takes, of the other sessions, and of the contexts that ended.
--- for: switch::Switch::serve_next, serving::Switch::recover
-use Rattle.std.proofs.Common.{◌≡◌, ◌≢◌, ◌⊎◌, ℕ, zero, suc, Bool, true, false, inl, inr, List, [], ◌∷◌, Option, Some, None, Result, Ok, Err, get_or, refl, sym, ap, subst, ◌∙◌}
+-- A step of a session: what it leaves of queue and takes, and of the contexts that ended; one of session 0, of the other sessions.
+-- for: switch::Switch::serve_next, serving::Switch::recover, batches::Switch::answer_batch
+use Rattle.std.proofs.Common.{◌≡◌, ◌⊎◌, ℕ, suc, Bool, true, false, inl, inr, List, Option, Some, None, Result, Ok, Err, get_or, refl, ap, subst, ◌∙◌}
 use Rattle.std.specs.Prelude.{slice_set}
 use Rattle.std.specs.declared.alloc.AllocError.{AllocError}
 use Rattle.std.specs.Ordering.{nat_cmp}
@@ -8,7 +8,6 @@ use Rattle.std.specs.BTreeMap.{insert_entry}
 use Rattle.sw_context.specs.Pairs.{Pairs}
 use Rattle.sw_participant.specs.declared.call.Call.{Call}
 use Rattle.sw_participant.specs.declared.call.Reply.{Reply}
-use Rattle.flow_model.specs.declared.flow.Flow.{Flow}
 use Rattle.tx_machine.specs.declared.values.Due.{Due}
 use Rattle.tx_machine.specs.declared.values.Due.TheVariants as due
 use Rattle.tx_machine.specs.Due.{due_of}
@@ -30,17 +29,22 @@ use Rattle.tx_plant.specs.Core.{Core, ReseatsBy, Served, Stepped, fate_after, fa
 use Rattle.tx_plant.proofs.SeatFates.{leaves_by}
 use Rattle.plant_outcome.proofs.SeatReplies.{set_there}
 
--- where a reply of session 0 leads the engine, if one was recorded
-abbrev pub Enters : World → World → Type 0
-Enters w to = (to ≡ w) ⊎ ((r : Reply) × (x : Pairs) × (to ≡ happened w (event_of 0 r x)))
+-- where a reply of a session leads the engine, if one was recorded
+abbrev pub Enters : ℕ → World → World → Type 0
+Enters s w to = (to ≡ w) ⊎ ((r : Reply) × (x : Pairs) × (to ≡ happened w (event_of s r x)))
 
--- the contexts that ended are the same, or there is that of the transaction that session 0 held
-abbrev pub Adds : Core → Core → Type 0
-Adds p q = (q.ended ≡ p.ended) ⊎ ((l : Seat) × (x : Pairs) × (seat_of p 0 ≡ Some l) × (q.ended ≡ insert_entry nat_cmp p.ended l.id x))
+-- the contexts that ended are the same, or there is that of the transaction that the session held
+abbrev pub Adds : ℕ → Core → Core → Type 0
+Adds s p q = (q.ended ≡ p.ended) ⊎ ((l : Seat) × (x : Pairs) × (seat_of p s ≡ Some l) × (q.ended ≡ insert_entry nat_cmp p.ended l.id x))
 
+pub record Stepping (s : ℕ) (p q : Core) : Type 0 where
+  pub enters : Enters s p.world q.world
+  pub adds : Adds s p q
+
+-- of session 0
 pub record Steps (p q : Core) : Type 0 where
-  pub enters : Enters p.world q.world
-  pub adds : Adds p q
+  pub enters : Enters 0 p.world q.world
+  pub adds : Adds 0 p q
   pub others : (s : ℕ) → seat_of q (suc s) ≡ seat_of p (suc s)
 
 pub steps_none : (p q : Core) → q ≡ p → Steps p q
@@ -74,60 +78,75 @@ same_id : (n : Next) (told : ℕ) (l t : Seat) (m : List Moved) (r : Reply) → 
 same_id n told l t m r (kept, inl rests) = ap (λ (z : Seat). z.id) rests.0
 same_id n told l t m r (kept, inr calls) = ap (λ (z : Seat). z.id) calls.seat
 
-pub record Replies (w : World) (l t : Seat) (to : World) : Type 0 where
-  pub enters : Enters w to
+pub record Replies (s : ℕ) (w : World) (l t : Seat) (to : World) : Type 0 where
+  pub enters : Enters s w to
   pub id : t.id ≡ l.id
 
-replies_rests : (w to : World) (l t : Seat) (m : List Moved) → Rests l t m → to ≡ w → Replies w l t to
-replies_rests w to l t m rests same = record { enters = inl same; id = ap (λ (z : Seat). z.id) rests.0 }
+replies_rests : (s : ℕ) (w to : World) (l t : Seat) (m : List Moved) → Rests l t m → to ≡ w → Replies s w l t to
+replies_rests s w to l t m rests same = record { enters = inl same; id = ap (λ (z : Seat). z.id) rests.0 }
 
-replies : (w to : World) (l t : Seat) (m : List Moved) (r : Result Outcome AllocError) → Serves w 0 l t m r to → Replies w l t to
-replies w to l t m (Ok (outcome.Accepted n)) (c, r, asked, seat, recorded) = record {
+replies : (s : ℕ) (w to : World) (l t : Seat) (m : List Moved) (r : Result Outcome AllocError) → Serves w s l t m r to → Replies s w l t to
+replies s w to l t m (Ok (outcome.Accepted n)) (c, r, asked, seat, recorded) = record {
   enters = inr (r, c.context, recorded.history);
   id = ap (λ (z : Seat). z.id) seat ∙ same_id _ _ l c m r asked;
 }
-replies w to l t m (Ok (outcome.Refused e)) (inl stands) = replies_rests w to l t m stands.2 stands.3
-replies w to l t m (Ok (outcome.Refused e)) (inr (r, refused, (asked, same))) = record { enters = inl same; id = same_id _ _ l t m r asked }
-replies w to l t m (Ok outcome.Idle) stands = replies_rests w to l t m stands.2 stands.3
-replies w to l t m (Ok outcome.Unwritten) stands = replies_rests w to l t m stands.2 stands.3
-replies w to l t m (Ok (outcome.Held call)) stands = replies_rests w to l t m stands.2 stands.3
-replies w to l t m (Ok (outcome.Written n)) stands = replies_rests w to l t m stands.2 stands.3
-replies w to l t m (Ok (outcome.Restarted n)) stands = replies_rests w to l t m stands.2 stands.3
-replies w to l t m (Ok (outcome.Cut n)) stands = replies_rests w to l t m stands.2 stands.3
-replies w to l t m (Err e) (inl rests) = replies_rests w to l t m rests.0 rests.1
-replies w to l t m (Err e) (inr (r, (asked, same))) = record { enters = inl same; id = same_id _ _ l t m r asked }
+replies s w to l t m (Ok (outcome.Refused e)) (inl stands) = replies_rests s w to l t m stands.2 stands.3
+replies s w to l t m (Ok (outcome.Refused e)) (inr (r, refused, (asked, same))) = record { enters = inl same; id = same_id _ _ l t m r asked }
+replies s w to l t m (Ok outcome.Idle) stands = replies_rests s w to l t m stands.2 stands.3
+replies s w to l t m (Ok outcome.Unwritten) stands = replies_rests s w to l t m stands.2 stands.3
+replies s w to l t m (Ok (outcome.Held call)) stands = replies_rests s w to l t m stands.2 stands.3
+replies s w to l t m (Ok (outcome.Written n)) stands = replies_rests s w to l t m stands.2 stands.3
+replies s w to l t m (Ok (outcome.Restarted n)) stands = replies_rests s w to l t m stands.2 stands.3
+replies s w to l t m (Ok (outcome.Cut n)) stands = replies_rests s w to l t m stands.2 stands.3
+replies s w to l t m (Err e) (inl rests) = replies_rests s w to l t m rests.0 rests.1
+replies s w to l t m (Err e) (inr (r, (asked, same))) = record { enters = inl same; id = same_id _ _ l t m r asked }
 
-adds_by : (row : Option (ℕ × Option Row)) (item : Option (ℕ × Waiting)) (p : Core) (l t : Seat) (to : World) → seat_of p 0 ≡ Some l → t.id ≡ l.id → Adds p (left p 0 (fate_by row item) t to)
-adds_by None item p l t to there id = inl refl
-adds_by (Some (k, Some r)) item p l t to there id = inl refl
-adds_by (Some (k, None)) None p l t to there id = inr (l, t.context, there, ap (λ (n : ℕ). insert_entry nat_cmp p.ended n t.context) id)
-adds_by (Some (k, None)) (Some x) p l t to there id = inl refl
+adds_by : (s : ℕ) (row : Option (ℕ × Option Row)) (item : Option (ℕ × Waiting)) (p : Core) (l t : Seat) (to : World) → seat_of p s ≡ Some l → t.id ≡ l.id → Adds s p (left p s (fate_by row item) t to)
+adds_by s None item p l t to there id = inl refl
+adds_by s (Some (k, Some r)) item p l t to there id = inl refl
+adds_by s (Some (k, None)) None p l t to there id = inr (l, t.context, there, ap (λ (n : ℕ). insert_entry nat_cmp p.ended n t.context) id)
+adds_by s (Some (k, None)) (Some x) p l t to there id = inl refl
 
-adds_of : (r : Result Outcome AllocError) (p : Core) (l t : Seat) (w to : World) → seat_of p 0 ≡ Some l → t.id ≡ l.id → Adds p (left p 0 (fate_after r w) t to)
-adds_of (Ok (outcome.Accepted n)) p l t w to there id = adds_by (change w.flow w.start w.past).row (change w.flow w.start w.past).shelved p l t to there id
-adds_of (Ok (outcome.Refused e)) p l t w to there id = inl refl
-adds_of (Ok outcome.Idle) p l t w to there id = inl refl
-adds_of (Ok outcome.Unwritten) p l t w to there id = inl refl
-adds_of (Ok (outcome.Held c)) p l t w to there id = inl refl
-adds_of (Ok (outcome.Written n)) p l t w to there id = inl refl
-adds_of (Ok (outcome.Restarted n)) p l t w to there id = inl refl
-adds_of (Ok (outcome.Cut n)) p l t w to there id = inl refl
-adds_of (Err e) p l t w to there id = inl refl
+adds_of : (s : ℕ) (r : Result Outcome AllocError) (p : Core) (l t : Seat) (w to : World) → seat_of p s ≡ Some l → t.id ≡ l.id → Adds s p (left p s (fate_after r w) t to)
+adds_of s (Ok (outcome.Accepted n)) p l t w to there id = adds_by s (change w.flow w.start w.past).row (change w.flow w.start w.past).shelved p l t to there id
+adds_of s (Ok (outcome.Refused e)) p l t w to there id = inl refl
+adds_of s (Ok outcome.Idle) p l t w to there id = inl refl
+adds_of s (Ok outcome.Unwritten) p l t w to there id = inl refl
+adds_of s (Ok (outcome.Held c)) p l t w to there id = inl refl
+adds_of s (Ok (outcome.Written n)) p l t w to there id = inl refl
+adds_of s (Ok (outcome.Restarted n)) p l t w to there id = inl refl
+adds_of s (Ok (outcome.Cut n)) p l t w to there id = inl refl
+adds_of s (Err e) p l t w to there id = inl refl
 
-adds_same : (p q r : Core) → Adds p q → r.ended ≡ q.ended → Adds p r
-adds_same p q r (inl none) same = inl (same ∙ none)
-adds_same p q r (inr (l, x, there, more)) same = inr (l, x, there, same ∙ more)
+adds_same : (s : ℕ) (p q r : Core) → Adds s p q → r.ended ≡ q.ended → Adds s p r
+adds_same s p q r (inl none) same = inl (same ∙ none)
+adds_same s p q r (inr (l, x, there, more)) same = inr (l, x, there, same ∙ more)
+
+-- what the session leaves of its transaction, before session 0 is given another
+abbrev left_at : (s : ℕ) (p q : Core) (r : Result Outcome AllocError) → Seat → Core
+left_at s p q r after = left p s (fate_after r q.world) after q.world
+
+gives_of : (s : ℕ) (p q : Core) (m : List Moved) (r : Result Outcome AllocError) → (h : Served p s m r q) → Gives (left_at s p q r h.after) q
+gives_of s p q m r h =
+    let to = left_at s p q r h.after in
+    leaves_by (fate_after r q.world) to q (Gives to q) h.leaves (gives_none to q) (gives_by (seat_of to 0) (newcomer to) to q)
+
+stepping_served : (s : ℕ) (p q : Core) (m : List Moved) (r : Result Outcome AllocError) → Served p s m r q → Stepping s p q
+stepping_served s p q m r h =
+    let reply = replies s p.world q.world h.before h.after m r h.serves in
+    record {
+      enters = reply.enters;
+      adds = adds_same s p (left_at s p q r h.after) q (adds_of s r p h.before h.after q.world q.world h.seated reply.id) (gives_of s p q m r h).ended;
+    }
+
+pub stepping_of : (s : ℕ) (p q : Core) (m : List Moved) (r : Result Outcome AllocError) → Stepped p s m r q → Stepping s p q
+stepping_of s p q m r (inl stood) = (let same : q ≡ p = stood.0.1 in rw same (record { enters = inl refl; adds = inl refl }))
+stepping_of s p q m r (inr served) = stepping_served s p q m r served
 
 steps_served : (p q : Core) (m : List Moved) (r : Result Outcome AllocError) → Served p 0 m r q → Steps p q
 steps_served p q m r h =
-    let to = left p 0 (fate_after r q.world) h.after q.world in
-    let gives : Gives to q = leaves_by (fate_after r q.world) to q (Gives to q) h.leaves (gives_none to q) (gives_by (seat_of to 0) (newcomer to) to q) in
-    let reply = replies p.world q.world h.before h.after m r h.serves in
-    record {
-      enters = reply.enters;
-      adds = adds_same p to q (adds_of r p h.before h.after q.world q.world h.seated reply.id) gives.ended;
-      others = λ s. gives.others s ∙ other_seats p.seats _ s;
-    }
+    let k = stepping_served 0 p q m r h in
+    record { enters = k.enters; adds = k.adds; others = λ s. (gives_of 0 p q m r h).others s ∙ other_seats p.seats _ s }
 
 pub steps_of : (p q : Core) (m : List Moved) (r : Result Outcome AllocError) → Stepped p 0 m r q → Steps p q
 steps_of p q m r (inl stood) = steps_none p q stood.0.1

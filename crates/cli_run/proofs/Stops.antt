@@ -1,9 +1,9 @@
 -- What is written where a switch ends with an error.
--- for: switch::Switch, stream::Requests, serving::Switch, serving::Over
-use Rattle.std.proofs.Common.{◌≡◌, ◌<◌, ◌⊎◌, ℕ, ◌+◌, List, [], ◌∷◌, ◌++◌, length, map, take, drop, get_or, Option, Result, Ok, Err, refl, sym, ap, subst, ◌∙◌, append_assoc, append-nil, inl, inr}
+-- for: switch::Switch, stream::Requests, serving::Switch, serving::Over, batches::Switch, batches::Requests
+use Rattle.std.proofs.Common.{◌≡◌, ◌<◌, ◌⊎◌, ℕ, ◌+◌, Bool, true, false, List, [], ◌∷◌, ◌++◌, length, map, take, drop, get_or, Option, Result, Ok, Err, refl, sym, ap, subst, ◌∙◌, append_assoc, append-nil, inl, inr}
 use Rattle.std.specs.Global.{Vec}
 use Rattle.std.specs.Prelude.{IfOk, OnErr, OnOk}
-use Rattle.std.specs.Io.KnownBytes.{Appends, Consumes}
+use Rattle.std.specs.Io.KnownBytes.{Appends}
 use Rattle.std.specs.List.{AllByRecursion}
 use Rattle.cli_io.specs.Written.{AppendsBeginning}
 use Rattle.cli_io.proofs.Writing.{beginning_all, beginning_none}
@@ -13,11 +13,11 @@ use Rattle.sw_frame.specs.Stream.{AreFramed, State, blank}
 use Rattle.iso_codec.specs.Reads.{read}
 use Rattle.tx_plant.specs.declared.turn.Outcome.{Outcome}
 use Rattle.tx_plant.specs.declared.turn.Turn.TheVariants as turn
-use Rattle.cli_run.specs.Points.{IsAtRest, IsReady, Point, all_answered, responses, unanswered}
-use Rattle.cli_run.specs.Requests.{FramesIn, Reads, if_read, request_of, requests}
-use Rattle.cli_run.specs.Rounds.{Completed, Does, Drains, IsRetry, Offered, Released, Round, Serves, Transacts, answering}
-use Rattle.cli_run.specs.Stopped.{Answers, BeginsWith, DrainsSome, GivesSome, Halts, HaltsOn, IsOfNext, StopsBehind, StopsWithin}
-use Rattle.cli_run.proofs.Readings.{nothing_read, reads_piece, requests_append, requests_front, requests_next}
+use Rattle.cli_run.specs.Points.{IsAtRest, IsReady, Point, responses, unanswered}
+use Rattle.cli_run.specs.Requests.{Reads, ReadsOn, if_read, request_of, requests}
+use Rattle.cli_run.specs.Rounds.{Batched, Completed, Does, Drains, IsOfBatches, IsRetry, Offered, Released, Round, Serves, ServesFor, Transacts, Trimmed, answering, offered_in}
+use Rattle.cli_run.specs.Stopped.{DrainsSome, GivesSome, Halts, HaltsOn, HaltsToward, IsOfNext, StopsWithin}
+use Rattle.cli_run.proofs.Readings.{nothing_read, requests_append, requests_front, requests_next}
 use Rattle.cli_run.proofs.Rounds.{Empties, answering_append, gives_own, retries_append, serves_none, serves_offer, serves_then}
 
 nothing_next : (rounds : List Round) (p : Point) → IsOfNext rounds p []
@@ -25,6 +25,8 @@ nothing_next [] p = refl
 nothing_next (Offered x ∷ rounds) p = refl
 nothing_next (Completed ∷ rounds) p = inl refl
 nothing_next (Released ∷ rounds) p = refl
+nothing_next (Batched xs ∷ rounds) p = inl refl
+nothing_next (Trimmed ∷ rounds) p = refl
 
 -- none of them was done
 pub halts_none : (rounds : List Round) (p : Point) (a : Option (List ℕ)) → Halts rounds p a a
@@ -73,6 +75,8 @@ more_next [] others p text none = subst (IsOfNext others p) (sym none) (nothing_
 more_next (Offered x ∷ rounds) others p text h = h
 more_next (Completed ∷ rounds) others p text h = h
 more_next (Released ∷ rounds) others p text h = h
+more_next (Batched xs ∷ rounds) others p text h = h
+more_next (Trimmed ∷ rounds) others p text h = h
 
 -- others were to come
 pub halts_before : (ds bs : List Round) (p : Point) (a b : Option (List ℕ)) → Halts ds p a b → Halts (ds ++ bs) p a b
@@ -135,9 +139,68 @@ pub halts_answers : (xs ys : List Pairs) (p : Point) (a b : Option (List ℕ)) �
 halts_answers xs ys p a b h =
     subst (λ (l : List Round). Halts l p a b) (sym (answering_append xs ys)) (halts_before (answering xs) (answering ys) p a b h)
 
-pub halts_frames : (frames more : List (List ℕ)) (p q : Point) (a b c : Option (List ℕ)) → Serves (answering (requests frames)) p a q b → Halts (answering (requests more)) q b c → Halts (answering (requests (frames ++ more))) p a c
-halts_frames frames more p q a b c serves h =
-    subst (λ (l : List Pairs). Halts (answering l) p a c) (sym (requests_append frames more)) (halts_answering (requests frames) (requests more) p q a b c serves h)
+-- in batches, or one after the other
+
+pub offered_append : (rs ss : List Round) → offered_in (rs ++ ss) ≡ offered_in rs ++ offered_in ss
+offered_append [] ss = refl
+offered_append (Offered x ∷ rs) ss = ap (λ (l : List Pairs). x ∷ l) (offered_append rs ss)
+offered_append (Completed ∷ rs) ss = offered_append rs ss
+offered_append (Released ∷ rs) ss = offered_append rs ss
+offered_append (Batched xs ∷ rs) ss = ap (λ (l : List Pairs). xs ++ l) (offered_append rs ss) ∙ sym (append_assoc xs (offered_in rs) (offered_in ss))
+offered_append (Trimmed ∷ rs) ss = offered_append rs ss
+
+pub of_batches_append : (rs ss : List Round) → AllByRecursion IsOfBatches rs → AllByRecursion IsOfBatches ss → AllByRecursion IsOfBatches (rs ++ ss)
+of_batches_append [] ss h k = k
+of_batches_append (r ∷ rs) ss h k = (h.0, of_batches_append rs ss h.1 k)
+
+pub retries_are_of_batches : (rs : List Round) → AllByRecursion IsRetry rs → AllByRecursion IsOfBatches rs
+retries_are_of_batches [] h = tt
+retries_are_of_batches (Offered x ∷ rs) h = absurd h.0
+retries_are_of_batches (Completed ∷ rs) h = (tt, retries_are_of_batches rs h.1)
+retries_are_of_batches (Released ∷ rs) h = (tt, retries_are_of_batches rs h.1)
+retries_are_of_batches (Batched xs ∷ rs) h = absurd h.0
+retries_are_of_batches (Trimmed ∷ rs) h = absurd h.0
+
+pub retries_offer_none : (rs : List Round) → AllByRecursion IsRetry rs → offered_in rs ≡ []
+retries_offer_none [] h = refl
+retries_offer_none (Offered x ∷ rs) h = absurd h.0
+retries_offer_none (Completed ∷ rs) h = retries_offer_none rs h.1
+retries_offer_none (Released ∷ rs) h = retries_offer_none rs h.1
+retries_offer_none (Batched xs ∷ rs) h = absurd h.0
+retries_offer_none (Trimmed ∷ rs) h = absurd h.0
+
+pub for_none : (threads : Bool) (p : Point) (a : Option (List ℕ)) → ServesFor threads [] p a p a
+for_none false p a = ([], refl, serves_none p a)
+for_none true p a = ([], (refl, tt), serves_none p a)
+
+pub for_then : (threads : Bool) (xs ys : List Pairs) (p q r : Point) (a b c : Option (List ℕ)) → ServesFor threads xs p a q b → ServesFor threads ys q b r c → ServesFor threads (xs ++ ys) p a r c
+for_then false xs ys p q r a b c (rs, is, s) (ss, are, t) = (rs ++ ss, rw (is, are) (sym (answering_append xs ys)), serves_then rs ss p q r a b c s t)
+for_then true xs ys p q r a b c (rs, is, s) (ss, are, t) =
+    (rs ++ ss, (rw (sym is.0, sym are.0) (offered_append rs ss), of_batches_append rs ss is.1 are.1), serves_then rs ss p q r a b c s t)
+
+pub toward_none : (threads : Bool) (xs : List Pairs) (p : Point) (a : Option (List ℕ)) → HaltsToward threads xs p a a
+toward_none false xs p a = (answering xs, refl, halts_none (answering xs) p a)
+toward_none true xs p a = ([], (xs, refl, tt), halts_none [] p a)
+
+pub toward_then : (threads : Bool) (xs ys : List Pairs) (p q : Point) (a b c : Option (List ℕ)) → ServesFor threads xs p a q b → HaltsToward threads ys q b c → HaltsToward threads (xs ++ ys) p a c
+toward_then false xs ys p q a b c (rs, is, s) (ss, are, h) = (rs ++ ss, rw (is, are) (sym (answering_append xs ys)), halts_then rs ss p q a b c s h)
+toward_then true xs ys p q a b c (rs, is, s) (ss, (later, split, all), h) = (
+  rs ++ ss,
+  (
+    later,
+    ap (λ (l : List Pairs). xs ++ l) split ∙ (ap (λ (l : List Pairs). l ++ (offered_in ss ++ later)) (sym is.0) ∙ (sym (append_assoc (offered_in rs) (offered_in ss) later) ∙ ap (λ (l : List Pairs). l ++ later) (sym (offered_append rs ss)))),
+    of_batches_append rs ss is.1 all,
+  ),
+  halts_then rs ss p q a b c s h,
+)
+
+pub toward_before : (threads : Bool) (xs ys : List Pairs) (p : Point) (a b : Option (List ℕ)) → HaltsToward threads xs p a b → HaltsToward threads (xs ++ ys) p a b
+toward_before false xs ys p a b (rs, is, h) = (answering (xs ++ ys), refl, halts_answers xs ys p a b (subst (λ (l : List Round). Halts l p a b) is h))
+toward_before true xs ys p a b (rs, (later, split, all), h) = (
+  rs,
+  (later ++ ys, ap (λ (l : List Pairs). l ++ ys) split ∙ append_assoc (offered_in rs) later ys, all),
+  h,
+)
 
 -- the queue and the shelf
 
@@ -186,22 +249,22 @@ halts_message list i m bytes p q a b c lt at is serves h =
 
 -- a piece of an input
 
-pub halts_piece : (left then : Option (List ℕ)) (piece : List ℕ) (more : List (List ℕ)) (s t : State) (p : Point) (a b : Option (List ℕ)) → Consumes left then piece → FramesIn piece more s t ⊎ (more ≡ [])
-    → Halts (answering (requests more)) p a b → HaltsOn left s p a b
-halts_piece left then piece more s t p a b consumes are h = by_frames are where
-  by_frames : FramesIn piece more s t ⊎ (more ≡ []) → HaltsOn left s p a b
-  by_frames (inl adds) = λ input frames reads. (more, record { left = then; state = t; reads = reads_piece left then piece more s t consumes adds input frames reads }, h)
-  by_frames (inr none) = λ input frames reads. (more, record { left = left; state = s; reads = subst (λ (l : List (List ℕ)). Reads input left (frames ++ l) s) (sym none) (subst (λ (l : List (List ℕ)). Reads input left l s) (sym (append-nil frames)) reads) }, h)
+pub halts_reads : (threads : Bool) (left then : Option (List ℕ)) (more : List (List ℕ)) (s t : State) (p : Point) (a b : Option (List ℕ)) → ReadsOn left s more then t → HaltsToward threads (requests more) p a b → HaltsOn threads left s p a b
+halts_reads threads left then more s t p a b on h = λ input frames reads. (more, record { left = then; state = t; reads = on input frames reads }, h)
 
-pub halts_unread : (left : Option (List ℕ)) (s : State) (p : Point) (a : Option (List ℕ)) → HaltsOn left s p a a
-halts_unread left s p a = λ input frames reads. ([], record { left = left; state = s; reads = subst (λ (l : List (List ℕ)). Reads input left l s) (sym (append-nil frames)) reads }, halts_none [] p a)
+pub halts_unread : (threads : Bool) (left : Option (List ℕ)) (s : State) (p : Point) (a : Option (List ℕ)) → HaltsOn threads left s p a a
+halts_unread threads left s p a = λ input frames reads. ([], record { left = left; state = s; reads = subst (λ (l : List (List ℕ)). Reads input left l s) (sym (append-nil frames)) reads }, toward_none threads [] p a)
 
 -- a whole input
 
-pub stops_fresh : (input : Option (List ℕ)) (s : State) (p : Point) (a : Option (List ℕ)) → s ≡ blank → StopsWithin input p a a
-stops_fresh input s p a fresh = record { frames = []; begins = record { left = input; state = s; reads = nothing_read input s fresh }; halts = halts_none [] p a }
+pub stops_fresh : (threads : Bool) (input : Option (List ℕ)) (s : State) (p : Point) (a : Option (List ℕ)) → s ≡ blank → StopsWithin threads input p a a
+stops_fresh threads input s p a fresh = record { frames = []; begins = record { left = input; state = s; reads = nothing_read input s fresh }; halts = toward_none threads [] p a }
 
-pub stops_on : (input left : Option (List ℕ)) (frames : List (List ℕ)) (s : State) (p q : Point) (a b c : Option (List ℕ)) → Reads input left frames s → Serves (answering (requests frames)) p a q b → HaltsOn left s q b c → StopsWithin input p a c
-stops_on input left frames s p q a b c reads serves on =
+pub stops_on : (threads : Bool) (input left : Option (List ℕ)) (frames : List (List ℕ)) (s : State) (p q : Point) (a b c : Option (List ℕ)) → Reads input left frames s → ServesFor threads (requests frames) p a q b → HaltsOn threads left s q b c → StopsWithin threads input p a c
+stops_on threads input left frames s p q a b c reads serves on =
     let (more, begins, halts) = on input frames reads in
-    record { frames = frames ++ more; begins = begins; halts = halts_frames frames more p q a b c serves halts }
+    record {
+      frames = frames ++ more;
+      begins = begins;
+      halts = subst (λ (l : List Pairs). HaltsToward threads l p a c) (sym (requests_append frames more)) (toward_then threads (requests frames) (requests more) p q a b c serves halts);
+    }

@@ -1,15 +1,14 @@
 -- One transaction, from its take to its end.
 -- for: switch::Switch::serve_next, switch::Switch::answer_next
-use Rattle.std.proofs.Common.{◌≡◌, ◌<◌, ℕ, zero, suc, ◌+◌, ◌-◌, ◌==◌, Bool, true, false, cond, inl, inr, List, [], ◌∷◌, ◌++◌, map, drop, Option, Some, None, Result, Ok, Err, refl, sym, ap, subst, arith, ◌∙◌}
-use Rattle.std.specs.Prelude.{◌⊎◌, is_some, nat_lt, ◌&&◌}
-use Rattle.std.specs.declared.alloc.AllocError.{AllocError}
+use Rattle.std.proofs.Common.{◌≡◌, ℕ, zero, suc, ◌+◌, ◌==◌, Bool, true, false, inl, inr, List, [], ◌∷◌, ◌++◌, map, drop, Option, Some, None, Ok, refl, sym, ap, subst, arith, ◌∙◌}
+use Rattle.std.specs.Prelude.{◌⊎◌, is_some, nat_lt}
 use Rattle.std.specs.declared.cmp.Ordering.{Ordering}
 use Rattle.std.specs.declared.cmp.Ordering.TheVariants.{Less, Equal, Greater}
-use Rattle.std.specs.Ordering.{is_lt, match_ordering, nat_cmp}
+use Rattle.std.specs.Ordering.{match_ordering, nat_cmp}
 use Rattle.std.specs.BTreeMap.{insert_entry}
 use Rattle.std.proofs.lemmas.Bool.Decides.{nat_tests}
 use Rattle.std.proofs.lemmas.List.{drop-drop, map-append}
-use Rattle.sw_base.specs.Refusals.{first_of, or_else, refused_if}
+use Rattle.sw_base.specs.Refusals.{or_else, refused_if}
 use Rattle.sw_context.specs.Pairs.{Pairs}
 use Rattle.sw_participant.specs.declared.call.Reply.{Reply}
 use Rattle.sw_participant.specs.declared.call.Reply.TheVariants as reply
@@ -20,23 +19,22 @@ use Rattle.tx_history.specs.History.{arrivals, next_id, recovering, taken, takes
 use Rattle.tx_history.specs.Journal.{change}
 use Rattle.tx_history.proofs.OwnItems.{holds_serves}
 use Rattle.tx_history.proofs.Sessions.{recovered_stays}
-use Rattle.tx_slots.specs.declared.next.Next.TheVariants as next
 use Rattle.tx_engine.specs.World.{World, happened}
-use Rattle.tx_engine.specs.Calls.{held_id, next_of, take_refusal, waits}
+use Rattle.tx_engine.specs.Calls.{held_id, take_refusal, waits}
 use Rattle.tx_plant.specs.declared.seat.Seat.{Seat}
 use Rattle.tx_plant.specs.declared.turn.Outcome.{Outcome}
 use Rattle.tx_plant.specs.declared.turn.Outcome.TheVariants as outcome
 use Rattle.tx_plant.specs.declared.turn.Turn.TheVariants as turn
 use Rattle.tx_plant.specs.Core.{Core, Stepped, ended_by, fate_by, new_seat, seat_of}
-use Rattle.tx_plant.specs.Plant.{IsEngine, Whole}
+use Rattle.tx_plant.specs.Plant.{IsEngine}
 use Rattle.tx_plant.specs.Steps.{Moved, event_of}
 use Rattle.tx_plant.specs.Turns.{Taken, Takes}
 use Rattle.plant_outcome.specs.Lives.{Drive}
 use Rattle.plant_outcome.specs.Seated.{Seated, seat_id}
-use Rattle.cli_run.specs.Points.{IsAllWritten, IsAtRest, IsIdle, Point, ended_at, next_at, with_ended, world_at}
+use Rattle.cli_run.specs.Points.{IsAllWritten, IsAtRest, Point, ended_at, next_at, with_ended, world_at}
 use Rattle.cli_run.specs.Rounds.{Acts, Does, IsDone, Transacts, doing}
-use Rattle.cli_run.proofs.Doings.{Did, acts_then, did, unraised}
-use Rattle.cli_run.proofs.SessionSteps.{Enters, Steps, none_due, none_held, other_seats, same_world, steps_of}
+use Rattle.cli_run.proofs.Doings.{acts_then, did, unraised}
+use Rattle.cli_run.proofs.SessionSteps.{Enters, none_due, none_held, other_seats, same_world, steps_of}
 
 -- the contexts that ended
 
@@ -82,7 +80,7 @@ goes_on_by w (reply.Told advice) x engine none =
 goes_on_by w reply.Recovered x engine none =
     record { waits = refl; next = refl; taken = refl; recovered = recovered_stays w.flow w.start w.past (event_of 0 reply.Recovered x) engine.start.view.ordered engine.lawful.lawful.0 none }
 
-goes_on : (w to : World) → IsEngine to → recovering w.flow w.start w.past ≡ None → Enters w to → GoesOn w to
+goes_on : (w to : World) → IsEngine to → recovering w.flow w.start w.past ≡ None → Enters 0 w to → GoesOn w to
 goes_on w to engine none (inl same) = goes_on_same w to same none
 goes_on w to engine none (inr (r, x, is)) = subst (GoesOn w) (sym is) (goes_on_by w r x (subst IsEngine is engine) none)
 

@@ -1,5 +1,5 @@
 -- What the errors of the parts become.
-use Rattle.std.specs.Prelude.{◌≡◌, ⊤, ℕ, Option, Some, Result, Ok, Err, option_map, slice_get}
+use Rattle.std.specs.Prelude.{◌≡◌, ⊤, ℕ, Some, Result, Ok, Err, option_map, slice_get}
 use Rattle.flow_model.specs.declared.flow.Flow.{Flow}
 use Rattle.flow_model.specs.declared.numbering.Part.{Part}
 use Rattle.flow_model.specs.Places.{parts_of}
@@ -12,8 +12,14 @@ use Rattle.tx_engine.specs.declared.error.EngineError.{EngineError}
 use Rattle.tx_engine.specs.declared.error.EngineError.TheVariants as engine
 use Rattle.tx_plant.specs.declared.turn.PlantError.{PlantError}
 use Rattle.tx_plant.specs.declared.turn.PlantError.TheVariants as plant
+use Rattle.tx_pool.specs.declared.fault.Fault.{Fault}
+use Rattle.tx_pool.specs.declared.fault.Fault.TheVariants as fault
+use Rattle.tx_pool.specs.declared.refusal.Early.{Early}
+use Rattle.tx_pool.specs.declared.refusal.Early.TheVariants as early
+use Rattle.tx_pool.specs.declared.refusal.PoolError.{PoolError}
+use Rattle.tx_pool.specs.declared.refusal.PoolError.TheVariants as pool
 use Rattle.cli_run.specs.declared.error.ServeError.{ServeError}
-use Rattle.cli_run.specs.declared.error.ServeError.TheVariants.{BadLength as BadFrameLength, Engine, Journal, NoStation, OutOfMemory, Read, Truncated as TruncatedFrame, Write}
+use Rattle.cli_run.specs.declared.error.ServeError.TheVariants.{BadLength as BadFrameLength, Engine, Journal, Mismatch, NoStation, OutOfMemory, Pool, Read, Truncated as TruncatedFrame, Write}
 use Rattle.cli_run.specs.declared.stream.StreamEnd.{StreamEnd}
 use Rattle.cli_run.specs.declared.stream.StreamEnd.TheVariants.{Whole, BadLength, Truncated, Unread}
 
@@ -54,3 +60,18 @@ result_of Whole = Ok tt
 result_of BadLength = Err BadFrameLength
 result_of (Truncated n) = Err (TruncatedFrame n)
 result_of (Unread e) = Err (error_of_read e)
+
+-- why a batch was not run, or was given up
+abbrev pub error_of_fault : Fault → ServeError
+error_of_fault (fault.Journal e) = Journal e
+error_of_fault (fault.Engine e) = error_of_engine e
+error_of_fault (fault.ReceiptMismatch n) = Mismatch n
+error_of_fault fault.OutOfMemory = OutOfMemory
+
+abbrev pub error_of_early : Early → ServeError
+error_of_early early.OutOfMemory = OutOfMemory
+error_of_early e = Pool e
+
+abbrev pub IsOfPool : {S : Type 0} {I : Type 0} {D : I → Type 0} → PoolError S I D → ServeError → Type 0
+IsOfPool (pool.Early p e) r = r ≡ error_of_early e
+IsOfPool (pool.Late l) r = r ≡ error_of_fault l.cause

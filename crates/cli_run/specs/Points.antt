@@ -98,6 +98,10 @@ pub record IsAtRest (p : Point) : Type 0 where
   pub given : unanswered p ≡ []
   pub below : p.answered < next_at p
 
+-- it is at rest once the responses are given
+abbrev pub RestsGiven : Point → Type 0
+RestsGiven p = unanswered (all_answered p) ≡ [] → IsAtRest (all_answered p)
+
 -- Ready for a request: at rest, nothing is recovered, the queue is empty, and the history is not long.
 pub record IsReady (p : Point) : Type 0 where
   pub rest : IsAtRest p

@@ -1,15 +1,13 @@
 -- A whole run.
-use Rattle.std.specs.Prelude.{◌≡◌, ℕ, ◌-◌, List, [], ◌++◌, nat_lt, Option}
+use Rattle.std.specs.Prelude.{ℕ, ◌-◌, List, nat_lt, Option}
 use Rattle.std.specs.Io.KnownBytes.{Appends}
-use Rattle.std.specs.List.{AllByRecursion}
-use Rattle.sw_context.specs.Pairs.{Pairs}
 use Rattle.flow_model.specs.declared.flow.Flow.{Flow}
 use Rattle.sw_issuers.specs.Sending.{PlainSender}
 use Rattle.tx_history.specs.declared.journal.JournalView.{JournalView}
 use Rattle.tx_plant.specs.Plant.{Seen, Whole}
 use Rattle.plant_outcome.specs.Lives.{IsMade}
 use Rattle.cli_run.specs.Points.{IsAtRest, IsReady, Point, world_at}
-use Rattle.cli_run.specs.Rounds.{CutsLong, Drains, IsEmptied, Recovers, Serves, answering}
+use Rattle.cli_run.specs.Rounds.{CutsLong, Drains, IsEmptied, Recovers, Round, Serves}
 use Rattle.cli_run.specs.Lines.{lines_in}
 use Rattle.cli_run.specs.Advices.{AdviceStep, SendsAll, stored_at}
 
@@ -24,16 +22,16 @@ pub record Begins (f : Flow) (sessions : ℕ) (j : Seen) (p : Point) : Type 0 wh
   pub is_made : IsMade f sessions view j made
   pub recovers : Recovers (made_at made view) p
 
--- A long history is cut first. The requests are offered, each when the switch is ready for it, and answered before the next is offered; the queue and the
--- shelf are emptied; then each stored advice is sent once, as a repeat where its transaction has an id below `first`, and
+-- A long history is cut first. The rounds are done, in which requests are offered when the switch is ready for them, and answered before the next
+-- are; the queue and the shelf are emptied; then each stored advice is sent once, as a repeat where its transaction has an id below `first`, and
 -- dropped where it is accepted.
-pub record ServesAll (step : AdviceStep) (first : ℕ) (offers : List Pairs) (p : Point) (sender : PlainSender) (before after : Option (List ℕ)) : Type 0 where
+pub record ServesAll (step : AdviceStep) (first : ℕ) (rounds : List Round) (p : Point) (sender : PlainSender) (before after : Option (List ℕ)) : Type 0 where
   pub begun : Point
   pub cuts : CutsLong p begun
   pub ready : IsReady begun
   pub served : Point
   pub between : Option (List ℕ)
-  pub serves : Serves (answering offers) begun before served between
+  pub serves : Serves rounds begun before served between
   pub drained : Point
   pub drains : Drains served between drained after
   pub sent : PlainSender
@@ -42,11 +40,19 @@ pub record ServesAll (step : AdviceStep) (first : ℕ) (offers : List Pairs) (p 
   pub rest : IsAtRest end
   pub emptied : IsEmptied (world_at end)
 
+-- the queue and the shelf are emptied; then each stored advice is sent
+pub record Closes (step : AdviceStep) (first : ℕ) (p : Point) (sender : PlainSender) (before : Option (List ℕ)) (q : Point) (sent : PlainSender) (after : Option (List ℕ)) : Type 0 where
+  pub drained : Point
+  pub drains : Drains p before drained after
+  pub sends : SendsAll step (λ id. nat_lt id first) (stored_at drained) sender drained sent q
+  pub rest : IsAtRest q
+  pub emptied : IsEmptied (world_at q)
+
 -- A run with an input: it recovers first. Of advices those of transactions of the journal are repeats.
-pub record Ran (f : Flow) (sessions : ℕ) (j : Seen) (step : AdviceStep) (sender : PlainSender) (offers : List Pairs) (before after : Option (List ℕ)) : Type 0 where
+pub record Ran (f : Flow) (sessions : ℕ) (j : Seen) (step : AdviceStep) (sender : PlainSender) (rounds : List Round) (before after : Option (List ℕ)) : Type 0 where
   pub recovered : Point
   pub begins : Begins f sessions j recovered
-  pub serves : ServesAll step begins.view.next_id offers recovered sender before after
+  pub serves : ServesAll step begins.view.next_id rounds recovered sender before after
 
 -- A run without one: it recovers, and prints the lines of its history.
 pub record Printed (f : Flow) (sessions : ℕ) (j : Seen) (before after : Option (List ℕ)) : Type 0 where

@@ -1,8 +1,9 @@
--- What a switch does: recoveries, requests offered, transactions run to their end, the shelf released.
-use Rattle.std.specs.Prelude.{◌≡◌, ◌⊎◌, ℕ, ◌+◌, ⊤, Bool, true, false, List, [], ◌∷◌, ◌++◌, map, drop, Option, None}
+-- What a switch does: recoveries, requests offered, transactions run to their end, batches run, the shelf released.
+use Rattle.std.specs.Prelude.{◌≡◌, ◌≤◌, ◌⊎◌, ℕ, ◌+◌, ⊤, Bool, true, false, List, [], ◌∷◌, ◌++◌, length, map, drop, Option, None}
 use Rattle.std.specs.Io.KnownBytes.{Appends}
 use Rattle.std.specs.List.{AllByRecursion}
 use Rattle.sw_context.specs.Pairs.{Pairs}
+use Rattle.sw_context.specs.Spelling.{bytes_of}
 use Rattle.sw_frame.specs.Stream.{AreFramed}
 use Rattle.tx_history.specs.History.{recovering, shelf}
 use Rattle.tx_engine.specs.World.{World}
@@ -14,7 +15,10 @@ use Rattle.tx_plant.specs.declared.turn.Turn.TheVariants as turn
 use Rattle.tx_plant.specs.Recovery.{IsRecovery}
 use Rattle.tx_plant.specs.Steps.{Moved}
 use Rattle.plant_outcome.specs.Lives.{AllDriven, Done, Drive}
-use Rattle.cli_run.specs.Points.{IsAllWritten, IsAtRest, IsIdle, IsReady, Point, all_answered, ended_at, is_long, next_at, response_of, with_ended, world_at}
+use Rattle.tx_pool.specs.Receipts.{offered_of, run_entries}
+use Rattle.tx_pool.specs.Settled.{IsSettled}
+use Rattle.tx_pool.specs.Went.{Grown}
+use Rattle.cli_run.specs.Points.{IsAllWritten, IsAtRest, IsIdle, IsReady, Point, all_answered, ended_at, is_long, next_at, response_of, responses, unanswered, with_ended, world_at}
 
 -- calls of `drive`, one after the other; no response is given meanwhile
 pub record Acts (drives : List Drive) (p q : Point) : Type 0 where
@@ -68,18 +72,44 @@ pub record Completes (p : Point) (bytes : List ℕ) (q : Point) : Type 0 where
   pub cuts : CutsLong (all_answered ended) q
   pub rest : IsAtRest q
 
+-- A batch: the requests are offered, in their order, and run by all sessions at once, until nothing waits, no session holds a
+-- transaction, and all is written. It is one call of `drive`.
+pub record Together (requests : List Pairs) (p q : Point) : Type 0 where
+  pub turns : List Turn
+  pub outcomes : List Outcome
+  pub acts : Acts (Done turns outcomes ∷ []) p q
+  pub grown : Grown (world_at p) (world_at q)
+  pub offered : offered_of (run_entries (world_at p) (world_at q)) ≡ map bytes_of requests
+  pub settled : IsSettled (world_at q)
+
+-- A batch is run; then the responses of all transactions that ended are given, ids rising.
+pub record Runs (requests : List Pairs) (p : Point) (bytes : List ℕ) (q : Point) : Type 0 where
+  pub ended : Point
+  pub together : Together requests p ended
+  pub gives : AreFramed bytes (responses (unanswered ended))
+  pub answered : q ≡ all_answered ended
+
+-- a history is cut or not, and is not long then
+pub record MayCut (p q : Point) : Type 0 where
+  pub cuts : (q ≡ p) ⊎ ((o : Outcome) × Does turn.Cut o p q)
+  pub short : is_long (world_at q) ≡ false
+
 -- what is done, from one response to the next
 pub data Round : Type 0 where
   Offered : (request : Pairs) → Round
   Completed : Round
   Released : Round
+  Batched : (requests : List Pairs) → Round
+  Trimmed : Round
 
--- One after the other, with what they give. A request is offered only when the switch is ready for it.
+-- One after the other, with what they give. A request is offered, or a batch, only when the switch is ready for it.
 abbrev pub Goes : List Round → Point → List ℕ → Point → Type 0
 Goes [] p bytes q = (bytes ≡ []) × (q ≡ p)
 Goes (Offered x ∷ rs) p bytes q = IsReady p × (o : Outcome) × (w : Point) × Does (turn.Offer x) o p w × Goes rs w bytes q
 Goes (Completed ∷ rs) p bytes q = (w : Point) × (first : List ℕ) × (later : List ℕ) × Completes p first w × Goes rs w later q × (bytes ≡ first ++ later)
 Goes (Released ∷ rs) p bytes q = (o : Outcome) × (w : Point) × Does turn.Release o p w × Goes rs w bytes q
+Goes (Batched xs ∷ rs) p bytes q = IsReady p × (w : Point) × (first : List ℕ) × (later : List ℕ) × Runs xs p first w × Goes rs w later q × (bytes ≡ first ++ later)
+Goes (Trimmed ∷ rs) p bytes q = (w : Point) × MayCut p w × Goes rs w bytes q
 
 -- each request is offered, and the queue's first transaction runs to its end before the next is
 abbrev pub answering : List Pairs → List Round
@@ -88,15 +118,42 @@ answering (x ∷ xs) = Offered x ∷ Completed ∷ answering xs
 
 -- no request is offered any more
 abbrev pub IsRetry : Round → Type 0
-IsRetry (Offered x) = ⊥
 IsRetry Completed = ⊤
 IsRetry Released = ⊤
+IsRetry _ = ⊥
+
+-- no request is offered by itself, and a batch has at most 256
+abbrev pub IsOfBatches : Round → Type 0
+IsOfBatches (Offered x) = ⊥
+IsOfBatches (Batched xs) = length xs ≤ 256
+IsOfBatches _ = ⊤
+
+-- the requests that are offered, in their order
+abbrev pub offered_in : List Round → List Pairs
+offered_in [] = []
+offered_in (Offered x ∷ rs) = x ∷ offered_in rs
+offered_in (Batched xs ∷ rs) = xs ++ offered_in rs
+offered_in (_ ∷ rs) = offered_in rs
 
 -- rounds, with what an output holds before and after, where that is known
 pub record Serves (rounds : List Round) (p : Point) (before : Option (List ℕ)) (q : Point) (after : Option (List ℕ)) : Type 0 where
   pub bytes : List ℕ
   pub goes : Goes rounds p bytes q
   pub appends : Appends before after bytes
+
+-- rounds that answer these requests: one after the other, or in batches
+abbrev pub RoundsFor : Bool → List Pairs → List Round → Type 0
+RoundsFor false requests rounds = rounds ≡ answering requests
+RoundsFor true requests rounds = (offered_in rounds ≡ requests) × AllByRecursion IsOfBatches rounds
+
+-- of batches that were not all run, those that are to come stand behind
+abbrev pub RoundsToward : Bool → List Pairs → List Round → Type 0
+RoundsToward false requests rounds = rounds ≡ answering requests
+RoundsToward true requests rounds = (later : List Pairs) × (requests ≡ offered_in rounds ++ later) × AllByRecursion IsOfBatches rounds
+
+-- these requests are answered
+abbrev pub ServesFor : Bool → List Pairs → Point → Option (List ℕ) → Point → Option (List ℕ) → Type 0
+ServesFor threads requests p before q after = (rounds : List Round) × RoundsFor threads requests rounds × Serves rounds p before q after
 
 -- nothing waits
 pub record IsEmptied (w : World) : Type 0 where
@@ -110,6 +167,17 @@ pub record Drains (p : Point) (before : Option (List ℕ)) (q : Point) (after : 
   pub serves : Serves rounds p before q after
   pub rest : IsAtRest q
   pub emptied : IsEmptied (world_at q)
+
+-- Behind a batch: the responses of all transactions that ended are given, the queue and the shelf are emptied, and the history
+-- may be cut.
+pub record Finishes (p : Point) (before : Option (List ℕ)) (q : Point) (after : Option (List ℕ)) : Type 0 where
+  pub text : List ℕ
+  pub framed : AreFramed text (responses (unanswered p))
+  pub between : Option (List ℕ)
+  pub gives : Appends before between text
+  pub drained : Point
+  pub drains : Drains (all_answered p) between drained after
+  pub cuts : MayCut drained q
 
 -- A recovery: turns that write and step session 0 alone. Then nothing is to recover, and nothing waits in the queue.
 pub record Recovers (p q : Point) : Type 0 where

@@ -1,6 +1,6 @@
 -- What a run that ends with an error has written.
-use Rattle.std.specs.Prelude.{◌≡◌, ◌⊎◌, ℕ, List, [], ◌∷◌, ◌++◌, Option, Some, None}
-use Rattle.std.specs.Io.KnownBytes.{Keeps}
+use Rattle.std.specs.Prelude.{◌≡◌, ◌⊎◌, ℕ, Bool, List, [], ◌∷◌, ◌++◌, Option, Some, None}
+use Rattle.std.specs.Io.KnownBytes.{Appends, Keeps}
 use Rattle.std.specs.List.{AllByRecursion}
 use Rattle.cli_io.specs.Written.{AppendsBeginning}
 use Rattle.sw_context.specs.Pairs.{Pairs}
@@ -8,8 +8,8 @@ use Rattle.sw_frame.specs.Stream.{AreFramed, State}
 use Rattle.flow_model.specs.declared.flow.Flow.{Flow}
 use Rattle.tx_plant.specs.Plant.{Seen}
 use Rattle.cli_run.specs.declared.stream.StreamEnd.{StreamEnd}
-use Rattle.cli_run.specs.Points.{IsReady, Point, response_of, responses, unanswered, world_at}
-use Rattle.cli_run.specs.Rounds.{Completed, CutsLong, IsRetry, Round, Serves, Transacts, answering}
+use Rattle.cli_run.specs.Points.{IsReady, Point, all_answered, response_of, responses, unanswered, world_at}
+use Rattle.cli_run.specs.Rounds.{Batched, Completed, CutsLong, IsRetry, Round, RoundsToward, Serves, ServesFor, Together, Transacts}
 use Rattle.cli_run.specs.Lines.{lines_in}
 use Rattle.cli_run.specs.Ran.{Begins}
 use Rattle.cli_run.specs.Requests.{ReadTo, Reads, requests}
@@ -21,9 +21,16 @@ pub record Answers (p : Point) (text : List ℕ) : Type 0 where
   pub transacts : Transacts p own ended
   pub framed : AreFramed text (response_of own)
 
--- what the next round was to give: nothing, or the response of a transaction that ran to its end
+-- a batch was run, and these are the frames of its responses
+pub record AnswersBatch (requests : List Pairs) (p : Point) (text : List ℕ) : Type 0 where
+  pub ended : Point
+  pub together : Together requests p ended
+  pub framed : AreFramed text (responses (unanswered ended))
+
+-- what the next round was to give: nothing, or the responses of a transaction or a batch that ran to its end
 abbrev pub IsOfNext : List Round → Point → List ℕ → Type 0
 IsOfNext (Completed ∷ rounds) p text = (text ≡ []) ⊎ Answers p text
+IsOfNext (Batched xs ∷ rounds) p text = (text ≡ []) ⊎ AnswersBatch xs p text
 IsOfNext rounds p text = text ≡ []
 
 -- of the responses that were to be given a beginning is written
@@ -42,6 +49,10 @@ pub record Halts (rounds : List Round) (p : Point) (before after : Option (List 
   pub is_next : IsOfNext rest at next
   pub written : AppendsBeginning between after next
 
+-- some of these requests were answered, with or without threads, up to an error
+abbrev pub HaltsToward : Bool → List Pairs → Point → Option (List ℕ) → Option (List ℕ) → Type 0
+HaltsToward threads requests p before after = (rounds : List Round) × RoundsToward threads requests rounds × Halts rounds p before after
+
 -- an input begins with these frames
 pub record BeginsWith (input : Option (List ℕ)) (frames : List (List ℕ)) : Type 0 where
   pub left : Option (List ℕ)
@@ -49,15 +60,15 @@ pub record BeginsWith (input : Option (List ℕ)) (frames : List (List ℕ)) : T
   pub reads : Reads input left frames state
 
 -- of an input read so far, requests more were answered up to an error
-abbrev pub HaltsOn : Option (List ℕ) → State → Point → Option (List ℕ) → Option (List ℕ) → Type 0
-HaltsOn left s p before after = (input : Option (List ℕ)) (frames : List (List ℕ)) → Reads input left frames s
-    → (more : List (List ℕ)) × BeginsWith input (frames ++ more) × Halts (answering (requests more)) p before after
+abbrev pub HaltsOn : Bool → Option (List ℕ) → State → Point → Option (List ℕ) → Option (List ℕ) → Type 0
+HaltsOn threads left s p before after = (input : Option (List ℕ)) (frames : List (List ℕ)) → Reads input left frames s
+    → (more : List (List ℕ)) × BeginsWith input (frames ++ more) × HaltsToward threads (requests more) p before after
 
 -- requests at the beginning of an input were answered, up to an error
-pub record StopsWithin (input : Option (List ℕ)) (p : Point) (before after : Option (List ℕ)) : Type 0 where
+pub record StopsWithin (threads : Bool) (input : Option (List ℕ)) (p : Point) (before after : Option (List ℕ)) : Type 0 where
   pub frames : List (List ℕ)
   pub begins : BeginsWith input frames
-  pub halts : Halts (answering (requests frames)) p before after
+  pub halts : HaltsToward threads (requests frames) p before after
 
 -- the queue and the shelf were emptied, up to an error
 pub record DrainsSome (p : Point) (before after : Option (List ℕ)) : Type 0 where
@@ -65,31 +76,44 @@ pub record DrainsSome (p : Point) (before after : Option (List ℕ)) : Type 0 wh
   pub retries : AllByRecursion IsRetry rounds
   pub halts : Halts rounds p before after
 
+-- the responses were given; then the queue and the shelf were emptied, up to an error
+pub record Given (p : Point) (before after : Option (List ℕ)) : Type 0 where
+  pub text : List ℕ
+  pub framed : AreFramed text (responses (unanswered p))
+  pub between : Option (List ℕ)
+  pub gives : Appends before between text
+  pub drains : DrainsSome (all_answered p) between after
+
+-- what comes behind a batch that was run: of its responses a beginning is written; or all are, and the shelf was run up to an
+-- error
+abbrev pub Unfinished : Point → Option (List ℕ) → Option (List ℕ) → Type 0
+Unfinished p before after = GivesSome p before after ⊎ Given p before after
+
 -- all requests of an input were answered; then the queue and the shelf were emptied, up to an error
-pub record StopsBehind (input : Option (List ℕ)) (p : Point) (before after : Option (List ℕ)) : Type 0 where
+pub record StopsBehind (threads : Bool) (input : Option (List ℕ)) (p : Point) (before after : Option (List ℕ)) : Type 0 where
   pub end : StreamEnd
   pub frames : List (List ℕ)
   pub read : ReadTo end input frames
   pub served : Point
   pub between : Option (List ℕ)
-  pub serves : Serves (answering (requests frames)) p before served between
+  pub serves : ServesFor threads (requests frames) p before served between
   pub drains : DrainsSome served between after
 
 -- a long history was cut, and what an input has was served, up to an error
-pub record Serving (input : Option (List ℕ)) (p : Point) (before after : Option (List ℕ)) : Type 0 where
+pub record Serving (threads : Bool) (input : Option (List ℕ)) (p : Point) (before after : Option (List ℕ)) : Type 0 where
   pub begun : Point
   pub cuts : CutsLong p begun
   pub ready : IsReady begun
-  pub serves : StopsWithin input begun before after ⊎ StopsBehind input begun before after
+  pub serves : StopsWithin threads input begun before after ⊎ StopsBehind threads input begun before after
 
-abbrev pub ServesSome : Option (List ℕ) → Point → Option (List ℕ) → Option (List ℕ) → Type 0
-ServesSome input p before after = Keeps before after ⊎ Serving input p before after
+abbrev pub ServesSome : Bool → Option (List ℕ) → Point → Option (List ℕ) → Option (List ℕ) → Type 0
+ServesSome threads input p before after = Keeps before after ⊎ Serving threads input p before after
 
 -- a run with an input recovered, and served up to an error
-pub record Stopped (f : Flow) (sessions : ℕ) (j : Seen) (input before after : Option (List ℕ)) : Type 0 where
+pub record Stopped (threads : Bool) (f : Flow) (sessions : ℕ) (j : Seen) (input before after : Option (List ℕ)) : Type 0 where
   pub recovered : Point
   pub begins : Begins f sessions j recovered
-  pub serves : Serving input recovered before after
+  pub serves : Serving threads input recovered before after
 
 -- a run without one recovered, and wrote a beginning of the lines of its history
 pub record Unprinted (f : Flow) (sessions : ℕ) (j : Seen) (before after : Option (List ℕ)) : Type 0 where
@@ -97,10 +121,10 @@ pub record Unprinted (f : Flow) (sessions : ℕ) (j : Seen) (before after : Opti
   pub begins : Begins f sessions j recovered
   pub written : AppendsBeginning before after (lines_in (world_at recovered))
 
-abbrev pub StopsWith : Option (Option (List ℕ)) → Flow → ℕ → Seen → Option (List ℕ) → Option (List ℕ) → Type 0
-StopsWith None f sessions j before after = Unprinted f sessions j before after
-StopsWith (Some input) f sessions j before after = Stopped f sessions j input before after
+abbrev pub StopsWith : Bool → Option (Option (List ℕ)) → Flow → ℕ → Seen → Option (List ℕ) → Option (List ℕ) → Type 0
+StopsWith threads None f sessions j before after = Unprinted f sessions j before after
+StopsWith threads (Some input) f sessions j before after = Stopped threads f sessions j input before after
 
 -- a run, with or without an input, ended with an error: before anything was written, or as above
-abbrev pub IsStopped : Option (Option (List ℕ)) → Flow → ℕ → Seen → Option (List ℕ) → Option (List ℕ) → Type 0
-IsStopped input f sessions j before after = Keeps before after ⊎ StopsWith input f sessions j before after
+abbrev pub IsStopped : Bool → Option (Option (List ℕ)) → Flow → ℕ → Seen → Option (List ℕ) → Option (List ℕ) → Type 0
+IsStopped threads input f sessions j before after = Keeps before after ⊎ StopsWith threads input f sessions j before after

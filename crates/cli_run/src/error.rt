@@ -2,16 +2,18 @@
 
 ghost use Rattle.std.specs.Prelude.{◌≡◌};
 ghost use Rattle.cli_run.specs.Errors.{error_of_engine, error_of_plant, error_of_read};
-ghost use Rattle.cli_run.specs.Errors.{error_of_write};
+ghost use Rattle.cli_run.specs.Errors.{IsOfPool, error_of_fault, error_of_write};
 ghost use Rattle.cli_run.specs.declared.error.ServeError.TheVariants as serve;
 
 use cli_io::{ReadError, WriteError};
+use sqlite::Alter;
 use std::alloc::{AllocError, AllocFailed};
 use sw_participant::{NoMemory, Text};
 use thiserror::Error;
 use tx_engine::EngineError;
 use tx_journal::JournalError;
 use tx_plant::PlantError;
+use tx_pool::{Early, Fault, Late, PoolError};
 
 /// Why a run ends before its input does, or what of its input was refused. What was written before stands.
 #[derive(Debug, Drop, Error)]
@@ -41,6 +43,12 @@ pub enum ServeError {
     /// The response of this transaction does not fit a frame.
     #[error("the response of transaction {0} is longer than a frame; expected at most 9,999 bytes")]
     LongResponse(u64),
+    /// The pool did not run.
+    #[error("the pool did not run: {0}")]
+    Pool(Early),
+    /// This entry of the history contradicts what a thread recorded of it.
+    #[error("entry {0} of the history is none that a thread recorded")]
+    Mismatch(usize),
     /// A transaction took more steps than one has, or came back from the shelf more often than it may. No
     /// transaction does.
     #[error("a transaction did not end within the steps that one has")]
@@ -124,6 +132,31 @@ impl From<PlantError> for ServeError {
             PlantError::Engine(error) => ServeError::from(error),
             PlantError::Journal(error) => ServeError::from(error),
             PlantError::Seating(_) | PlantError::OutOfMemory => ServeError::OutOfMemory,
+        }
+    }
+}
+
+impl ServeError {
+    // Why a batch was given up.
+    fn from_fault(fault: Fault) -> ServeError
+        ensures { result ≡ error_of_fault fault }
+    {
+        match fault {
+            Fault::Journal(error) => ServeError::Journal(error),
+            Fault::Engine(error) => ServeError::from(error),
+            Fault::ReceiptMismatch(number) => ServeError::Mismatch(number),
+            Fault::OutOfMemory => ServeError::OutOfMemory,
+        }
+    }
+
+    /// Why a batch was not run, or was given up.
+    pub(crate) fn from_pool<S: Alter + Drop>(error: PoolError<S>) -> ServeError
+        ensures { IsOfPool error result }
+    {
+        match error {
+            PoolError::Early(_, Early::OutOfMemory) => ServeError::OutOfMemory,
+            PoolError::Early(_, early) => ServeError::Pool(early),
+            PoolError::Late(Late { cause, .. }) => ServeError::from_fault(cause),
         }
     }
 }

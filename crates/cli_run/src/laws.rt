@@ -1,7 +1,6 @@
 //! The outcome law of runs.
 
 ghost use Rattle.std.specs.Prelude.{ℕ, List, Option};
-ghost use Rattle.sw_context.specs.Pairs.{Pairs};
 ghost use Rattle.flow_model.specs.declared.flow.Flow.{Flow};
 ghost use Rattle.sw_issuers.specs.Sending.{PlainSender, SendsAdvice};
 ghost use Rattle.tx_outcome.specs.Core.{OutcomeLaw, PlantDeed};
@@ -11,22 +10,23 @@ ghost use Rattle.plant_outcome.specs.Lives.{Life};
 ghost use Rattle.cli_run.specs.Calls.{IsLifeOf, Keeps};
 ghost use Rattle.cli_run.specs.Points.{Point};
 ghost use Rattle.cli_run.specs.Ran.{Begins, Ran};
+ghost use Rattle.cli_run.specs.Rounds.{Round};
 
 use plant_outcome::plants_keep_the_law;
 use sw_issuers::Issuer;
 use sw_parts::Link;
 
-/// The outcome law of every run that ends without an error: where it holds of the calls made before, and of
+/// The outcome law of every run that ends without an error, with threads or without: where it holds of the calls made before, and of
 /// the view that the run's plant was made on, it holds of all calls with those of the run, and of the
 /// journal that the run leaves. So it is where the run recovers alone. A run is a life of a plant, as
 /// `plant_outcome::stops_keep_the_law` speaks of them. The disk has to have returned what was written.
 pub fn runs_keep_the_law()
     ensures ran { (f : Flow) (n : ℕ) (j : Seen) (sender : PlainSender)
-        (offers : List Pairs) (before after : Option (List ℕ)) (calls : List PlantDeed)
+        (rounds : List Round) (before after : Option (List ℕ)) (calls : List PlantDeed)
         (ran : Ran f n j
         (SendsAdvice ⟦<Issuer as Link>⟧.sends ⟦<Issuer as Link>⟧.receives
         ⟦<Issuer as Link>⟧.starves (Unit {0}))
-        sender offers before after)
+        sender rounds before after)
         → IsClean ran.serves.end.plant.journal → OutcomeLaw calls (id_view f ran.begins.view)
         → Keeps f ran.begins.view ran.begins.made calls ran.serves.end.plant }
     ensures recovered { (f : Flow) (n : ℕ) (j : Seen) (p : Point) (calls : List PlantDeed)
@@ -34,11 +34,11 @@ pub fn runs_keep_the_law()
         → OutcomeLaw calls (id_view f begins.view)
         → Keeps f begins.view begins.made calls p.plant }
     ensures lives { (f : Flow) (n : ℕ) (j : Seen) (sender : PlainSender)
-        (offers : List Pairs) (before after : Option (List ℕ))
+        (rounds : List Round) (before after : Option (List ℕ))
         (ran : Ran f n j
         (SendsAdvice ⟦<Issuer as Link>⟧.sends ⟦<Issuer as Link>⟧.receives
         ⟦<Issuer as Link>⟧.starves (Unit {0}))
-        sender offers before after)
+        sender rounds before after)
         → IsClean ran.serves.end.plant.journal
         → (life : Life) × IsLifeOf f n j ran.begins.view ran.serves.end.plant life }
 {

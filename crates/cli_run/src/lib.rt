@@ -7,6 +7,7 @@
 #![tactic(auto)]
 
 mod advices;
+mod batches;
 mod error;
 mod given;
 mod issuers;

@@ -1,6 +1,6 @@
 //! The whole run.
 
-ghost use Rattle.std.specs.Prelude.{◌≡◌, ◌-◌, ℕ, List, [], IfErr, IfNone, IfOk, IfSome, OnErr, OnOk};
+ghost use Rattle.std.specs.Prelude.{◌≡◌, ◌-◌, ℕ, List, [], true, false, IfErr, IfNone, IfOk, IfSome, OnErr, OnOk};
 ghost use Rattle.std.specs.Prelude.{option_map};
 ghost use Rattle.tx_engine.specs.Calls.{waits};
 ghost use Rattle.std.specs.Io.KnownBytes.{Appends};
@@ -13,8 +13,8 @@ ghost use Rattle.plant_outcome.specs.Lives.{IsMade};
 ghost use Rattle.cli_run.specs.Links.{sender_of};
 ghost use Rattle.cli_run.specs.Lines.{lines_in};
 ghost use Rattle.cli_run.specs.Points.{IsAtRest, point_of};
-ghost use Rattle.cli_run.specs.Ran.{Printed, Ran, ServesAll};
-ghost use Rattle.cli_run.specs.Rounds.{Drains, Recovers};
+ghost use Rattle.cli_run.specs.Ran.{Closes, Printed, Ran, ServesAll};
+ghost use Rattle.cli_run.specs.Rounds.{Drains, Recovers, Round, RoundsFor, answering};
 ghost use Rattle.cli_run.specs.Requests.{ReadTo, requests};
 ghost use Rattle.cli_run.specs.Stopped.{DrainsSome, IsStopped, ServesSome};
 ghost use Rattle.cli_io.specs.Written.{AppendsBeginning};
@@ -30,6 +30,8 @@ use flow_asm::Code;
 use sqlite::Alter;
 use std::alloc::Global;
 use std::io::{Read, Write};
+use std::sync::Wait;
+use std::thread::Threads;
 use sw_book::Book;
 use sw_issuers::{Issuer, Sender};
 use sw_participant::Station;
@@ -60,8 +62,8 @@ impl<S: Alter> Switch<S> {
         }
     }
 
-    // Runs what waits in the queue, and moves the shelf there where nothing does, until nothing is on the shelf.
-    fn drain<O: Write, E: Write>(
+    /// Runs what waits in the queue, and moves the shelf there where nothing does, until nothing is on the shelf.
+    pub(crate) fn drain<O: Write, E: Write>(
         &mut self,
         alloc: Global,
         out: &mut O,
@@ -102,17 +104,74 @@ impl<S: Alter> Switch<S> {
         requires empty { waits self.old.plant.running.engine ≡ [] }
         ensures serves { IfOk result (λ end. (frames : List (List ℕ))
             × ReadTo end (R.remaining input) frames
-            × ServesAll (SendsAdvice L.sends L.receives L.starves (Unit {0})) first (requests frames)
+            × ServesAll (SendsAdvice L.sends L.receives L.starves (Unit {0})) first
+            (answering (requests frames))
             (point_of S.Store self.old) sender.old (O.contents out.old) (O.contents out.new)) }
-        ensures stops { OnErr result (ServesSome (R.remaining input)
+        ensures stops { OnErr result (ServesSome false (R.remaining input)
             (point_of S.Store self.old) (O.contents out.old) (O.contents out.new)) }
     {
         self.cut_long(alloc, told)?;
         let mut input = input;
         let mut requests = Requests::new(alloc);
         let end = requests.serve_all(alloc, self, &mut input, out, told)?;
+        self.close(alloc, sender, first, out, told)?;
+        Ok(end)
+    }
+
+    // Empties the queue and the shelf, and sends the stored advices.
+    fn close<L: Link, O: Write, E: Write>(
+        &mut self,
+        alloc: Global,
+        sender: &mut Sender<L>,
+        first: u64,
+        out: &mut O,
+        told: &mut Told<'_, E>,
+    ) -> Result<(), ServeError>
+        requires rest { IsAtRest (point_of S.Store self.old) }
+        ensures closes { OnOk result (Closes (SendsAdvice L.sends L.receives L.starves (Unit {0})) first
+            (point_of S.Store self.old) sender.old (O.contents out.old)
+            (point_of S.Store self.new) sender.new (O.contents out.new)) }
+        ensures stops { OnErr result (DrainsSome
+            (point_of S.Store self.old) (O.contents out.old) (O.contents out.new)) }
+    {
         self.drain(alloc, out, told)?;
-        send_advices(alloc, self, sender, first)?;
+        send_advices(alloc, self, sender, first)
+    }
+}
+
+impl<S: Alter + Drop> Switch<S> {
+    // Answers the requests of an input in batches, each run by all sessions at once, then what is on the
+    // shelf, and sends the stored advices. The lines of the trace are told behind each batch, and at the end.
+    fn serve_together<T: Threads + Wait + Sync, L: Link, R: Read + Drop, O: Write, E: Write>(
+        self,
+        rt: &T,
+        alloc: Global,
+        sender: &mut Sender<L>,
+        first: u64,
+        input: R,
+        out: &mut O,
+        told: &mut Told<'_, E>,
+    ) -> Result<StreamEnd, ServeError>
+        requires rest { IsAtRest (point_of S.Store self) }
+        requires empty { waits self.plant.running.engine ≡ [] }
+        ensures serves { IfOk result (λ end. (frames : List (List ℕ))
+            × ReadTo end (R.remaining input) frames
+            × (rounds : List Round) × RoundsFor true (requests frames) rounds
+            × ServesAll (SendsAdvice L.sends L.receives L.starves (Unit {0})) first rounds
+            (point_of S.Store self) sender.old (O.contents out.old) (O.contents out.new)) }
+        ensures stops { OnErr result (ServesSome true (R.remaining input)
+            (point_of S.Store self) (O.contents out.old) (O.contents out.new)) }
+    {
+        let mut switch = self;
+        switch.cut_long(alloc, told)?;
+        let mut input = input;
+        let mut requests = Requests::new(alloc);
+        let served = requests.serve_in_batches(rt, alloc, switch, &mut input, out, told)?;
+        let (mut switch, end) = served;
+        let closed = switch.close(alloc, sender, first, out, told);
+        let traced = told.trace(alloc, switch.engine());
+        closed?;
+        traced?;
         Ok(end)
     }
 }
@@ -140,6 +199,8 @@ pub struct Setup {
     pub advised: Issuers,
     /// How many sessions the engine has, 1 to 16.
     pub sessions: usize,
+    /// Whether the sessions run as threads. Without, session 0 runs each transaction.
+    pub threads: bool,
 }
 
 // The error of what was served comes before that of the trace.
@@ -161,6 +222,7 @@ struct Over<S: Alter, R: Read, L: Link> {
     input: Option<R>,
     sender: Sender<L>,
     sessions: usize,
+    threads: bool,
 }
 
 impl<S: Alter + Drop, R: Read + Drop, L: Link> Drop for Over<S, R, L> {
@@ -170,14 +232,16 @@ impl<S: Alter + Drop, R: Read + Drop, L: Link> Drop for Over<S, R, L> {
             input: _,
             sender: _,
             sessions: _,
+            threads: _,
         } = self;
     }
 }
 
 impl<S: Alter + Drop, R: Read + Drop, L: Link> Over<S, R, L> {
     // The run over the stations that were made (apart, so that its proof does not carry their making).
-    fn run<O: Write, E: Write>(
+    fn run<T: Threads + Wait + Sync, O: Write, E: Write>(
         self,
+        rt: &T,
         alloc: Global,
         code: &Code,
         stations: Vec<Station>,
@@ -186,12 +250,13 @@ impl<S: Alter + Drop, R: Read + Drop, L: Link> Over<S, R, L> {
     ) -> Result<StreamEnd, ServeError>
         ensures ran { IfOk result (λ end. IfSome self.input (λ reader. (frames : List (List ℕ))
             × ReadTo end (R.remaining reader) frames
+            × (rounds : List Round) × RoundsFor self.threads (requests frames) rounds
             × Ran code.now self.sessions (seen (kept S.Store self.journal))
-            (SendsAdvice L.sends L.receives L.starves (Unit {0})) self.sender (requests frames)
+            (SendsAdvice L.sends L.receives L.starves (Unit {0})) self.sender rounds
             (O.contents out.old) (O.contents out.new))) }
         ensures printed { OnOk result (IfNone self.input (Printed code.now self.sessions
             (seen (kept S.Store self.journal)) (O.contents out.old) (O.contents out.new))) }
-        ensures stopped { OnErr result (IsStopped (option_map R.remaining self.input)
+        ensures stopped { OnErr result (IsStopped self.threads (option_map R.remaining self.input)
             code.now self.sessions (seen (kept S.Store self.journal))
             (O.contents out.old) (O.contents out.new)) }
     {
@@ -200,6 +265,7 @@ impl<S: Alter + Drop, R: Read + Drop, L: Link> Over<S, R, L> {
             input,
             sender,
             sessions,
+            threads,
         } = self;
         let mut sender = sender;
         let plant = match Plant::new(alloc, code, journal, stations, sessions) {
@@ -216,6 +282,9 @@ impl<S: Alter + Drop, R: Read + Drop, L: Link> Over<S, R, L> {
             print(alloc, switch.engine(), out)?;
             return Ok(StreamEnd::Whole);
         };
+        if threads {
+            return switch.serve_together(rt, alloc, &mut sender, first, input, out, told);
+        }
         let served = switch.serve_to_end(alloc, &mut sender, first, input, out, told);
         end_of(served, told.trace(alloc, switch.engine()))
     }
@@ -231,10 +300,14 @@ fn boxed<P: Unjoined>(alloc: Global, participant: P) -> Result<Box<Bystander<P>>
 /// advices. At the end, also where it ends early, the lines of the trace are written. Where the stream of
 /// frames is refused, what came before is answered, and all else is done.
 ///
+/// With threads the requests are answered in batches of those that have come, at most 256 at once; the lines
+/// of the trace are written behind each batch. Those of a batch that was given up are lost.
+///
 /// Standard error that takes nothing is no error of the run: its result is as if all had been written there.
 ///
 /// The stations are made here; no caller has one of them.
-pub fn run<S: Alter + Drop, R: Read + Drop, O: Write, E: Write>(
+pub fn run<S: Alter + Drop, T: Threads + Wait + Sync, R: Read + Drop, O: Write, E: Write>(
+    rt: &T,
     alloc: Global,
     code: &Code,
     journal: Journal<S>,
@@ -245,15 +318,16 @@ pub fn run<S: Alter + Drop, R: Read + Drop, O: Write, E: Write>(
 ) -> Result<StreamEnd, ServeError>
     ensures ran { IfOk result (λ end. IfSome input (λ reader. (frames : List (List ℕ))
         × ReadTo end (R.remaining reader) frames
+        × (rounds : List Round) × RoundsFor setup.threads (requests frames) rounds
         × Ran code.now setup.sessions (seen (kept S.Store journal))
         (SendsAdvice ⟦<Issuer as Link>⟧.sends ⟦<Issuer as Link>⟧.receives
         ⟦<Issuer as Link>⟧.starves (Unit {0}))
         (sender_of (⟦<Issuer as Link>⟧.state setup.advised.alpha)
-        (⟦<Issuer as Link>⟧.state setup.advised.beta)) (requests frames)
+        (⟦<Issuer as Link>⟧.state setup.advised.beta)) rounds
         (O.contents out.old) (O.contents out.new))) }
     ensures printed { OnOk result (IfNone input (Printed code.now setup.sessions
         (seen (kept S.Store journal)) (O.contents out.old) (O.contents out.new))) }
-    ensures stopped { OnErr result (IsStopped (option_map R.remaining input)
+    ensures stopped { OnErr result (IsStopped setup.threads (option_map R.remaining input)
         code.now setup.sessions (seen (kept S.Store journal))
         (O.contents out.old) (O.contents out.new)) }
 {
@@ -262,6 +336,7 @@ pub fn run<S: Alter + Drop, R: Read + Drop, O: Write, E: Write>(
         queried,
         advised,
         sessions,
+        threads,
     } = setup;
     let Issuers { alpha, beta } = queried;
     let over = Over {
@@ -269,6 +344,7 @@ pub fn run<S: Alter + Drop, R: Read + Drop, O: Write, E: Write>(
         input,
         sender: sender_over(alloc, advised)?,
         sessions,
+        threads,
     };
     let routes = routes(alloc)?;
     // (All at once: with a return for each, each would prove how all else is let go.)
@@ -309,5 +385,5 @@ pub fn run<S: Alter + Drop, R: Read + Drop, O: Write, E: Write>(
     let stations = vec![in alloc;
         check, limits, route, alpha, beta, reverse, standin, forward, respond,
     ]?;
-    over.run(alloc, code, stations, out, told)
+    over.run(rt, alloc, code, stations, out, told)
 }

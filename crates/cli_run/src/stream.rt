@@ -1,10 +1,9 @@
 //! The frames of a stream, answered as they come.
 
 ghost use Rattle.std.specs.Prelude.{◌≡◌, ◌<◌, ℕ, false, List, [], IfNone, IfOk, IfSome, OnErr, OnOk, Option, Some};
-ghost use Rattle.std.specs.Prelude.{◌⊎◌, length, map};
+ghost use Rattle.std.specs.Prelude.{length, map, option_to_list};
 ghost use Rattle.std.specs.Io.KnownBytes.{IsAtEnd};
 ghost use Rattle.cli_io.specs.declared.error.ReadError.{ReadError};
-ghost use Rattle.sw_frame.specs.declared.error.FrameError.TheVariants as FrameError;
 ghost use Rattle.sw_frame.specs.Feeds.{messages};
 ghost use Rattle.sw_frame.specs.Stream.{blank};
 ghost use Rattle.iso_codec.specs.Reads.{read};
@@ -23,10 +22,11 @@ use iso_codec::{DecodeError, decode};
 use sqlite::Alter;
 use std::alloc::Global;
 use std::io::{self, ErrorKind, Read, Write};
+use sw_context::Context;
 use sw_frame::{FrameError, Framer};
 
 /// How many bytes are read at once.
-const PIECE: usize = 65_536;
+pub(crate) const PIECE: usize = 65_536;
 
 /// How a stream of frames ended. What came before is answered.
 #[derive(Drop)]
@@ -55,10 +55,18 @@ impl StreamEnd {
     }
 }
 
+/// What one read of a stream gave.
+pub(crate) struct Piece {
+    /// The messages that are whole since.
+    pub(crate) messages: Vec<Vec<u8>>,
+    /// How the stream ended, if it did.
+    pub(crate) end: Option<StreamEnd>,
+}
+
 /// The messages of a stream, and how many came.
 pub(crate) struct Requests {
     framer: Framer,
-    count: u64,
+    pub(crate) count: u64,
 }
 
 // Written out, so that no caller proves again how its parts are dropped.
@@ -71,7 +79,33 @@ impl Drop for Requests {
     }
 }
 
-// Answers a message; one that cannot be read is told by its number and passed over.
+// The context of a request; a message that cannot be read is told by its number and passed over.
+pub(crate) fn request_in<E: Write>(
+    alloc: Global,
+    number: u64,
+    message: &[u8],
+    told: &mut Told<'_, E>,
+) -> Result<Option<Context>, ServeError>
+    ensures { IfOk result (λ request. option_to_list request
+        ≡ map request_of (if_read (read message.now) message.now)) }
+{
+    match decode(alloc, message) {
+        Ok(_) => {
+            let mut request = Context::new(alloc);
+            match request.put("request", message) {
+                Ok(()) => Ok(Some(request)),
+                Err(_) => Err(ServeError::OutOfMemory),
+            }
+        }
+        Err(DecodeError::OutOfMemory) => Err(ServeError::OutOfMemory),
+        Err(error) => {
+            told.pass_over(number, &error);
+            Ok(None)
+        }
+    }
+}
+
+// Answers a message, if it can be read.
 fn serve<S: Alter, O: Write, E: Write>(
     alloc: Global,
     switch: &mut Switch<S>,
@@ -90,13 +124,9 @@ fn serve<S: Alter, O: Write, E: Write>(
         (point_of S.Store switch.old) (O.contents out.old) (O.contents out.new)) }
     ensures ready { OnOk result (IsReady (point_of S.Store switch.new)) }
 {
-    match decode(alloc, message) {
-        Ok(_) => switch.answer(alloc, message, told, out),
-        Err(DecodeError::OutOfMemory) => Err(ServeError::OutOfMemory),
-        Err(error) => {
-            told.pass_over(number, &error);
-            Ok(())
-        }
+    match request_in(alloc, number, message, told)? {
+        Some(request) => switch.answer(alloc, request, told, out),
+        None => Ok(()),
     }
 }
 
@@ -134,30 +164,16 @@ impl Requests {
         }
     }
 
-    // Answers the messages that a piece makes whole.
-    fn serve_piece<S: Alter, O: Write, E: Write>(
-        &mut self,
-        alloc: Global,
-        switch: &mut Switch<S>,
-        piece: &[u8],
-        out: &mut O,
-        told: &mut Told<'_, E>,
-    ) -> Result<(), ServeError>
-        requires ready { IsReady (point_of S.Store switch.old) }
-        ensures serves { OnOk result ((more : List (List ℕ))
-            × FramesIn piece.now more self.old.framer self.new.framer
-            × Serves (answering (requests more))
-            (point_of S.Store switch.old) (O.contents out.old)
-            (point_of S.Store switch.new) (O.contents out.new)) }
-        ensures halts { OnErr result ((more : List (List ℕ))
-            × (FramesIn piece.now more self.old.framer self.new.framer ⊎ (more ≡ []))
-            × Halts (answering (requests more))
-            (point_of S.Store switch.old) (O.contents out.old) (O.contents out.new)) }
-        ensures ready { OnOk result (IsReady (point_of S.Store switch.new)) }
+    // The messages that a piece makes whole.
+    fn feed(&mut self, alloc: Global, piece: &[u8]) -> Result<Vec<Vec<u8>>, ServeError>
+        ensures { IfOk result (λ list.
+            FramesIn piece.now (messages list.items) self.old.framer self.new.framer) }
     {
         match self.framer.feed(piece) {
-            Ok(list) => serve_messages(alloc, switch, &mut self.count, &list, out, told),
-            Err(error) => stop_on_memory(&error),
+            Ok(list) => Ok(list),
+            Err(FrameError::OutOfMemory) => Err(ServeError::OutOfMemory),
+            // The framer has failed, and says so.
+            Err(_) => Ok(Vec::new(alloc)),
         }
     }
 
@@ -177,6 +193,39 @@ impl Requests {
             0 => Some(StreamEnd::Whole),
             bytes => Some(StreamEnd::Truncated(bytes)),
         }
+    }
+
+    /// Reads once.
+    pub(crate) fn read<R: Read>(
+        &mut self,
+        alloc: Global,
+        input: &mut R,
+        buf: &mut [u8],
+    ) -> Result<Piece, ServeError>
+        requires room { 0 < length buf.old }
+        requires sound { self.old.framer.failed ≡ false }
+        ensures room { length buf.new ≡ length buf.old }
+        ensures goes_on { IfOk result (λ piece.
+            IfNone piece.end (self.new.framer.failed ≡ false)) }
+        ensures reads { IfOk result (λ piece.
+            ReadsOn (R.remaining input.old) self.old.framer (messages piece.messages.items)
+            (R.remaining input.new) self.new.framer) }
+        ensures ends { IfOk result (λ piece.
+            IfSome piece.end (λ e. EndsAs e self.new.framer (R.remaining input.new))) }
+    {
+        let count = match input.read(buf) {
+            Ok(count) => count,
+            Err(error) if error.kind() == ErrorKind::Interrupted => {
+                return Ok(Piece {
+                    messages: Vec::new(alloc),
+                    end: None,
+                });
+            }
+            Err(error) => return unread(alloc, error),
+        };
+        let messages = self.feed(alloc, &buf[..count])?;
+        let end = self.end_after(count);
+        Ok(Piece { messages, end })
     }
 
     // Reads once, and answers the messages that are whole then. It tells how the stream ended, if it did.
@@ -201,17 +250,13 @@ impl Requests {
             (point_of S.Store switch.old) (O.contents out.old)
             (point_of S.Store switch.new) (O.contents out.new)
             × IfSome end (λ e. EndsAs e self.new.framer (R.remaining input.new))) }
-        ensures halts { OnErr result (HaltsOn (R.remaining input.old) self.old.framer
+        ensures halts { OnErr result (HaltsOn false (R.remaining input.old) self.old.framer
             (point_of S.Store switch.old) (O.contents out.old) (O.contents out.new)) }
         ensures ready { OnOk result (IsReady (point_of S.Store switch.new)) }
     {
-        let count = match input.read(buf) {
-            Ok(count) => count,
-            Err(error) if error.kind() == ErrorKind::Interrupted => return Ok(None),
-            Err(error) => return unread(error),
-        };
-        self.serve_piece(alloc, switch, &buf[..count], out, told)?;
-        Ok(self.end_after(count))
+        let Piece { messages, end } = self.read(alloc, input, buf)?;
+        serve_messages(alloc, switch, &mut self.count, &messages, out, told)?;
+        Ok(end)
     }
 
     /// Answers all messages of an input, as they come.
@@ -230,7 +275,7 @@ impl Requests {
             × Serves (answering (requests frames))
             (point_of S.Store switch.old) (O.contents out.old)
             (point_of S.Store switch.new) (O.contents out.new)) }
-        ensures stops { OnErr result (StopsWithin (R.remaining input.old)
+        ensures stops { OnErr result (StopsWithin false (R.remaining input.old)
             (point_of S.Store switch.old) (O.contents out.old) (O.contents out.new)) }
         ensures ready { OnOk result (IsReady (point_of S.Store switch.new)) }
     {
@@ -246,22 +291,16 @@ impl Requests {
     }
 }
 
-// Want of memory ends the run. At any other error the framer has failed, and says so.
-fn stop_on_memory(error: &FrameError) -> Result<(), ServeError>
-    ensures { OnOk result (error.now ≡ FrameError.OutOfMemory → ⊥) }
-{
-    match error {
-        FrameError::OutOfMemory => Err(ServeError::OutOfMemory),
-        _ => Ok(()),
-    }
-}
-
 // A read failed. Want of memory ends the run, any other error the stream.
-fn unread(error: io::Error) -> Result<Option<StreamEnd>, ServeError>
-    ensures { IfOk result (λ end. (e : ReadError) × (end ≡ Some (Unread e))) }
+fn unread(alloc: Global, error: io::Error) -> Result<Piece, ServeError>
+    ensures none { IfOk result (λ piece. messages piece.messages.items ≡ []) }
+    ensures unread { IfOk result (λ piece. (e : ReadError) × (piece.end ≡ Some (Unread e))) }
 {
     match ReadError::from(error) {
         ReadError::OutOfMemory => Err(ServeError::OutOfMemory),
-        other => Ok(Some(StreamEnd::Unread(other))),
+        other => Ok(Piece {
+            messages: Vec::new(alloc),
+            end: Some(StreamEnd::Unread(other)),
+        }),
     }
 }

@@ -9,8 +9,7 @@ ghost use Rattle.cli_run.specs.Errors.{IsCause, IsNoStation};
 ghost use Rattle.cli_run.specs.Points.{IsAtRest, IsReady, all_answered, point_of};
 ghost use Rattle.cli_run.specs.Points.{responses, unanswered};
 ghost use Rattle.cli_run.specs.Rounds.{Completed, CutsLong, Does, IsDone, Serves};
-ghost use Rattle.cli_run.specs.Rounds.{Transacts, answering};
-ghost use Rattle.cli_run.specs.Requests.{request_of};
+ghost use Rattle.cli_run.specs.Rounds.{Together, Transacts, answering};
 ghost use Rattle.cli_run.specs.Stopped.{GivesSome, Halts};
 
 use crate::error::ServeError;
@@ -21,14 +20,21 @@ use flow_asm::Code;
 use sqlite::Alter;
 use std::alloc::Global;
 use std::io::Write;
+use std::sync::Wait;
+use std::thread::Threads;
 use sw_context::Context;
 use sw_participant::Text;
 use sw_seating::SeatingError;
 use tx_engine::Engine;
+use tx_intake::Listed;
 use tx_plant::{Outcome, Plant, PlantError, Turn};
+use tx_pool::{Open, Pool};
 
 /// A history of so many entries is cut between two transactions: half of what it may have.
-const MANY_ENTRIES: usize = 524_288;
+pub(crate) const MANY_ENTRIES: usize = 524_288;
+
+/// The most requests of a batch, and the places of its intake.
+pub(crate) const MAX_BATCH: usize = 256;
 
 /// More steps than a transaction has: 1,000 answers and choices, then as many tolds.
 const MAX_STEPS: usize = 2_002;
@@ -47,6 +53,27 @@ impl<S: Alter + Drop> Drop for Switch<S> {
             plant: _,
             answered: _,
         } = self;
+    }
+}
+
+impl<S: Alter + Drop> Switch<S> {
+    /// Runs the requests as a batch, all sessions at once. A batch that is given up takes the switch with it.
+    pub(crate) fn run_together<T: Threads + Wait + Sync>(
+        self,
+        rt: &T,
+        alloc: Global,
+        requests: Vec<Context>,
+    ) -> Result<Switch<S>, ServeError>
+        requires { IsAtRest (point_of S.Store self) }
+        ensures { IfOk result (λ switch. Together requests.items
+            (point_of S.Store self) (point_of S.Store switch)) }
+    {
+        let Switch { plant, answered } = self;
+        plant.is_engine();
+        match Pool::run(rt, alloc, plant, Listed::new(requests), MAX_BATCH, &Open) {
+            Ok((plant, _, _)) => Ok(Switch { plant, answered }),
+            Err(error) => Err(ServeError::from_pool(error)),
+        }
     }
 }
 
@@ -125,8 +152,8 @@ impl<S: Alter> Switch<S> {
         Err(ServeError::Endless)
     }
 
-    // Writes the responses that were not given, those of transactions that ended since.
-    fn give<O: Write>(&mut self, alloc: Global, out: &mut O) -> Result<(), ServeError>
+    /// Writes the responses that were not given, those of transactions that ended since.
+    pub(crate) fn give<O: Write>(&mut self, alloc: Global, out: &mut O) -> Result<(), ServeError>
         ensures gives { OnOk result ((text : List ℕ)
             × AreFramed text (responses (unanswered (point_of S.Store self.old)))
             × Appends (O.contents out.old) (O.contents out.new) text) }
@@ -184,23 +211,19 @@ impl<S: Alter> Switch<S> {
     pub(crate) fn answer<O: Write, E: Write>(
         &mut self,
         alloc: Global,
-        request: &[u8],
+        request: Context,
         told: &mut Told<'_, E>,
         out: &mut O,
     ) -> Result<(), ServeError>
         requires ready { IsReady (point_of S.Store self.old) }
-        ensures serves { OnOk result (Serves (answering (request_of request.now ∷ []))
+        ensures serves { OnOk result (Serves (answering (request ∷ []))
             (point_of S.Store self.old) (O.contents out.old)
             (point_of S.Store self.new) (O.contents out.new)) }
-        ensures halts { OnErr result (Halts (answering (request_of request.now ∷ []))
+        ensures halts { OnErr result (Halts (answering (request ∷ []))
             (point_of S.Store self.old) (O.contents out.old) (O.contents out.new)) }
         ensures ready { OnOk result (IsReady (point_of S.Store self.new)) }
     {
-        let mut context = Context::new(alloc);
-        let Ok(()) = context.put("request", request) else {
-            return Err(ServeError::OutOfMemory);
-        };
-        self.act(alloc, Turn::Offer(context))?;
+        self.act(alloc, Turn::Offer(request))?;
         self.answer_next(alloc, told, out)
     }
 }

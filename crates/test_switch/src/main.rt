@@ -51,6 +51,8 @@ use silent::run_silent;
 use std::io::Write;
 use std::process::ExitCode;
 use std::str;
+use std::sync::Wait;
+use std::thread::Threads;
 
 fn cut_of(word: &str) -> Result<Cut, TestError> {
     match word {
@@ -94,11 +96,15 @@ fn run_bench(rt: &HostRuntime, words: &[String]) -> Result<(), TestError> {
     })
 }
 
-fn run_words(rt: &HostRuntime, words: &[String]) -> Result<(), TestError> {
+fn run_words<T: Threads + Wait + Sync>(
+    threads: &T,
+    rt: &HostRuntime,
+    words: &[String],
+) -> Result<(), TestError> {
     match words {
         [_] => Ok(()),
         [_, test, flow, journal] if test.as_str() == "silent" => {
-            run_silent(rt, flow.as_str(), journal.as_str())
+            run_silent(threads, rt, flow.as_str(), journal.as_str())
         }
         [_, test, cut] if test.as_str() == "stopped" => {
             run_stopped(rt, cut_of(cut.as_str())?, false)
@@ -120,7 +126,7 @@ fn main(rt: HostRuntime) -> ExitCode {
     let Ok(words) = words else {
         return ExitCode::from(4);
     };
-    match run_words(&rt, words.as_slice()) {
+    match run_words(&rt, &rt, words.as_slice()) {
         Ok(()) => ExitCode::from(0),
         Err(error) => {
             let _told = writeln!(rt.stderr(), "test_switch: {error}");

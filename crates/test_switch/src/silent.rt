@@ -7,6 +7,8 @@ use flow_asm::{Code, assemble};
 use sqlite::{Alter, Connection};
 use std::alloc::Global;
 use std::io::{Read, Write};
+use std::sync::Wait;
+use std::thread::Threads;
 use sw_book::Book;
 use sw_issuers::Issuer;
 use tx_journal::Journal;
@@ -22,7 +24,8 @@ fn issuers(alloc: Global) -> Issuers {
     }
 }
 
-fn serve<S: Alter + Drop, R: Read + Drop, O: Write, E: Write>(
+fn serve<S: Alter + Drop, T: Threads + Wait + Sync, R: Read + Drop, O: Write, E: Write>(
+    threads: &T,
     alloc: Global,
     code: &Code,
     conn: Connection<S>,
@@ -38,15 +41,21 @@ fn serve<S: Alter + Drop, R: Read + Drop, O: Write, E: Write>(
         queried: issuers(alloc),
         advised: issuers(alloc),
         sessions: 1,
+        threads: false,
     };
     match Journal::open(alloc, conn) {
-        Ok(journal) => run(alloc, code, journal, setup, Some(input), out, told),
+        Ok(journal) => run(threads, alloc, code, journal, setup, Some(input), out, told),
         Err((cause, _)) => Err(ServeError::from(cause)),
     }
 }
 
 /// Answers the requests of the program's input, over the journal in this file.
-pub fn run_silent(rt: &HostRuntime, flow: &str, journal: &str) -> Result<(), TestError> {
+pub fn run_silent<T: Threads + Wait + Sync>(
+    threads: &T,
+    rt: &HostRuntime,
+    flow: &str,
+    journal: &str,
+) -> Result<(), TestError> {
     let alloc = rt.alloc();
     let Ok(flow) = open_flow(alloc, rt, flow) else {
         return Err(TestError::Flow);
@@ -59,7 +68,15 @@ pub fn run_silent(rt: &HostRuntime, flow: &str, journal: &str) -> Result<(), Tes
         err: &mut rt.stderr(),
         trace: false,
     };
-    match serve(alloc, &code, conn, rt.stdin(), &mut rt.stdout(), &mut told) {
+    match serve(
+        threads,
+        alloc,
+        &code,
+        conn,
+        rt.stdin(),
+        &mut rt.stdout(),
+        &mut told,
+    ) {
         Ok(_) => Ok(()),
         Err(_) => Err(TestError::Run),
     }

@@ -3,7 +3,7 @@ use Rattle.std.specs.Prelude.{nat_lt}
 use Rattle.sw_issuers.specs.Sending.{SendsAdvice}
 use Rattle.tx_journal.specs.Kept.{kept}
 use Rattle.cli_run.specs.Advices.{SendsAll}
-use Rattle.cli_run.specs.Points.{IsAtRest, point, world_at}
+use Rattle.cli_run.specs.Points.{IsAtRest, point}
 use Rattle.cli_run.specs.Rounds.{IsEmptied}
 use Rattle.cli_run.specs.Stored.{plain}
 use Rattle.cli_run.proofs.advices.send_advices.Given as goal

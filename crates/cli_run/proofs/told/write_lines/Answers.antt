@@ -1,4 +1,4 @@
-use Rattle.std.proofs.Common.{◌≡◌, ◌<◌, ◌≤◌, ◌∙◌, ap, length, arith}
+use Rattle.std.proofs.Common.{◌<◌, ◌≤◌, ◌∙◌, ap, length, arith}
 use Rattle.std.specs.Prelude.{string_bytes}
 use Rattle.cli_run.proofs.Doings.{entries_length}
 use Rattle.cli_run.proofs.Printing.{all_lines, counted_next, first_lines, more_lines, none_missing, part_line, some_lines}

@@ -1,4 +1,4 @@
-use Rattle.std.proofs.Common.{◌≡◌, ℕ, List, ◌∙◌, ap, inl, inr, subst}
+use Rattle.std.proofs.Common.{◌≡◌, ℕ, List, true, false, ◌∙◌, ap, inl, inr, subst}
 use Rattle.std.proofs.KnownBytes.{Keeps-refl}
 use Rattle.cli_io.specs.Written.{AppendsBeginning}
 use Rattle.std.specs.Io.KnownBytes.{Appends}
@@ -8,10 +8,13 @@ use Rattle.tx_journal.specs.Kept.{kept}
 use Rattle.tx_plant.specs.Plant.{Whole, seen, whole}
 use Rattle.plant_outcome.specs.Lives.{IsMade}
 use Rattle.cli_run.specs.Lines.{lines_in}
-use Rattle.cli_run.proofs.Rounds.{none_none, some_ok}
+use Rattle.cli_run.specs.Requests.{requests}
+use Rattle.cli_run.specs.Rounds.{answering}
+use Rattle.cli_run.proofs.Batched.{for_one, for_threads, some_for}
+use Rattle.cli_run.proofs.Rounds.{if_ok, none_none, some_ok}
 use Rattle.cli_run.proofs.Runs.{begun_recovers, printed, ran, through}
 use Rattle.cli_run.proofs.Halted.{served_all, stopped, stopped_some, stops_none, stops_some, unprinted}
-use Rattle.cli_run.proofs.Stops.{either_way, on_err_of}
+use Rattle.cli_run.proofs.Stops.{either_way, on_err, on_err_of}
 use Rattle.cli_run.proofs.serving.Over.run.Goals as goal
 
 pub returns-in_default-clause-printed : goal.returns-in_default-clause-printed
@@ -42,6 +45,48 @@ serve_to_end-served-requires-clause-empty g c =
     let first : c.opened.result.now.next_id ≡ made.core.world.start.view.next_id = ap (λ (v : JournalView). v.next_id) (c.opened.ensures ∙ ap (λ (w : World). w.start.view) c.engine.ensures) in
     (begun_recovers c.args.code.now c.args.self.sessions view (seen (kept g.S.Store c.args.self.journal)) made c.opened.result.now.next_id c.saturating_sub.result _ is first c.saturating_sub.ensures c.in_ok-recover.ensures.recovers).empty
 
+pub serve_together-requires-clause-rest : goal.serve_together-requires-clause-rest
+serve_together-requires-clause-rest g c =
+    let plant = c.in-Ok.plant in
+    let made : Whole = whole plant.running.engine plant.running.seats (seen (kept g.S.Store plant.journal)) in
+    let view : JournalView = c.in-Ok.ensures.opened.0 in
+    let is : IsMade c.args.code.now c.args.self.sessions view (seen (kept g.S.Store c.args.self.journal)) made = record { opened = c.in-Ok.ensures.opened.1; engine = c.in-Ok.ensures.engine } in
+    let first : c.opened.result.now.next_id ≡ made.core.world.start.view.next_id = ap (λ (v : JournalView). v.next_id) (c.opened.ensures ∙ ap (λ (w : World). w.start.view) c.engine.ensures) in
+    λ κs within. (begun_recovers c.args.code.now c.args.self.sessions view (seen (kept g.S.Store c.args.self.journal)) made c.opened.result.now.next_id c.saturating_sub.result _ is first c.saturating_sub.ensures c.in_ok-recover.ensures.recovers).rest
+
+pub serve_together-requires-clause-empty : goal.serve_together-requires-clause-empty
+serve_together-requires-clause-empty g c =
+    let plant = c.in-Ok.plant in
+    let made : Whole = whole plant.running.engine plant.running.seats (seen (kept g.S.Store plant.journal)) in
+    let view : JournalView = c.in-Ok.ensures.opened.0 in
+    let is : IsMade c.args.code.now c.args.self.sessions view (seen (kept g.S.Store c.args.self.journal)) made = record { opened = c.in-Ok.ensures.opened.1; engine = c.in-Ok.ensures.engine } in
+    let first : c.opened.result.now.next_id ≡ made.core.world.start.view.next_id = ap (λ (v : JournalView). v.next_id) (c.opened.ensures ∙ ap (λ (w : World). w.start.view) c.engine.ensures) in
+    λ κs within. (begun_recovers c.args.code.now c.args.self.sessions view (seen (kept g.S.Store c.args.self.journal)) made c.opened.result.now.next_id c.saturating_sub.result _ is first c.saturating_sub.ensures c.in_ok-recover.ensures.recovers).empty
+
+pub returns-then-threads-clause-ran : goal.returns-then-threads-clause-ran
+returns-then-threads-clause-ran g c =
+    let plant = c.in-Ok.plant in
+    let made : Whole = whole plant.running.engine plant.running.seats (seen (kept g.S.Store plant.journal)) in
+    let view : JournalView = c.in-Ok.ensures.opened.0 in
+    let is : IsMade c.args.code.now c.args.self.sessions view (seen (kept g.S.Store c.args.self.journal)) made = record { opened = c.in-Ok.ensures.opened.1; engine = c.in-Ok.ensures.engine } in
+    let first : c.opened.result.now.next_id ≡ made.core.world.start.view.next_id = ap (λ (v : JournalView). v.next_id) (c.opened.ensures ∙ ap (λ (w : World). w.start.view) c.engine.ensures) in
+    if_ok c.serve_together.result (λ end served. some_ok _ c.args.self.input c.in-Some.input c.in-Some.is (
+      served.0,
+      served.1,
+      served.2,
+      for_threads c.args.self.threads (requests served.0) served.2 c.if-threads.true served.3,
+      ran c.args.code.now c.args.self.sessions view (seen (kept g.S.Store c.args.self.journal)) made c.opened.result.now.next_id c.saturating_sub.result _ _ _ _ _ _ is first c.saturating_sub.ensures c.in_ok-recover.ensures.recovers served.4,
+    )) c.serve_together.ensures.serves
+
+pub returns-then-threads-clause-stopped : goal.returns-then-threads-clause-stopped
+returns-then-threads-clause-stopped g c =
+    let plant = c.in-Ok.plant in
+    let made : Whole = whole plant.running.engine plant.running.seats (seen (kept g.S.Store plant.journal)) in
+    let view : JournalView = c.in-Ok.ensures.opened.0 in
+    let is : IsMade c.args.code.now c.args.self.sessions view (seen (kept g.S.Store c.args.self.journal)) made = record { opened = c.in-Ok.ensures.opened.1; engine = c.in-Ok.ensures.engine } in
+    let first : c.opened.result.now.next_id ≡ made.core.world.start.view.next_id = ap (λ (v : JournalView). v.next_id) (c.opened.ensures ∙ ap (λ (w : World). w.start.view) c.engine.ensures) in
+    on_err c.serve_together.result (λ some. stopped_some c.args.self.threads g.R.Read.remaining c.args.self.input c.in-Some.input c.in-Some.is c.args.code.now c.args.self.sessions view (seen (kept g.S.Store c.args.self.journal)) made c.opened.result.now.next_id c.saturating_sub.result _ _ _ is first c.saturating_sub.ensures c.in_ok-recover.ensures.recovers (some_for c.args.self.threads true _ _ _ _ c.if-threads.true some)) c.serve_together.ensures.stops
+
 pub returns-clause-ran : goal.returns-clause-ran
 returns-clause-ran g c =
     let plant = c.in-Ok.plant in
@@ -52,6 +97,8 @@ returns-clause-ran g c =
     through c.serve_to_end-served.result c.end_of.result c.end_of.ensures.served c.serve_to_end-served.ensures.serves (λ end served. some_ok _ c.args.self.input c.in-Some.input c.in-Some.is (
       served.0,
       served.1,
+      answering (requests served.0),
+      for_one c.args.self.threads (requests served.0) c.if-threads.false,
       ran c.args.code.now c.args.self.sessions view (seen (kept g.S.Store c.args.self.journal)) made c.opened.result.now.next_id c.saturating_sub.result _ _ _ _ _ _ is first c.saturating_sub.ensures c.in_ok-recover.ensures.recovers served.2,
     ))
 
@@ -69,7 +116,7 @@ returns-in_err-print-clause-stopped g c =
     let is : IsMade c.args.code.now c.args.self.sessions view (seen (kept g.S.Store c.args.self.journal)) made = record { opened = c.in-Ok.ensures.opened.1; engine = c.in-Ok.ensures.engine } in
     let first : c.opened.result.now.next_id ≡ made.core.world.start.view.next_id = ap (λ (v : JournalView). v.next_id) (c.opened.ensures ∙ ap (λ (w : World). w.start.view) c.engine.ensures) in
     let prints = ap (λ (w : World). lines_in w) c.engine-in_default.ensures in
-    on_err_of c.from_residual-in_err-print.result (inr (stops_none g.R.Read.remaining c.args.self.input c.in_default.is (unprinted c.args.code.now c.args.self.sessions view (seen (kept g.S.Store c.args.self.journal)) made c.opened.result.now.next_id c.saturating_sub.result _ _ _ is first c.saturating_sub.ensures c.in_ok-recover.ensures.recovers (subst (λ (l : List ℕ). AppendsBeginning (g.O.Write.contents c.args.out.now) (g.O.Write.contents c.print.new.out) l) prints c.in_err-print.ensures.beginning))))
+    on_err_of c.from_residual-in_err-print.result (inr (stops_none c.args.self.threads g.R.Read.remaining c.args.self.input c.in_default.is (unprinted c.args.code.now c.args.self.sessions view (seen (kept g.S.Store c.args.self.journal)) made c.opened.result.now.next_id c.saturating_sub.result _ _ _ is first c.saturating_sub.ensures c.in_ok-recover.ensures.recovers (subst (λ (l : List ℕ). AppendsBeginning (g.O.Write.contents c.args.out.now) (g.O.Write.contents c.print.new.out) l) prints c.in_err-print.ensures.beginning))))
 
 pub returns-clause-stopped : goal.returns-clause-stopped
 returns-clause-stopped g c =
@@ -79,5 +126,5 @@ returns-clause-stopped g c =
     let is : IsMade c.args.code.now c.args.self.sessions view (seen (kept g.S.Store c.args.self.journal)) made = record { opened = c.in-Ok.ensures.opened.1; engine = c.in-Ok.ensures.engine } in
     let first : c.opened.result.now.next_id ≡ made.core.world.start.view.next_id = ap (λ (v : JournalView). v.next_id) (c.opened.ensures ∙ ap (λ (w : World). w.start.view) c.engine.ensures) in
     either_way c.serve_to_end-served.result c.end_of.result c.serve_to_end-served.ensures.serves c.serve_to_end-served.ensures.stops
-    (λ end served. inr (stops_some g.R.Read.remaining c.args.self.input c.in-Some.input c.in-Some.is (stopped c.args.code.now c.args.self.sessions view (seen (kept g.S.Store c.args.self.journal)) made c.opened.result.now.next_id c.saturating_sub.result _ _ _ _ is first c.saturating_sub.ensures c.in_ok-recover.ensures.recovers (served_all _ _ _ _ _ _ _ end served.0 served.1 served.2))))
-    (λ some. stopped_some g.R.Read.remaining c.args.self.input c.in-Some.input c.in-Some.is c.args.code.now c.args.self.sessions view (seen (kept g.S.Store c.args.self.journal)) made c.opened.result.now.next_id c.saturating_sub.result _ _ _ is first c.saturating_sub.ensures c.in_ok-recover.ensures.recovers some)
+    (λ end served. inr (stops_some c.args.self.threads g.R.Read.remaining c.args.self.input c.in-Some.input c.in-Some.is (stopped c.args.self.threads c.args.code.now c.args.self.sessions view (seen (kept g.S.Store c.args.self.journal)) made c.opened.result.now.next_id c.saturating_sub.result _ _ _ _ is first c.saturating_sub.ensures c.in_ok-recover.ensures.recovers (served_all c.args.self.threads _ _ _ _ _ _ _ end served.0 (answering (requests served.0)) served.1 (for_one c.args.self.threads (requests served.0) c.if-threads.false) served.2))))
+    (λ some. stopped_some c.args.self.threads g.R.Read.remaining c.args.self.input c.in-Some.input c.in-Some.is c.args.code.now c.args.self.sessions view (seen (kept g.S.Store c.args.self.journal)) made c.opened.result.now.next_id c.saturating_sub.result _ _ _ is first c.saturating_sub.ensures c.in_ok-recover.ensures.recovers (some_for c.args.self.threads false _ _ _ _ c.if-threads.false some))

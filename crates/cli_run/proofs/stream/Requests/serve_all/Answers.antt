@@ -1,7 +1,7 @@
-use Rattle.std.proofs.Common.{◌≡◌, ◌<◌, ◌≤◌, false, [], ◌++◌, length, drop, arith, ap}
-use Rattle.std.specs.Prelude.{IfNone}
+use Rattle.std.proofs.Common.{◌≡◌, ◌<◌, ◌≤◌, false, [], ◌++◌, length, drop, arith, ap, refl}
 use Rattle.sw_frame.specs.Stream.{State}
-use Rattle.cli_run.specs.Requests.{EndsAs}
+use Rattle.cli_run.specs.Requests.{EndsAs, requests}
+use Rattle.cli_run.specs.Rounds.{answering}
 use Rattle.cli_run.proofs.Rounds.{if_none, if_some, serves_none}
 use Rattle.cli_run.proofs.Readings.{nothing_read, serves_frames, still_room}
 use Rattle.cli_run.proofs.Stops.{on_err_of, stops_fresh, stops_on}
@@ -52,8 +52,8 @@ loop-preserved g c =
     }
 
 pub returns-in_err-buf-clause-stops : goal.returns-in_err-buf-clause-stops
-returns-in_err-buf-clause-stops g c = on_err_of c.from_residual.result (stops_fresh (g.R.Read.remaining c.args.input.now) c.args.self.now.framer _ _ c.requires.fresh)
+returns-in_err-buf-clause-stops g c = on_err_of c.from_residual.result (stops_fresh false (g.R.Read.remaining c.args.input.now) c.args.self.now.framer _ _ c.requires.fresh)
 
 pub returns-in_err-end-clause-stops : goal.returns-in_err-end-clause-stops
 returns-in_err-end-clause-stops g c =
-    on_err_of c.from_residual-in_err-end.result (stops_on (g.R.Read.remaining c.args.input.now) _ c.loop.invariant.frames _ _ _ _ _ _ c.loop.invariant.reads c.loop.invariant.serves c.in_err-end.ensures.halts)
+    on_err_of c.from_residual-in_err-end.result (stops_on false (g.R.Read.remaining c.args.input.now) _ c.loop.invariant.frames _ _ _ _ _ _ c.loop.invariant.reads (answering (requests c.loop.invariant.frames), refl, c.loop.invariant.serves) c.in_err-end.ensures.halts)

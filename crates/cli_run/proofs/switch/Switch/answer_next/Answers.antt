@@ -1,7 +1,6 @@
 use Rattle.std.proofs.Common.{◌≡◌, [], ◌∷◌, sym, subst}
-use Rattle.tx_journal.specs.Kept.{kept}
-use Rattle.cli_run.specs.Points.{IsAtRest, Point, point, unanswered}
-use Rattle.cli_run.specs.Rounds.{Completed, CutsLong}
+use Rattle.cli_run.specs.Points.{IsAtRest, Point, unanswered}
+use Rattle.cli_run.specs.Rounds.{Completed}
 use Rattle.cli_run.proofs.Rounds.{completed, on_both, rest_given}
 use Rattle.cli_run.proofs.Stops.{halts_given, halts_gives, halts_none, on_err_of}
 use Rattle.cli_run.proofs.switch.Switch.answer_next.Goals as goal

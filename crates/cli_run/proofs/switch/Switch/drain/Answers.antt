@@ -1,7 +1,7 @@
 use Rattle.std.proofs.Common.{[], ◌∷◌}
 use Rattle.cli_run.specs.Rounds.{Completed, Released}
 use Rattle.cli_run.proofs.Resting.{released_rest}
-use Rattle.cli_run.proofs.Rounds.{drained, empties_none, empties_then, serves_release}
+use Rattle.cli_run.proofs.Rounds.{empties_none, empties_then, serves_release}
 use Rattle.cli_run.proofs.Stops.{drains_next, drains_none, on_err_of}
 use Rattle.cli_run.proofs.switch.Switch.drain.Goals as goal
 

@@ -1,7 +1,6 @@
 use Rattle.std.proofs.Common.{[], ap, inl, inr, refl, sym}
 use Rattle.tx_journal.specs.Kept.{kept}
-use Rattle.cli_run.specs.Points.{Point, point}
-use Rattle.cli_run.proofs.Rounds.{on_ok}
+use Rattle.cli_run.specs.Points.{point}
 use Rattle.cli_io.proofs.Writing.{beginning_none}
 use Rattle.cli_run.proofs.Stops.{on_err_of}
 use Rattle.cli_run.proofs.switch.Switch.give.Goals as goal

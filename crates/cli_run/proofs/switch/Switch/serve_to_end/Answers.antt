@@ -1,7 +1,9 @@
+use Rattle.cli_run.specs.Requests.{requests}
+use Rattle.cli_run.specs.Rounds.{answering}
 use Rattle.cli_run.proofs.Resting.{ready_cut}
-use Rattle.std.proofs.Common.{inl, inr}
+use Rattle.std.proofs.Common.{inl, inr, refl}
 use Rattle.std.proofs.KnownBytes.{Keeps-refl}
-use Rattle.cli_run.proofs.Stops.{drains_all, on_err_of}
+use Rattle.cli_run.proofs.Stops.{on_err_of}
 use Rattle.cli_run.proofs.switch.Switch.serve_to_end.Goals as goal
 
 pub serve_all-requires : goal.serve_all-requires
@@ -13,6 +15,7 @@ serve_all-requires g c = record {
 pub returns : goal.returns
 returns g c =
     let (frames, read, serves) = c.in_ok-end.ensures.serves in
+    let closes = c.in_ok-close.ensures.closes in
     record {
       stops = tt;
       serves = (
@@ -25,13 +28,13 @@ returns g c =
           served = _;
           between = _;
           serves = serves;
-          drained = _;
-          drains = c.in_ok-drain.ensures.drains;
+          drained = closes.drained;
+          drains = closes.drains;
           sent = _;
           end = _;
-          sends = c.in_ok-send_advices.ensures.sends;
-          rest = c.in_ok-send_advices.ensures.rest;
-          emptied = c.in_ok-send_advices.ensures.emptied c.in_ok-drain.ensures.drains.emptied;
+          sends = closes.sends;
+          rest = closes.rest;
+          emptied = closes.emptied;
         },
       );
     }
@@ -47,22 +50,12 @@ returns-in_err-end-clause-stops g c = on_err_of c.from_residual-in_err-end.resul
   serves = inl c.in_err-end.ensures.stops;
 }))
 
-pub returns-in_err-drain-clause-stops : goal.returns-in_err-drain-clause-stops
-returns-in_err-drain-clause-stops g c =
+pub returns-in_err-close-clause-stops : goal.returns-in_err-close-clause-stops
+returns-in_err-close-clause-stops g c =
     let (frames, read, serves) = c.in_ok-end.ensures.serves in
-    on_err_of c.from_residual-in_err-drain.result (inr (record {
+    on_err_of c.from_residual-in_err-close.result (inr (record {
       begun = _;
       cuts = c.in_ok-cut_long.ensures.cuts;
       ready = ready_cut _ _ c.in_ok-cut_long.ensures.cuts c.in_ok-cut_long.ensures.rest c.requires.empty;
-      serves = inr (record { end = _; frames = frames; read = read; served = _; between = _; serves = serves; drains = c.in_err-drain.ensures.stops });
-    }))
-
-pub returns-in_err-send_advices-clause-stops : goal.returns-in_err-send_advices-clause-stops
-returns-in_err-send_advices-clause-stops g c =
-    let (frames, read, serves) = c.in_ok-end.ensures.serves in
-    on_err_of c.from_residual-in_err-send_advices.result (inr (record {
-      begun = _;
-      cuts = c.in_ok-cut_long.ensures.cuts;
-      ready = ready_cut _ _ c.in_ok-cut_long.ensures.cuts c.in_ok-cut_long.ensures.rest c.requires.empty;
-      serves = inr (record { end = _; frames = frames; read = read; served = _; between = _; serves = serves; drains = drains_all _ _ _ _ c.in_ok-drain.ensures.drains });
+      serves = inr (record { end = _; frames = frames; read = read; served = _; between = _; serves = (answering (requests frames), refl, serves); drains = c.in_err-close.ensures.stops });
     }))

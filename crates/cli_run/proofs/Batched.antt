@@ -1,0 +1,246 @@
+-- A batch leaves a switch at rest, once its responses are given.
+-- for: batches::Switch
+use Rattle.std.proofs.Common.{◌≡◌, ◌<◌, ◌≤◌, ◌⊎◌, ℕ, ◌+◌, Bool, true, false, cond, inl, inr, List, [], ◌∷◌, ◌++◌, ◌==◌, length, map, take, drop, take-append-drop, get_or, Option, Some, None, refl, sym, ap, subst, arith, ◌∙◌, append_assoc, append-nil}
+use Rattle.std.specs.Global.{Vec}
+use Rattle.std.specs.Prelude.{option_to_list, ◌&&◌}
+use Rattle.std.proofs.lemmas.List.{length-append, map-append}
+use Rattle.std.specs.Io.KnownBytes.{Appends}
+use Rattle.std.specs.Ordering.{is_lt, nat_cmp}
+use Rattle.std.proofs.lemmas.Bool.{cases_lt}
+use Rattle.std.proofs.Math.ListN.{get_or-eq_default}
+use Rattle.std.proofs.lemmas.Map.Keys.{ge_from_not_lt}
+use Rattle.std.proofs.lemmas.Bool.Decides.{nat_tests}
+use Rattle.sw_context.specs.Pairs.{Pairs}
+use Rattle.sw_context.specs.Spelling.{bytes_of}
+use Rattle.sw_participant.specs.Chains.{Rule}
+use Rattle.tx_intake.specs.Listings.{Listing, given_of, listing}
+use Rattle.tx_plant.specs.Plant.{Whole}
+use Rattle.tx_pool.specs.Drives.{Drove}
+use Rattle.tx_pool.specs.Settled.{IsSettled}
+use Rattle.tx_pool.specs.Went.{Grown, Offered}
+use Rattle.sw_frame.specs.Feeds.{messages}
+use Rattle.sw_frame.specs.Stream.{AreFramed}
+use Rattle.iso_codec.specs.Reads.{read}
+use Rattle.tx_history.specs.declared.event.Event.{Event}
+use Rattle.tx_history.specs.declared.event.Event.TheVariants as event
+use Rattle.tx_history.specs.History.{takes}
+use Rattle.tx_engine.specs.Calls.{held_id}
+use Rattle.tx_engine.specs.Cuts.{is_in_use}
+use Rattle.tx_plant.specs.Core.{Core}
+use Rattle.plant_outcome.specs.Lives.{Done}
+use Rattle.plant_outcome.specs.Seated.{Seated, seat_id}
+use Rattle.plant_outcome.proofs.Cutting.{free_session}
+use Rattle.plant_outcome.proofs.SeatedTurns.{all_seated}
+use Rattle.cli_run.specs.Points.{IsAtRest, IsReady, Point, RestsGiven, above, all_answered, ended_at, last_id, next_at, responses, unanswered, world_at}
+use Rattle.cli_run.specs.Rounds.{Batched, Finishes, Round, RoundsFor, Serves, ServesFor, Together, Trimmed, answering, offered_in}
+use Rattle.cli_run.specs.Requests.{if_read, request_of, requests}
+use Rattle.cli_run.specs.Stopped.{DrainsSome, HaltsToward, IsOfNext, ServesSome, Unfinished}
+use Rattle.cli_run.proofs.Below.{EndedBelow, driven_below}
+use Rattle.cli_run.proofs.Recoveries.{AreBelow}
+use Rattle.cli_run.proofs.Doings.{acts_once}
+use Rattle.cli_run.proofs.Rounds.{serves_batch, serves_none, serves_then, serves_trimmed}
+use Rattle.cli_run.proofs.Readings.{requests_append, requests_next}
+use Rattle.cli_run.proofs.Stops.{for_none, for_then, halts_then, of_batches_append, offered_append, retries_are_of_batches, retries_offer_none, toward_before, toward_then}
+
+together_seated : (xs : List Pairs) (p q : Point) → Seated p.plant.core → Together xs p q → Seated q.plant.core
+together_seated xs p q seated t = all_seated (Done t.turns t.outcomes ∷ []) t.acts.moved p.plant q.plant seated t.acts.driven
+
+no_holder : (p : Core) (s : ℕ) → Seated p → is_in_use p.world ≡ false → held_id p.world s ≡ None
+no_holder p s h free = elim (cases_lt s p.world.sessions) [
+  | inl low ↦ free_session p.world s free low
+  | inr high ↦ (let places = h.places in
+      let far : length p.seats ≤ s = omega arith in
+      sym (h.seats s) ∙ ap seat_id (get_or-eq_default p.seats None far))
+]
+
+-- ids
+
+takes_more : (new past : List Event) → takes past ≤ takes (new ++ past)
+takes_more [] past = omega arith
+takes_more (event.Taken s ∷ new) past = let ih = takes_more new past in omega (arith, ih)
+takes_more (event.Offered c ∷ new) past = takes_more new past
+takes_more (event.Answered s b c ∷ new) past = takes_more new past
+takes_more (event.Chose s t ∷ new) past = takes_more new past
+takes_more (event.Told s a ∷ new) past = takes_more new past
+takes_more (event.Recovered s c ∷ new) past = takes_more new past
+takes_more (event.Released ∷ new) past = takes_more new past
+takes_more (event.Acked id place ∷ new) past = takes_more new past
+takes_more (event.Broke n ∷ new) past = takes_more new past
+takes_more (event.Cleared n ∷ new) past = takes_more new past
+takes_more (event.LetGo s ∷ new) past = takes_more new past
+takes_more (event.Closed id ∷ new) past = takes_more new past
+
+next_more : (xs : List Pairs) (p q : Point) → Together xs p q → next_at p ≤ next_at q
+next_more xs p q t =
+    let more = takes_more t.grown.new (world_at p).past in
+    let past : takes (world_at q).past ≡ takes (t.grown.new ++ (world_at p).past) = ap takes t.grown.past in
+    let first : (world_at q).start.view.next_id ≡ (world_at p).start.view.next_id = ap (λ v. v.view.next_id) t.grown.from in
+    omega (arith, more, past, first)
+
+-- at rest the ids of those that ended are below the next id
+
+rest_below_by : (a n : ℕ) (es : List (ℕ × Pairs)) → a < n → above a es ≡ [] → AreBelow n es
+rest_below_by a n [] lt none = tt
+rest_below_by a n (e ∷ es) lt none = by_test (is_lt (nat_cmp a e.0)) refl none (rest_below_by a n es lt) where
+  cons_nil : (x : ℕ × Pairs) (xs : List (ℕ × Pairs)) → x ∷ xs ≡ [] → ⊥
+  cons_nil x xs e = cc
+
+  by_test : (b : Bool) → is_lt (nat_cmp a e.0) ≡ b → cond (b && true) (e ∷ above a es) (above a es) ≡ [] → (above a es ≡ [] → AreBelow n es) → AreBelow n (e ∷ es)
+  by_test true is nothing ih = absurd (cons_nil e (above a es) nothing)
+  by_test false is nothing ih = (let le : e.0 ≤ a = ge_from_not_lt a e.0 is in omega (arith, le, lt), ih nothing)
+
+rest_below : (p : Point) → IsAtRest p → EndedBelow p.plant.core
+rest_below p rest = rest_below_by p.answered (next_at p) (ended_at p) rest.below rest.given
+
+above_below : (a n : ℕ) (es : List (ℕ × Pairs)) → AreBelow n es → AreBelow n (above a es)
+above_below a n [] h = tt
+above_below a n (e ∷ es) h = by_test (is_lt (nat_cmp a e.0)) (above_below a n es h.1) where
+  by_test : (b : Bool) → AreBelow n (above a es) → AreBelow n (cond (b && true) (e ∷ above a es) (above a es))
+  by_test true ih = (h.0, ih)
+  by_test false ih = ih
+
+last_below : (a n : ℕ) (es : List (ℕ × Pairs)) → a < n → AreBelow n es → last_id a es < n
+last_below a n [] lt h = lt
+last_below a n (e ∷ es) lt h = last_below e.0 n es h.0 h.1
+
+driven_of : (xs : List Pairs) (p q : Point) → Seated p.plant.core → Together xs p q → EndedBelow p.plant.core → EndedBelow q.plant.core
+driven_of xs p q seated t h =
+    let (w, first, later, driven, (none, same), all) = t.acts.driven in
+    subst (λ z. EndedBelow z.core) (sym same) (driven_below t.turns t.outcomes first p.plant w seated driven h)
+
+pub together_rests : (xs : List Pairs) (p q : Point) → IsAtRest p → Together xs p q → RestsGiven q
+together_rests xs p q rest t = λ given. (let seated = together_seated xs p q rest.seated t in record {
+  seated = seated;
+  idle = λ s. no_holder q.plant.core s seated t.settled.idle;
+  written = t.settled.written;
+  given = given;
+  below = last_below q.answered (next_at q) (unanswered q)
+      (let le = next_more xs p q t in let same = t.acts.answered in let lt = rest.below in omega (arith, le, same, lt))
+      (above_below q.answered (next_at q) (ended_at q) (driven_of xs p q rest.seated t (rest_below p rest)));
+})
+
+-- what the pool promises of a run over a list
+pub together_of : (xs : List Pairs) (rule : ℕ → Rule) (os ps : List (List ℕ)) (cs ds : List ℕ) (p q : Whole) (id : ℕ) (source : Listing) (after : List Pairs) (ended : Bool) → source ≡ listing xs 0 false → Drove rule os cs p ps ds q → Grown p.core.world q.core.world
+    → Offered p.core.world q.core.world (given_of source) after ended → after ≡ source.list → IsSettled q.core.world → Together xs (record { plant = p; answered = id }) (record { plant = q; answered = id })
+together_of xs rule os ps cs ds p q id source after ended is drove grown offered whole settled =
+    let (m, driven, led, counts) = drove.drives in
+    let none : given_of source ≡ [] = ap given_of is in
+    let given : offered.given ≡ xs = sym (offered.all ∙ ap (λ (l : List Pairs). l ++ offered.given) none) ∙ (whole ∙ ap (λ (l : Listing). l.list) is) in
+    record {
+      turns = drove.turns;
+      outcomes = drove.outcomes;
+      acts = acts_once drove.turns drove.outcomes m p q id driven;
+      grown = grown;
+      offered = offered.offers ∙ ap (map bytes_of) given;
+      settled = settled;
+    }
+
+-- no request, no batch
+pub serves_nothing : (xs : List Pairs) (n : ℕ) (p : Point) (a : Option (List ℕ)) → true ≡ (n == 0) → n ≡ length xs → ServesFor true xs p a p a
+serves_nothing [] n p a none len = for_none true p a
+serves_nothing (x ∷ xs) n p a none len = (let zero : n ≡ 0 = grind (arith, nat_tests) in absurd (omega (arith, zero, len)))
+
+-- what comes behind a batch
+
+pub given_drains : (p q : Point) (a b : Option (List ℕ)) → q ≡ all_answered p → DrainsSome q a b → DrainsSome (all_answered p) a b
+given_drains p q a b same h = subst (λ (z : Point). DrainsSome z a b) same h
+
+batch_given : (xs : List Pairs) (p e : Point) (text : List ℕ) (a b : Option (List ℕ)) → IsReady p → Together xs p e → AreFramed text (responses (unanswered e)) → Appends a b text → Serves (Batched xs ∷ []) p a (all_answered e) b
+batch_given xs p e text a b ready together framed appends =
+    serves_batch xs p (all_answered e) text a b ready (record { ended = e; together = together; gives = framed; answered = refl }) appends
+
+pub serves_finished : (xs : List Pairs) (p e q : Point) (a b : Option (List ℕ)) → length xs ≤ 256 → IsReady p → Together xs p e → Finishes e a q b → ServesFor true xs p a q b
+serves_finished xs p e q a b few ready together f =
+    let rs = f.drains.rounds in
+    let none : offered_in (rs ++ Trimmed ∷ []) ≡ [] = offered_append rs (Trimmed ∷ []) ∙ ap (λ (l : List Pairs). l ++ []) (retries_offer_none rs f.drains.retries) in (
+      Batched xs ∷ (rs ++ Trimmed ∷ []),
+      (
+        ap (λ (l : List Pairs). xs ++ l) none ∙ append-nil xs,
+        (few, of_batches_append rs (Trimmed ∷ []) (retries_are_of_batches rs f.drains.retries) (tt, tt)),
+      ),
+      serves_then (Batched xs ∷ []) (rs ++ Trimmed ∷ []) p (all_answered e) q a f.between b
+          (batch_given xs p e f.text a f.between ready together f.framed f.gives)
+          (serves_then rs (Trimmed ∷ []) (all_answered e) f.drained q f.between b b f.drains.serves (serves_trimmed f.drained q b f.cuts)),
+    )
+
+-- a batch that was run, up to an error behind it
+pub halts_finished : (xs : List Pairs) (p e : Point) (a b : Option (List ℕ)) → length xs ≤ 256 → IsReady p → Together xs p e → Unfinished e a b → HaltsToward true xs p a b
+halts_finished xs p e a b few ready together (inl (text, is, written)) = (
+  Batched xs ∷ [],
+  ([], sym (append-nil (xs ++ []) ∙ append-nil xs), (few, tt)),
+  record {
+    done = [];
+    rest = Batched xs ∷ [];
+    order = refl;
+    at = p;
+    between = a;
+    serves = serves_none p a;
+    next = text;
+    is_next = by_text is;
+    written = written;
+  },
+) where
+  by_text : (text ≡ []) ⊎ AreFramed text (responses (unanswered e)) → IsOfNext (Batched xs ∷ []) p text
+  by_text (inl none) = inl none
+  by_text (inr framed) = inr (record { ended = e; together = together; framed = framed })
+halts_finished xs p e a b few ready together (inr given) =
+    let rs = given.drains.rounds in (
+      Batched xs ∷ rs,
+      (
+        [],
+        sym (append-nil (xs ++ offered_in rs) ∙ (ap (λ (l : List Pairs). xs ++ l) (retries_offer_none rs given.drains.retries) ∙ append-nil xs)),
+        (few, retries_are_of_batches rs given.drains.retries),
+      ),
+      halts_then (Batched xs ∷ []) rs p (all_answered e) a given.between b (batch_given xs p e given.text a given.between ready together given.framed given.gives) given.drains.halts,
+    )
+
+-- batches of a list of messages
+
+pub request_more : (list : List (Vec ℕ)) (i : ℕ) (m : Vec ℕ) (bytes : List ℕ) (found now : List Pairs) (o : Option Pairs) → i < length list → m ≡ get_or list i m → bytes ≡ m.items → found ≡ requests (messages (take i list))
+    → option_to_list o ≡ map request_of (if_read (read bytes) bytes) → now ≡ found ++ option_to_list o → now ≡ requests (messages (take (i + 1) list))
+request_more list i m bytes found now o lt at is so_far one more =
+    more ∙ (ap (λ (l : List Pairs). l ++ option_to_list o) so_far ∙ (ap (λ (l : List Pairs). requests (messages (take i list)) ++ l) one ∙ sym (requests_next list i m bytes lt at is)))
+
+at_most_one : (o : Option Pairs) → length (option_to_list o) ≤ 1
+at_most_one None = omega arith
+at_most_one (Some x) = omega arith
+
+pub few_more : (found now : List Pairs) (o : Option Pairs) (i : ℕ) → now ≡ found ++ option_to_list o → length found ≤ i → length now ≤ i + 1
+few_more found now o i more few =
+    let len : length now ≡ length (found ++ option_to_list o) = ap length more in
+    let sum = length-append found (option_to_list o) in
+    let one = at_most_one o in
+    omega (arith, len, sum, one, few)
+
+pub split_more : (all rest front back : List (Vec ℕ)) (first : List (List ℕ)) (n : ℕ) → messages all ≡ first ++ messages rest → front ≡ take n rest → back ≡ drop n rest → messages all ≡ (first ++ messages front) ++ messages back
+split_more all rest front back first n so_far is are =
+    let halves : messages (take n rest ++ drop n rest) ≡ messages (take n rest) ++ messages (drop n rest) = map-append (λ (v : Vec ℕ). v.items) (take n rest) (drop n rest) in
+    let whole : messages rest ≡ messages front ++ messages back = ap messages (sym (take-append-drop n rest)) ∙ (halves ∙ rw (is, are) refl) in
+    so_far ∙ (ap (λ (l : List (List ℕ)). first ++ l) whole ∙ sym (append_assoc first (messages front) (messages back)))
+
+pub frames_then : (frames more : List (List ℕ)) (xs : List Pairs) (p q r : Point) (a b c : Option (List ℕ)) → xs ≡ requests more → ServesFor true (requests frames) p a q b → ServesFor true xs q b r c → ServesFor true (requests (frames ++ more)) p a r c
+frames_then frames more xs p q r a b c is s t =
+    subst (λ (l : List Pairs). ServesFor true l p a r c) (ap (λ (l : List Pairs). requests frames ++ l) is ∙ sym (requests_append frames more)) (for_then true (requests frames) xs p q r a b c s t)
+
+-- a batch that failed, behind those before it
+pub frames_halt : (all : List (Vec ℕ)) (first more others : List (List ℕ)) (xs : List Pairs) (p q : Point) (a b c : Option (List ℕ)) → messages all ≡ (first ++ more) ++ others → xs ≡ requests more → ServesFor true (requests first) p a q b → HaltsToward true xs q b c → HaltsToward true (requests (messages all)) p a c
+frames_halt all first more others xs p q a b c split is s h =
+    let here = toward_then true (requests first) xs p q a b c s h in
+    let whole : (requests first ++ xs) ++ requests others ≡ requests (messages all) =
+    ap (λ (l : List Pairs). (requests first ++ l) ++ requests others) is ∙ (ap (λ (l : List Pairs). l ++ requests others) (sym (requests_append first more)) ∙ (sym (requests_append (first ++ more) others) ∙ ap requests (sym split))) in
+    subst (λ (l : List Pairs). HaltsToward true l p a c) whole (toward_before true (requests first ++ xs) (requests others) p a c here)
+
+-- all batches were run
+pub frames_all : (all rest : List (Vec ℕ)) (first : List (List ℕ)) (p q : Point) (a b : Option (List ℕ)) → messages all ≡ first ++ messages rest → length rest ≤ 0 → ServesFor true (requests first) p a q b → ServesFor true (requests (messages all)) p a q b
+frames_all all [] first p q a b split none s = subst (λ (l : List (List ℕ)). ServesFor true (requests l) p a q b) (sym (split ∙ append-nil first)) s
+frames_all all (m ∷ rest) first p q a b split none s = absurd (omega (arith, none))
+
+-- without threads
+pub for_one : (threads : Bool) (xs : List Pairs) → threads ≡ false → RoundsFor threads xs (answering xs)
+for_one threads xs is = subst (λ (b : Bool). RoundsFor b xs (answering xs)) (sym is) refl
+
+pub for_threads : (threads : Bool) (xs : List Pairs) (rounds : List Round) → threads ≡ true → RoundsFor true xs rounds → RoundsFor threads xs rounds
+for_threads threads xs rounds is h = subst (λ (b : Bool). RoundsFor b xs rounds) (sym is) h
+
+pub some_for : (threads one : Bool) (input : Option (List ℕ)) (p : Point) (a b : Option (List ℕ)) → threads ≡ one → ServesSome one input p a b → ServesSome threads input p a b
+some_for threads one input p a b is h = subst (λ (t : Bool). ServesSome t input p a b) (sym is) h

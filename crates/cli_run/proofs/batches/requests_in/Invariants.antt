@@ -1,0 +1,10 @@
+use Rattle.std.proofs.Common.{◌≡◌, ◌≤◌, take, length}
+use Rattle.sw_frame.specs.Feeds.{messages}
+use Rattle.cli_run.specs.Requests.{requests}
+use Rattle.cli_run.proofs.batches.requests_in.Given as goal
+
+abbrev pub invariant-loop-message : goal.invariant-loop-message
+invariant-loop-message g l = record {
+  all : l.found.items ≡ requests (messages (take l.message-index l.list));
+  few : length l.found.items ≤ l.message-index;
+}

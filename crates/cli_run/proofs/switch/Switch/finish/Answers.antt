@@ -1,0 +1,15 @@
+use Rattle.std.proofs.Common.{inr}
+use Rattle.cli_run.proofs.Batched.{given_drains}
+use Rattle.cli_run.proofs.Stops.{drains_all, on_err_of}
+use Rattle.cli_run.proofs.switch.Switch.finish.Goals as goal
+
+pub returns-clause-unfinished : goal.returns-clause-unfinished
+returns-clause-unfinished g c =
+    let (text, framed, gives) = c.in_ok-give.ensures.gives in
+    on_err_of c.cut_told.result (inr (record {
+      text = text;
+      framed = framed;
+      between = _;
+      gives = gives;
+      drains = given_drains _ _ _ _ c.in_ok-give.ensures.answered (drains_all _ _ _ _ c.in_ok-drain.ensures.drains);
+    }))

@@ -1,0 +1,197 @@
+//! Requests in batches, each run by all sessions at once.
+
+ghost use Rattle.std.specs.Prelude.{◌≡◌, ◌≤◌, ◌++◌, option_to_list, List, ℕ, [], IfOk, OnErr, OnOk, length, vec_len, true};
+ghost use Rattle.sw_frame.specs.Feeds.{messages};
+ghost use Rattle.sw_frame.specs.Stream.{blank};
+ghost use Rattle.tx_engine.specs.Calls.{waits};
+ghost use Rattle.cli_run.specs.Points.{IsAtRest, IsReady, RestsGiven, point_of};
+ghost use Rattle.cli_run.specs.Requests.{ReadTo, requests};
+ghost use Rattle.cli_run.specs.Rounds.{Finishes, MayCut, ServesFor};
+ghost use Rattle.cli_run.specs.Stopped.{HaltsToward, StopsWithin, Unfinished};
+
+use crate::error::ServeError;
+use crate::stream::{PIECE, Piece, Requests, StreamEnd, request_in};
+use crate::switch::{MANY_ENTRIES, MAX_BATCH, Switch};
+use crate::told::Told;
+use cli_io::ReadError;
+use sqlite::Alter;
+use std::alloc::Global;
+use std::io::{Read, Write};
+use std::sync::Wait;
+use std::thread::Threads;
+use sw_context::Context;
+use tx_plant::Turn;
+
+impl<S: Alter + Drop> Switch<S> {
+    // Cuts a history that is long, or whose lines are wanted; these are told before.
+    fn cut_told<E: Write>(
+        &mut self,
+        alloc: Global,
+        told: &mut Told<'_, E>,
+    ) -> Result<(), ServeError>
+        requires rest { IsAtRest (point_of S.Store self.old) }
+        requires empty { waits self.old.plant.running.engine ≡ [] }
+        ensures cuts { OnOk result (MayCut
+            (point_of S.Store self.old) (point_of S.Store self.new)) }
+        ensures ready { OnOk result (IsReady (point_of S.Store self.new)) }
+    {
+        if !told.trace && self.engine().history().len() < MANY_ENTRIES {
+            return Ok(());
+        }
+        told.trace(alloc, self.engine())?;
+        self.act(alloc, Turn::Cut)?;
+        Ok(())
+    }
+
+    // Gives the responses of a batch, runs what is on the shelf, and tells the lines of the trace.
+    fn finish<O: Write, E: Write>(
+        &mut self,
+        alloc: Global,
+        out: &mut O,
+        told: &mut Told<'_, E>,
+    ) -> Result<(), ServeError>
+        requires { RestsGiven (point_of S.Store self.old) }
+        ensures finishes { OnOk result (Finishes (point_of S.Store self.old) (O.contents out.old)
+            (point_of S.Store self.new) (O.contents out.new)) }
+        ensures ready { OnOk result (IsReady (point_of S.Store self.new)) }
+        ensures unfinished { OnErr result (Unfinished (point_of S.Store self.old)
+            (O.contents out.old) (O.contents out.new)) }
+    {
+        self.give(alloc, out)?;
+        self.drain(alloc, out, told)?;
+        self.cut_told(alloc, told)
+    }
+
+    // Answers requests as one batch. Where it ends with an error, the lines of the batch are told all the
+    // same, if it was run.
+    fn answer_batch<T: Threads + Wait + Sync, O: Write, E: Write>(
+        self,
+        rt: &T,
+        alloc: Global,
+        requests: Vec<Context>,
+        out: &mut O,
+        told: &mut Told<'_, E>,
+    ) -> Result<Switch<S>, ServeError>
+        requires ready { IsReady (point_of S.Store self) }
+        requires few { vec_len requests ≤ 256 }
+        ensures serves { IfOk result (λ switch. ServesFor true requests.items
+            (point_of S.Store self) (O.contents out.old)
+            (point_of S.Store switch) (O.contents out.new)) }
+        ensures ready { IfOk result (λ switch. IsReady (point_of S.Store switch)) }
+        ensures halts { OnErr result (HaltsToward true requests.items
+            (point_of S.Store self) (O.contents out.old) (O.contents out.new)) }
+    {
+        if requests.is_empty() {
+            return Ok(self);
+        }
+        let mut switch = self.run_together(rt, alloc, requests)?;
+        match switch.finish(alloc, out, told) {
+            Ok(()) => Ok(switch),
+            Err(error) => {
+                let _lines = told.trace(alloc, switch.engine());
+                Err(error)
+            }
+        }
+    }
+}
+
+// Adds a request, if there is one.
+fn add_request(found: &mut Vec<Context>, request: Option<Context>) -> Result<(), ServeError>
+    ensures { OnOk result (found.new.items ≡ found.old.items ++ option_to_list request) }
+{
+    match request {
+        Some(request) => Ok(found.push(request)?),
+        None => Ok(()),
+    }
+}
+
+// The contexts of the requests among some messages.
+fn requests_in<E: Write>(
+    alloc: Global,
+    count: &mut u64,
+    list: &[Vec<u8>],
+    told: &mut Told<'_, E>,
+) -> Result<Vec<Context>, ServeError>
+    ensures all { IfOk result (λ found. found.items ≡ requests (messages list.now)) }
+    ensures few { IfOk result (λ found. vec_len found ≤ length list.now) }
+{
+    let mut found = Vec::new(alloc);
+    for message in list {
+        *count = count.saturating_add(1);
+        let request = request_in(alloc, *count, message, told)?;
+        add_request(&mut found, request)?;
+    }
+    Ok(found)
+}
+
+// Answers the requests among some messages, in batches.
+fn answer_batches<S: Alter + Drop, T: Threads + Wait + Sync, O: Write, E: Write>(
+    rt: &T,
+    alloc: Global,
+    switch: Switch<S>,
+    count: &mut u64,
+    list: &[Vec<u8>],
+    out: &mut O,
+    told: &mut Told<'_, E>,
+) -> Result<Switch<S>, ServeError>
+    requires ready { IsReady (point_of S.Store switch) }
+    ensures serves { IfOk result (λ after. ServesFor true (requests (messages list.now))
+        (point_of S.Store switch) (O.contents out.old)
+        (point_of S.Store after) (O.contents out.new)) }
+    ensures ready { IfOk result (λ after. IsReady (point_of S.Store after)) }
+    ensures halts { OnErr result (HaltsToward true (requests (messages list.now))
+        (point_of S.Store switch) (O.contents out.old) (O.contents out.new)) }
+{
+    let mut switch = switch;
+    let mut rest = list;
+    for _ in 0..list.len() {
+        let (batch, more) = rest.split_at(rest.len().min(MAX_BATCH));
+        let requests = requests_in(alloc, count, batch, told)?;
+        switch = switch.answer_batch(rt, alloc, requests, out, told)?;
+        rest = more;
+    }
+    Ok(switch)
+}
+
+impl Requests {
+    /// Answers all requests of an input, in batches of those that have come: at most 256 messages, and at
+    /// least one.
+    pub(crate) fn serve_in_batches<
+        S: Alter + Drop,
+        T: Threads + Wait + Sync,
+        R: Read,
+        O: Write,
+        E: Write,
+    >(
+        &mut self,
+        rt: &T,
+        alloc: Global,
+        switch: Switch<S>,
+        input: &mut R,
+        out: &mut O,
+        told: &mut Told<'_, E>,
+    ) -> Result<(Switch<S>, StreamEnd), ServeError>
+        requires ready { IsReady (point_of S.Store switch) }
+        requires fresh { self.old.framer ≡ blank }
+        ensures serves { IfOk result (λ served. (frames : List (List ℕ))
+            × ReadTo served.1 (R.remaining input.old) frames
+            × ServesFor true (requests frames) (point_of S.Store switch) (O.contents out.old)
+            (point_of S.Store served.0) (O.contents out.new)) }
+        ensures ready { IfOk result (λ served. IsReady (point_of S.Store served.0)) }
+        ensures stops { OnErr result (StopsWithin true (R.remaining input.old)
+            (point_of S.Store switch) (O.contents out.old) (O.contents out.new)) }
+    {
+        let mut switch = switch;
+        let mut buf = vec![in alloc; 0u8; PIECE]?;
+        // More reads than any run makes.
+        for _ in 0..u64::MAX {
+            let Piece { messages, end } = self.read(alloc, input, buf.as_mut_slice())?;
+            let count = &mut self.count;
+            switch = answer_batches(rt, alloc, switch, count, &messages, out, told)?;
+            if let Some(end) = end {
+                return Ok((switch, end));
+            }
+        }
+        Ok((switch, StreamEnd::Unread(ReadError::TooManyReads)))
+    }
+}
