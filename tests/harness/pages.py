@@ -1,15 +1,18 @@
-"""Runs the examples of docs/*.md, so that a page that lies fails.
+"""Runs the examples of README.md and docs/*.md, so that a page that lies fails.
 
 An indented block that begins with `$ ` is an example: after each `$ ` line comes what the command prints on both
 streams, as on a terminal. A block right behind a line that ends in `NAME`: is the file NAME, for the examples of
 the page below it. A line of two dots stands for lines that the page leaves out, two dots at the end of a line for its
 rest.
+
+A page with a sentence that is too long fails too, and docs/ARCHITECTURE.md where it shows other crates than crates.txt.
 """
 
 import glob
 import os
 import re
 
+from harness import crates_map, prose
 from harness.case import Case, difference
 
 NAMED = re.compile(r"`([A-Za-z0-9_.-]+)`:$")
@@ -82,12 +85,22 @@ def cases_of_page(name, text, examples):
             files[named[1]] = "".join(f"{line}\n" for line in block).encode()
 
 
+def judged(name, fault):
+    """A case that fails where there is a fault."""
+    return Case(name, "true", fault=fault or None)
+
+
 def cases_of(top):
-    """The examples of all pages, run beside the files of examples/."""
+    """The examples of all pages, run beside the files of examples/, and what else is wanted of a page."""
     examples = {}
     for path in glob.glob(os.path.join(glob.escape(top), "examples", "*")):
         with open(path, "rb") as file:
             examples[os.path.basename(path)] = file.read()
-    for path in sorted(glob.glob(os.path.join(glob.escape(top), "docs", "*.md"))):
+    pages = sorted(glob.glob(os.path.join(glob.escape(top), "docs", "*.md")))
+    for path in [os.path.join(top, "README.md"), *pages]:
         with open(path, encoding="utf-8") as file:
-            yield from cases_of_page(f"docs/{os.path.basename(path)}", file.read(), examples)
+            text = file.read()
+        name = os.path.relpath(path, top)
+        yield judged(f"{name}: no sentence is too long", "\n".join(prose.too_long(text)))
+        yield from cases_of_page(name, text, examples)
+    yield judged("docs/ARCHITECTURE.md: its crates are those of crates.txt", crates_map.wrong(top))
