@@ -33,8 +33,8 @@ pub enum RunError {
     /// What a card may spend is above the greatest limit.
     #[error("the limit is too large; expected at most 999999999999999")]
     BadLimit,
-    /// The file at the path is no journal, or it cannot be opened.
-    #[error("{}: it is no journal, or it cannot be opened; expected a journal's file, or none", .path.as_str())]
+    /// The file at the path is not a journal, or cannot be opened.
+    #[error("{}: cannot open the journal; expected a journal's file, or no file", .path.as_str())]
     JournalFile { path: Text },
     /// The flow file at the path is not taken.
     #[error("{}: {cause}", .path.as_str())]

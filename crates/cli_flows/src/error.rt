@@ -22,10 +22,10 @@ pub enum FlowsError {
     #[error("out of memory")]
     OutOfMemory,
     /// There is no such file, or it may not be opened.
-    #[error("it cannot be opened: {0}")]
+    #[error("cannot open: {0}")]
     Open(io::Error),
     /// It could not be read to its end.
-    #[error("it cannot be read: {0}")]
+    #[error("cannot read: {0}")]
     Read(ReadError),
     /// A flow file is no text.
     #[error("{0}; expected a flow file in UTF-8")]

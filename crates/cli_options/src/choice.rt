@@ -32,9 +32,9 @@ pub struct RunOptions<'a> {
     pub flow: &'a str,
     /// The path of the journal's file; without it the journal is in memory.
     pub journal: Option<&'a str>,
-    /// How many sessions the engine has; 1 where nothing is said.
+    /// How many sessions the engine has; default 1.
     pub sessions: u64,
-    /// What a card may spend, in minor units of its currency; 10,000 where nothing is said.
+    /// What a card may spend, in minor units of its currency; default 10,000.
     pub limit: u64,
     /// Whether the sessions run as threads.
     pub threads: bool,

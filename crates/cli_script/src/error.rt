@@ -16,11 +16,11 @@ use sw_participant::NoMemory;
 pub enum LineError {
     /// The bytes are not UTF-8.
     NotText,
-    /// A tab or a carriage return stands in the line.
+    /// The line has a tab or a carriage return.
     Control,
     /// The line is empty, or a space leads, ends or is doubled.
     EmptyWord,
-    /// The first word begins no line.
+    /// The first word is not a command.
     Command,
     /// `retries` without a number below 2^64.
     Retries,
@@ -28,13 +28,13 @@ pub enum LineError {
     Sessions,
     /// `flow` without a group's name.
     Flow,
-    /// An entry of `flow` with a colon and no marks behind it.
+    /// An entry of `flow` with a colon and no marks after it.
     Marks,
     /// `answer` without a name and a byte.
     Answer,
-    /// A word behind `answer`, `restore` or `offer` that is no entry of a context.
+    /// A word after `answer`, `restore` or `offer` that is not a context entry.
     Entry,
-    /// `choose` without a name and a space behind it.
+    /// `choose` without a name and a space after it.
     Choose,
     /// `advice` without a name and bytes.
     Advice,
@@ -78,83 +78,54 @@ impl LineError {
     // What was wrong, and what was expected.
     fn text(self) -> &'static str {
         match self {
-            LineError::NotText =>
-                "it is not UTF-8; expected words of text with single spaces between them",
+            LineError::NotText => "not UTF-8; expected words separated by single spaces",
             LineError::Control => {
-                "a tab or a carriage return stands in it; expected words of text with single spaces \
-                 between them"
+                "contains a tab or a carriage return; expected words separated by single spaces"
             }
             LineError::EmptyWord => {
-                "it is empty, or a space leads, ends or is doubled; expected words of text with \
-                 single spaces between them"
+                "empty, or a leading, trailing or doubled space; expected words separated by single spaces"
             }
             LineError::Command => {
-                "its first word is no command; expected retries, sessions, flow, answer, choose, \
-                 advice, restore, offer, take, release, ack, break, clear, go, call, write, stop, \
-                 cut, where, rest, saved, calls or auto"
+                "unknown command; expected retries, sessions, flow, answer, choose, advice, restore, offer, take, release, ack, break, clear, go, call, write, stop, cut, where, rest, saved, calls or auto"
             }
-            LineError::Retries => {
-                "the number of retries is missing, or it is none; expected retries N, N in decimal \
-                 digits"
-            }
-            LineError::Sessions => {
-                "the number of sessions is missing, or it is none; expected sessions N, N in decimal \
-                 digits"
-            }
-            LineError::Flow => "the group's name is missing; expected flow GROUP ENTRY ..",
+            LineError::Retries => { "missing or invalid number; usage: retries N" }
+            LineError::Sessions => { "missing or invalid number; usage: sessions N" }
+            LineError::Flow => "missing group name; usage: flow GROUP [ENTRY ..]",
             LineError::Marks => {
-                "an entry has marks that there are not; expected NAME, or NAME with one of :s :a :sa \
-                 :r :sr :ar :sar"
+                "unknown marks; expected NAME, or NAME with one of :s :a :sa :r :sr :ar :sar"
             }
             LineError::Answer => {
-                "the name or the byte is missing, or one of them is none; expected answer NAME HH, HH \
-                 two hexadecimal digits"
+                "missing or invalid name or byte; usage: answer NAME HH [N=HEX ..]"
             }
             LineError::Entry => {
-                "an entry of a context is none; expected N=HEX, N a name and HEX at most 65535 bytes \
-                 in hexadecimal digits"
+                "invalid context entry; expected N=HEX, N a name and HEX at most 65535 bytes in hexadecimal digits"
             }
             LineError::Choose => {
-                "the name or the text is missing, or the name is none; expected choose NAME TEXT, one \
-                 space before TEXT"
+                "missing or invalid name, or missing text; usage: choose NAME TEXT"
             }
-            LineError::Advice => {
-                "the name or the advice is missing, or one of them is none; expected advice NAME HEX, \
-                 HEX in hexadecimal digits"
-            }
-            LineError::Restore =>
-                "the name is missing, or it is none; expected restore NAME N=HEX ..",
-            LineError::Take =>
-                "the session is missing, or it is none; expected take S, S in decimal digits",
-            LineError::Release => "words follow that it does not take; expected release",
-            LineError::Ack => {
-                "the id or the place is missing, or one of them is none; expected ack ID PLACE, both \
-                 in decimal digits"
-            }
-            LineError::Break => "the name is missing, or it is none; expected break NAME",
-            LineError::Clear => "the name is missing, or it is none; expected clear NAME",
-            LineError::Go =>
-                "the session is missing, or it is none; expected go S, S in decimal digits",
-            LineError::Call =>
-                "the session is missing, or it is none; expected call S, S in decimal digits",
-            LineError::Write =>
-                "the count is none; expected write, or write K, K in decimal digits",
-            LineError::Stop => "words follow that it does not take; expected stop",
-            LineError::Cut => "words follow that it does not take; expected cut",
-            LineError::Where =>
-                "the session is missing, or it is none; expected where S, S in decimal digits",
-            LineError::Rest =>
-                "the session is missing, or it is none; expected rest S, S in decimal digits",
-            LineError::Saved =>
-                "the session is missing, or it is none; expected saved S, S in decimal digits",
-            LineError::Calls => "the name is missing, or it is none; expected calls NAME",
-            LineError::Auto => "words follow that it does not take; expected auto",
+            LineError::Advice => { "missing or invalid name or advice; usage: advice NAME HEX" }
+            LineError::Restore => "missing or invalid name; usage: restore NAME [N=HEX ..]",
+            LineError::Take => "missing or invalid session; usage: take S",
+            LineError::Release => "unexpected words; usage: release",
+            LineError::Ack => { "missing or invalid id or place; usage: ack ID PLACE" }
+            LineError::Break => "missing or invalid name; usage: break NAME",
+            LineError::Clear => "missing or invalid name; usage: clear NAME",
+            LineError::Go => "missing or invalid session; usage: go S",
+            LineError::Call => "missing or invalid session; usage: call S",
+            LineError::Write => "invalid count; usage: write [K]",
+            LineError::Stop => "unexpected words; usage: stop",
+            LineError::Cut => "unexpected words; usage: cut",
+            LineError::Where => "missing or invalid session; usage: where S",
+            LineError::Rest => "missing or invalid session; usage: rest S",
+            LineError::Saved => "missing or invalid session; usage: saved S",
+            LineError::Calls => "missing or invalid name; usage: calls NAME",
+            LineError::Auto => "unexpected words; usage: auto",
             LineError::OutOfMemory => "out of memory",
         }
     }
 }
 
-// By hand: the texts are constants, and a derived `fmt` of so many variants is dear to prove.
+// By hand: the texts are constants, and a derived `fmt` of so many variants is slow to prove.
 impl fmt::Display for LineError {
     fn fmt<W: fmt::Write>(&self, f: &mut fmt::Formatter<W>) -> fmt::Result {
         f.write_str(self.text())
@@ -195,12 +166,12 @@ pub enum ScriptError {
         cause: LineError,
         found: Quoted,
     },
-    /// A group stands beside a flow file.
+    /// A flow line beside a flow file.
     FlowBesideFile {
         line: usize,
         found: Quoted,
     },
-    /// A setting stands after other lines.
+    /// A setting after other lines.
     LateSetting {
         line: usize,
         found: Quoted,
@@ -210,7 +181,7 @@ pub enum ScriptError {
         line: usize,
         found: Quoted,
     },
-    /// The flow that the settings state is refused, at the first line that is no setting.
+    /// The flow that the settings state is refused, at the first line that is not a setting.
     Flow {
         line: usize,
         cause: FlowError,
@@ -226,18 +197,17 @@ impl fmt::Display for ScriptError {
             ScriptError::Line { line, cause, found } => (line, cause.text(), found),
             ScriptError::FlowBesideFile { line, found } => (
                 line,
-                "a group stands beside a flow file; expected no flow lines with --flow",
+                "a flow line beside a flow file; expected no flow lines with --flow",
                 found,
             ),
             ScriptError::LateSetting { line, found } => (
                 line,
-                "a setting stands after other lines; expected retries, sessions, flow, answer, \
-                 choose, advice and restore before all else",
+                "a setting after other lines; expected retries, sessions, flow, answer, choose, advice and restore first",
                 found,
             ),
             ScriptError::Crowded { line, found } => (
                 line,
-                "a context has more than 64 names; expected at most 64",
+                "too many names in a context; expected at most 64",
                 found,
             ),
             ScriptError::Flow { line, cause } => {
