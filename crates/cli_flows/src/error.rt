@@ -5,8 +5,7 @@ ghost use Rattle.cli_flows.specs.Errors.{IsErrorOfFile, IsErrorOfImage, error_of
 ghost use Rattle.cli_flows.specs.declared.error.FlowsError.TheVariants.{NotText, OutOfMemory};
 
 use crate::found::{found, line_at, refused_in};
-use cli_io::{ReadError, WriteError};
-use cli_quote::Quoted;
+use cli_io::{Quoted, ReadError, WriteError};
 use flow_load::LoadError;
 use flow_toml::FlowTomlError;
 use std::alloc::{AllocError, AllocFailed, Global};

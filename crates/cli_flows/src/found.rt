@@ -1,6 +1,6 @@
 //! What a refusal found in the bytes.
 
-use cli_quote::Quoted;
+use cli_io::Quoted;
 use flow_load::LoadError;
 use flow_model::FlowError;
 use flow_toml::{FlowTomlError, Key, TablePath, value_at};

@@ -1,2 +1,3 @@
 mod KnownBytes
 pub mod Writing
+mod Quotations

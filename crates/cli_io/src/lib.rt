@@ -1,4 +1,4 @@
-//! Reading with a bounded number of reads, and writing.
+//! Reading with a bounded number of reads, writing, and bytes as a message shows them.
 //!
 //! Promised here:
 //! - an [`Input`] counts every read of its reader and makes at most 1,048,576, and `TooManyReads`
@@ -7,15 +7,18 @@
 //!   bytes that the reader has still to give;
 //! - [`write_whole`] and [`write_out`] add their bytes to the writer's, the latter flushes, and after an
 //!   error a beginning of the bytes is added;
-//! - want of memory is told as such, whether it is a reader's, a writer's or our own.
+//! - out of memory is told as such, whether it is a reader's, a writer's or our own;
+//! - what [`Quoted`] prints of an input's bytes is printable ASCII, and shows at most 40 of them.
 #![tactic(auto)]
 
 mod error;
 mod input;
+mod quoted;
 mod read;
 mod write;
 
 pub use error::{ReadError, WriteError};
 pub use input::{Input, MAX_READS};
+pub use quoted::{Quoted, quotations_are_short};
 pub use read::read_input;
 pub use write::{write_out, write_whole};

@@ -9,10 +9,10 @@ use crate::choice::{Options, RunOptions};
 use crate::error::OptionsError;
 use crate::table::switch_command;
 use clap::ArgMatches;
-use cli_numbers::read_number;
-use cli_quote::Quoted;
+use cli_io::Quoted;
 use std::alloc::Global;
 use std::convert::AsStr;
+use sw_base::read_number;
 
 /// Numbers of options are below it.
 const BOUND: u64 = 1 << 63;

@@ -5,7 +5,7 @@ ghost use Rattle.cli_options.specs.Refusal.{kind_status, status_of};
 ghost use Rattle.cli_options.specs.declared.error.OptionsError.TheVariants.{OutOfMemory};
 
 use clap::error::ErrorKind;
-use cli_quote::Quoted;
+use cli_io::Quoted;
 use std::alloc::AllocError;
 use std::fmt;
 use thiserror::Error;

@@ -5,7 +5,7 @@ use Rattle.std.specs.Str.{bytes_eq}
 use Rattle.sw_base.specs.Refusals.{first_of, refused_if}
 use Rattle.sw_context.specs.Names.{is_name}
 use Rattle.sw_scripted.specs.declared.puts.Put.{Put}
-use Rattle.cli_numbers.specs.Spelling.{number_spelled}
+use Rattle.sw_base.specs.Spelling.{number_spelled}
 use Rattle.cli_script.specs.Bytes.{byte_spelled, hex_spelled}
 use Rattle.cli_script.specs.Forms.{Meaning, ack_line, ack_numbers, advice_line, answer_byte, answer_line, bare_line, choose_line, flow_line, meant, name_line, name_or, or_refuse, restore_line, write_line}
 use Rattle.cli_script.specs.Grammar.{Answers, Row, action_rows, meaning_at, meaning_of, query_rows, rows, unless_refused, whole_rows, words_refusal}

@@ -7,7 +7,7 @@ use Rattle.cli_script.specs.Bytes.{byte_spelled, hex_spelled}
 use Rattle.cli_script.specs.Groups.{entries_spelled}
 use Rattle.cli_script.specs.Puts.{puts_spelled}
 use Rattle.cli_script.specs.Words.{first_word, further_words, rest_of}
-use Rattle.cli_numbers.specs.Spelling.{number_spelled}
+use Rattle.sw_base.specs.Spelling.{number_spelled}
 use Rattle.cli_script.specs.declared.error.LineError.{LineError}
 use Rattle.cli_script.specs.declared.error.LineError.TheVariants as refusal
 use Rattle.cli_script.specs.declared.line.Action.{Action}

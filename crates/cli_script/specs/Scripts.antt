@@ -4,7 +4,7 @@ use Rattle.std.specs.Borrow.{Bor}
 use Rattle.std.specs.List.{after_first, before_first, list_any}
 use Rattle.flow_model.specs.Check.{IsChecked, first_fault}
 use Rattle.flow_model.specs.declared.flow.Flow.{Flow}
-use Rattle.cli_quote.specs.Quoting.{quoted}
+use Rattle.cli_io.specs.Quoting.{quoted}
 use Rattle.cli_script.specs.Grammar.{meaning_of}
 use Rattle.cli_script.specs.Lines.{is_line_feed}
 use Rattle.sw_scripted.specs.Puts.{is_crowded}

@@ -8,7 +8,7 @@ use crate::line::{Action, ScriptLine};
 use crate::puts::crowds;
 use crate::read::read_line;
 use crate::words::split_line;
-use cli_quote::Quoted;
+use cli_io::Quoted;
 use std::alloc::Global;
 
 /// The lines of a script that are still to come, and how many came before them.

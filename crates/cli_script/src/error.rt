@@ -4,7 +4,7 @@ ghost use Rattle.cli_script.specs.Scripts.{error_at};
 ghost use Rattle.cli_script.specs.declared.error.LineError.TheVariants as line;
 ghost use Rattle.cli_script.specs.declared.error.ScriptError.TheVariants as script;
 
-use cli_quote::Quoted;
+use cli_io::Quoted;
 use flow_model::FlowError;
 use std::alloc::{AllocError, AllocFailed};
 use std::fmt;

@@ -10,7 +10,7 @@ use crate::read::read_line;
 use crate::replies::Replies;
 use crate::settings::Settings;
 use crate::words::split_line;
-use cli_quote::Quoted;
+use cli_io::Quoted;
 use flow_model::Flow;
 use std::alloc::Global;
 

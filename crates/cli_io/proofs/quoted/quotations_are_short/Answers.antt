@@ -1,5 +1,5 @@
-use Rattle.cli_quote.proofs.Quotations.{quoted_printable, quoted_short}
-use Rattle.cli_quote.proofs.quoted.quotations_are_short.Goals as goal
+use Rattle.cli_io.proofs.Quotations.{quoted_printable, quoted_short}
+use Rattle.cli_io.proofs.quoted.quotations_are_short.Goals as goal
 
 pub returns-clause-printable : goal.returns-clause-printable
 returns-clause-printable c = quoted_printable c.args.bytes.now

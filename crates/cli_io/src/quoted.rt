@@ -2,7 +2,7 @@
 
 ghost use Rattle.std.specs.Prelude.{◌≡◌, ◌≤◌, length, Some};
 ghost use Rattle.std.specs.List.{All};
-ghost use Rattle.cli_quote.specs.Quoting.{IsPrintable, quoted, shown};
+ghost use Rattle.cli_io.specs.Quoting.{IsPrintable, quoted, shown};
 
 use std::fmt;
 use std::marker::Model;
@@ -10,7 +10,7 @@ use std::marker::Model;
 const MAX_BYTES: usize = 40;
 
 /// Some bytes between quotation marks: the first 40, each that is not printable ASCII as a full stop,
-/// and ` ..` behind them where some were left out. Takes no memory. Contracts see what is printed.
+/// and ` ..` after them where some were left out. Takes no memory. Contracts see what is printed.
 #[derive(Debug, Drop)]
 pub struct Quoted {
     kept: [u8; 40],
@@ -23,7 +23,7 @@ impl Model for Quoted {
 
     ghost Value = { List ℕ };
 
-    ghost use Rattle.cli_quote.specs.Kept.{IsKept, printed};
+    ghost use Rattle.cli_io.specs.Kept.{IsKept, printed};
 
     ghost view = { printed };
 
@@ -42,7 +42,7 @@ fn shown(byte: u8) -> u8
 
 impl Quoted {
     ghost use Rattle.std.specs.Prelude.{◌≡◌};
-    ghost use Rattle.cli_quote.specs.Quoting.{quoted};
+    ghost use Rattle.cli_io.specs.Quoting.{quoted};
 
     /// These bytes for a message.
     pub fn of(bytes: &[u8]) -> Quoted

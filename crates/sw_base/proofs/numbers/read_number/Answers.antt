@@ -1,7 +1,7 @@
 use Rattle.std.proofs.Common.{◌∙◌, sym}
 use Rattle.std.proofs.lemmas.Str.Parse.{parse_digits}
-use Rattle.cli_numbers.proofs.Numbers.{digits_model, number_read}
-use Rattle.cli_numbers.proofs.read_number.Goals as goal
+use Rattle.sw_base.proofs.Numbers.{digits_model, number_read}
+use Rattle.sw_base.proofs.numbers.read_number.Goals as goal
 
 pub returns-then-is_digits : goal.returns-then-is_digits
 returns-then-is_digits c =

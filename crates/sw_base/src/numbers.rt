@@ -1,10 +1,9 @@
-//! Numbers as words spell them.
-#![tactic(auto)]
+//! Numbers as words spell them, below 2^64.
 
 ghost use Rattle.std.specs.Prelude.{◌≡◌};
 ghost use Rattle.std.specs.Char.{is_ascii_digit};
 ghost use Rattle.std.specs.List.{list_all};
-ghost use Rattle.cli_numbers.specs.Spelling.{number_spelled};
+ghost use Rattle.sw_base.specs.Spelling.{number_spelled};
 
 fn is_digits(word: &str) -> bool
     ensures { result ≡ list_all is_ascii_digit word.now }

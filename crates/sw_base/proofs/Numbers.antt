@@ -1,5 +1,5 @@
 -- Decimal digits, as std reads them.
--- for: read_number
+-- for: numbers::read_number
 use Rattle.std.proofs.Common.{◌≡◌, ◌<◌, ◌^◌, ℕ, true, List, length, Result, Ok, Err, rules, arith}
 use Rattle.std.proofs.lemmas.Bool.Decides.{nat_tests}
 use Rattle.std.proofs.lemmas.Str.Parse.{IsNumeralModel, numerals_by_value}
@@ -7,7 +7,7 @@ use Rattle.std.specs.Char.{is_ascii_digit}
 use Rattle.std.specs.List.{list_all}
 use Rattle.std.specs.Result.{OkIff, result_ok}
 use Rattle.std.specs.Str.Parse.{digits_value}
-use Rattle.cli_numbers.specs.Spelling.{number_spelled}
+use Rattle.sw_base.specs.Spelling.{number_spelled}
 
 pub digits_model : IsNumeralModel (λ ds. list_all is_ascii_digit ds ≡ true) (digits_value 10)
 digits_model = numerals_by_value _ (search rules)

@@ -2,9 +2,9 @@ use Rattle.std.specs.List.{All}
 use Rattle.std.specs.Prelude.{nat_lt}
 use Rattle.std.proofs.Common.{◌≡◌, ◌<◌, ◌∙◌, List, ℕ, length, map, take, ap, sym, subst, arith}
 use Rattle.std.proofs.lemmas.List.{length-set}
-use Rattle.cli_quote.specs.Quoting.{IsPrintable, between_marks, shown}
-use Rattle.cli_quote.proofs.Quotations.{all_shown, kept_all, kept_more}
-use Rattle.cli_quote.proofs.quoted.Quoted.of.Goals as goal
+use Rattle.cli_io.specs.Quoting.{IsPrintable, between_marks, shown}
+use Rattle.cli_io.proofs.Quotations.{all_shown, kept_all, kept_more}
+use Rattle.cli_io.proofs.quoted.Quoted.of.Goals as goal
 
 pub loop-index-preserved : goal.loop-index-preserved
 loop-index-preserved c =

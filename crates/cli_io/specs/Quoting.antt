@@ -8,7 +8,7 @@ IsPrintable c = (32 ≤ c) × (c ≤ 126)
 abbrev pub shown : ℕ → ℕ
 shown c = if nat_le 32 c && nat_le c 126 then c else 46
 
--- between quotation marks, and what stands behind them where some bytes were left out
+-- between quotation marks, and what comes after them where some bytes were left out
 abbrev pub between_marks : List ℕ → Bool → List ℕ
 between_marks text cut = 34 ∷ (text ++ 34 ∷ (if cut then codes " .." else []))
 

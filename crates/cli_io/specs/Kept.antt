@@ -1,8 +1,8 @@
 -- What a quotation keeps of the bytes.
 use Rattle.std.specs.Prelude.{ℕ, ◌≤◌, List, take}
 use Rattle.std.specs.List.{All}
-use Rattle.cli_quote.specs.declared.quoted.Quoted.TheInside.{Inside}
-use Rattle.cli_quote.specs.Quoting.{IsPrintable, between_marks}
+use Rattle.cli_io.specs.declared.quoted.Quoted.TheInside.{Inside}
+use Rattle.cli_io.specs.Quoting.{IsPrintable, between_marks}
 
 abbrev pub printed : Inside → List ℕ
 printed q = between_marks (take q.len q.kept) q.is_cut

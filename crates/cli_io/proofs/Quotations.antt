@@ -10,7 +10,7 @@ use Rattle.std.proofs.lemmas.List.{get_or_past, length-map, length-take, map-app
 use Rattle.std.proofs.lemmas.List.Elements.{All-append, All-cons, All-map, All-nil}
 use Rattle.std.proofs.lemmas.Str.{IsUtf8-from_ascii}
 use Rattle.std.specs.Prelude.{slice_set}
-use Rattle.cli_quote.specs.Quoting.{IsPrintable, quoted, shown}
+use Rattle.cli_io.specs.Quoting.{IsPrintable, quoted, shown}
 
 shown_printable : (c : ℕ) → IsPrintable (shown c)
 shown_printable c = by (nat_le 32 c) (nat_le c 126) refl refl

@@ -1,6 +1,6 @@
 use Rattle.std.proofs.Common.{◌≡◌, length, map, take}
-use Rattle.cli_quote.specs.Quoting.{shown}
-use Rattle.cli_quote.proofs.quoted.Quoted.of.Given as goal
+use Rattle.cli_io.specs.Quoting.{shown}
+use Rattle.cli_io.proofs.quoted.Quoted.of.Given as goal
 
 abbrev pub invariant-loop-index : goal.invariant-loop-index
 invariant-loop-index l = record {

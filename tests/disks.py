@@ -1,0 +1,109 @@
+#!/usr/bin/env python3
+"""Lets calls on the files of a journal fail under `cardswitch run`, one after the other, by a shim in C (shims/disk.c).
+
+    tests/disks.py [--all] [--seed N] [--count N] [--program PATH]
+
+A run on a new journal's file answers requests, some with a silent issuer, and counts its calls that open, write, sync, cut or link
+that file and those beside it. Then it runs again with the Nth of them failed, once or from then on, a write torn in half or not, with
+EIO or ENOSPC. Its responses have to be a beginning of the undisturbed ones, and the status 0, 3 (the journal refused) or 1. Then
+`recover` runs without faults. It has to leave a sound file without a row, and what it prints and leaves is what the plain model makes
+of the rows. No transaction whose response was read is unfinished; a stored reversal is of a request that got no response, or whose
+issuer is silent.
+
+--all takes every call, else so many of them, spread evenly (--count).
+"""
+
+import argparse
+import errno
+import glob
+import itertools
+import os
+import random
+import sys
+import tempfile
+import time
+
+sys.dont_write_bytecode = True
+
+import kills  # noqa: E402
+from harness import shims  # noqa: E402
+from model import messages  # noqa: E402
+
+# How calls fail: once or from then on, a write torn or not, with which error.
+FAILURES = [*itertools.product((False, True), (False, True), (errno.EIO, errno.ENOSPC))]
+
+
+def fresh(path):
+    for name in glob.glob(glob.escape(path) + "*"):
+        os.remove(name)
+
+
+def ran(shim, program, path, stdin, at=0, failure=(False, False, errno.EIO)):
+    """What comes of a run on a new file, one of whose calls fails."""
+    fresh(path)
+    goes_on, is_torn, error = failure
+    more = {"PATH": path, "WITH": str(error)} | ({"TORN": "1"} if is_torn else {})
+    return shim.run([program, "run", "--flow", kills.FLOW, "--journal", path], stdin, at, goes_on, **more)
+
+
+def faults_of(program, path, whole, came, silent):
+    """What is wrong with what came of a run, and with the journal that it left."""
+    if came.status not in (0, 1, 3):
+        yield f"status {came.status}: {came.stderr.decode('utf-8', 'replace')}"
+    if not whole.stdout.startswith(came.stdout):
+        yield "its responses are no beginning of the undisturbed ones"
+    if came.status == 0 and came.stdout != whole.stdout:
+        yield "it is done, and responses are missing"
+    answered = {number: number for number, _ in enumerate(messages.frames(came.stdout))}
+    tables = kills.tables_of(path) if os.path.exists(path) else None
+    yield from kills.faults_of(program, tables, path, answered, silent)
+    if tables is not None:
+        yield from recovered_faults(program, path)
+
+
+def recovered_faults(program, path):
+    """What is wrong with the file once it is recovered and run to its end, so that stored advices are sent too."""
+    with kills.copied(path) as copy:
+        command = [program, "run", "--flow", kills.FLOW, "--journal", copy]
+        came = shims.plain(command, b"")
+        if came.returncode != 0:
+            yield f"the next run ends with {came.returncode}: {came.stderr.decode('utf-8', 'replace')}"
+        yield from kills.end_faults(copy)
+
+
+def arguments():
+    """The words of the command line."""
+    parser = argparse.ArgumentParser(description="Lets calls on the files of a journal fail.")
+    parser.add_argument("--all", action="store_true", help="every call, in each way")
+    parser.add_argument("--seed", type=int, default=random.SystemRandom().randrange(10**9))
+    parser.add_argument("--count", type=int, default=150, help="how many calls that fail, in all")
+    parser.add_argument("--program", default=kills.BUILT)
+    return parser.parse_args()
+
+
+def main():
+    shims.skip_without_compiler("failing calls of disks")
+    given = arguments()
+    chosen, began, passed, failed = random.Random(given.seed), time.monotonic(), 0, 0
+    made, silent = kills.frames(random.Random(1))
+    requests = b"".join(made[:12])
+    with tempfile.TemporaryDirectory() as room:
+        path = os.path.join(os.path.realpath(room), "journal.db")
+        shim = shims.Shim("disk", "FAIL", room)
+        whole = ran(shim, given.program, path, requests)
+        if whole.status != 0 or whole.calls == 0:
+            sys.exit(f"undisturbed it ends with {whole.status} after {whole.calls} calls: {whole.stderr.decode()}")
+        for at in shims.spread(chosen, whole.calls, whole.calls if given.all else given.count):
+            for failure in FAILURES if given.all else [chosen.choice(FAILURES)]:
+                came = ran(shim, given.program, path, requests, at, failure)
+                found = [*faults_of(given.program, path, whole, came, silent)]
+                passed, failed = passed + (not found), failed + bool(found)
+                if found:
+                    print(f"FAILED disks --seed {given.seed}: call {at} of {whole.calls}, {failure}: {'; '.join(found)}")
+    print(f"{time.monotonic() - began:.1f} seconds; calls of --seed {given.seed}, {whole.calls} in a run")
+    print(f"{passed} passed, {failed} failed")
+    return 1 if failed else 0
+
+
+if __name__ == "__main__":
+    sys.exit(main())
