@@ -1,1 +1,1 @@
-mod Numbers
+mod ReadNumbers

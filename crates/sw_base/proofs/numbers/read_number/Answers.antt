@@ -1,6 +1,6 @@
 use Rattle.std.proofs.Common.{◌∙◌, sym}
 use Rattle.std.proofs.lemmas.Str.Parse.{parse_digits}
-use Rattle.sw_base.proofs.Numbers.{digits_model, number_read}
+use Rattle.sw_base.proofs.ReadNumbers.{digits_model, number_read}
 use Rattle.sw_base.proofs.numbers.read_number.Goals as goal
 
 pub returns-then-is_digits : goal.returns-then-is_digits

@@ -1,0 +1,135 @@
+-- The text of a flow's picture, for Mermaid and for Graphviz's DOT language.
+use Rattle.std.specs.Prelude.{ℕ, ◌+◌, zero, suc, Bool, true, false, ◌||◌, List, [], ◌∷◌, ◌++◌, codes, if◌then◌else◌}
+use Rattle.std.specs.List.{list_any}
+use Rattle.std.specs.Fmt.{decimal}
+use Rattle.sw_participant.specs.declared.kind.Kind.{Kind}
+use Rattle.flow_model.specs.declared.flow.Flow.{Flow}
+use Rattle.flow_model.specs.declared.flow.Group.{Group}
+use Rattle.flow_model.specs.declared.flow.Entry.{Entry}
+use Rattle.cli_graph.specs.declared.form.Form.{Form}
+use Rattle.cli_graph.specs.declared.form.Form.TheVariants.{Mermaid, Dot}
+
+abbrev pub Text : Type 0
+Text = List ℕ
+
+-- the texts of items, one after the other, the first of which has number n
+abbrev pub texts : {A : Type 0} → (ℕ → A → Text) → ℕ → List A → Text
+texts spell n [] = []
+texts spell n (x ∷ xs) = spell n x ++ texts spell (n + 1) xs
+
+-- the name of a group's head, and of an entry's node
+abbrev pub head_name : ℕ → Text
+head_name g = codes "g" ++ decimal g
+
+abbrev pub entry_name : ℕ → ℕ → Text
+entry_name g i = codes "e" ++ (decimal g ++ (codes "_" ++ decimal i))
+
+-- the marks that a node's shape does not show
+abbrev pub marks_word : Bool → Bool → Text
+marks_word false false = []
+marks_word true false = codes " (abort-aware)"
+marks_word false true = codes " (recovering)"
+marks_word true true = codes " (abort-aware, recovering)"
+
+abbrev pub marks_text : Kind → Text
+marks_text k = marks_word k.abort_aware k.recovers
+
+-- a selector is a hexagon, any other participant a rectangle
+abbrev pub node_text : Form → Bool → Text → Text → Text
+node_text Mermaid false name label = codes "    " ++ (name ++ (codes "[\"" ++ (label ++ codes "\"]\n")))
+node_text Mermaid true name label = codes "    " ++ (name ++ (codes "{{\"" ++ (label ++ codes "\"}}\n")))
+node_text Dot false name label = codes "    " ++ (name ++ (codes " [label=\"" ++ (label ++ codes "\", shape=box];\n")))
+node_text Dot true name label = codes "    " ++ (name ++ (codes " [label=\"" ++ (label ++ codes "\", shape=hexagon];\n")))
+
+abbrev pub entry_text : Form → ℕ → ℕ → Entry → Text
+entry_text form g i e = node_text form e.kind.selector (entry_name g i) (e.participant ++ marks_text e.kind)
+
+-- a group's box: its name, its head, its entries in their order
+abbrev pub box_text : Form → ℕ → Text → Text → Text
+box_text Mermaid g name entries =
+    codes "  subgraph group" ++ (decimal g ++ (codes " [\"" ++ (name ++ (codes "\"]\n    "
+    ++ (head_name g ++ (codes "([\"" ++ (name ++ (codes "\"])\n" ++ (entries ++ codes "  end\n")))))))))
+box_text Dot g name entries =
+    codes "  subgraph cluster" ++ (decimal g ++ (codes " {\n    label=\"" ++ (name ++ (codes "\";\n    "
+    ++ (head_name g ++ (codes " [label=\"" ++ (name ++ (codes "\", shape=oval];\n" ++ (entries ++ codes "  }\n")))))))))
+
+abbrev pub group_text : Form → ℕ → Group → Text
+group_text form g x = box_text form g x.name (texts (entry_text form g) 0 x.entries)
+
+-- plain arrows lead to each entry from the one before it
+abbrev pub arrow : Form → Text
+arrow Mermaid = codes " --> "
+arrow Dot = codes " -> "
+
+abbrev pub plain_step : Form → ℕ → ℕ → Text
+plain_step form g i = arrow form ++ entry_name g i
+
+abbrev pub plain_entry : Form → ℕ → ℕ → Entry → Text
+plain_entry form g i e = plain_step form g i
+
+-- the participants that are called while a transaction aborts
+abbrev pub is_called : Kind → Bool
+is_called k = k.abort_aware || k.selector
+
+abbrev pub has_called : List Entry → Bool
+has_called es = list_any (λ (e : Entry). is_called e.kind) es
+
+abbrev pub abort_arrow : Form → Text
+abort_arrow Mermaid = codes " -. abort .-> "
+abort_arrow Dot = codes " -> "
+
+abbrev pub abort_step : Form → ℕ → ℕ → Kind → Text
+abort_step form g i k = if is_called k then abort_arrow form ++ entry_name g i else []
+
+abbrev pub abort_entry : Form → ℕ → ℕ → Entry → Text
+abort_entry form g i e = abort_step form g i e.kind
+
+abbrev pub abort_end : Form → Text
+abort_end Mermaid = codes "\n"
+abort_end Dot = codes " [style=dashed, label=\"abort\"];\n"
+
+-- dashed arrows lead from a group's head through those of its entries
+abbrev pub abort_path : Form → ℕ → List Entry → Text
+abort_path form g es =
+    if has_called es then codes "  " ++ (head_name g ++ (texts (abort_entry form g) 0 es ++ abort_end form)) else []
+
+-- the heads of all groups
+abbrev pub gap : Form → ℕ → Text
+gap form zero = []
+gap Mermaid (suc n) = codes " & "
+gap Dot (suc n) = codes " "
+
+abbrev pub target_text : Form → ℕ → Text
+target_text form h = gap form h ++ head_name h
+
+abbrev pub target_group : Form → ℕ → Group → Text
+target_group form h x = target_text form h
+
+-- bold arrows lead from a selector to each of them
+abbrev pub bold_text : Form → Text → Text → Text
+bold_text Mermaid name targets = codes "  " ++ (name ++ (codes " == selects ==> " ++ (targets ++ codes "\n")))
+bold_text Dot name targets = codes "  " ++ (name ++ (codes " -> {" ++ (targets ++ codes "} [style=bold, label=\"selects\"];\n")))
+
+abbrev pub selection_text : Form → List Group → ℕ → ℕ → Kind → Text
+selection_text form gs g i k =
+    if k.selector then bold_text form (entry_name g i) (texts (target_group form) 0 gs) else []
+
+abbrev pub selection_entry : Form → List Group → ℕ → ℕ → Entry → Text
+selection_entry form gs g i e = selection_text form gs g i e.kind
+
+abbrev pub line_end : Form → Text
+line_end Mermaid = codes "\n"
+line_end Dot = codes ";\n"
+
+-- the arrows of a group
+abbrev pub group_paths : Form → List Group → ℕ → Group → Text
+group_paths form gs g x =
+    codes "  " ++ (head_name g ++ (texts (plain_entry form g) 0 x.entries ++ (line_end form
+    ++ (abort_path form g x.entries ++ texts (selection_entry form gs g) 0 x.entries))))
+
+abbrev pub whole : Form → Text → Text → Text
+whole Mermaid boxes paths = codes "flowchart TD\n" ++ (boxes ++ paths)
+whole Dot boxes paths = codes "digraph flow {\n" ++ (boxes ++ (paths ++ codes "}\n"))
+
+abbrev pub picture_of : Form → Flow → Text
+picture_of form f = whole form (texts (group_text form) 0 f.groups) (texts (group_paths form f.groups) 0 f.groups)

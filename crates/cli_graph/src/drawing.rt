@@ -1,0 +1,47 @@
+//! The picture of a flow.
+
+ghost use Rattle.std.specs.Prelude.{◌≡◌, Some, IfOk};
+ghost use Rattle.cli_graph.specs.Picture as spec;
+
+use crate::form::Form;
+use crate::nodes::GroupBoxes;
+use crate::paths::AllPaths;
+use flow_model::Flow;
+use std::alloc::{AllocError, Global};
+use std::fmt;
+
+#[derive(Drop)]
+struct PictureText<'a> {
+    form: Form,
+    flow: &'a Flow,
+}
+
+impl fmt::Display for PictureText<'_> {
+    ghost output = { λ p. Some (spec.picture_of p.form p.flow.now) };
+
+    fn fmt<W: fmt::Write>(&self, f: &mut fmt::Formatter<W>) -> fmt::Result {
+        let groups = self.flow.groups.as_slice();
+        let boxes = GroupBoxes {
+            form: self.form,
+            groups,
+        };
+        let paths = AllPaths {
+            form: self.form,
+            groups,
+        };
+        match self.form {
+            Form::Mermaid => write!(f, "flowchart TD\n{boxes}{paths}"),
+            Form::Dot => write!(f, "digraph flow {{\n{boxes}{paths}}}\n"),
+        }
+    }
+}
+
+/// The text of a flow's picture. A checked flow's names need no quoting; of any other flow they are put as they are.
+/// The only refusal is out of memory.
+pub fn picture(alloc: Global, form: Form, flow: &Flow) -> Result<Vec<u8>, AllocError>
+    ensures { IfOk result (λ text. text.items ≡ spec.picture_of form flow.now) }
+{
+    let picture = PictureText { form, flow };
+    let text = format!(in alloc; "{picture}")?;
+    Ok(text.into_bytes())
+}
