@@ -12,6 +12,12 @@ pub enum Options<'a> {
     Asm,
     /// `list`: an image from standard input is printed as a flow file.
     List,
+    /// `graph`: prints a picture of the flow in the flow file at a path, for Mermaid, or with `--dot` for
+    /// Graphviz.
+    Graph {
+        flow: &'a str,
+        dot: bool,
+    },
     /// `decode`: prints the fields of the messages in frames from standard input.
     Decode,
     /// `recover`: finishes what a journal has unfinished, by the flow of the flow file at a path, and

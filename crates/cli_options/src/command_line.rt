@@ -97,6 +97,13 @@ fn options_at<'a>(name: &str, found: &ArgMatches<'a>) -> Result<Options<'a>, Opt
         }),
         "asm" => Ok(Options::Asm),
         "list" => Ok(Options::List),
+        "graph" => match text_at(found, "flow") {
+            Some(flow) => Ok(Options::Graph {
+                flow,
+                dot: is_set(text_at(found, "dot")),
+            }),
+            None => Err(OptionsError::NoSubcommand),
+        },
         "decode" => Ok(Options::Decode),
         "recover" => match (text_at(found, "flow"), text_at(found, "journal")) {
             (Some(flow), Some(journal)) => Ok(Options::Recover { flow, journal }),

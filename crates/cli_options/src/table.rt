@@ -25,7 +25,7 @@ struct CommandRow<'a> {
     options: &'a [OptionRow<'a>],
 }
 
-const COMMANDS: [CommandRow<'static>; 6] = [
+const COMMANDS: [CommandRow<'static>; 7] = [
     CommandRow {
         name: "step",
         about: "Runs a script of transactions from standard input and prints one line for each step",
@@ -45,6 +45,24 @@ const COMMANDS: [CommandRow<'static>; 6] = [
         name: "list",
         about: "Prints the flow file of an image from standard input",
         options: &[],
+    },
+    CommandRow {
+        name: "graph",
+        about: "Prints a picture of the flow in a flow file, as a Mermaid flowchart",
+        options: &[
+            OptionRow {
+                name: "flow",
+                value: Some("PATH"),
+                help: "The flow file",
+                is_required: true,
+            },
+            OptionRow {
+                name: "dot",
+                value: None,
+                help: "Prints it in the DOT language of Graphviz",
+                is_required: false,
+            },
+        ],
     },
     CommandRow {
         name: "decode",
