@@ -34,27 +34,59 @@ marks_word true true = codes " (abort-aware, recovering)"
 abbrev pub marks_text : Kind → Text
 marks_text k = marks_word k.abort_aware k.recovers
 
--- a selector is a hexagon, any other participant a rectangle
-abbrev pub node_text : Form → Bool → Text → Text → Text
-node_text Mermaid false name label = codes "    " ++ (name ++ (codes "[\"" ++ (label ++ codes "\"]\n")))
-node_text Mermaid true name label = codes "    " ++ (name ++ (codes "{{\"" ++ (label ++ codes "\"}}\n")))
-node_text Dot false name label = codes "    " ++ (name ++ (codes " [label=\"" ++ (label ++ codes "\", shape=box];\n")))
-node_text Dot true name label = codes "    " ++ (name ++ (codes " [label=\"" ++ (label ++ codes "\", shape=hexagon];\n")))
+-- what comes before and after a node's label; a selector is a hexagon, any other participant a rectangle
+abbrev pub node_open : Form → Bool → Text
+node_open Mermaid false = codes "[\""
+node_open Mermaid true = codes "{{\""
+node_open Dot _ = codes " [label=\""
+
+abbrev pub node_close : Form → Bool → Text
+node_close Mermaid false = codes "\"]"
+node_close Mermaid true = codes "\"}}"
+node_close Dot false = codes "\", shape=box];"
+node_close Dot true = codes "\", shape=hexagon];"
 
 abbrev pub entry_text : Form → ℕ → ℕ → Entry → Text
-entry_text form g i e = node_text form e.kind.selector (entry_name g i) (e.participant ++ marks_text e.kind)
+entry_text form g i e =
+    codes "    " ++ (entry_name g i ++ (node_open form e.kind.selector
+    ++ (e.participant ++ (marks_text e.kind ++ (node_close form e.kind.selector ++ codes "\n")))))
 
--- a group's box: its name, its head, its entries in their order
-abbrev pub box_text : Form → ℕ → Text → Text → Text
-box_text Mermaid g name entries =
-    codes "  subgraph group" ++ (decimal g ++ (codes " [\"" ++ (name ++ (codes "\"]\n    "
-    ++ (head_name g ++ (codes "([\"" ++ (name ++ (codes "\"])\n" ++ (entries ++ codes "  end\n")))))))))
-box_text Dot g name entries =
-    codes "  subgraph cluster" ++ (decimal g ++ (codes " {\n    label=\"" ++ (name ++ (codes "\";\n    "
-    ++ (head_name g ++ (codes " [label=\"" ++ (name ++ (codes "\", shape=oval];\n" ++ (entries ++ codes "  }\n")))))))))
+-- a group's box: its label, its head, its entries in their order
+abbrev pub box_open : Form → Text
+box_open Mermaid = codes "group"
+box_open Dot = codes "cluster"
+
+abbrev pub label_open : Form → Text
+label_open Mermaid = codes " [\""
+label_open Dot = codes " {\n    label=\""
+
+abbrev pub label_close : Form → Text
+label_close Mermaid = codes "\"]"
+label_close Dot = codes "\";"
+
+abbrev pub box_label : Form → ℕ → Text → Text
+box_label form g name =
+    codes "  subgraph " ++ (box_open form ++ (decimal g ++ (label_open form ++ (name ++ (label_close form ++ codes "\n")))))
+
+abbrev pub head_open : Form → Text
+head_open Mermaid = codes "([\""
+head_open Dot = codes " [label=\""
+
+abbrev pub head_close : Form → Text
+head_close Mermaid = codes "\"])"
+head_close Dot = codes "\", shape=oval];"
+
+abbrev pub head_text : Form → ℕ → Text → Text
+head_text form g name =
+    codes "    " ++ (head_name g ++ (head_open form ++ (name ++ (head_close form ++ codes "\n"))))
+
+abbrev pub box_end : Form → Text
+box_end Mermaid = codes "  end\n"
+box_end Dot = codes "  }\n"
 
 abbrev pub group_text : Form → ℕ → Group → Text
-group_text form g x = box_text form g x.name (texts (entry_text form g) 0 x.entries)
+group_text form g x =
+    box_label form g x.name ++ (head_text form g x.name ++ (texts (entry_text form g) 0 x.entries ++ box_end form))
 
 -- plain arrows lead to each entry from the one before it
 abbrev pub arrow : Form → Text
@@ -106,9 +138,16 @@ abbrev pub target_group : Form → ℕ → Group → Text
 target_group form h x = target_text form h
 
 -- bold arrows lead from a selector to each of them
+abbrev pub bold_arrow : Form → Text
+bold_arrow Mermaid = codes " == selects ==> "
+bold_arrow Dot = codes " -> {"
+
+abbrev pub bold_end : Form → Text
+bold_end Mermaid = []
+bold_end Dot = codes "} [style=bold, label=\"selects\"];"
+
 abbrev pub bold_text : Form → Text → Text → Text
-bold_text Mermaid name targets = codes "  " ++ (name ++ (codes " == selects ==> " ++ (targets ++ codes "\n")))
-bold_text Dot name targets = codes "  " ++ (name ++ (codes " -> {" ++ (targets ++ codes "} [style=bold, label=\"selects\"];\n")))
+bold_text form name targets = codes "  " ++ (name ++ (bold_arrow form ++ (targets ++ (bold_end form ++ codes "\n"))))
 
 abbrev pub selection_text : Form → List Group → ℕ → ℕ → Kind → Text
 selection_text form gs g i k =

@@ -20,6 +20,28 @@ fn marks(kind: Kind) -> &'static str
     }
 }
 
+// What comes before and after a node's label. A selector is a hexagon, any other participant a rectangle.
+fn node_open(form: Form, selector: bool) -> &'static str
+    ensures { result.now ≡ spec.node_open form selector }
+{
+    match (form, selector) {
+        (Form::Mermaid, false) => "[\"",
+        (Form::Mermaid, true) => "{{\"",
+        (Form::Dot, _) => " [label=\"",
+    }
+}
+
+fn node_close(form: Form, selector: bool) -> &'static str
+    ensures { result.now ≡ spec.node_close form selector }
+{
+    match (form, selector) {
+        (Form::Mermaid, false) => "\"]",
+        (Form::Mermaid, true) => "\"}}",
+        (Form::Dot, false) => "\", shape=box];",
+        (Form::Dot, true) => "\", shape=hexagon];",
+    }
+}
+
 #[derive(Drop)]
 struct EntryNode<'a> {
     form: Form,
@@ -35,22 +57,9 @@ impl fmt::Display for EntryNode<'_> {
         let (group, index) = (self.group, self.index);
         let name = self.entry.participant.as_str();
         let marks = marks(self.entry.kind);
-        match (self.form, self.entry.kind.selector) {
-            (Form::Mermaid, false) => write!(f, "    e{group}_{index}[\"{name}{marks}\"]\n"),
-            (Form::Mermaid, true) => write!(f, "    e{group}_{index}{{{{\"{name}{marks}\"}}}}\n"),
-            (Form::Dot, false) => {
-                write!(
-                    f,
-                    "    e{group}_{index} [label=\"{name}{marks}\", shape=box];\n"
-                )
-            }
-            (Form::Dot, true) => {
-                write!(
-                    f,
-                    "    e{group}_{index} [label=\"{name}{marks}\", shape=hexagon];\n"
-                )
-            }
-        }
+        let open = node_open(self.form, self.entry.kind.selector);
+        let close = node_close(self.form, self.entry.kind.selector);
+        write!(f, "    e{group}_{index}{open}{name}{marks}{close}\n")
     }
 }
 
@@ -78,6 +87,90 @@ impl fmt::Display for EntryNodes<'_> {
     }
 }
 
+// What comes before a box's number, before its label and after that.
+fn box_open(form: Form) -> &'static str
+    ensures { result.now ≡ spec.box_open form }
+{
+    match form {
+        Form::Mermaid => "group",
+        Form::Dot => "cluster",
+    }
+}
+
+fn label_open(form: Form) -> &'static str
+    ensures { result.now ≡ spec.label_open form }
+{
+    match form {
+        Form::Mermaid => " [\"",
+        Form::Dot => " {\n    label=\"",
+    }
+}
+
+fn label_close(form: Form) -> &'static str
+    ensures { result.now ≡ spec.label_close form }
+{
+    match form {
+        Form::Mermaid => "\"]",
+        Form::Dot => "\";",
+    }
+}
+
+// The first lines of a group's box.
+#[derive(Drop)]
+struct BoxLabel<'a> {
+    form: Form,
+    number: usize,
+    name: &'a str,
+}
+
+impl fmt::Display for BoxLabel<'_> {
+    ghost output = { λ l. Some (spec.box_label l.form l.number l.name.now) };
+
+    fn fmt<W: fmt::Write>(&self, f: &mut fmt::Formatter<W>) -> fmt::Result {
+        let (number, name) = (self.number, self.name);
+        let kind = box_open(self.form);
+        let (open, close) = (label_open(self.form), label_close(self.form));
+        write!(f, "  subgraph {kind}{number}{open}{name}{close}\n")
+    }
+}
+
+// What comes before and after the label of a group's head.
+fn head_open(form: Form) -> &'static str
+    ensures { result.now ≡ spec.head_open form }
+{
+    match form {
+        Form::Mermaid => "([\"",
+        Form::Dot => " [label=\"",
+    }
+}
+
+fn head_close(form: Form) -> &'static str
+    ensures { result.now ≡ spec.head_close form }
+{
+    match form {
+        Form::Mermaid => "\"])",
+        Form::Dot => "\", shape=oval];",
+    }
+}
+
+// The node of a group's head.
+#[derive(Drop)]
+struct GroupHead<'a> {
+    form: Form,
+    number: usize,
+    name: &'a str,
+}
+
+impl fmt::Display for GroupHead<'_> {
+    ghost output = { λ h. Some (spec.head_text h.form h.number h.name.now) };
+
+    fn fmt<W: fmt::Write>(&self, f: &mut fmt::Formatter<W>) -> fmt::Result {
+        let (number, name) = (self.number, self.name);
+        let (open, close) = (head_open(self.form), head_close(self.form));
+        write!(f, "    g{number}{open}{name}{close}\n")
+    }
+}
+
 #[derive(Drop)]
 struct GroupBox<'a> {
     form: Form,
@@ -89,23 +182,18 @@ impl fmt::Display for GroupBox<'_> {
     ghost output = { λ b. Some (spec.group_text b.form b.number b.group.now) };
 
     fn fmt<W: fmt::Write>(&self, f: &mut fmt::Formatter<W>) -> fmt::Result {
-        let number = self.number;
+        let (form, number) = (self.form, self.number);
         let name = self.group.name.as_str();
+        let label = BoxLabel { form, number, name };
+        let head = GroupHead { form, number, name };
         let entries = EntryNodes {
-            form: self.form,
+            form,
             group: number,
             entries: self.group.entries.as_slice(),
         };
-        match self.form {
-            Form::Mermaid => write!(
-                f,
-                "  subgraph group{number} [\"{name}\"]\n    g{number}([\"{name}\"])\n{entries}  end\n"
-            ),
-            Form::Dot => write!(
-                f,
-                "  subgraph cluster{number} {{\n    label=\"{name}\";\n    g{number} [label=\"{name}\", \
-                 shape=oval];\n{entries}  }}\n"
-            ),
+        match form {
+            Form::Mermaid => write!(f, "{label}{head}{entries}  end\n"),
+            Form::Dot => write!(f, "{label}{head}{entries}  }}\n"),
         }
     }
 }

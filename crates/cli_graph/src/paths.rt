@@ -151,6 +151,24 @@ impl fmt::Display for Targets<'_> {
     }
 }
 
+fn bold_arrow(form: Form) -> &'static str
+    ensures { result.now ≡ spec.bold_arrow form }
+{
+    match form {
+        Form::Mermaid => " == selects ==> ",
+        Form::Dot => " -> {",
+    }
+}
+
+fn bold_end(form: Form) -> &'static str
+    ensures { result.now ≡ spec.bold_end form }
+{
+    match form {
+        Form::Mermaid => "",
+        Form::Dot => "} [style=bold, label=\"selects\"];",
+    }
+}
+
 // The line of a selector's arrows to the groups; nothing for an entry that is not a selector.
 #[derive(Drop)]
 struct Selection<'a> {
@@ -165,19 +183,16 @@ impl fmt::Display for Selection<'_> {
     ghost output = { λ s. Some (spec.selection_text s.form s.groups.now s.group s.index s.kind) };
 
     fn fmt<W: fmt::Write>(&self, f: &mut fmt::Formatter<W>) -> fmt::Result {
+        if !self.kind.selector {
+            return write!(f, "");
+        }
         let (group, index) = (self.group, self.index);
         let targets = Targets {
             form: self.form,
             groups: self.groups,
         };
-        match (self.form, self.kind.selector) {
-            (_, false) => write!(f, ""),
-            (Form::Mermaid, true) => write!(f, "  e{group}_{index} == selects ==> {targets}\n"),
-            (Form::Dot, true) => write!(
-                f,
-                "  e{group}_{index} -> {{{targets}}} [style=bold, label=\"selects\"];\n"
-            ),
-        }
+        let (arrow, end) = (bold_arrow(self.form), bold_end(self.form));
+        write!(f, "  e{group}_{index}{arrow}{targets}{end}\n")
     }
 }
 
