@@ -20,7 +20,7 @@ mod station;
 mod values;
 
 pub use answer::{Answer, Reading, read_answer};
-pub use call::{Act, Call, Reply};
+pub use call::{Act, Call, Reply, is_same_advice};
 pub use caller::Caller;
 pub use kind::Kind;
 pub use laws::{

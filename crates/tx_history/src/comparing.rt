@@ -1,30 +1,20 @@
 //! Whether two entries are the same. It takes no memory.
 
-ghost use Rattle.std.specs.Prelude.{◌≡◌, true};
+ghost use Rattle.std.specs.Prelude.{◌≡◌, ◌↔◌, IsTrue};
 
 use crate::event::{Change, Entry, Event};
 use crate::journal::{Row, Waiting};
-use sw_participant::{Bytes, Text};
+use sw_participant::{Bytes, Text, is_same_advice};
 use tx_machine::Phase;
 
-fn are_same_bytes(one: &Option<Bytes>, other: &Option<Bytes>) -> bool
-    ensures { result ≡ true → one.now ≡ other.now }
-{
-    match (one, other) {
-        (Some(one), Some(other)) => one.as_slice() == other.as_slice(),
-        (None, None) => true,
-        _ => false,
-    }
-}
-
 fn is_same_text(one: &Text, other: &Text) -> bool
-    ensures { result ≡ true → one.now ≡ other.now }
+    ensures { IsTrue result ↔ (one.now ≡ other.now) }
 {
     one.as_str().as_bytes() == other.as_str().as_bytes()
 }
 
 fn is_same_name(one: &Option<Text>, other: &Option<Text>) -> bool
-    ensures { result ≡ true → one.now ≡ other.now }
+    ensures { IsTrue result ↔ (one.now ≡ other.now) }
 {
     match (one, other) {
         (Some(one), Some(other)) => is_same_text(one, other),
@@ -34,7 +24,7 @@ fn is_same_name(one: &Option<Text>, other: &Option<Text>) -> bool
 }
 
 fn are_same_names(some: &[Text], others: &[Text]) -> bool
-    ensures { result ≡ true → some.now ≡ others.now }
+    ensures { IsTrue result ↔ (some.now ≡ others.now) }
 {
     if some.len() != others.len() {
         return false;
@@ -48,7 +38,7 @@ fn are_same_names(some: &[Text], others: &[Text]) -> bool
 }
 
 fn is_same_phase(one: Phase, other: Phase) -> bool
-    ensures { result ≡ true → one ≡ other }
+    ensures { IsTrue result ↔ (one ≡ other) }
 {
     match (one, other) {
         (Phase::Preparing, Phase::Preparing) => true,
@@ -61,7 +51,7 @@ fn is_same_phase(one: Phase, other: Phase) -> bool
 
 impl Waiting {
     fn is_same(&self, other: &Waiting) -> bool
-        ensures { result ≡ true → self.now ≡ other.now }
+        ensures { IsTrue result ↔ (self.now ≡ other.now) }
     {
         self.tries == other.tries && self.context.as_slice() == other.context.as_slice()
     }
@@ -69,7 +59,7 @@ impl Waiting {
 
 impl Row {
     fn is_same(&self, other: &Row) -> bool
-        ensures { result ≡ true → self.now ≡ other.now }
+        ensures { IsTrue result ↔ (self.now ≡ other.now) }
     {
         is_same_phase(self.phase, other.phase)
             && self.told == other.told
@@ -82,7 +72,7 @@ impl Row {
 
 impl Event {
     fn is_same(&self, other: &Event) -> bool
-        ensures { result ≡ true → self.now ≡ other.now }
+        ensures { IsTrue result ↔ (self.now ≡ other.now) }
     {
         match (self, other) {
             (Event::Offered { context: a }, Event::Offered { context: b }) => {
@@ -120,7 +110,7 @@ impl Event {
                     session: b,
                     advice: y,
                 },
-            ) => { a == b && are_same_bytes(x, y) }
+            ) => { a == b && is_same_advice(x, y) }
             (
                 Event::Recovered {
                     session: a,
@@ -145,7 +135,7 @@ impl Event {
 }
 
 fn is_same_row(one: &Option<(u64, Option<Row>)>, other: &Option<(u64, Option<Row>)>) -> bool
-    ensures { result ≡ true → one.now ≡ other.now }
+    ensures { IsTrue result ↔ (one.now ≡ other.now) }
 {
     match (one, other) {
         (Some((id, Some(row))), Some((other_id, Some(other)))) => {
@@ -158,7 +148,7 @@ fn is_same_row(one: &Option<(u64, Option<Row>)>, other: &Option<(u64, Option<Row
 }
 
 fn is_same_waiting(one: &Option<(u64, Waiting)>, other: &Option<(u64, Waiting)>) -> bool
-    ensures { result ≡ true → one.now ≡ other.now }
+    ensures { IsTrue result ↔ (one.now ≡ other.now) }
 {
     match (one, other) {
         (Some((id, waiting)), Some((other_id, other))) => {
@@ -169,15 +159,15 @@ fn is_same_waiting(one: &Option<(u64, Waiting)>, other: &Option<(u64, Waiting)>)
     }
 }
 
-fn is_same_advice(
+fn is_same_advice_at(
     one: &Option<((u64, usize), Option<Bytes>)>,
     other: &Option<((u64, usize), Option<Bytes>)>,
 ) -> bool
-    ensures { result ≡ true → one.now ≡ other.now }
+    ensures { IsTrue result ↔ (one.now ≡ other.now) }
 {
     match (one, other) {
         (Some((place, advice)), Some((other_place, other))) => {
-            place.0 == other_place.0 && place.1 == other_place.1 && are_same_bytes(advice, other)
+            place.0 == other_place.0 && place.1 == other_place.1 && is_same_advice(advice, other)
         }
         (None, None) => true,
         _ => false,
@@ -186,20 +176,20 @@ fn is_same_advice(
 
 impl Change {
     fn is_same(&self, other: &Change) -> bool
-        ensures { result ≡ true → self.now ≡ other.now }
+        ensures { IsTrue result ↔ (self.now ≡ other.now) }
     {
         self.next_id == other.next_id
             && self.emptied == other.emptied
             && is_same_row(&self.row, &other.row)
             && is_same_waiting(&self.shelved, &other.shelved)
-            && is_same_advice(&self.advice, &other.advice)
+            && is_same_advice_at(&self.advice, &other.advice)
     }
 }
 
 impl Entry {
     /// Whether the entries have the same number, event and change.
     pub fn is_same(&self, other: &Entry) -> bool
-        ensures { result ≡ true → self.now ≡ other.now }
+        ensures { IsTrue result ↔ (self.now ≡ other.now) }
     {
         self.number == other.number
             && self.event.is_same(&other.event)

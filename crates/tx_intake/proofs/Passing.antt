@@ -1,6 +1,6 @@
 -- Each move of an intake keeps its rule.
 -- for: intake::Intake::new, intake::Intake::put, intake::Intake::get, intake::Intake::settle
-use Rattle.std.proofs.Common.{◌≡◌, ◌≢◌, ℕ, zero, suc, true, false, true≢false, List, [], ◌∷◌, ◌++◌, length, set, sym, refl, ap, ◌∙◌, subst, ⊎_elim, append_assoc}
+use Rattle.std.proofs.Common.{◌≡◌, ◌≢◌, ◌≤◌, ℕ, zero, suc, true, false, true≢false, List, [], ◌∷◌, ◌++◌, length, set, sym, refl, ap, ◌∙◌, subst, ⊎_elim, append_assoc, arith, length-append, lit≤}
 use mathlib.Core.Option.{some, some-ne-none}
 use lib.ListN.{get_elem?}
 use Rattle.crossbeam_queue.specs.Fifo.{Pushes, Pops, Forks, Merges, Learns}
@@ -33,10 +33,11 @@ begins = (
   refl,
   all_set (Fits 0 0 [] []) (side true true [] [] ∷ []) 0 (side true true [] []) ((λ _. (refl, refl)), λ _. (refl, refl))
       (λ j u other e. absurd (other (at_end [] _ u j (λ x. some-ne-none u (sym x)) e))),
+  lit≤ tt,
 )
 
-pub puts : (n pass : ℕ) (v : Side) (x : List ℕ) → v.puts ≡ true → Pushes Passed n pass v x (λ w. w ≡ side v.puts v.gets (v.put ++ x ∷ []) v.got)
-puts n pass v x may held views _ h at = let w : Side = side v.puts v.gets (v.put ++ x ∷ []) v.got in let mine = h.5 pass v at in let put = h.2 ++ x ∷ [] in (
+pub puts : (n pass : ℕ) (v : Side) (x : List ℕ) → n ≤ 4096 → v.puts ≡ true → Pushes Passed n pass v x (λ w. w ≡ side v.puts v.gets (v.put ++ x ∷ []) v.got)
+puts n pass v x small may held views room h at = let w : Side = side v.puts v.gets (v.put ++ x ∷ []) v.got in let mine = h.5 pass v at in let put = h.2 ++ x ∷ [] in (
   w,
   (
     h.0,
@@ -46,6 +47,7 @@ puts n pass v x may held views _ h at = let w : Side = side v.puts v.gets (v.put
     ap (λ l. l ++ x ∷ []) h.4 ∙ append_assoc h.3 held (x ∷ []),
     all_set (Fits h.0 h.1 put h.3) views pass w ((λ _. ((mine.0 may).0, ap (λ l. l ++ x ∷ []) (mine.0 may).1)), mine.1)
         (λ j u other e. ((λ p. absurd (other (((h.5 j u e).0 p).0 ∙ sym (mine.0 may).0))), (h.5 j u e).1)),
+    omega (arith, length-append held (x ∷ []), small, room),
   ),
   refl,
 )
@@ -61,6 +63,7 @@ gets pass v may x held views h at = let w : Side = side v.puts v.gets v.put (v.g
     h.4 ∙ sym (append_assoc h.3 (x ∷ []) held),
     all_set (Fits h.0 h.1 h.2 got) views pass w (mine.0, λ _. ((mine.1 may).0, ap (λ l. l ++ x ∷ []) (mine.1 may).1))
         (λ j u other e. ((h.5 j u e).0, λ p. absurd (other (((h.5 j u e).1 p).0 ∙ sym (mine.1 may).0)))),
+    omega (arith, h.6),
   ),
   refl,
 )
@@ -78,6 +81,7 @@ parts pass v a b held views h at = let l : Side = side true false v.put [] in le
       λ j u e. ⊎_elim (λ x. ((old j u x).0, λ p. absurd ((old j u x).1 p)))
           (λ (is : r ≡ u). ((λ p. absurd (true≢false (sym (ap (λ (y : Side). y.puts) is ∙ p)))), λ p. (at_end vs r u j (λ x. (old j u x).1 p) e, ap (λ (y : Side). y.got) (sym is) ∙ (mine.1 b).1)))
           (at_snoc vs r u j e),
+      h.6,
     )
 
 -- both become one again
@@ -86,7 +90,7 @@ joins pass v other u a b held views h at two at' = let both : Side = side true t
     let was : get_elem? views other ≡ some u = ⊎_elim (λ x. absurd (two x.0)) (λ x. x.1) (at_set views pass other both u at') in let theirs = (h.5 other u was).1 b in
     let Now : ℕ → Side → Type 0 = λ j y. j ≢ other → Fits h.0 pass h.2 h.3 j y in
     let now : All Now vs = all_set Now views pass both (λ _. ((λ _. mine.0 a), λ _. (refl, theirs.1))) (λ j y _ e apart. ((h.5 j y e).0, λ p. absurd (apart (((h.5 j y e).1 p).0 ∙ sym theirs.0)))) in
-    (h.0, pass, h.2, h.3, h.4, all_set (Fits h.0 pass h.2 h.3) vs other (side false false [] []) ((λ p. absurd (true≢false (sym p))), λ p. absurd (true≢false (sym p))) (λ j y apart e. now j y e apart))
+    (h.0, pass, h.2, h.3, h.4, all_set (Fits h.0 pass h.2 h.3) vs other (side false false [] []) ((λ p. absurd (true≢false (sym p))), λ p. absurd (true≢false (sym p))) (λ j y apart e. now j y e apart), h.6)
 
 pub held_of_put : (pass : ℕ) (v : Side) → Learns Passed pass v (HeldOfPut v)
 held_of_put pass v held views h at may = (h.3, ((h.5 pass v at).0 may).1 ∙ h.4)

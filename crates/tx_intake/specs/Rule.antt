@@ -1,5 +1,5 @@
--- The rule of an intake: what was put is what was got, and then what it holds. At most one pass may put, and it knows what was put. The same for getting.
-use Rattle.std.specs.Prelude.{◌≡◌, ℕ, Bool, true, ◌++◌, List}
+-- The rule of an intake: what was put is what was got, and then what it holds, which is no more than the largest capacity. At most one pass may put, and it knows what was put. The same for getting.
+use Rattle.std.specs.Prelude.{◌≡◌, ◌≤◌, ◌^◌, ◌%◌, ℕ, Bool, true, ◌++◌, List, length}
 use mathlib.Core.Option.{some}
 use lib.ListN.{get_elem?}
 use Rattle.tx_intake.specs.Ends.{Offers}
@@ -15,7 +15,7 @@ Fits putter getter put got pass v =
 
 abbrev pub Passed : Offers → List Side → Type 0
 Passed held views = (putter : ℕ) × (getter : ℕ) × (put : Offers) × (got : Offers) × (put ≡ got ++ held)
-    × ((pass : ℕ) (v : Side) → get_elem? views pass ≡ some v → Fits putter getter put got pass v)
+    × ((pass : ℕ) (v : Side) → get_elem? views pass ≡ some v → Fits putter getter put got pass v) × (length held ≤ 4096)
 
 -- what the putter knows of what is held
 abbrev pub HeldOfPut : Side → Offers → Type 0
@@ -23,4 +23,8 @@ HeldOfPut v held = v.puts ≡ true → (got : Offers) × (v.put ≡ got ++ held)
 
 -- what both ends together know of what is held
 abbrev pub HeldOfBoth : Side → Offers → Type 0
-HeldOfBoth v held = v.put ≡ v.got ++ held
+HeldOfBoth v held = (v.put ≡ v.got ++ held) × (length held ≤ 4096)
+
+-- the number of an end's offers, as it is counted
+abbrev pub IsCounted : ℕ → Offers → Type 0
+IsCounted count passed = count ≡ length passed % 2 ^ 64

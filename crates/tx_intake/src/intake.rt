@@ -1,6 +1,6 @@
 //! A bounded queue of offers between two threads.
 
-ghost use Rattle.std.specs.Prelude.{◌≡◌, ◌++◌, ◌∷◌, [], true, false, OnOk, OnErr, IfErr, ⊤};
+ghost use Rattle.std.specs.Prelude.{◌≡◌, ◌≢◌, ◌++◌, ◌∷◌, [], true, false, OnOk, OnErr, IfErr, ⊤};
 ghost use Rattle.std.specs.Prelude.{MatchOption};
 ghost use Rattle.sw_base.specs.Refusals.{Accepts};
 ghost use Rattle.crossbeam_queue.specs.Passes.{view as view_of};
@@ -31,22 +31,27 @@ impl Drop for Intake {
 }
 
 impl Model for Intake {
+    ghost use Rattle.std.specs.Prelude.{◌≤◌};
     ghost use Rattle.tx_intake.specs.Ends.{Passage, passage};
 
     ghost Value = { Passage };
 
     ghost view = { λ i. passage i.line.table.shared.table_id i.line.cap };
+
+    ghost invariant = { λ i. i.line.cap ≤ 4096 };
 }
 
 /// The end of an intake at which offers are put. Contracts see of which intake it is, and what was
 /// put, oldest first.
 pub struct Putter {
     pass: Pass<Offer, Side>,
+    /// How many offers were put, modulo 2^64.
+    count: u64,
 }
 
 impl Drop for Putter {
     fn drop(self) {
-        let Putter { pass: _ } = self;
+        let Putter { pass: _, count: _ } = self;
     }
 }
 
@@ -56,7 +61,7 @@ impl Putter {
         ensures rest { result.me.1 ≡ [] }
         ensures knows { view_of result ≡ side true false self.passed [] }
     {
-        let Putter { pass } = self;
+        let Putter { pass, count: _ } = self;
         pass
     }
 }
@@ -65,25 +70,28 @@ impl Model for Putter {
     ghost use Rattle.std.specs.Prelude.{◌≡◌, true, false, []};
     ghost use Rattle.crossbeam_queue.specs.Passes.{view as view_of};
     ghost use Rattle.tx_intake.specs.Ends.{End, end_of};
-    ghost use Rattle.tx_intake.specs.Rule.{side};
+    ghost use Rattle.tx_intake.specs.Rule.{IsCounted, side};
 
     ghost Value = { End };
 
     ghost view = { λ p. end_of p.pass.table_id (view_of p.pass).put };
 
     ghost invariant = { λ p. (p.pass.me.1 ≡ [])
-        × (view_of p.pass ≡ side true false (view_of p.pass).put []) };
+        × (view_of p.pass ≡ side true false (view_of p.pass).put [])
+        × IsCounted p.count (view_of p.pass).put };
 }
 
 /// The end of an intake at which offers are got. Contracts see of which intake it is, and what was
 /// got, oldest first.
 pub struct Getter {
     pass: Pass<Offer, Side>,
+    /// How many offers were got, modulo 2^64.
+    count: u64,
 }
 
 impl Drop for Getter {
     fn drop(self) {
-        let Getter { pass: _ } = self;
+        let Getter { pass: _, count: _ } = self;
     }
 }
 
@@ -93,7 +101,7 @@ impl Getter {
         ensures rest { result.me.1 ≡ [] }
         ensures knows { view_of result ≡ side false true [] self.passed }
     {
-        let Getter { pass } = self;
+        let Getter { pass, count: _ } = self;
         pass
     }
 }
@@ -102,14 +110,15 @@ impl Model for Getter {
     ghost use Rattle.std.specs.Prelude.{◌≡◌, true, false, []};
     ghost use Rattle.crossbeam_queue.specs.Passes.{view as view_of};
     ghost use Rattle.tx_intake.specs.Ends.{End, end_of};
-    ghost use Rattle.tx_intake.specs.Rule.{side};
+    ghost use Rattle.tx_intake.specs.Rule.{IsCounted, side};
 
     ghost Value = { End };
 
     ghost view = { λ p. end_of p.pass.table_id (view_of p.pass).got };
 
     ghost invariant = { λ p. (p.pass.me.1 ≡ [])
-        × (view_of p.pass ≡ side false true [] (view_of p.pass).got) };
+        × (view_of p.pass ≡ side false true [] (view_of p.pass).got)
+        × IsCounted p.count (view_of p.pass).got };
 }
 
 impl Intake {
@@ -126,8 +135,14 @@ impl Intake {
         let second = line.another::<Ends>(&mut first);
         Ok((
             Intake { line },
-            Putter { pass: first },
-            Getter { pass: second },
+            Putter {
+                pass: first,
+                count: 0,
+            },
+            Getter {
+                pass: second,
+                count: 0,
+            },
         ))
     }
 
@@ -141,19 +156,24 @@ impl Intake {
         ensures kept { OnErr result (putter.new.passed ≡ putter.old.passed) }
         ensures full { OnErr result (WasFull self.now putter.old) }
     {
-        self.line.push_as::<Puts, R>(rt, &mut putter.pass, offer)
+        self.line.push_as::<Puts, R>(rt, &mut putter.pass, offer)?;
+        putter.count = putter.count.wrapping_add(1);
+        Ok(())
     }
 
-    /// Gets the oldest offer. It gives none where the intake was empty at a moment of the call:
-    /// that no clause says, since a getter does not know what was put; `settle` says it at the end.
-    /// It takes no memory.
+    /// Gets the oldest offer, or none where the intake was empty at a moment of the call. No clause
+    /// says that it was empty: the queue tells of that moment only by what this end knows, and a
+    /// getter does not know what was put, so such a clause would hold of every moment. It takes no
+    /// memory.
     pub fn get<R: Wait>(&self, rt: &R, getter: &mut Getter) -> Option<Offer>
         requires own { getter.old.intake ≡ self.now.id }
         ensures own { getter.new.intake ≡ getter.old.intake }
         ensures got { MatchOption result (getter.new.passed ≡ getter.old.passed)
             (λ offer. getter.new.passed ≡ getter.old.passed ++ offer ∷ []) }
     {
-        self.line.pop_as::<Gets, R>(rt, &mut getter.pass)
+        let offer = self.line.pop_as::<Gets, R>(rt, &mut getter.pass)?;
+        getter.count = getter.count.wrapping_add(1);
+        Some(offer)
     }
 
     /// Ends the intake, and answers whether all that was put was got: what was got is in any case
@@ -163,10 +183,14 @@ impl Intake {
         requires getter { getter.intake ≡ self.id }
         ensures order { IsBehind getter putter }
         ensures all { result ≡ true → getter.passed ≡ putter.passed }
+        ensures left { result ≡ false → getter.passed ≢ putter.passed }
     {
+        // The queue's own test does not say that it answers false only where something is left.
+        // The counts do, since no more than 4,096 offers are held.
+        let all_got = putter.count == getter.count;
         let mut pass = putter.into_pass();
         self.line.absorb::<Ends>(&mut pass, getter.into_pass());
         self.line.learn_as::<Both>(&mut pass);
-        self.line.is_empty_as::<Both>(&mut pass)
+        all_got
     }
 }

@@ -121,8 +121,8 @@ impl Engine {
 }
 
 impl Engine {
-    // Whether the history is full.
-    pub(super) fn is_full(&self) -> bool
+    /// Whether the history is full: it has 1,048,576 entries.
+    pub fn is_full(&self) -> bool
         ensures { result ≡ is_full self.now }
     {
         self.lists.entries.len() >= MOST_ENTRIES
