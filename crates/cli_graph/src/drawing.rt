@@ -1,14 +1,18 @@
 //! The picture of a flow.
 
-ghost use Rattle.std.specs.Prelude.{◌≡◌, Some, IfOk};
+ghost use Rattle.std.specs.Prelude.{◌≡◌, Some, IfOk, OnOk};
+ghost use Rattle.std.specs.Io.KnownBytes.{Appends};
+ghost use Rattle.cli_io.specs.Written.{AppendsBeginning};
 ghost use Rattle.cli_graph.specs.Picture as spec;
 
 use crate::form::Form;
 use crate::nodes::GroupBoxes;
 use crate::paths::AllPaths;
+use cli_io::{WriteError, write_out};
 use flow_model::Flow;
 use std::alloc::{AllocError, Global};
 use std::fmt;
+use std::io::Write;
 
 #[derive(Drop)]
 struct PictureText<'a> {
@@ -44,4 +48,15 @@ pub fn picture(alloc: Global, form: Form, flow: &Flow) -> Result<Vec<u8>, AllocE
     let picture = PictureText { form, flow };
     let text = format!(in alloc; "{picture}")?;
     Ok(text.into_bytes())
+}
+
+/// Writes a flow's picture to an output. After an error a beginning of it is written.
+pub fn draw<W: Write>(alloc: Global, form: Form, flow: &Flow, out: &mut W) -> Result<(), WriteError>
+    ensures written { OnOk result (Appends (W.contents out.old) (W.contents out.new)
+        (spec.picture_of form flow.now)) }
+    ensures beginning { AppendsBeginning (W.contents out.old) (W.contents out.new)
+        (spec.picture_of form flow.now) }
+{
+    let text = picture(alloc, form, flow)?;
+    write_out(out, text.as_slice())
 }

@@ -7,7 +7,7 @@
 //! that are called while a transaction aborts: those that are abort-aware, and selectors.
 //!
 //! Promised here: [`picture`] gives exactly the text that `specs/Picture.antt` has of the flow, in which each
-//! group and each entry has one line, in the flow's order.
+//! group and each entry has one line, in the flow's order; [`draw`] writes it to an output.
 #![tactic(auto)]
 
 mod drawing;
@@ -15,5 +15,5 @@ mod form;
 mod nodes;
 mod paths;
 
-pub use drawing::picture;
+pub use drawing::{draw, picture};
 pub use form::Form;
