@@ -13,7 +13,7 @@ import os
 import re
 
 from harness import crates_map, prose
-from harness.case import Case, difference
+from harness.case import Case, Exactly, difference
 
 NAMED = re.compile(r"`([A-Za-z0-9_.-]+)`:$")
 
@@ -85,6 +85,14 @@ def cases_of_page(name, text, examples):
             files[named[1]] = "".join(f"{line}\n" for line in block).encode()
 
 
+def picture_case(name, text, examples):
+    """The picture of the switch's flow on a page has to be the one that the program prints."""
+    shown = re.search(r"```mermaid\n(.*?)```", text, re.DOTALL)
+    case = Case(f"{name}: its picture of examples/switch.toml", "cardswitch graph --flow switch.toml", files=dict(examples))
+    case.stdout = Exactly(shown[1].encode() if shown else b"(no picture)")
+    return case
+
+
 def judged(name, fault):
     """A case that fails where there is a fault."""
     return Case(name, "true", fault=fault or None)
@@ -103,4 +111,6 @@ def cases_of(top):
         name = os.path.relpath(path, top)
         yield judged(f"{name}: no sentence is too long", "\n".join(prose.too_long(text)))
         yield from cases_of_page(name, text, examples)
+        if name == "docs/SWITCH.md":
+            yield picture_case(name, text, examples)
     yield judged("docs/ARCHITECTURE.md: its crates are those of crates.txt", crates_map.wrong(top))

@@ -2,7 +2,7 @@
 
 from harness import inputs
 from harness.case import Begins, Case, Exactly
-from model import flows, journal, messages, requests, script, texts
+from model import flows, journal, messages, pictures, requests, script, texts
 from model.flows import Entry, Flow, Group, Kind
 from model.law import unlawful
 from model.stops import Runs
@@ -341,6 +341,26 @@ def spoilt_images(random, is_every):
                 yield listed(f"spoilt/list: {title}: byte {size} as {byte}", changed)
 
 
+# Pictures
+
+
+def graph_case(random, name):
+    """The picture of a flow file, which is refused as `asm` refuses it."""
+    return pictured(name, flow_file(random, any_flow(random)), random.random() < 0.5)
+
+
+def pictured(name, text, is_dot):
+    case = Case(name, f"cardswitch graph --flow flow.toml{' --dot' * is_dot}", files={"flow.toml": text})
+    case.remake, case.parts = lambda other: pictured(name, other, is_dot), text.splitlines(keepends=True)
+    try:
+        made = flows.read_flow(text)
+        case.stdout = Exactly(pictures.text(pictures.dot(made) if is_dot else pictures.mermaid(made)))
+        case.stderr = Exactly(b"")
+    except flows.Fault as fault:
+        refuse(case, f"cardswitch: flow.toml: {texts.told(fault)}")
+    return case
+
+
 # Scripts
 
 
@@ -626,7 +646,7 @@ def cases(random, count, is_every=False):
     yield from spoilt_images(random, is_every)
     yield requests.fields_case(random, "fields/run: each field of a request missing, and spoilt")
     kinds = [("step", step_case)] * 4 + [("whole", whole_case)] * 4
-    kinds += [("asm", asm_case)] * 2 + [("list", list_case)] * 2 + [("decode", decode_case)]
+    kinds += [("asm", asm_case)] * 2 + [("list", list_case)] * 2 + [("decode", decode_case), ("graph", graph_case)]
     kinds += [("run", requests.run_case)] * 2
     for number in range(count // 200):
         yield stopped_case(random, f"random/stops {number}")
