@@ -3,8 +3,8 @@
 
     tests/signals.py [--program PATH]
 
-A run answers some requests over a pipe, and then gets SIGTERM, SIGINT or SIGPIPE, or its output is closed before the next request. It
-has to end at once: by that signal, or with status 1 where its output is closed. The journal that it leaves has to recover, as after a
+A run answers some requests over a pipe, and then gets SIGTERM or SIGINT, or its output is closed before the next request. It has to
+end at once: by that signal, or with status 1 where its output is closed (SIGPIPE is ignored, so that the failed write is told). The journal that it leaves has to recover, as after a
 kill (kills.py): no answered transaction is unfinished, and what is recovered is what the plain model makes of the rows. A run
 whose standard error is closed has to answer all and end with status 0, also with --trace. Each with threads and without.
 """
@@ -25,7 +25,7 @@ from model import messages  # noqa: E402
 
 # How many requests are answered before the end, and how many seconds the end may take.
 EARLY, SECONDS = 5, 5
-WAYS = {"SIGTERM": signal.SIGTERM, "SIGINT": signal.SIGINT, "SIGPIPE": signal.SIGPIPE, "closed output": None}
+WAYS = {"SIGTERM": signal.SIGTERM, "SIGINT": signal.SIGINT, "closed output": None}
 
 
 def answered_by(process, count):
@@ -69,7 +69,6 @@ def stop_faults(program, room, words, name, sent):
     came, status, fault = stopped([program, "run", "--flow", kills.FLOW, "--journal", path, *words], made, sent)
     if fault:
         yield fault
-    # (a signal that the program ignores leaves it waiting for its input)
     wanted = (1,) if sent is None else (-sent,)
     if status not in wanted:
         yield f"status {status}, wanted {wanted[0]}"
