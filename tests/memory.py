@@ -128,6 +128,9 @@ def faults_of(shim, program, command, given, chosen):
     if whole.status != 0:
         yield 0, f"undisturbed it ends with {whole.status}: {whole.stderr.decode()}"
         return
+    if whole.calls == 0:
+        yield 0, "no request is counted"
+        return
     for at in shims.spread(chosen, whole.calls, whole.calls if given.all else given.count // 11):
         for goes_on in False, True:
             command.fresh()
