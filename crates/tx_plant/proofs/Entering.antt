@@ -1,9 +1,8 @@
 -- The record of a call that was made elsewhere.
 -- for: enter::enter_seated, enter::enter, running::Running::enter
-use Rattle.std.proofs.Common.{◌≡◌, ℕ, ◌<◌, Bool, true, false, Result, IfOk, OnErr, List, [], ◌∷◌, length, get_or, slice_set, Option, Some, None, Ok, Err, refl, sym, ap, subst, ◌∙◌, inl, inr}
+use Rattle.std.proofs.Common.{◌≡◌, ℕ, ◌<◌, Bool, true, false, Result, IfOk, OnErr, List, [], ◌∷◌, length, get_or, slice_set, Option, Some, None, Ok, Err, refl, sym, ap, subst, ◌∙◌, inr}
 use Rattle.std.specs.Prelude.{is_none, is_some, not}
 use Rattle.sw_context.specs.Pairs.{Pairs}
-use Rattle.sw_base.specs.Refusals.{Accepts}
 use Rattle.sw_participant.specs.declared.call.Call.{Call}
 use Rattle.sw_participant.specs.declared.call.Reply.{Reply}
 use Rattle.sw_participant.specs.Chains.{Called, place_of}

@@ -1,16 +1,19 @@
 //! The record of a call that was made elsewhere.
 
-ghost use Rattle.std.specs.Prelude.{◌≡◌, ◌<◌, ℕ, List, length, get_or, slice_set, IfOk, OnErr, OnOk, None, Some, true};
+ghost use Rattle.std.specs.Prelude.{◌≡◌, ◌<◌, ℕ, List, length, get_or, slice_set, IfErr, IfOk, OnErr, OnOk};
+ghost use Rattle.std.specs.Prelude.{None, Some, true};
 ghost use Rattle.sw_context.specs.Pairs.{Pairs};
-ghost use Rattle.sw_base.specs.Refusals.{Accepts};
+ghost use Rattle.sw_base.specs.Refusals.{Accepts, or_else};
 ghost use Rattle.tx_slots.specs.DueCalls.{asks_for};
 ghost use Rattle.tx_slots.specs.declared.next.Next.TheVariants.{Due};
 ghost use Rattle.tx_engine.specs.World.{Recorded};
-ghost use Rattle.tx_engine.specs.Calls.{next_of};
+ghost use Rattle.tx_engine.specs.Calls.{answers, next_of, next_refusal, reply_refusal};
+ghost use Rattle.tx_engine.specs.declared.error.EngineError.TheVariants.{OutOfMemory};
 ghost use Rattle.tx_engine.specs.Replies.{kind_of};
 ghost use Rattle.tx_plant.specs.Steps.{event_of};
 ghost use Rattle.tx_plant.specs.Core.{core, ended_by, left_by, newest_fate};
-ghost use Rattle.tx_plant.specs.Entered.{Entered, seat_with};
+ghost use Rattle.tx_plant.specs.Entered.{Entered, enter_refusal, is_due as is_due_of, is_free_for};
+ghost use Rattle.tx_plant.specs.Entered.{same_call, seat_with};
 
 use crate::seat::{Seat, Seats, newest_fate};
 use crate::serve::record;
@@ -34,18 +37,28 @@ fn suits(reply: &Reply, act: Act) -> bool
     }
 }
 
+fn is_same(one: Call, other: Call) -> bool
+    ensures same { result ≡ same_call one other }
+    ensures equal { result ≡ true → one ≡ other }
+{
+    one == other
+}
+
 // Whether this call is due to the session.
 fn is_due(engine: &Engine, s: usize, call: &Call) -> bool
-    ensures { result ≡ true → next_of engine.now s ≡ Due call.now }
+    ensures due { result
+        ≡ is_due_of (answers (next_refusal engine.now s) (next_of engine.now s)) call.now }
+    ensures call { result ≡ true → next_of engine.now s ≡ Due call.now }
 {
     match engine.next(s) {
-        Ok(Next::Due(due)) => due == *call,
+        Ok(Next::Due(due)) => is_same(due, *call),
         _ => false,
     }
 }
 
 // Whether the session holds this transaction, and keeps no reply.
 fn is_seated(seats: &Seats, s: usize, id: u64) -> bool
+    ensures free { result ≡ is_free_for id (get_or seats.now.by_session.items s None) }
     ensures there { result ≡ true → s < length seats.now.by_session.items }
     ensures seated { result ≡ true
         → (x : Pairs) × (get_or seats.now.by_session.items s None ≡ Some (seat_with id x)) }
@@ -85,6 +98,7 @@ fn enter_seated(
     reply: &Reply,
     after: Context,
 ) -> Result<(usize, Option<Seat>), EngineError>
+    requires { reply_refusal (kind_of reply.now) engine.old s ≡ None }
     ensures recorded { IfOk result (λ r.
         Recorded engine.old (event_of s reply.now after) r.0 engine.new) }
     ensures left { IfOk result (λ r. r.1 ≡ left_by (newest_fate engine.new) (seat_with id after)) }
@@ -92,6 +106,7 @@ fn enter_seated(
         ≡ ended_by (newest_fate engine.new) (seat_with id after) ended.old.entries) }
     ensures engine { OnErr result (engine.new ≡ engine.old) }
     ensures ended { OnErr result (ended.new.entries ≡ ended.old.entries) }
+    ensures memory { IfErr result (λ e. e ≡ OutOfMemory) }
 {
     let Ok(put) = reserve(alloc, ended, id) else {
         return Err(EngineError::OutOfMemory);
@@ -113,7 +128,7 @@ fn enter_seated(
 }
 
 /// Records the reply of a call that was due to the session and was made, with the context that it
-/// left, and hands back the context before it. `NotDue` where that call is not due.
+/// left, and hands back the context before it.
 pub(crate) fn enter(
     alloc: Global,
     engine: &mut Engine,
@@ -127,6 +142,11 @@ pub(crate) fn enter(
     ensures entered { IfOk result (λ r. Entered (core engine.old seats.old) s call.now reply.now r.1
         after r.0 (core engine.new seats.new)) }
     ensures kept { OnErr result (core engine.new seats.new ≡ core engine.old seats.old) }
+    ensures allowed { OnOk result
+        (enter_refusal (core engine.old seats.old) s call.now reply.now ≡ None) }
+    ensures refused { IfErr result (λ e. Some e
+        ≡ or_else (enter_refusal (core engine.old seats.old) s call.now reply.now)
+        (Some OutOfMemory)) }
     ensures next { seats.new.next_id ≡ seats.old.next_id }
 {
     if !suits(reply, call.act) {
@@ -137,6 +157,9 @@ pub(crate) fn enter(
     }
     if !is_seated(seats, s, call.id) {
         return Err(EngineError::NotDue);
+    }
+    if engine.is_full() {
+        return Err(EngineError::HistoryFull);
     }
     let (number, left) = enter_seated(alloc, engine, &mut seats.ended, call.id, s, reply, after)?;
     let gone = left.is_none();
