@@ -8,8 +8,9 @@ use Rattle.cli_decode.specs.Decoded.{IsDecodedStream}
 use Rattle.cli_flows.specs.Errors.{IsUnwritten, RefusesFile, RefusesImage}
 use Rattle.cli_flows.specs.Subcommands.{IsAssembled, IsListed}
 use Rattle.cli_options.specs.declared.choice.Options.{Options}
-use Rattle.cli_options.specs.declared.choice.Options.TheVariants.{Asm, Decode, List as ListImage, Recover, Run, Step}
+use Rattle.cli_options.specs.declared.choice.Options.TheVariants.{Asm, Decode, Graph, List as ListImage, Recover, Run, Step}
 use Rattle.cardswitch.specs.Errors.{error_of_write, run_status}
+use Rattle.cardswitch.specs.Drawings.{IsDrawFault, IsDrawn}
 use Rattle.cardswitch.specs.Runs.{Answered, IsRecoverFault, IsRunFault, Recovered}
 use Rattle.cardswitch.specs.declared.error.RunError.{RunError}
 use Rattle.cardswitch.specs.declared.error.RunError.TheVariants as error
@@ -22,6 +23,7 @@ IsDone files (Recover flow journal) unread written written_now = (f : Flow) × I
 IsDone files (Run o) unread written written_now = (f : Flow) × IsChecked f × Answered files f o unread written written_now
 IsDone files Asm unread written written_now = IsAssembled unread written written_now
 IsDone files ListImage unread written written_now = IsListed unread written written_now
+IsDone files (Graph flow dot) unread written written_now = IsDrawn dot written written_now
 IsDone files Decode unread written written_now = IsDecodedStream unread written written_now false
 
 -- why a flow file from standard input is refused: it has the fault that is told, and nothing is written
@@ -55,6 +57,7 @@ IsErrorOf (Recover flow journal) unread written written_now e = IsRecoverFault f
 IsErrorOf (Run o) unread written written_now e = IsRunFault o written written_now e
 IsErrorOf Asm unread written written_now e = IsAsmError unread written written_now e
 IsErrorOf ListImage unread written written_now e = IsListError unread written written_now e
+IsErrorOf (Graph flow dot) unread written written_now e = IsDrawFault flow.now e
 IsErrorOf Decode unread written written_now e = IsDecodeError unread written written_now e
 
 -- a run tells messages that it passes over, and its trace, and is done all the same

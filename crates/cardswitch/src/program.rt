@@ -4,6 +4,7 @@ ghost use Rattle.std.specs.Io.KnownBytes.{Keeps};
 ghost use Rattle.std.specs.IoError.{error_kind};
 ghost use Rattle.cardswitch.specs.Done.{IsAsmError, IsDecodeError, IsDone, IsErrorOf, IsFailed};
 ghost use Rattle.cardswitch.specs.Done.{IsListError, IsQuiet, IsShown};
+ghost use Rattle.cardswitch.specs.Drawings.{IsDrawFault, IsDrawn, form_of};
 ghost use Rattle.cardswitch.specs.Errors.{run_status};
 ghost use Rattle.cli_decode.specs.Decoded.{IsDecodedStream};
 ghost use Rattle.cli_flows.specs.Subcommands.{IsAssembled, IsListed};
@@ -13,6 +14,7 @@ use crate::error::RunError;
 use crate::flow_file::flow_at;
 use crate::requests::{answer_requests, recover};
 use cli_decode::decode_stream;
+use cli_graph::{Form, draw};
 use cli_io::{Input, WriteError, read_input};
 use cli_options::OptionsError;
 use cli_options::choice::Options;
@@ -95,6 +97,27 @@ fn list<R: Read + Drop, O: Write>(alloc: Global, input: R, out: &mut O) -> Resul
     Ok(cli_flows::list(alloc, input, out)?)
 }
 
+fn form_of(dot: bool) -> Form
+    ensures { result ≡ form_of dot }
+{
+    if dot { Form::Dot } else { Form::Mermaid }
+}
+
+// Writes the picture of the flow in the flow file at a path.
+fn graph<O: Write>(
+    alloc: Global,
+    rt: &HostRuntime,
+    path: &str,
+    dot: bool,
+    out: &mut O,
+) -> Result<(), RunError>
+    ensures drawn { OnOk result (IsDrawn dot (O.contents out.old) (O.contents out.new)) }
+    ensures failed { IfErr result (IsDrawFault path.now) }
+{
+    let flow = flow_at(alloc, rt, path)?;
+    Ok(draw(alloc, form_of(dot), &flow, out)?)
+}
+
 fn decode<R: Read + Drop, O: Write>(alloc: Global, input: R, out: &mut O) -> Result<(), RunError>
     ensures done { OnOk result (IsDecodedStream
         (R.remaining input) (O.contents out.old) (O.contents out.new) false) }
@@ -126,6 +149,7 @@ fn run_subcommand<T: Threads + Wait + Sync, R: Read + Drop, O: Write, E: Write>(
         Options::Step { flow } => step(alloc, rt, *flow, input, out),
         Options::Asm => asm(alloc, input, out),
         Options::List => list(alloc, input, out),
+        Options::Graph { flow, dot } => graph(alloc, rt, flow, *dot, out),
         Options::Decode => decode(alloc, input, out),
         Options::Recover { flow, journal } => recover(threads, alloc, rt, flow, journal, out),
         Options::Run(options) => { answer_requests(threads, alloc, rt, options, input, out, err) }
