@@ -1,7 +1,7 @@
 #!/usr/bin/env python3
 """Runs the built program on the cases of this folder, on the examples of docs/, and on random cases.
 
-    tests/run.py [WORD] [--seed N] [--count N] [--program PATH] [--show]
+    tests/run.py [WORD] [--seed N] [--count N] [--many] [--program PATH] [--show]
 
 README.md beside this file says how a case is written.
 """
@@ -32,10 +32,13 @@ def arguments():
     parser.add_argument("word", nargs="?", default="", help="only cases whose name has this word")
     parser.add_argument("--seed", type=int, help="the seed of the random cases; else a new one")
     parser.add_argument("--count", type=int, default=4000, help="how many random cases; default 4000")
+    parser.add_argument("--many", action="store_true", help="a hundred times as many random cases, for a night")
     parser.add_argument("--every", action="store_true", help="each byte of the spoilt images by every other")
     parser.add_argument("--program", default=BUILT, help="the program; default the one that rt ci built")
     parser.add_argument("--show", action="store_true", help="print what came of each case, judge nothing")
-    return parser.parse_args()
+    given = parser.parse_args()
+    given.count *= 100 if given.many else 1
+    return given
 
 
 def all_cases(seed, given):

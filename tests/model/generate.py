@@ -476,7 +476,9 @@ def event(random, names, sessions):
 
 
 def whole_case(random, name):
-    case = stepped(name, whole_script(random), None)
+    """A script of all lines, now and then a long one."""
+    sizes = (1000,) if random.random() < 0.02 else (5, 20, 60, 200)
+    case = stepped(name, whole_script(random, sizes), None)
     case.stdout = Lawful(case.stdout.text)
     return case
 
@@ -488,8 +490,8 @@ class Lawful(Exactly):
         return super().wrong(name, came) or unlawful(came.decode().splitlines())
 
 
-def whole_script(random, sizes=(5, 20, 60, 200)):
-    """A script of all lines over a checked flow, of so many lines behind the settings."""
+def whole_script(random, sizes):
+    """A script of all lines over a checked flow, of so many lines after the settings."""
     made, sessions = flow(random), random.choice([1, 2, 2, 3, 16])
     names = [entry.participant for entry in made.participants()] or ["nobody"]
     lines = [f"retries {made.retries}", f"sessions {sessions}", *map(group_line, made.groups)]
