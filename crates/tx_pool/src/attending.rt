@@ -11,7 +11,8 @@ use std::thread::{self, Threads};
 use sw_context::Context;
 use sw_participant::{Call, Caller, NoMemory};
 
-/// Runs one session until it leaves.
+/// Runs one session until it leaves. Each time that it takes the engine's lock, or is woken with it, it
+/// does one event at most.
 fn attend<K: Run, C: Caller, G: Gate, R: Wait>(
     rt: &R,
     alloc: Global,
@@ -20,34 +21,47 @@ fn attend<K: Run, C: Caller, G: Gate, R: Wait>(
     session: Session<K>,
 ) -> Session<K> {
     let mut session = session;
+    let mut locked = shared.locked.lock(rt);
     for _ in rt.forever() {
-        let mut locked = shared.locked.lock(rt);
         match locked.plan(rt, alloc, &shared.intake, &mut session) {
             Plan::Again => {
                 drop(locked);
-                shared.changed.notify_all();
+                locked = shared.locked.lock(rt);
             }
-            Plan::Rest => {
-                let locked = shared.changed.wait(rt, locked);
+            Plan::Admitted => {
                 drop(locked);
+                shared.room.notify_one();
+                locked = shared.locked.lock(rt);
+            }
+            Plan::AwaitWrite => {
+                shared.tell_keeper(&mut locked);
+                locked = shared.written.wait(rt, locked);
+            }
+            Plan::AwaitOffer => {
+                shared.tell_keeper(&mut locked);
+                locked = shared.offers.wait(rt, locked);
             }
             Plan::Leave => {
+                shared.tell_keeper(&mut locked);
+                let is_stopped = locked.is_stopped();
                 drop(locked);
-                shared.changed.notify_all();
-                break;
+                if is_stopped {
+                    shared.tell_all();
+                }
+                return session;
             }
             Plan::Make(call, context) => {
                 drop(locked);
                 make(rt, alloc, shared, gate, &mut session, &call, context);
-                shared.changed.notify_all();
+                locked = shared.locked.lock(rt);
             }
         }
     }
     session
 }
 
-// Makes one call. The station's lock is held until the reply is recorded, and the engine's is not
-// held while the participant is called.
+// Makes one call, and waits until its entry is written. The station's lock is held until the reply is
+// recorded, and the engine's is not held while the participant is called.
 fn make<K: Run, C: Caller, G: Gate, R: Wait>(
     rt: &R,
     alloc: Global,
@@ -72,6 +86,11 @@ fn make<K: Run, C: Caller, G: Gate, R: Wait>(
         Ok((reply, after)) => locked.record(alloc, session, call, reply, after),
         Err(NoMemory) => locked.stop(Fault::OutOfMemory),
     };
+    drop(station);
+    if locked.awaits_write(session) {
+        shared.tell_keeper(&mut locked);
+        drop(shared.written.wait(rt, locked));
+    }
 }
 
 /// Runs all sessions, each in a thread. None where memory was refused.

@@ -99,12 +99,12 @@ fn put<K: Run, C: Caller, R: Wait>(
         match shared.intake.intake.put(rt, putter, offer) {
             Ok(()) => {
                 drop(locked);
-                shared.changed.notify_all();
+                shared.offers.notify_one();
                 return true;
             }
             Err(back) => {
                 offer = back;
-                let locked = shared.changed.wait(rt, locked);
+                let locked = shared.room.wait(rt, locked);
                 drop(locked);
             }
         }
@@ -135,7 +135,7 @@ pub(crate) fn feed<K: Run, C: Caller, O: Source, R: Wait>(
             }
             Ok(None) => {
                 shared.locked.lock(rt).end();
-                shared.changed.notify_all();
+                shared.offers.notify_all();
                 return Fed::new(source, putter, true);
             }
             Err(NoMemory) => {

@@ -33,8 +33,11 @@ fn next_batch<K: Run, C: Caller, R: Wait>(
 {
     let locked = shared.locked.lock(rt);
     let mut locked = shared
-        .changed
+        .work
         .wait_while(rt, locked, |locked| locked.is_quiet());
+    if locked.gather() {
+        locked = shared.gather(rt, locked);
+    }
     if locked.is_stopped() || locked.is_over() {
         return None;
     }
@@ -78,6 +81,7 @@ pub(crate) fn keep<S: Alter + Drop, K: Run, C: Caller, R: Wait>(
     let mut written = Vec::new(alloc);
     for _ in rt.forever() {
         let Some(late) = next_batch(rt, alloc, shared) else {
+            shared.tell_all();
             return Kept {
                 journal,
                 written,
@@ -95,7 +99,7 @@ pub(crate) fn keep<S: Alter + Drop, K: Run, C: Caller, R: Wait>(
             break;
         }
         shared.locked.lock(rt).wrote(count);
-        shared.changed.notify_all();
+        shared.written.notify_all();
     }
     Kept {
         journal,

@@ -21,7 +21,7 @@ use std::sync::ledger::Book;
 use sw_context::Context;
 use sw_participant::{Call, Reply};
 use tx_engine::Next;
-use tx_history::Entry;
+use tx_history::{Entry, Event};
 use tx_intake::{Getter, Intake};
 use tx_plant::{Outcome, Running};
 
@@ -47,6 +47,10 @@ pub(crate) struct Locked<K: Run> {
     left: usize,
     // Whether the source has ended, and all that it gave is in the intake.
     fed: bool,
+    // Whether no call was due when the last write ended: calls take less time than a write.
+    is_quick: bool,
+    // Whether the keeper waits until no call is due.
+    gathers: bool,
     fault: Option<Fault>,
 }
 
@@ -104,6 +108,8 @@ impl<K: Run> Locked<K> {
             numbers: Vec::new(alloc),
             left: 0,
             fed: false,
+            is_quick: false,
+            gathers: false,
             fault: None,
         }
     }
@@ -122,6 +128,8 @@ impl<K: Run> Locked<K> {
             numbers,
             left: _,
             fed: _,
+            is_quick: _,
+            gathers: _,
             fault,
         } = self;
         Left {
@@ -147,7 +155,7 @@ impl<K: Run> Locked<K> {
         }
         match self.running.engine().next(session.index) {
             Ok(Next::Due(call)) => self.lend(session, call),
-            Ok(Next::Unwritten) => Plan::Rest,
+            Ok(Next::Unwritten) => Plan::AwaitWrite,
             Ok(Next::Held(_)) => self.contradict(),
             Err(error) => self.stop(Fault::of_engine(error)),
             Ok(Next::Idle) => {
@@ -203,11 +211,11 @@ impl<K: Run> Locked<K> {
             Some(offer) => {
                 let _ = self.running.offer_reserved(offer);
                 self.running.is_engine();
-                Plan::Again
+                Plan::Admitted
             }
             None => {
                 self.running.unreserve_offer();
-                if fed { self.leave() } else { Plan::Rest }
+                if fed { self.leave() } else { Plan::AwaitOffer }
             }
         }
     }
@@ -254,6 +262,15 @@ impl<K: Run> Locked<K> {
         }
     }
 
+    /// Whether the session waits until its last entry is written.
+    pub(crate) fn awaits_write(&self, session: &Session<K>) -> bool {
+        self.fault.is_none()
+            && matches!(
+                self.running.engine().next(session.index),
+                Ok(Next::Unwritten)
+            )
+    }
+
     // Gives the run up, since it contradicts its history.
     fn contradict(&mut self) -> Plan {
         let fault = mismatch(&self.running);
@@ -278,16 +295,63 @@ impl<K: Run> Locked<K> {
         self.fault.is_some()
     }
 
-    /// Whether all sessions have left, and all is written.
-    pub(crate) fn is_over(&self) -> bool {
-        self.left >= self.running.engine().sessions() && self.running.unwritten().is_empty()
+    // Whether all sessions have left.
+    fn is_left(&self) -> bool {
+        self.left >= self.running.engine().sessions()
     }
 
-    /// Whether there is nothing to write yet, and a session has not left.
+    /// Whether all sessions have left, and all is written.
+    pub(crate) fn is_over(&self) -> bool {
+        self.is_left() && self.running.unwritten().is_empty()
+    }
+
+    /// Whether the keeper has nothing to do: the run was not given up, goes on, and there is nothing
+    /// that it is time to write.
     pub(crate) fn is_quiet(&self) -> bool {
-        self.fault.is_none()
-            && self.left < self.running.engine().sessions()
-            && self.running.unwritten().is_empty()
+        if self.fault.is_some() {
+            return false;
+        }
+        if self.is_left() {
+            return false;
+        }
+        !self.is_ripe()
+    }
+
+    /// Whether there is an entry to write that is no offer's. (Nobody waits for an offer's entry: it is
+    /// written with those that follow.)
+    pub(crate) fn is_ripe(&self) -> bool {
+        for entry in self.running.unwritten() {
+            if !matches!(&entry.event, Event::Offered { .. }) {
+                return true;
+            }
+        }
+        false
+    }
+
+    /// Whether the keeper is to wait for calls: these take less time than a write, and one is due.
+    pub(crate) fn gather(&mut self) -> bool {
+        self.gathers = self.is_quick && self.is_called();
+        self.gathers
+    }
+
+    /// Whether the keeper waited for calls, and no more is due. It waits no longer.
+    pub(crate) fn has_gathered(&mut self) -> bool {
+        if !self.gathers || self.is_called() {
+            return false;
+        }
+        self.gathers = false;
+        true
+    }
+
+    // Whether a call is due to a session: it is made, or will be.
+    fn is_called(&self) -> bool {
+        let engine = self.running.engine();
+        for session in 0..engine.sessions() {
+            if matches!(engine.next(session), Ok(Next::Due(_))) {
+                return true;
+            }
+        }
+        false
     }
 
     /// Copies of the entries above the mark.
@@ -302,6 +366,7 @@ impl<K: Run> Locked<K> {
         if count == 0 {
             return;
         }
+        self.is_quick = !self.is_called();
         if self.running.wrote(count) {
             self.running.is_engine();
         } else {

@@ -25,6 +25,7 @@ use crate::threads::work;
 use sqlite::Alter;
 use std::alloc::{AllocError, Global};
 use std::marker::{Brand, PhantomData};
+use std::sync::atomic::AtomicU64;
 use std::sync::ledger::{Blank, Share};
 use std::sync::{Condvar, Mutex, Wait};
 use std::thread::Threads;
@@ -148,7 +149,11 @@ fn run_in<
     };
     let shared = Shared {
         locked: Mutex::new(Locked::new(alloc, running, getter, book)),
-        changed: Condvar::new(),
+        work: Condvar::new(),
+        written: Condvar::new(),
+        offers: Condvar::new(),
+        room: Condvar::new(),
+        gathered: AtomicU64::new(0),
         stations: lock_stations(alloc, stations, rooms.locks),
         intake: RunIntake {
             intake,
@@ -167,7 +172,11 @@ fn run_in<
     );
     let Shared {
         locked,
-        changed: _,
+        work: _,
+        written: _,
+        offers: _,
+        room: _,
+        gathered: _,
         stations,
         intake,
     } = shared;

@@ -36,8 +36,12 @@ impl<K: Run> Session<K> {
 pub(crate) enum Plan {
     /// It asks again.
     Again,
-    /// It waits until something has changed.
-    Rest,
+    /// It got an offer of the intake, which has room now, and asks again.
+    Admitted,
+    /// It waits until its last entry is written.
+    AwaitWrite,
+    /// It waits until there is an offer, or none will come.
+    AwaitOffer,
     /// It ends.
     Leave,
     /// It makes this call, with this context.

@@ -4,16 +4,54 @@ use crate::fault::Fault;
 use crate::locked::{Locked, RunIntake};
 use crate::run::Run;
 use crate::station::StationLog;
-use std::sync::{Condvar, Mutex, Wait};
+use std::sync::atomic::{AtomicU64, Ordering};
+use std::sync::{Condvar, Mutex, MutexGuard, Wait};
+use std::time::Duration;
 use sw_participant::Caller;
 
-/// The engine under its lock, with word that something changed under it; each station under its
-/// own, the last one first; and the intake. Who holds a station's lock may take the engine's, and
-/// nobody does it the other way round.
+/// How long the keeper waits for calls at most, in milliseconds.
+const GATHERING: u64 = 1;
+
+/// What the threads of a run share: the engine under its lock, each station under its own, the
+/// last one first, the intake, and the condition variables of the engine's lock, one for each
+/// kind of waiting. A thread that has a station's lock may take the engine's, never the other way
+/// round.
+///
+/// No wake-up is lost. A thread waits only after it found, under the engine's lock, that it has
+/// nothing to do, and `wait` gives the lock up in one step with falling asleep. What it waits for
+/// changes under the same lock, and whoever changes it notifies afterwards:
+///
+/// - `work`: the keeper waits while `is_quiet`. A session ends this by an entry that is not an
+///   offer's, or by leaving. After such an entry the session makes no call before it waits or
+///   leaves, and at each wait and when it leaves it calls `tell_keeper`. An entry that comes
+///   while the keeper writes is found by the keeper itself: it tests again before it waits.
+/// - `written`: a session waits for the mark to pass its last entry. Only the keeper moves the
+///   mark, and it notifies all after that. It will, since the session's entry keeps `is_quiet`
+///   false.
+/// - `offers`: a session waits where queue and intake are empty and the source goes on. The
+///   feeder notifies one session after each put, and all at the source's end. Whichever session
+///   comes first takes the offer. The one that is woken looks before it waits again, and so does
+///   each that was awake: no offer is left while all sessions sleep. What a session admits it
+///   takes itself, or another one does.
+/// - `room`: the feeder waits where the intake is full. A session that got an offer notifies it.
+/// - A fault ends each of these waits. A session or the keeper that finds one leaves, and wakes
+///   all others by `tell_all` when it does; so does `stop`.
+///
+/// `gathered` is no condition variable: the keeper sleeps on it for a millisecond at most, so a
+/// word that comes too early costs only that.
 #[derive(Drop)]
 pub(crate) struct Shared<K: Run, C: Caller> {
     pub(crate) locked: Mutex<Locked<K>>,
-    pub(crate) changed: Condvar,
+    /// For the keeper: there is something to write, or the run is over.
+    pub(crate) work: Condvar,
+    /// For sessions: entries were written.
+    pub(crate) written: Condvar,
+    /// For sessions: an offer was put, or the source has ended.
+    pub(crate) offers: Condvar,
+    /// For the feeder: the intake has room.
+    pub(crate) room: Condvar,
+    /// How often the keeper's wait for calls was ended by a session.
+    pub(crate) gathered: AtomicU64,
     pub(crate) stations: Vec<Mutex<StationLog<K, C>>>,
     pub(crate) intake: RunIntake<K>,
 }
@@ -22,6 +60,39 @@ impl<K: Run, C: Caller> Shared<K, C> {
     /// Gives the run up.
     pub(crate) fn stop<R: Wait>(&self, rt: &R, fault: Fault) {
         let _ = self.locked.lock(rt).stop(fault);
-        self.changed.notify_all();
+        self.tell_all();
+    }
+
+    /// Wakes the keeper, if there is something for it to do now that a session rests or has left.
+    pub(crate) fn tell_keeper(&self, locked: &mut Locked<K>) {
+        if locked.has_gathered() {
+            self.gathered.fetch_add(1, Ordering::SeqCst);
+            self.gathered.wake_one();
+        }
+        if !locked.is_quiet() {
+            self.work.notify_one();
+        }
+    }
+
+    /// Waits until no call is due, but not for long.
+    pub(crate) fn gather<'a, R: Wait>(
+        &'a self,
+        rt: &R,
+        locked: MutexGuard<'a, Locked<K>>,
+    ) -> MutexGuard<'a, Locked<K>> {
+        let seen = self.gathered.load(Ordering::SeqCst);
+        let most = Duration::from_millis(GATHERING);
+        drop(locked);
+        self.gathered
+            .park_timeout(rt, (seen & 0xffff_ffff) as u32, most);
+        self.locked.lock(rt)
+    }
+
+    /// Wakes everybody, since the run is given up.
+    pub(crate) fn tell_all(&self) {
+        self.work.notify_all();
+        self.written.notify_all();
+        self.offers.notify_all();
+        self.room.notify_all();
     }
 }
