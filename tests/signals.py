@@ -45,10 +45,16 @@ def ended(process):
         return process.wait(), f"it had not ended after {SECONDS} seconds"
 
 
+def heed():
+    """Signals end the program, also where this one was started without them, as a job in the background is."""
+    for sent in signal.SIGTERM, signal.SIGINT:
+        signal.signal(sent, signal.SIG_DFL)
+
+
 def stopped(command, made, sent):
     """Runs a command, answers some requests and ends it in this way. The responses, the status, and what is wrong."""
     streams = {"stdin": subprocess.PIPE, "stdout": subprocess.PIPE, "stderr": subprocess.DEVNULL, "bufsize": 0}
-    with subprocess.Popen(command, **streams) as process:
+    with subprocess.Popen(command, preexec_fn=heed, **streams) as process:
         process.stdin.write(b"".join(made[:EARLY]))
         came = answered_by(process, EARLY)
         if sent is None:
