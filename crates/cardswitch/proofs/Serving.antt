@@ -5,7 +5,8 @@ use Rattle.flow_model.specs.declared.flow.Flow.{Flow}
 use Rattle.sw_issuers.specs.Sending.{PlainSender}
 use Rattle.tx_plant.specs.Plant.{Seen}
 use Rattle.cli_run.specs.Errors.{result_of}
-use Rattle.cli_run.specs.Ran.{Ran}
+use Rattle.cli_run.specs.Ran.{Ran, all_lines}
+use Rattle.cli_run.specs.Traces.{Log, Tells, passed_over}
 use Rattle.cli_run.specs.Requests.{ReadTo, requests}
 use Rattle.cli_run.specs.Rounds.{Round, RoundsFor}
 use Rattle.cli_run.specs.declared.stream.StreamEnd.{StreamEnd}
@@ -13,9 +14,11 @@ use Rattle.cli_run.specs.declared.stream.StreamEnd.TheVariants.{Whole, BadLength
 use Rattle.cli_run.specs.declared.error.ServeError.{ServeError}
 use Rattle.cardswitch.specs.Runs.{Served, issuer_step, new_sender}
 
--- what a run has read and done, as `cli_run` has it
-abbrev RanTo : Bool → Flow → ℕ → Seen → PlainSender → Option (List ℕ) → Option (List ℕ) → Option (List ℕ) → StreamEnd → Type 0
-RanTo threads f n j sender unread before after end = (frames : List (List ℕ)) × ReadTo end unread frames × (rounds : List Round) × RoundsFor threads (requests frames) rounds × Ran f n j issuer_step sender rounds before after
+-- what a run has read, done and told, as `cli_run` has it
+abbrev RanTo : Bool → Flow → ℕ → Seen → PlainSender → Option (List ℕ) → Option (List ℕ) → Option (List ℕ) → Log → Log → StreamEnd → Type 0
+RanTo threads f n j sender unread before after k l end =
+    (frames : List (List ℕ)) × ReadTo end unread frames × (rounds : List Round) × RoundsFor threads (requests frames) rounds
+    × (ran : Ran f n j issuer_step sender rounds before after) × Tells (all_lines ran.serves) (passed_over frames) k l
 
 -- an end that is no error is that of a whole input
 whole : (P : StreamEnd → Type 0) (end : StreamEnd) → Ok tt ≡ result_of end → P end → P Whole
@@ -24,16 +27,16 @@ whole P BadLength no_error h = cc
 whole P (Truncated k) no_error h = cc
 whole P (Unread e) no_error h = cc
 
-served_of : (threads : Bool) (f : Flow) (n : ℕ) (j : Seen) (sender : PlainSender) (unread before after : Option (List ℕ))
-    → RanTo threads f n j sender unread before after Whole → Served threads f n j sender unread before after
-served_of threads f n j sender unread before after h = record { frames = h.0; reads = h.1; rounds = h.2; answers = h.3; ran = h.4 }
+served_of : (threads : Bool) (f : Flow) (n : ℕ) (j : Seen) (sender : PlainSender) (unread before after : Option (List ℕ)) (k l : Log)
+    → RanTo threads f n j sender unread before after k l Whole → Served threads f n j sender unread before after
+served_of threads f n j sender unread before after k l h = record { frames = h.0; reads = h.1; rounds = h.2; answers = h.3; ran = h.4 }
 
-pub served : {R : Type 0} (threads : Bool) (f : Flow) (n : ℕ) (j : Seen) (sender : PlainSender) (remaining : R → Option (List ℕ)) (before after : Option (List ℕ)) (end : StreamEnd) (input : Option R)
+pub served : {R : Type 0} (threads : Bool) (f : Flow) (n : ℕ) (j : Seen) (sender : PlainSender) (remaining : R → Option (List ℕ)) (before after : Option (List ℕ)) (k l : Log) (end : StreamEnd) (input : Option R)
     → Ok tt ≡ result_of end → sender ≡ new_sender
-    → IfSome input (λ reader. RanTo threads f n j sender (remaining reader) before after end)
+    → IfSome input (λ reader. RanTo threads f n j sender (remaining reader) before after k l end)
     → IfSome input (λ reader. Served threads f n j new_sender (remaining reader) before after)
-served threads f n j sender remaining before after end None no_error same h = h
-served threads f n j sender remaining before after end (Some reader) no_error same h =
+served threads f n j sender remaining before after k l end None no_error same h = h
+served threads f n j sender remaining before after k l end (Some reader) no_error same h =
     subst (λ (s : PlainSender). Served threads f n j s (remaining reader) before after) same
-    (served_of threads f n j sender (remaining reader) before after
-    (whole (λ (e : StreamEnd). RanTo threads f n j sender (remaining reader) before after e) end no_error h))
+    (served_of threads f n j sender (remaining reader) before after k l
+    (whole (λ (e : StreamEnd). RanTo threads f n j sender (remaining reader) before after k l e) end no_error h))

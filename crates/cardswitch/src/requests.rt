@@ -1,6 +1,6 @@
 //! The subcommands `run` and `recover`: the switch with its own participants, over a journal.
 
-ghost use Rattle.std.specs.Prelude.{◌≡◌, ◌<◌, ◌≤◌, [], IfErr, IfNone, IfOk, IfSome, OnOk};
+ghost use Rattle.std.specs.Prelude.{◌≡◌, ◌<◌, ◌≤◌, [], IfErr, IfNone, IfOk, IfSome, OnOk, false};
 ghost use Rattle.flow_model.specs.Check.{IsChecked};
 ghost use Rattle.flow_model.specs.declared.flow.Flow.{Flow};
 ghost use Rattle.tx_journal.specs.Kept.{kept};
@@ -104,11 +104,13 @@ fn code_at(alloc: Global, rt: &HostRuntime, path: &str) -> Result<Code, RunError
 
 // What a run tells: the trace where the options want it.
 fn told_by<'a, E>(options: &RunOptions<'_>, err: &'a mut E) -> Told<'a, E>
-    ensures { result.trace ≡ options.now.trace }
+    ensures trace { result.trace ≡ options.now.trace }
+    ensures none_lost { result.lost ≡ false }
 {
     Told {
         err,
         trace: options.trace,
+        lost: false,
     }
 }
 
@@ -213,6 +215,7 @@ pub fn recover<T: Threads + Wait + Sync, O: Write>(
     let mut told = Told {
         err: &mut sink,
         trace: false,
+        lost: false,
     };
     let input: Option<Empty> = None;
     serve(threads, alloc, &code, journal, setup, input, out, &mut told)

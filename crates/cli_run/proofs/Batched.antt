@@ -32,15 +32,18 @@ use Rattle.plant_outcome.specs.Seated.{Seated, seat_id}
 use Rattle.plant_outcome.proofs.Cutting.{free_session}
 use Rattle.plant_outcome.proofs.SeatedTurns.{all_seated}
 use Rattle.cli_run.specs.Points.{IsAtRest, IsReady, Point, RestsGiven, above, all_answered, ended_at, last_id, next_at, responses, unanswered, world_at}
-use Rattle.cli_run.specs.Rounds.{Batched, Finishes, Round, RoundsFor, Serves, ServesFor, Together, Trimmed, answering, offered_in}
+use Rattle.cli_run.specs.Rounds.{Batched, Round, RoundsFor, Serves, ServesFor, Together, Trimmed, offered_in}
 use Rattle.cli_run.specs.Requests.{if_read, request_of, requests}
 use Rattle.cli_run.specs.Stopped.{DrainsSome, HaltsToward, IsOfNext, ServesSome, Unfinished}
+use Rattle.cli_run.specs.Traces.{Cuts, DrainsAll, Finishes, Log, Reports, ReportsFor, Tells, passed_over}
 use Rattle.cli_run.proofs.Below.{EndedBelow, driven_below}
 use Rattle.cli_run.proofs.Recoveries.{AreBelow}
 use Rattle.cli_run.proofs.Doings.{acts_once}
-use Rattle.cli_run.proofs.Rounds.{serves_batch, serves_none, serves_then, serves_trimmed}
+use Rattle.cli_run.proofs.Rounds.{reports_none, reports_passed, serves_batch, serves_none, serves_then, serves_trimmed}
+use Rattle.cli_run.proofs.Tracing.{lines_then}
+use Rattle.cli_run.proofs.Reporting.{for_then}
 use Rattle.cli_run.proofs.Readings.{requests_append, requests_next}
-use Rattle.cli_run.proofs.Stops.{for_none, for_then, halts_then, of_batches_append, offered_append, retries_are_of_batches, retries_offer_none, toward_before, toward_then}
+use Rattle.cli_run.proofs.Stops.{halts_then, of_batches_append, offered_append, retries_are_of_batches, retries_offer_none, toward_before, toward_then}
 
 together_seated : (xs : List Pairs) (p q : Point) → Seated p.plant.core → Together xs p q → Seated q.plant.core
 together_seated xs p q seated t = all_seated (Done t.turns t.outcomes ∷ []) t.acts.moved p.plant q.plant seated t.acts.driven
@@ -136,31 +139,47 @@ together_of xs rule os ps cs ds p q id source after ended is drove grown offered
     }
 
 -- no request, no batch
-pub serves_nothing : (xs : List Pairs) (n : ℕ) (p : Point) (a : Option (List ℕ)) → true ≡ (n == 0) → n ≡ length xs → ServesFor true xs p a p a
-serves_nothing [] n p a none len = for_none true p a
-serves_nothing (x ∷ xs) n p a none len = (let zero : n ≡ 0 = grind (arith, nat_tests) in absurd (omega (arith, zero, len)))
+pub serves_nothing : (xs : List Pairs) (n : ℕ) (p : Point) (a : Option (List ℕ)) (l : Log) → true ≡ (n == 0) → n ≡ length xs → (rounds : List Round) × RoundsFor true xs rounds × Reports rounds 0 p a l p a l
+serves_nothing [] n p a l none len = ([], (refl, tt), reports_none p a l)
+serves_nothing (x ∷ xs) n p a l none len = (let zero : n ≡ 0 = grind (arith, nat_tests) in absurd (omega (arith, zero, len)))
 
 -- what comes behind a batch
 
 pub given_drains : (p q : Point) (a b : Option (List ℕ)) → q ≡ all_answered p → DrainsSome q a b → DrainsSome (all_answered p) a b
 given_drains p q a b same h = subst (λ (z : Point). DrainsSome z a b) same h
 
-batch_given : (xs : List Pairs) (p e : Point) (text : List ℕ) (a b : Option (List ℕ)) → IsReady p → Together xs p e → AreFramed text (responses (unanswered e)) → Appends a b text → Serves (Batched xs ∷ []) p a (all_answered e) b
+pub finished : (text : List ℕ) (p q r t : Point) (a b c : Option (List ℕ)) (k l m : Log) → AreFramed text (responses (unanswered p)) → Appends a b text → q ≡ all_answered p → DrainsAll q b k r c l → Cuts r l t m → Finishes p a k t c m
+finished text p q r t a b c k l m framed gives same drains cuts = record {
+  text = text;
+  framed = framed;
+  between = b;
+  gives = gives;
+  drained = r;
+  then = l;
+  drains = subst (λ (z : Point). DrainsAll z b k r c l) same drains;
+  cuts = cuts;
+}
+
+abbrev batch_given : (xs : List Pairs) (p e : Point) (text : List ℕ) (a b : Option (List ℕ)) → IsReady p → Together xs p e → AreFramed text (responses (unanswered e)) → Appends a b text → Serves (Batched xs ∷ []) p a (all_answered e) b
 batch_given xs p e text a b ready together framed appends =
     serves_batch xs p (all_answered e) text a b ready (record { ended = e; together = together; gives = framed; answered = refl }) appends
 
-pub serves_finished : (xs : List Pairs) (p e q : Point) (a b : Option (List ℕ)) → length xs ≤ 256 → IsReady p → Together xs p e → Finishes e a q b → ServesFor true xs p a q b
-serves_finished xs p e q a b few ready together f =
-    let rs = f.drains.rounds in
-    let none : offered_in (rs ++ Trimmed ∷ []) ≡ [] = offered_append rs (Trimmed ∷ []) ∙ ap (λ (l : List Pairs). l ++ []) (retries_offer_none rs f.drains.retries) in (
+pub serves_finished : (xs : List Pairs) (p e q : Point) (a b : Option (List ℕ)) (k l : Log) → length xs ≤ 256 → IsReady p → Together xs p e → Finishes e a k q b l → (rounds : List Round) × RoundsFor true xs rounds × Reports rounds 0 p a k q b l
+serves_finished xs p e q a b k l few ready together f =
+    let d = f.drains.drains in
+    let rs = d.rounds in
+    let none : offered_in (rs ++ Trimmed ∷ []) ≡ [] = offered_append rs (Trimmed ∷ []) ∙ ap (λ (l : List Pairs). l ++ []) (retries_offer_none rs d.retries) in (
       Batched xs ∷ (rs ++ Trimmed ∷ []),
       (
         ap (λ (l : List Pairs). xs ++ l) none ∙ append-nil xs,
-        (few, of_batches_append rs (Trimmed ∷ []) (retries_are_of_batches rs f.drains.retries) (tt, tt)),
+        (few, of_batches_append rs (Trimmed ∷ []) (retries_are_of_batches rs d.retries) (tt, tt)),
       ),
-      serves_then (Batched xs ∷ []) (rs ++ Trimmed ∷ []) p (all_answered e) q a f.between b
-          (batch_given xs p e f.text a f.between ready together f.framed f.gives)
-          (serves_then rs (Trimmed ∷ []) (all_answered e) f.drained q f.between b b f.drains.serves (serves_trimmed f.drained q b f.cuts)),
+      record {
+        serves = serves_then (Batched xs ∷ []) (rs ++ Trimmed ∷ []) p (all_answered e) q a f.between b
+            (batch_given xs p e f.text a f.between ready together f.framed f.gives)
+            (serves_then rs (Trimmed ∷ []) (all_answered e) f.drained q f.between b b d.serves (serves_trimmed f.drained q f.cuts.lines b f.cuts.cuts));
+        tells = lines_then d.serves.lines f.cuts.lines 0 k f.then l f.drains.tells f.cuts.tells;
+      },
     )
 
 -- a batch that was run, up to an error behind it
@@ -218,9 +237,15 @@ split_more all rest front back first n so_far is are =
     let whole : messages rest ≡ messages front ++ messages back = ap messages (sym (take-append-drop n rest)) ∙ (halves ∙ rw (is, are) refl) in
     so_far ∙ (ap (λ (l : List (List ℕ)). first ++ l) whole ∙ sym (append_assoc first (messages front) (messages back)))
 
-pub frames_then : (frames more : List (List ℕ)) (xs : List Pairs) (p q r : Point) (a b c : Option (List ℕ)) → xs ≡ requests more → ServesFor true (requests frames) p a q b → ServesFor true xs q b r c → ServesFor true (requests (frames ++ more)) p a r c
-frames_then frames more xs p q r a b c is s t =
-    subst (λ (l : List Pairs). ServesFor true l p a r c) (ap (λ (l : List Pairs). requests frames ++ l) is ∙ sym (requests_append frames more)) (for_then true (requests frames) xs p q r a b c s t)
+-- the batches of more messages, some of which may be passed over first
+pub frames_then : (frames more : List (List ℕ)) (xs : List Pairs) (p q r : Point) (a b c : Option (List ℕ)) (k l m o : Log) → xs ≡ requests more → ReportsFor true frames p a k q b l → Tells [] (passed_over more) l m
+    → (rounds : List Round) × RoundsFor true xs rounds × Reports rounds 0 q b m r c o → ReportsFor true (frames ++ more) p a k r c o
+frames_then frames more xs p q r a b c k l m o is s passed (rounds, answers, reports) =
+    for_then true frames more p q r a b c k l o s (record {
+      rounds = rounds;
+      answers = subst (λ (ys : List Pairs). RoundsFor true ys rounds) is answers;
+      reports = reports_passed rounds (passed_over more) q r b c l m o passed reports;
+    })
 
 -- a batch that failed, behind those before it
 pub frames_halt : (all : List (Vec ℕ)) (first more others : List (List ℕ)) (xs : List Pairs) (p q : Point) (a b c : Option (List ℕ)) → messages all ≡ (first ++ more) ++ others → xs ≡ requests more → ServesFor true (requests first) p a q b → HaltsToward true xs q b c → HaltsToward true (requests (messages all)) p a c
@@ -231,16 +256,13 @@ frames_halt all first more others xs p q a b c split is s h =
     subst (λ (l : List Pairs). HaltsToward true l p a c) whole (toward_before true (requests first ++ xs) (requests others) p a c here)
 
 -- all batches were run
-pub frames_all : (all rest : List (Vec ℕ)) (first : List (List ℕ)) (p q : Point) (a b : Option (List ℕ)) → messages all ≡ first ++ messages rest → length rest ≤ 0 → ServesFor true (requests first) p a q b → ServesFor true (requests (messages all)) p a q b
-frames_all all [] first p q a b split none s = subst (λ (l : List (List ℕ)). ServesFor true (requests l) p a q b) (sym (split ∙ append-nil first)) s
-frames_all all (m ∷ rest) first p q a b split none s = absurd (omega (arith, none))
+pub frames_all : (all rest : List (Vec ℕ)) (first : List (List ℕ)) (p q : Point) (a b : Option (List ℕ)) (k l : Log) → messages all ≡ first ++ messages rest → length rest ≤ 0 → ReportsFor true first p a k q b l → ReportsFor true (messages all) p a k q b l
+frames_all all [] first p q a b k l split none s = subst (λ (fs : List (List ℕ)). ReportsFor true fs p a k q b l) (sym (split ∙ append-nil first)) s
+frames_all all (m ∷ rest) first p q a b k l split none s = absurd (omega (arith, none))
 
--- without threads
-pub for_one : (threads : Bool) (xs : List Pairs) → threads ≡ false → RoundsFor threads xs (answering xs)
-for_one threads xs is = subst (λ (b : Bool). RoundsFor b xs (answering xs)) (sym is) refl
-
-pub for_threads : (threads : Bool) (xs : List Pairs) (rounds : List Round) → threads ≡ true → RoundsFor true xs rounds → RoundsFor threads xs rounds
-for_threads threads xs rounds is h = subst (λ (b : Bool). RoundsFor b xs rounds) (sym is) h
+-- with threads or without
+pub for_these : (threads one : Bool) (xs : List Pairs) (rounds : List Round) → threads ≡ one → RoundsFor one xs rounds → RoundsFor threads xs rounds
+for_these threads one xs rounds is h = subst (λ (b : Bool). RoundsFor b xs rounds) (sym is) h
 
 pub some_for : (threads one : Bool) (input : Option (List ℕ)) (p : Point) (a b : Option (List ℕ)) → threads ≡ one → ServesSome one input p a b → ServesSome threads input p a b
 some_for threads one input p a b is h = subst (λ (t : Bool). ServesSome t input p a b) (sym is) h

@@ -40,6 +40,7 @@ stopped threads f n view j made first id r input a b is first_at before recovers
 pub served_all : (threads : Bool) (step : AdviceStep) (first : ℕ) (p : Point) (sender : PlainSender) (input a b : Option (List ℕ)) (end : StreamEnd) (frames : List (List ℕ)) (rounds : List Round) → ReadTo end input frames → RoundsFor threads (requests frames) rounds → ServesAll step first rounds p sender a b → Serving threads input p a b
 served_all threads step first p sender input a b end frames rounds read are serves = record {
   begun = serves.begun;
+  cut = serves.cut;
   cuts = serves.cuts;
   ready = serves.ready;
   serves = inr (record {

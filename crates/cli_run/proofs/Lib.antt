@@ -3,6 +3,7 @@ mod Doings
 mod SessionSteps
 mod Transactions
 mod Resting
+mod Tracing
 mod Rounds
 mod Recoveries
 mod Sendings
@@ -13,4 +14,5 @@ mod Readings
 mod Stops
 mod Halted
 mod Below
+mod Reporting
 mod Batched

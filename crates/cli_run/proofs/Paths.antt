@@ -11,9 +11,10 @@ use Rattle.tx_plant.specs.Plant.{Seen, Whole}
 use Rattle.tx_plant.specs.Steps.{Moved}
 use Rattle.plant_outcome.specs.Lives.{AllDriven, Drive}
 use Rattle.cli_run.specs.Advices.{Acks, AdviceStep, SendsAll}
-use Rattle.cli_run.specs.Points.{Point, is_long, world_at}
+use Rattle.cli_run.specs.Lines.{lines_in}
+use Rattle.cli_run.specs.Points.{Point, world_at}
 use Rattle.cli_run.specs.Ran.{Begins, Ran, ServesAll}
-use Rattle.cli_run.specs.Rounds.{Acts, Batched, Completed, Completes, CutsIf, CutsLong, Does, Goes, Offered, Released, Round, Runs, Trimmed}
+use Rattle.cli_run.specs.Rounds.{Acts, Batched, Completed, Completes, Does, Goes, MayCut, Offered, Released, Round, Runs, Trimmed}
 use Rattle.cli_run.proofs.Doings.{all_driven_append}
 
 pub record Path (p q : Whole) : Type 0 where
@@ -37,30 +38,26 @@ acts_path ds p q a = record { drives = ds; moved = a.moved; driven = a.driven }
 does_path : (t : Turn) (o : Outcome) (p q : Point) → Does t o p q → Path p.plant q.plant
 does_path t o p q does = acts_path _ p q does.acts
 
-cuts_by : (b : Bool) (p q : Point) → CutsIf b p q → Path p.plant q.plant
-cuts_by true p q (o, does) = does_path turn.Cut o p q does
-cuts_by false p q same = path_none p.plant q.plant (ap (λ (z : Point). z.plant) same)
+cuts_by : (p q : Point) (lines : List ℕ) → ((q ≡ p) × (lines ≡ [])) ⊎ ((o : Outcome) × Does turn.Cut o p q × (lines ≡ lines_in (world_at p))) → Path p.plant q.plant
+cuts_by p q lines (inl (same, none)) = path_none p.plant q.plant (ap (λ (z : Point). z.plant) same)
+cuts_by p q lines (inr (o, does, are)) = does_path turn.Cut o p q does
 
-cuts_path : (p q : Point) → CutsLong p q → Path p.plant q.plant
-cuts_path p q cuts = cuts_by (is_long (world_at p)) p q cuts.cuts
+cuts_path : (p q : Point) (lines : List ℕ) → MayCut p lines q → Path p.plant q.plant
+cuts_path p q lines cuts = cuts_by p q lines cuts.cuts
 
-completes_path : (p q : Point) (bytes : List ℕ) → Completes p bytes q → Path p.plant q.plant
-completes_path p q bytes c = path_then p.plant c.ended.plant q.plant (acts_path _ p c.ended c.transacts.acts) (cuts_path _ q c.cuts)
+completes_path : (p q : Point) (bytes lines : List ℕ) → Completes p bytes lines q → Path p.plant q.plant
+completes_path p q bytes lines c = path_then p.plant c.ended.plant q.plant (acts_path _ p c.ended c.transacts.acts) (cuts_path _ q lines c.cuts)
 
 runs_path : (xs : List Pairs) (p q : Point) (bytes : List ℕ) → Runs xs p bytes q → Path p.plant q.plant
 runs_path xs p q bytes runs = subst (λ (z : Point). Path p.plant z.plant) (sym runs.answered) (acts_path _ p runs.ended runs.together.acts)
 
-may_cut_path : (p q : Point) → (q ≡ p) ⊎ ((o : Outcome) × Does turn.Cut o p q) → Path p.plant q.plant
-may_cut_path p q (inl same) = path_none p.plant q.plant (ap (λ (z : Point). z.plant) same)
-may_cut_path p q (inr (o, does)) = does_path turn.Cut o p q does
-
-goes_path : (rounds : List Round) (p q : Point) (bytes : List ℕ) → Goes rounds p bytes q → Path p.plant q.plant
-goes_path [] p q bytes (none, same) = path_none p.plant q.plant (ap (λ (z : Point). z.plant) same)
-goes_path (Offered x ∷ rs) p q bytes (ready, o, w, does, more) = path_then p.plant w.plant q.plant (does_path (turn.Offer x) o p w does) (goes_path rs w q bytes more)
-goes_path (Completed ∷ rs) p q bytes (w, first, later, completes, more, all) = path_then p.plant w.plant q.plant (completes_path p w first completes) (goes_path rs w q later more)
-goes_path (Released ∷ rs) p q bytes (o, w, does, more) = path_then p.plant w.plant q.plant (does_path turn.Release o p w does) (goes_path rs w q bytes more)
-goes_path (Batched xs ∷ rs) p q bytes (ready, w, first, later, runs, more, all) = path_then p.plant w.plant q.plant (runs_path xs p w first runs) (goes_path rs w q later more)
-goes_path (Trimmed ∷ rs) p q bytes (w, cuts, more) = path_then p.plant w.plant q.plant (may_cut_path p w cuts.cuts) (goes_path rs w q bytes more)
+goes_path : (rounds : List Round) (p q : Point) (bytes lines : List ℕ) → Goes rounds p bytes lines q → Path p.plant q.plant
+goes_path [] p q bytes lines (none, nothing, same) = path_none p.plant q.plant (ap (λ (z : Point). z.plant) same)
+goes_path (Offered x ∷ rs) p q bytes lines (ready, o, w, does, more) = path_then p.plant w.plant q.plant (does_path (turn.Offer x) o p w does) (goes_path rs w q bytes lines more)
+goes_path (Completed ∷ rs) p q bytes lines (w, first, later, cut, others, completes, more, all, these) = path_then p.plant w.plant q.plant (completes_path p w first cut completes) (goes_path rs w q later others more)
+goes_path (Released ∷ rs) p q bytes lines (o, w, does, more) = path_then p.plant w.plant q.plant (does_path turn.Release o p w does) (goes_path rs w q bytes lines more)
+goes_path (Batched xs ∷ rs) p q bytes lines (ready, w, first, later, runs, more, all) = path_then p.plant w.plant q.plant (runs_path xs p w first runs) (goes_path rs w q later lines more)
+goes_path (Trimmed ∷ rs) p q bytes lines (w, cut, others, cuts, more, these) = path_then p.plant w.plant q.plant (cuts_path p w cut cuts) (goes_path rs w q bytes others more)
 
 acks_path : (b : Bool) (place : ℕ × ℕ) (p q : Point) → Acks b place p q → Path p.plant q.plant
 acks_path true place p q (o, does) = does_path (turn.Ack place.0 place.1) o p q does
@@ -73,9 +70,9 @@ sends_path step is_old (a ∷ xs) s t p q (u, w, first, more) =
 
 serves_path : (step : AdviceStep) (first : ℕ) (rounds : List Round) (p : Point) (sender : PlainSender) (before after : Option (List ℕ)) → (s : ServesAll step first rounds p sender before after) → Path p.plant s.end.plant
 serves_path step first rounds p sender before after s =
-    path_then p.plant s.begun.plant s.end.plant (cuts_path p s.begun s.cuts)
-    (path_then s.begun.plant s.served.plant s.end.plant (goes_path _ s.begun s.served s.serves.bytes s.serves.goes)
-    (path_then s.served.plant s.drained.plant s.end.plant (goes_path s.drains.rounds s.served s.drained s.drains.serves.bytes s.drains.serves.goes)
+    path_then p.plant s.begun.plant s.end.plant (cuts_path p s.begun s.cut s.cuts)
+    (path_then s.begun.plant s.served.plant s.end.plant (goes_path _ s.begun s.served s.serves.bytes s.serves.lines s.serves.goes)
+    (path_then s.served.plant s.drained.plant s.end.plant (goes_path s.drains.rounds s.served s.drained s.drains.serves.bytes s.drains.serves.lines s.drains.serves.goes)
     (sends_path step _ _ sender s.sent s.drained s.end s.sends)))
 
 pub begins_path : (f : Flow) (n : ℕ) (j : Seen) (p : Point) → (b : Begins f n j p) → Path b.made p.plant

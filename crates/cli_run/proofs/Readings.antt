@@ -13,9 +13,6 @@ use Rattle.sw_frame.specs.Stream.{State, blank}
 use Rattle.iso_msg.specs.Messages.{PlainMessage}
 use Rattle.iso_codec.specs.declared.error.DecodeError.{DecodeError}
 use Rattle.iso_codec.specs.Reads.{read}
-use Rattle.cli_run.proofs.Rounds.{answers_then}
-use Rattle.cli_run.specs.Points.{Point}
-use Rattle.cli_run.specs.Rounds.{Serves, answering}
 use Rattle.cli_run.specs.Requests.{FramesIn, Reads, ReadsOn, if_read, readable, request_of, requests}
 
 -- requests
@@ -77,11 +74,6 @@ nothing_read left s same = rw same (record {
   consumes = Consumes-nil left;
   stream = record { text = []; rest = []; whole = refl; frames = refl; ends = inl (inl (omega arith), refl) };
 })
-
--- the requests of more frames are served behind those of the first ones
-pub serves_frames : (frames more : List (List ℕ)) (p q r : Point) (a b c : Option (List ℕ)) → Serves (answering (requests frames)) p a q b → Serves (answering (requests more)) q b r c → Serves (answering (requests (frames ++ more))) p a r c
-serves_frames frames more p q r a b c s t =
-    subst (λ (l : List Pairs). Serves (answering l) p a r c) (sym (requests_append frames more)) (answers_then (requests frames) (requests more) p q r a b c s t)
 
 -- a buffer keeps its length while it is read into
 pub still_room : (n : ℕ) (xs ys : List ℕ) → 0 < n → n ≤ length xs → 0 < length (take n (xs ++ ys))

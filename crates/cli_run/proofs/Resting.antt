@@ -1,6 +1,6 @@
 -- Turns by which no session goes on leave a switch at rest.
 -- for: switch::Switch, serving::Switch, advices::send_advices
-use Rattle.std.proofs.Common.{◌≡◌, ◌<◌, ◌≤◌, ℕ, ◌+◌, Bool, true, false, List, [], ◌∷◌, ◌++◌, drop, length, Option, Some, None, Ok, refl, sym, ap, subst, arith, ◌∙◌, inl, inr}
+use Rattle.std.proofs.Common.{◌≡◌, ◌<◌, ◌≤◌, ℕ, ◌+◌, Bool, true, false, List, [], ◌∷◌, ◌++◌, drop, length, Option, Some, None, Ok, refl, sym, ap, subst, arith, ◌∙◌, ◌⊎◌, inl, inr}
 use Rattle.std.proofs.lemmas.List.{drop_all, length-append, length-drop}
 use Rattle.sw_context.specs.Pairs.{Pairs}
 use Rattle.sw_context.specs.Spelling.{bytes_of}
@@ -23,7 +23,8 @@ use Rattle.tx_plant.specs.Core.{Core, seat_of}
 use Rattle.tx_plant.specs.Turns.{Cuts, Logs}
 use Rattle.plant_outcome.specs.Seated.{Seated, seat_id}
 use Rattle.cli_run.specs.Points.{IsAllWritten, IsAtRest, IsReady, Point, above, ended_at, is_long, next_at, world_at}
-use Rattle.cli_run.specs.Rounds.{CutsIf, CutsLong, Does, IsDone, IsEmptied, MayCut}
+use Rattle.cli_run.specs.Lines.{lines_in}
+use Rattle.cli_run.specs.Rounds.{Does, IsDone, IsEmptied, MayCut}
 use Rattle.cli_run.proofs.Doings.{did, entries_length, unraised}
 
 -- the world is another, and all else of the plant's core is the same
@@ -141,37 +142,25 @@ cut_rest p q o rest does seated =
 pub cut_short : (p q : Point) (o : Outcome) → Does turn.Cut o p q → is_long (world_at q) ≡ false
 cut_short p q o does = let cut = cut_to o p q does in subst (λ (w : World). is_long w ≡ false) (sym cut.world) refl
 
-pub long_cut : (p q : Point) (o : Outcome) → is_long (world_at p) ≡ true → Does turn.Cut o p q → CutsLong p q
-long_cut p q o long does = record { cuts = rw long (o, does); short = cut_short p q o does }
+pub may_cut : (p q : Point) (o : Outcome) → Does turn.Cut o p q → MayCut p (lines_in (world_at p)) q
+may_cut p q o does = record { cuts = inr (o, does, refl); short = cut_short p q o does }
 
-pub may_cut : (p q : Point) (o : Outcome) → Does turn.Cut o p q → MayCut p q
-may_cut p q o does = record { cuts = inr (o, does); short = cut_short p q o does }
-
-pub may_keep : (p : Point) → is_long (world_at p) ≡ false → MayCut p p
-may_keep p short = record { cuts = inl refl; short = short }
-
-pub short_kept : (p : Point) → is_long (world_at p) ≡ false → CutsLong p p
-short_kept p short = record { cuts = rw short refl; short = short }
+pub may_keep : (p : Point) → is_long (world_at p) ≡ false → MayCut p [] p
+may_keep p short = record { cuts = inl (refl, refl); short = short }
 
 -- the queue is the same after a cut
 cut_waits : (p q : Point) → CutTo p q → waits (world_at q) ≡ waits (world_at p)
 cut_waits p q cut = subst (λ (w : World). waits w ≡ waits (world_at p)) (sym cut.world) refl
 
-cuts_waits_by : (b : Bool) (p q : Point) → CutsIf b p q → waits (world_at q) ≡ waits (world_at p)
-cuts_waits_by true p q (o, does) = cut_waits p q (cut_to o p q does)
-cuts_waits_by false p q same = ap (λ (z : Point). waits (world_at z)) same
+cuts_waits_by : (p q : Point) (lines : List ℕ) → ((q ≡ p) × (lines ≡ [])) ⊎ ((o : Outcome) × Does turn.Cut o p q × (lines ≡ lines_in (world_at p))) → waits (world_at q) ≡ waits (world_at p)
+cuts_waits_by p q lines (inl (same, none)) = ap (λ (z : Point). waits (world_at z)) same
+cuts_waits_by p q lines (inr (o, does, are)) = cut_waits p q (cut_to o p q does)
 
-pub cuts_waits : (p q : Point) → CutsLong p q → waits (world_at q) ≡ waits (world_at p)
-cuts_waits p q cuts = cuts_waits_by (is_long (world_at p)) p q cuts.cuts
+pub cuts_waits : (p q : Point) (lines : List ℕ) → MayCut p lines q → waits (world_at q) ≡ waits (world_at p)
+cuts_waits p q lines cuts = cuts_waits_by p q lines cuts.cuts
 
-pub ready_cut : (p q : Point) → CutsLong p q → IsAtRest q → waits (world_at p) ≡ [] → IsReady q
-ready_cut p q cuts rest empty = record { rest = rest; recovered = at_rest_recovered q rest; empty = cuts_waits p q cuts ∙ empty; short = cuts.short }
-
-pub kept_ready : (p : Point) → IsAtRest p → waits (world_at p) ≡ [] → is_long (world_at p) ≡ false → IsReady p
-kept_ready p rest empty short = record { rest = rest; recovered = at_rest_recovered p rest; empty = empty; short = short }
-
-pub cut_ready : (p q : Point) (o : Outcome) → IsAtRest p → waits (world_at p) ≡ [] → Does turn.Cut o p q → Seated q.plant.core → IsReady q
-cut_ready p q o rest empty does seated = kept_ready q (cut_rest p q o rest does seated) (cut_waits p q (cut_to o p q does) ∙ empty) (cut_short p q o does)
+pub ready_cut : (p q : Point) (lines : List ℕ) → MayCut p lines q → IsAtRest q → waits (world_at q) ≡ [] → IsReady q
+ready_cut p q lines cuts rest empty = record { rest = rest; recovered = at_rest_recovered q rest; empty = empty; short = cuts.short }
 
 -- events at rest
 
@@ -209,14 +198,8 @@ offered_one x o p q none does =
 
 -- whether a history is long
 
-pub history_short : (w : World) (es : List Entry) → es ≡ entries w.flow w.start w.past → length es < 524288 → is_long w ≡ false
-history_short w es is lt =
+pub history_short : (w : World) (es : List Entry) (n : ℕ) → es ≡ entries w.flow w.start w.past → length es < n → n ≤ 524288 → is_long w ≡ false
+history_short w es n is lt bound =
     let same : length es ≡ length w.past = ap length is ∙ entries_length w.flow w.start w.past in
-    let less : length w.past < 524288 = omega (arith, same, lt) in
-    grind (arith, nat_tests)
-
-pub history_long : (w : World) (es : List Entry) → es ≡ entries w.flow w.start w.past → 524288 ≤ length es → is_long w ≡ true
-history_long w es is le =
-    let same : length es ≡ length w.past = ap length is ∙ entries_length w.flow w.start w.past in
-    let more : 524288 ≤ length w.past = omega (arith, same, le) in
+    let less : length w.past < 524288 = omega (arith, same, lt, bound) in
     grind (arith, nat_tests)

@@ -19,56 +19,71 @@ use Rattle.tx_plant.specs.declared.turn.Outcome.{Outcome}
 use Rattle.tx_plant.specs.declared.turn.Turn.TheVariants as turn
 use Rattle.plant_outcome.specs.Seated.{Seated}
 use Rattle.cli_run.specs.Points.{IsAtRest, IsReady, Point, above, all_answered, ended_at, last_id, next_at, response_of, responses, unanswered, with_ended, world_at}
-use Rattle.cli_run.specs.Rounds.{Batched, Completed, Completes, CutsLong, Does, Drains, Goes, IsEmptied, IsRetry, MayCut, Offered, Released, Round, Runs, Serves, Transacts, Trimmed, answering}
+use Rattle.cli_run.specs.Rounds.{Batched, Completed, Completes, Does, Goes, IsEmptied, IsRetry, MayCut, Offered, Released, Round, Runs, Serves, Transacts, Trimmed, answering}
+use Rattle.cli_run.specs.Traces.{Cuts, DrainsAll, Log, Reports, Tells}
 use Rattle.cli_run.proofs.Ended.{is_above}
+use Rattle.cli_run.proofs.Tracing.{passed_then, tells_none, tells_then}
 use Rattle.cli_run.proofs.Resting.{at_rest_recovered, cuts_waits, offered_one}
 
-goes_append : (ds bs : List Round) (p q r : Point) (xs ys : List ℕ) → Goes ds p xs q → Goes bs q ys r → Goes (ds ++ bs) p (xs ++ ys) r
-goes_append [] bs p q r xs ys (none, same) h =
-    subst (λ (l : List ℕ). Goes bs p (l ++ ys) r) (sym none) (subst (λ (z : Point). Goes bs z ys r) same h)
-goes_append (Offered x ∷ ds) bs p q r xs ys (ready, o, w, does, more) h =
-    (ready, o, w, does, goes_append ds bs w q r xs ys more h)
-goes_append (Completed ∷ ds) bs p q r xs ys (w, first, later, completes, more, all) h =
-    (w, first, later ++ ys, completes, goes_append ds bs w q r later ys more h, ap (λ (l : List ℕ). l ++ ys) all ∙ append_assoc first later ys)
-goes_append (Released ∷ ds) bs p q r xs ys (o, w, does, more) h =
-    (o, w, does, goes_append ds bs w q r xs ys more h)
-goes_append (Batched rs ∷ ds) bs p q r xs ys (ready, w, first, later, runs, more, all) h =
-    (ready, w, first, later ++ ys, runs, goes_append ds bs w q r later ys more h, ap (λ (l : List ℕ). l ++ ys) all ∙ append_assoc first later ys)
-goes_append (Trimmed ∷ ds) bs p q r xs ys (w, cuts, more) h =
-    (w, cuts, goes_append ds bs w q r xs ys more h)
+pub goes_append : (ds bs : List Round) (p q r : Point) (xs ys ls ms : List ℕ) → Goes ds p xs ls q → Goes bs q ys ms r → Goes (ds ++ bs) p (xs ++ ys) (ls ++ ms) r
+goes_append [] bs p q r xs ys ls ms (none, nothing, same) h =
+    subst (λ (l : List ℕ). Goes bs p (l ++ ys) (ls ++ ms) r) (sym none)
+    (subst (λ (l : List ℕ). Goes bs p ys (l ++ ms) r) (sym nothing) (subst (λ (z : Point). Goes bs z ys ms r) same h))
+goes_append (Offered x ∷ ds) bs p q r xs ys ls ms (ready, o, w, does, more) h =
+    (ready, o, w, does, goes_append ds bs w q r xs ys ls ms more h)
+goes_append (Completed ∷ ds) bs p q r xs ys ls ms (w, first, later, cut, others, completes, more, all, these) h = (
+  w,
+  first,
+  later ++ ys,
+  cut,
+  others ++ ms,
+  completes,
+  goes_append ds bs w q r later ys others ms more h,
+  ap (λ (l : List ℕ). l ++ ys) all ∙ append_assoc first later ys,
+  ap (λ (l : List ℕ). l ++ ms) these ∙ append_assoc cut others ms,
+)
+goes_append (Released ∷ ds) bs p q r xs ys ls ms (o, w, does, more) h =
+    (o, w, does, goes_append ds bs w q r xs ys ls ms more h)
+goes_append (Batched rs ∷ ds) bs p q r xs ys ls ms (ready, w, first, later, runs, more, all) h =
+    (ready, w, first, later ++ ys, runs, goes_append ds bs w q r later ys ls ms more h, ap (λ (l : List ℕ). l ++ ys) all ∙ append_assoc first later ys)
+goes_append (Trimmed ∷ ds) bs p q r xs ys ls ms (w, cut, others, cuts, more, these) h =
+    (w, cut, others ++ ms, cuts, goes_append ds bs w q r xs ys others ms more h, ap (λ (l : List ℕ). l ++ ms) these ∙ append_assoc cut others ms)
 
-pub serves_none : (p : Point) (o : Option (List ℕ)) → Serves [] p o p o
-serves_none p o = record { bytes = []; goes = (refl, refl); appends = Appends-nil o }
+abbrev pub serves_none : (p : Point) (o : Option (List ℕ)) → Serves [] p o p o
+serves_none p o = record { bytes = []; lines = []; goes = (refl, refl, refl); appends = Appends-nil o }
 
-pub serves_then : (ds bs : List Round) (p q r : Point) (a b c : Option (List ℕ)) → Serves ds p a q b → Serves bs q b r c → Serves (ds ++ bs) p a r c
+abbrev pub serves_then : (ds bs : List Round) (p q r : Point) (a b c : Option (List ℕ)) → Serves ds p a q b → Serves bs q b r c → Serves (ds ++ bs) p a r c
 serves_then ds bs p q r a b c s t = record {
   bytes = s.bytes ++ t.bytes;
-  goes = goes_append ds bs p q r s.bytes t.bytes s.goes t.goes;
+  lines = s.lines ++ t.lines;
+  goes = goes_append ds bs p q r s.bytes t.bytes s.lines t.lines s.goes t.goes;
   appends = Appends-trans a b c s.bytes t.bytes s.appends t.appends;
 }
 
-pub serves_offer : (x : Pairs) (o : Outcome) (p w q : Point) (ds : List Round) (a b : Option (List ℕ)) → IsReady p → Does (turn.Offer x) o p w → Serves ds w a q b → Serves (Offered x ∷ ds) p a q b
-serves_offer x o p w q ds a b ready does s = record { bytes = s.bytes; goes = (ready, o, w, does, s.goes); appends = s.appends }
+abbrev pub serves_offer : (x : Pairs) (o : Outcome) (p w q : Point) (ds : List Round) (a b : Option (List ℕ)) → IsReady p → Does (turn.Offer x) o p w → Serves ds w a q b → Serves (Offered x ∷ ds) p a q b
+serves_offer x o p w q ds a b ready does s = record { bytes = s.bytes; lines = s.lines; goes = (ready, o, w, does, s.goes); appends = s.appends }
 
-pub serves_release : (o : Outcome) (p q : Point) (a : Option (List ℕ)) → Does turn.Release o p q → Serves (Released ∷ []) p a q a
-serves_release o p q a does = record { bytes = []; goes = (o, q, does, (refl, refl)); appends = Appends-nil a }
+abbrev pub serves_release : (o : Outcome) (p q : Point) (a : Option (List ℕ)) → Does turn.Release o p q → Serves (Released ∷ []) p a q a
+serves_release o p q a does = record { bytes = []; lines = []; goes = (o, q, does, (refl, refl, refl)); appends = Appends-nil a }
 
-pub serves_completed : (p q : Point) (bytes : List ℕ) (a b : Option (List ℕ)) → Completes p bytes q → Appends a b bytes → Serves (Completed ∷ []) p a q b
-serves_completed p q bytes a b completes appends = record {
+abbrev pub serves_completed : (p q : Point) (bytes lines : List ℕ) (a b : Option (List ℕ)) → Completes p bytes lines q → Appends a b bytes → Serves (Completed ∷ []) p a q b
+serves_completed p q bytes lines a b completes appends = record {
   bytes = bytes;
-  goes = (q, bytes, [], completes, (refl, refl), sym (append-nil bytes));
+  lines = lines;
+  goes = (q, bytes, [], lines, [], completes, (refl, refl, refl), sym (append-nil bytes), sym (append-nil lines));
   appends = appends;
 }
 
-pub serves_batch : (xs : List Pairs) (p q : Point) (bytes : List ℕ) (a b : Option (List ℕ)) → IsReady p → Runs xs p bytes q → Appends a b bytes → Serves (Batched xs ∷ []) p a q b
+abbrev pub serves_batch : (xs : List Pairs) (p q : Point) (bytes : List ℕ) (a b : Option (List ℕ)) → IsReady p → Runs xs p bytes q → Appends a b bytes → Serves (Batched xs ∷ []) p a q b
 serves_batch xs p q bytes a b ready runs appends = record {
   bytes = bytes;
-  goes = (ready, q, bytes, [], runs, (refl, refl), sym (append-nil bytes));
+  lines = [];
+  goes = (ready, q, bytes, [], runs, (refl, refl, refl), sym (append-nil bytes));
   appends = appends;
 }
 
-pub serves_trimmed : (p q : Point) (a : Option (List ℕ)) → MayCut p q → Serves (Trimmed ∷ []) p a q a
-serves_trimmed p q a cuts = record { bytes = []; goes = (q, cuts, (refl, refl)); appends = Appends-nil a }
+abbrev pub serves_trimmed : (p q : Point) (lines : List ℕ) (a : Option (List ℕ)) → MayCut p lines q → Serves (Trimmed ∷ []) p a q a
+serves_trimmed p q lines a cuts = record { bytes = []; lines = lines; goes = (q, lines, [], cuts, (refl, refl, refl), sym (append-nil lines)); appends = Appends-nil a }
 
 -- the response of the transaction that ended is the only one that is not given
 
@@ -129,19 +144,19 @@ gives_own p q own text rest t framed =
 
 -- ready for the next request
 
-pub ready_again : (x : Pairs) (o : Outcome) (p w q : Point) (bytes : List ℕ) → IsReady p → Does (turn.Offer x) o p w → Completes w bytes q → IsReady q
-ready_again x o p w q bytes ready does c = record {
+pub ready_again : (x : Pairs) (o : Outcome) (p w q : Point) (bytes lines : List ℕ) → IsReady p → Does (turn.Offer x) o p w → Completes w bytes lines q → IsReady q
+ready_again x o p w q bytes lines ready does c = record {
   rest = c.rest;
   recovered = at_rest_recovered q c.rest;
-  empty = cuts_waits (all_answered c.ended) q c.cuts ∙ (c.transacts.queue ∙ offered_one x o p w ready.empty does);
+  empty = cuts_waits (all_answered c.ended) q lines c.cuts ∙ (c.transacts.queue ∙ offered_one x o p w ready.empty does);
   short = c.cuts.short;
 }
 
 -- one completed transaction
-pub the_completed : (p q : Point) (a b : Option (List ℕ)) → Serves (Completed ∷ []) p a q b → (bytes : List ℕ) × Completes p bytes q
+pub the_completed : (p q : Point) (a b : Option (List ℕ)) → Serves (Completed ∷ []) p a q b → (bytes : List ℕ) × (lines : List ℕ) × Completes p bytes lines q
 the_completed p q a b s = by_goes s.goes where
-  by_goes : Goes (Completed ∷ []) p s.bytes q → (bytes : List ℕ) × Completes p bytes q
-  by_goes (w, first, later, completes, (none, same), all) = (first, subst (Completes p first) (sym same) completes)
+  by_goes : Goes (Completed ∷ []) p s.bytes s.lines q → (bytes : List ℕ) × (lines : List ℕ) × Completes p bytes lines q
+  by_goes (w, first, later, cut, others, completes, (none, nothing, same), all, these) = (first, cut, subst (Completes p first cut) (sym same) completes)
 
 -- requests
 
@@ -149,9 +164,32 @@ pub answering_append : (xs ys : List Pairs) → answering (xs ++ ys) ≡ answeri
 answering_append [] ys = refl
 answering_append (x ∷ xs) ys = ap (λ (l : List Round). Offered x ∷ Completed ∷ l) (answering_append xs ys)
 
-pub answers_then : (xs ys : List Pairs) (p q r : Point) (a b c : Option (List ℕ)) → Serves (answering xs) p a q b → Serves (answering ys) q b r c → Serves (answering (xs ++ ys)) p a r c
-answers_then xs ys p q r a b c s t =
-    subst (λ (l : List Round). Serves l p a r c) (sym (answering_append xs ys)) (serves_then (answering xs) (answering ys) p q r a b c s t)
+-- what was told meanwhile
+
+pub reports_none : (p : Point) (o : Option (List ℕ)) (l : Log) → Reports [] 0 p o l p o l
+reports_none p o l = record { serves = serves_none p o; tells = tells_none l }
+
+pub reports_then : (ds bs : List Round) (m n : ℕ) (p q r : Point) (a b c : Option (List ℕ)) (k l o : Log) → Reports ds m p a k q b l → Reports bs n q b l r c o → Reports (ds ++ bs) (m + n) p a k r c o
+reports_then ds bs m n p q r a b c k l o s t = record {
+  serves = serves_then ds bs p q r a b c s.serves t.serves;
+  tells = tells_then s.serves.lines t.serves.lines m n k l o s.tells t.tells;
+}
+
+pub reports_offer : (x : Pairs) (o : Outcome) (p w q : Point) (ds : List Round) (n : ℕ) (a b : Option (List ℕ)) (k l : Log) → IsReady p → Does (turn.Offer x) o p w → Reports ds n w a k q b l → Reports (Offered x ∷ ds) n p a k q b l
+reports_offer x o p w q ds n a b k l ready does s = record { serves = serves_offer x o p w q ds a b ready does s.serves; tells = s.tells }
+
+pub reports_release : (o : Outcome) (p q : Point) (a : Option (List ℕ)) (l : Log) → Does turn.Release o p q → Reports (Released ∷ []) 0 p a l q a l
+reports_release o p q a l does = record { serves = serves_release o p q a does; tells = tells_none l }
+
+pub reports_trimmed : (p q : Point) (a : Option (List ℕ)) (k l : Log) → Cuts p k q l → Reports (Trimmed ∷ []) 0 p a k q a l
+reports_trimmed p q a k l c = record { serves = serves_trimmed p q c.lines a c.cuts; tells = c.tells }
+
+pub reports_passed : (rounds : List Round) (n : ℕ) (p q : Point) (a b : Option (List ℕ)) (k l o : Log) → Tells [] n k l → Reports rounds 0 p a l q b o → Reports rounds n p a k q b o
+reports_passed rounds n p q a b k l o passed s = record { serves = s.serves; tells = passed_then s.serves.lines n k l o passed s.tells }
+
+-- one after the other, of as many messages that are passed over
+pub reports_both : (ds bs : List Round) (m n k : ℕ) (p q r : Point) (a b c : Option (List ℕ)) (x y z : Log) → k ≡ m + n → Reports ds m p a x q b y → Reports bs n q b y r c z → Reports (ds ++ bs) k p a x r c z
+reports_both ds bs m n k p q r a b c x y z is s t = subst (λ (i : ℕ). Reports (ds ++ bs) i p a x r c z) (sym is) (reports_then ds bs m n p q r a b c x y z s t)
 
 -- the queue and the shelf are emptied by and by
 
@@ -159,25 +197,28 @@ pub retries_append : (ds bs : List Round) → AllByRecursion IsRetry ds → AllB
 retries_append [] bs h k = k
 retries_append (a ∷ ds) bs h k = (h.0, retries_append ds bs h.1 k)
 
-pub record Empties (p : Point) (before : Option (List ℕ)) (q : Point) (after : Option (List ℕ)) : Type 0 where
+pub record Empties (p : Point) (before : Option (List ℕ)) (a : Log) (q : Point) (after : Option (List ℕ)) (b : Log) : Type 0 where
   pub rounds : List Round
   pub retries : AllByRecursion IsRetry rounds
-  pub serves : Serves rounds p before q after
+  pub reports : Reports rounds 0 p before a q after b
   pub rest : IsAtRest q
 
-pub empties_none : (p : Point) (a : Option (List ℕ)) → IsAtRest p → Empties p a p a
-empties_none p a rest = record { rounds = []; retries = tt; serves = serves_none p a; rest = rest }
+pub empties_none : (p : Point) (a : Option (List ℕ)) (l : Log) → IsAtRest p → Empties p a l p a l
+empties_none p a l rest = record { rounds = []; retries = tt; reports = reports_none p a l; rest = rest }
 
-pub empties_then : (p q r : Point) (a b c : Option (List ℕ)) (rounds : List Round) → Empties p a q b → AllByRecursion IsRetry rounds → Serves rounds q b r c → IsAtRest r → Empties p a r c
-empties_then p q r a b c rounds e retries serves rest = record {
+pub empties_then : (p q r : Point) (a b c : Option (List ℕ)) (k l o : Log) (rounds : List Round) → Empties p a k q b l → AllByRecursion IsRetry rounds → Reports rounds 0 q b l r c o → IsAtRest r → Empties p a k r c o
+empties_then p q r a b c k l o rounds e retries reports rest = record {
   rounds = e.rounds ++ rounds;
   retries = retries_append e.rounds rounds e.retries retries;
-  serves = serves_then e.rounds rounds p q r a b c e.serves serves;
+  reports = reports_both e.rounds rounds 0 0 0 p q r a b c k l o refl e.reports reports;
   rest = rest;
 }
 
-pub drained : (p q : Point) (a b : Option (List ℕ)) → Empties p a q b → IsEmptied (world_at q) → Drains p a q b
-drained p q a b e emptied = record { rounds = e.rounds; retries = e.retries; serves = e.serves; rest = e.rest; emptied = emptied }
+pub drained : (p q : Point) (a b : Option (List ℕ)) (k l : Log) → Empties p a k q b l → IsEmptied (world_at q) → DrainsAll p a k q b l
+drained p q a b k l e emptied = record {
+  drains = record { rounds = e.rounds; retries = e.retries; serves = e.reports.serves; rest = e.rest; emptied = emptied };
+  tells = e.reports.tells;
+}
 
 -- what follows of an Ok
 
@@ -188,6 +229,10 @@ on_ok (Err e) f h = tt
 pub on_both : {T E : Type 0} {P Q R : Type 0} (r : Result T E) → (P → Q → R) → OnOk r P → OnOk r Q → OnOk r R
 on_both (Ok x) f h k = f h k
 on_both (Err e) f h k = tt
+
+pub on_three : {T E : Type 0} {P Q R S : Type 0} (r : Result T E) → (P → Q → R → S) → OnOk r P → OnOk r Q → OnOk r R → OnOk r S
+on_three (Ok x) f h k l = f h k l
+on_three (Err e) f h k l = tt
 
 pub if_ok : {T E : Type 0} {P Q : T → Type 0} (r : Result T E) → ((x : T) → P x → Q x) → IfOk r P → IfOk r Q
 if_ok (Ok x) f h = f x h
@@ -207,16 +252,18 @@ pub on_if : {T E : Type 0} {P : T → Type 0} {Q : Type 0} (r : Result T E) → 
 on_if (Ok x) f h = f x h
 on_if (Err e) f h = tt
 
-pub completed : (own : Option Pairs) (text : List ℕ) (p q r s : Point) (a b : Option (List ℕ)) → IsAtRest p → Transacts p own q → AreFramed text (responses (unanswered q)) → r ≡ all_answered q → CutsLong r s → IsAtRest s → Appends a b text → Serves (Completed ∷ []) p a s b
-completed own text p q r s a b rest transacts framed same cuts then appends =
-    serves_completed p s text a b (record {
-      own = own;
-      ended = q;
-      transacts = transacts;
-      gives = gives_own p q own text rest transacts framed;
-      cuts = subst (λ (z : Point). CutsLong z s) same cuts;
-      rest = then;
-    }) appends
+pub completed : (own : Option Pairs) (text : List ℕ) (p q r s : Point) (a b : Option (List ℕ)) (k l : Log) → IsAtRest p → Transacts p own q → AreFramed text (responses (unanswered q)) → r ≡ all_answered q → Cuts r k s l → IsAtRest s → Appends a b text → Reports (Completed ∷ []) 0 p a k s b l
+completed own text p q r s a b k l rest transacts framed same c then appends = record {
+  serves = serves_completed p s text c.lines a b (record {
+    own = own;
+    ended = q;
+    transacts = transacts;
+    gives = gives_own p q own text rest transacts framed;
+    cuts = subst (λ (z : Point). MayCut z c.lines s) same c.cuts;
+    rest = then;
+  }) appends;
+  tells = c.tells;
+}
 
 pub offer_same : (x y : Pairs) (o : Outcome) (p q : Point) → x ≡ y → Does (turn.Offer x) o p q → Does (turn.Offer y) o p q
 offer_same x y o p q same does = subst (λ (z : Pairs). Does (turn.Offer z) o p q) same does

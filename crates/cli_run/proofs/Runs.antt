@@ -1,18 +1,21 @@
 -- A whole run of its parts.
 -- for: serving::Over::run
-use Rattle.std.proofs.Common.{◌≡◌, ℕ, ◌-◌, List, Option, Result, Ok, Err, ap, subst, ◌∙◌}
-use Rattle.std.specs.Prelude.{IfOk}
+use Rattle.std.proofs.Common.{◌≡◌, ℕ, ◌-◌, Bool, List, ◌++◌, nat_lt, Option, Result, Ok, Err, ap, refl, sym, subst, ◌∙◌}
+use Rattle.std.specs.Prelude.{IfOk, OnOk}
 use Rattle.std.specs.Io.KnownBytes.{Appends}
 use Rattle.flow_model.specs.declared.flow.Flow.{Flow}
 use Rattle.sw_issuers.specs.Sending.{PlainSender}
 use Rattle.tx_history.specs.declared.journal.JournalView.{JournalView}
+use Rattle.tx_engine.specs.World.{World}
 use Rattle.tx_plant.specs.Plant.{Seen, Whole}
 use Rattle.plant_outcome.specs.Lives.{IsMade}
-use Rattle.cli_run.specs.Advices.{AdviceStep}
+use Rattle.cli_run.specs.Advices.{AdviceStep, SendsAll, stored_at}
 use Rattle.cli_run.specs.Lines.{lines_in}
-use Rattle.cli_run.specs.Points.{Point, world_at}
-use Rattle.cli_run.specs.Ran.{Begins, Printed, Ran, ServesAll}
-use Rattle.cli_run.specs.Rounds.{Recovers, Round}
+use Rattle.cli_run.specs.Points.{IsAtRest, IsReady, Point, world_at}
+use Rattle.cli_run.specs.Ran.{Begins, Closes, Printed, Ran, ServesAll, all_lines, lines_cut}
+use Rattle.cli_run.specs.Traces.{Cuts, DrainsAll, Log, ReportsFor, Tells, passed_over}
+use Rattle.cli_run.proofs.Tracing.{lines_before, lines_then}
+use Rattle.cli_run.specs.Rounds.{IsEmptied, Recovers, Round}
 use Rattle.cli_run.proofs.Recoveries.{made_view}
 
 -- the id from which on a run's own transactions are
@@ -33,15 +36,24 @@ begun f n view j made first id r is first_at before recovers =
       recovers = subst (λ (k : ℕ). Recovers (record { plant = made; answered = k }) r) answered (recovers f n view j is answered);
     }
 
-pub ran : (f : Flow) (n : ℕ) (view : JournalView) (j : Seen) (made : Whole) (first id : ℕ) (r : Point) (step : AdviceStep) (sender : PlainSender) (rounds : List Round) (a b : Option (List ℕ))
+-- all was served, and what it tells was told
+abbrev pub ServesTold : AdviceStep → List Round → Point → PlainSender → Option (List ℕ) → Option (List ℕ) → ℕ → Log → Log → ℕ → Type 0
+ServesTold step rounds r sender a b n k l first = (s : ServesAll step first rounds r sender a b) × Tells (all_lines s) n k l
+
+pub ran : (f : Flow) (n : ℕ) (view : JournalView) (j : Seen) (made : Whole) (first id : ℕ) (r : Point) (step : AdviceStep) (sender : PlainSender) (rounds : List Round) (a b : Option (List ℕ)) (passed : ℕ) (k l : Log)
     → IsMade f n view j made → first ≡ made.core.world.start.view.next_id → id ≡ first - 1 → FirstRecovers (record { plant = made; answered = id }) r
-    → ServesAll step first rounds r sender a b → Ran f n j step sender rounds a b
+    → ServesTold step rounds r sender a b passed k l first → (ran : Ran f n j step sender rounds a b) × Tells (all_lines ran.serves) passed k l
 unfolding begun
-ran f n view j made first id r step sender rounds a b is first_at before recovers serves = record {
-  recovered = r;
-  begins = begun f n view j made first id r is first_at before recovers;
-  serves = subst (λ (k : ℕ). ServesAll step k rounds r sender a b) (first_is f n view j made first is first_at) serves;
-}
+ran f n view j made first id r step sender rounds a b passed k l is first_at before recovers told =
+    let (serves, tells) = subst (ServesTold step rounds r sender a b passed k l) (first_is f n view j made first is first_at) told in
+    (record { recovered = r; begins = begun f n view j made first id r is first_at before recovers; serves = serves }, tells)
+
+-- the lines that were left were told last
+pub told_last : (step : AdviceStep) (first : ℕ) (rounds : List Round) (p : Point) (sender : PlainSender) (a b : Option (List ℕ)) (n : ℕ) (k l m : Log) (q : Point) (w : World) → (s : ServesAll step first rounds p sender a b) → s.end ≡ q → w ≡ world_at q
+    → Tells (lines_cut s) n k l → Tells (lines_in w) 0 l m → ServesTold step rounds p sender a b n k m first
+told_last step first rounds p sender a b n k l m q w s end is cut left =
+    let same : w ≡ world_at s.end = is ∙ ap world_at (sym end) in
+    (s, lines_then (lines_cut s) (lines_in (world_at s.end)) n k l m cut (subst (λ (v : World). Tells (lines_in v) 0 l m) same left))
 
 pub printed : (f : Flow) (n : ℕ) (view : JournalView) (j : Seen) (made : Whole) (first id : ℕ) (r : Point) (a b : Option (List ℕ))
     → IsMade f n view j made → first ≡ made.core.world.start.view.next_id → id ≡ first - 1 → FirstRecovers (record { plant = made; answered = id }) r → Appends a b (lines_in (world_at r)) → Printed f n j a b
@@ -57,7 +69,39 @@ pub begun_recovers : (f : Flow) (n : ℕ) (view : JournalView) (j : Seen) (made 
 unfolding begun
 begun_recovers f n view j made first id r is first_at before recovers = (begun f n view j made first id r is first_at before recovers).recovers
 
--- what holds of what was served holds of the result
-pub through : {T E : Type 0} {P Q : T → Type 0} (s r : Result T E) → IfOk r (λ x. s ≡ Ok x) → IfOk s P → ((x : T) → P x → Q x) → IfOk r Q
-through {T} {E} {P} s (Ok x) is h f = f x (subst (λ (z : Result T E). IfOk z P) is h)
-through s (Err e) is h f = tt
+-- what holds of what was served and told holds of the result
+pub through_both : {T E : Type 0} {P Q : T → Type 0} {R : Type 0} (s : Result T E) (t : Result (Unit {0}) E) (r : Result T E) → IfOk r (λ x. s ≡ Ok x) → OnOk r (t ≡ Ok tt) → IfOk s P → OnOk t R → ((x : T) → P x → R → Q x) → IfOk r Q
+through_both {T} {E} {P} {Q} {R} s t (Ok x) is told h k f = f x (subst (λ (z : Result T E). IfOk z P) is h) (subst (λ (z : Result (Unit {0}) E). OnOk z R) told k)
+through_both s t (Err e) is told h k f = tt
+
+-- the end of a run, and what it told
+
+pub closed : (step : AdviceStep) (first : ℕ) (p q r : Point) (s t : PlainSender) (a b : Option (List ℕ)) (k l : Log) → (d : DrainsAll p a k q b l) → SendsAll step (λ id. nat_lt id first) (stored_at q) s q t r → IsAtRest r → IsEmptied (world_at r)
+    → (c : Closes step first p s a r t b) × Tells c.drains.serves.lines 0 k l
+closed step first p q r s t a b k l d sends rest emptied =
+    (record { drained = q; drains = d.drains; sends = sends; rest = rest; emptied = emptied }, d.tells)
+
+-- a cut, rounds, and the end, one after the other
+pub all_served : (step : AdviceStep) (first : ℕ) (threads : Bool) (frames : List (List ℕ)) (p q r t : Point) (s u : PlainSender) (a b c : Option (List ℕ)) (k l m o : Log) → Cuts p k q l → IsReady q → (f : ReportsFor threads frames q a l r b m)
+    → (d : Closes step first r s b t u c) × Tells d.drains.serves.lines 0 m o → (all : ServesAll step first f.rounds p s a c) × (all.end ≡ t) × Tells (lines_cut all) (passed_over frames) k o
+all_served step first threads frames p q r t s u a b c k l m o cuts ready f (d, tells) = (
+  record {
+    begun = q;
+    cut = cuts.lines;
+    cuts = cuts.cuts;
+    ready = ready;
+    served = r;
+    between = b;
+    serves = f.reports.serves;
+    drained = d.drained;
+    drains = d.drains;
+    sent = u;
+    end = t;
+    sends = d.sends;
+    rest = d.rest;
+    emptied = d.emptied;
+  },
+  refl,
+  lines_before cuts.lines (f.reports.serves.lines ++ d.drains.serves.lines) (passed_over frames) k l o cuts.tells
+      (lines_then f.reports.serves.lines d.drains.serves.lines (passed_over frames) l m o f.reports.tells tells),
+)

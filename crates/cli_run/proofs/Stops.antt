@@ -15,10 +15,11 @@ use Rattle.tx_plant.specs.declared.turn.Outcome.{Outcome}
 use Rattle.tx_plant.specs.declared.turn.Turn.TheVariants as turn
 use Rattle.cli_run.specs.Points.{IsAtRest, IsReady, Point, responses, unanswered}
 use Rattle.cli_run.specs.Requests.{Reads, ReadsOn, if_read, request_of, requests}
-use Rattle.cli_run.specs.Rounds.{Batched, Completed, Does, Drains, IsOfBatches, IsRetry, Offered, Released, Round, Serves, ServesFor, Transacts, Trimmed, answering, offered_in}
+use Rattle.cli_run.specs.Rounds.{Batched, Completed, Does, Drains, IsOfBatches, IsRetry, MayCut, Offered, Released, Round, RoundsFor, Serves, ServesFor, Transacts, Trimmed, answering, offered_in, untrimmed}
 use Rattle.cli_run.specs.Stopped.{DrainsSome, GivesSome, Halts, HaltsOn, HaltsToward, IsOfNext, StopsWithin}
 use Rattle.cli_run.proofs.Readings.{nothing_read, requests_append, requests_front, requests_next}
-use Rattle.cli_run.proofs.Rounds.{Empties, answering_append, gives_own, retries_append, serves_none, serves_offer, serves_then}
+use Rattle.cli_run.specs.Traces.{Log}
+use Rattle.cli_run.proofs.Rounds.{Empties, answering_append, gives_own, retries_append, serves_none, serves_offer, serves_then, serves_trimmed}
 
 nothing_next : (rounds : List Round) (p : Point) → IsOfNext rounds p []
 nothing_next [] p = refl
@@ -169,21 +170,35 @@ retries_offer_none (Released ∷ rs) h = retries_offer_none rs h.1
 retries_offer_none (Batched xs ∷ rs) h = absurd h.0
 retries_offer_none (Trimmed ∷ rs) h = absurd h.0
 
-pub for_none : (threads : Bool) (p : Point) (a : Option (List ℕ)) → ServesFor threads [] p a p a
-for_none false p a = ([], refl, serves_none p a)
-for_none true p a = ([], (refl, tt), serves_none p a)
+pub untrimmed_append : (rs ss : List Round) → untrimmed (rs ++ ss) ≡ untrimmed rs ++ untrimmed ss
+untrimmed_append [] ss = refl
+untrimmed_append (Offered x ∷ rs) ss = ap (λ (l : List Round). Offered x ∷ l) (untrimmed_append rs ss)
+untrimmed_append (Completed ∷ rs) ss = ap (λ (l : List Round). Completed ∷ l) (untrimmed_append rs ss)
+untrimmed_append (Released ∷ rs) ss = ap (λ (l : List Round). Released ∷ l) (untrimmed_append rs ss)
+untrimmed_append (Batched xs ∷ rs) ss = ap (λ (l : List Round). Batched xs ∷ l) (untrimmed_append rs ss)
+untrimmed_append (Trimmed ∷ rs) ss = untrimmed_append rs ss
 
-pub for_then : (threads : Bool) (xs ys : List Pairs) (p q r : Point) (a b c : Option (List ℕ)) → ServesFor threads xs p a q b → ServesFor threads ys q b r c → ServesFor threads (xs ++ ys) p a r c
-for_then false xs ys p q r a b c (rs, is, s) (ss, are, t) = (rs ++ ss, rw (is, are) (sym (answering_append xs ys)), serves_then rs ss p q r a b c s t)
-for_then true xs ys p q r a b c (rs, is, s) (ss, are, t) =
-    (rs ++ ss, (rw (sym is.0, sym are.0) (offered_append rs ss), of_batches_append rs ss is.1 are.1), serves_then rs ss p q r a b c s t)
+pub untrimmed_answering : (xs : List Pairs) → untrimmed (answering xs) ≡ answering xs
+untrimmed_answering [] = refl
+untrimmed_answering (x ∷ xs) = ap (λ (l : List Round). Offered x ∷ Completed ∷ l) (untrimmed_answering xs)
+
+both_answering : (xs ys : List Pairs) (rs ss : List Round) → untrimmed rs ≡ answering xs → untrimmed ss ≡ answering ys → untrimmed (rs ++ ss) ≡ answering (xs ++ ys)
+both_answering xs ys rs ss is are = untrimmed_append rs ss ∙ (rw (is, are) (sym (answering_append xs ys)))
+
+pub rounds_append : (threads : Bool) (xs ys : List Pairs) (rs ss : List Round) → RoundsFor threads xs rs → RoundsFor threads ys ss → RoundsFor threads (xs ++ ys) (rs ++ ss)
+rounds_append false xs ys rs ss is are = both_answering xs ys rs ss is are
+rounds_append true xs ys rs ss is are = (rw (sym is.0, sym are.0) (offered_append rs ss), of_batches_append rs ss is.1 are.1)
+
+pub rounds_none : (threads : Bool) → RoundsFor threads [] []
+rounds_none false = refl
+rounds_none true = (refl, tt)
 
 pub toward_none : (threads : Bool) (xs : List Pairs) (p : Point) (a : Option (List ℕ)) → HaltsToward threads xs p a a
-toward_none false xs p a = (answering xs, refl, halts_none (answering xs) p a)
+toward_none false xs p a = (answering xs, untrimmed_answering xs, halts_none (answering xs) p a)
 toward_none true xs p a = ([], (xs, refl, tt), halts_none [] p a)
 
 pub toward_then : (threads : Bool) (xs ys : List Pairs) (p q : Point) (a b c : Option (List ℕ)) → ServesFor threads xs p a q b → HaltsToward threads ys q b c → HaltsToward threads (xs ++ ys) p a c
-toward_then false xs ys p q a b c (rs, is, s) (ss, are, h) = (rs ++ ss, rw (is, are) (sym (answering_append xs ys)), halts_then rs ss p q a b c s h)
+toward_then false xs ys p q a b c (rs, is, s) (ss, are, h) = (rs ++ ss, both_answering xs ys rs ss is are, halts_then rs ss p q a b c s h)
 toward_then true xs ys p q a b c (rs, is, s) (ss, (later, split, all), h) = (
   rs ++ ss,
   (
@@ -195,23 +210,28 @@ toward_then true xs ys p q a b c (rs, is, s) (ss, (later, split, all), h) = (
 )
 
 pub toward_before : (threads : Bool) (xs ys : List Pairs) (p : Point) (a b : Option (List ℕ)) → HaltsToward threads xs p a b → HaltsToward threads (xs ++ ys) p a b
-toward_before false xs ys p a b (rs, is, h) = (answering (xs ++ ys), refl, halts_answers xs ys p a b (subst (λ (l : List Round). Halts l p a b) is h))
+toward_before false xs ys p a b (rs, is, h) = (rs ++ answering ys, both_answering xs ys rs (answering ys) is (untrimmed_answering ys), halts_before rs (answering ys) p a b h)
 toward_before true xs ys p a b (rs, (later, split, all), h) = (
   rs,
   (later ++ ys, ap (λ (l : List Pairs). l ++ ys) split ∙ append_assoc (offered_in rs) later ys, all),
   h,
 )
 
+-- the history may be cut first
+pub toward_trimmed : (xs : List Pairs) (p q : Point) (lines : List ℕ) (a b : Option (List ℕ)) → MayCut p lines q → Halts (answering xs) q a b → HaltsToward false xs p a b
+toward_trimmed xs p q lines a b cuts h =
+    (Trimmed ∷ answering xs, untrimmed_answering xs, halts_then (Trimmed ∷ []) (answering xs) p q a a b (serves_trimmed p q lines a cuts) h)
+
 -- the queue and the shelf
 
-pub drains_none : (p q : Point) (a b : Option (List ℕ)) → Empties p a q b → DrainsSome p a b
-drains_none p q a b e = record { rounds = e.rounds; retries = e.retries; halts = halts_all e.rounds p q a b e.serves }
+pub drains_none : (p q : Point) (a b : Option (List ℕ)) (k l : Log) → Empties p a k q b l → DrainsSome p a b
+drains_none p q a b k l e = record { rounds = e.rounds; retries = e.retries; halts = halts_all e.rounds p q a b e.reports.serves }
 
-pub drains_next : (p q : Point) (a b c : Option (List ℕ)) → Empties p a q b → Halts (Completed ∷ []) q b c → DrainsSome p a c
-drains_next p q a b c e h = record {
+pub drains_next : (p q : Point) (a b c : Option (List ℕ)) (k l : Log) → Empties p a k q b l → Halts (Completed ∷ []) q b c → DrainsSome p a c
+drains_next p q a b c k l e h = record {
   rounds = e.rounds ++ Completed ∷ [];
   retries = retries_append e.rounds (Completed ∷ []) e.retries (tt, tt);
-  halts = halts_then e.rounds (Completed ∷ []) p q a b c e.serves h;
+  halts = halts_then e.rounds (Completed ∷ []) p q a b c e.reports.serves h;
 }
 
 pub drains_all : (p q : Point) (a b : Option (List ℕ)) → Drains p a q b → DrainsSome p a b

@@ -9,3 +9,4 @@ pub mod Lines
 pub mod Stored
 pub mod Calls
 pub mod Stopped
+pub mod Traces

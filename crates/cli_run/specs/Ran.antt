@@ -1,5 +1,5 @@
 -- A whole run.
-use Rattle.std.specs.Prelude.{ℕ, ◌-◌, List, nat_lt, Option}
+use Rattle.std.specs.Prelude.{ℕ, ◌-◌, List, ◌++◌, nat_lt, Option}
 use Rattle.std.specs.Io.KnownBytes.{Appends}
 use Rattle.flow_model.specs.declared.flow.Flow.{Flow}
 use Rattle.sw_issuers.specs.Sending.{PlainSender}
@@ -7,7 +7,7 @@ use Rattle.tx_history.specs.declared.journal.JournalView.{JournalView}
 use Rattle.tx_plant.specs.Plant.{Seen, Whole}
 use Rattle.plant_outcome.specs.Lives.{IsMade}
 use Rattle.cli_run.specs.Points.{IsAtRest, IsReady, Point, world_at}
-use Rattle.cli_run.specs.Rounds.{CutsLong, Drains, IsEmptied, Recovers, Round, Serves}
+use Rattle.cli_run.specs.Rounds.{Drains, IsEmptied, MayCut, Recovers, Round, Serves}
 use Rattle.cli_run.specs.Lines.{lines_in}
 use Rattle.cli_run.specs.Advices.{AdviceStep, SendsAll, stored_at}
 
@@ -22,12 +22,13 @@ pub record Begins (f : Flow) (sessions : ℕ) (j : Seen) (p : Point) : Type 0 wh
   pub is_made : IsMade f sessions view j made
   pub recovers : Recovers (made_at made view) p
 
--- A long history is cut first. The rounds are done, in which requests are offered when the switch is ready for them, and answered before the next
+-- The history may be cut first. The rounds are done, in which requests are offered when the switch is ready for them, and answered before the next
 -- are; the queue and the shelf are emptied; then each stored advice is sent once, as a repeat where its transaction has an id below `first`, and
 -- dropped where it is accepted.
 pub record ServesAll (step : AdviceStep) (first : ℕ) (rounds : List Round) (p : Point) (sender : PlainSender) (before after : Option (List ℕ)) : Type 0 where
   pub begun : Point
-  pub cuts : CutsLong p begun
+  pub cut : List ℕ
+  pub cuts : MayCut p cut begun
   pub ready : IsReady begun
   pub served : Point
   pub between : Option (List ℕ)
@@ -39,6 +40,14 @@ pub record ServesAll (step : AdviceStep) (first : ℕ) (rounds : List Round) (p 
   pub sends : SendsAll step (λ id. nat_lt id first) (stored_at drained) sender drained sent end
   pub rest : IsAtRest end
   pub emptied : IsEmptied (world_at end)
+
+-- the lines of the entries that were cut till then, each once, the oldest first
+abbrev pub lines_cut : {step : AdviceStep} {first : ℕ} {rounds : List Round} {p : Point} {sender : PlainSender} {before after : Option (List ℕ)} → ServesAll step first rounds p sender before after → List ℕ
+lines_cut s = s.cut ++ (s.serves.lines ++ s.drains.serves.lines)
+
+-- and with those of the history that is left
+abbrev pub all_lines : {step : AdviceStep} {first : ℕ} {rounds : List Round} {p : Point} {sender : PlainSender} {before after : Option (List ℕ)} → ServesAll step first rounds p sender before after → List ℕ
+all_lines s = lines_cut s ++ lines_in (world_at s.end)
 
 -- the queue and the shelf are emptied; then each stored advice is sent
 pub record Closes (step : AdviceStep) (first : ℕ) (p : Point) (sender : PlainSender) (before : Option (List ℕ)) (q : Point) (sent : PlainSender) (after : Option (List ℕ)) : Type 0 where

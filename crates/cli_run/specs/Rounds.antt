@@ -18,6 +18,7 @@ use Rattle.plant_outcome.specs.Lives.{AllDriven, Done, Drive}
 use Rattle.tx_pool.specs.Receipts.{offered_of, run_entries}
 use Rattle.tx_pool.specs.Settled.{IsSettled}
 use Rattle.tx_pool.specs.Went.{Grown}
+use Rattle.cli_run.specs.Lines.{lines_in}
 use Rattle.cli_run.specs.Points.{IsAllWritten, IsAtRest, IsIdle, IsReady, Point, all_answered, ended_at, is_long, next_at, response_of, responses, unanswered, with_ended, world_at}
 
 -- calls of `drive`, one after the other; no response is given meanwhile
@@ -54,22 +55,18 @@ pub record Transacts (p : Point) (own : Option Pairs) (q : Point) : Type 0 where
   pub idle : IsIdle (world_at q)
   pub written : IsAllWritten (world_at q)
 
--- a long history is cut, and no other
-abbrev pub CutsIf : Bool → Point → Point → Type 0
-CutsIf true p q = (o : Outcome) × Does turn.Cut o p q
-CutsIf false p q = q ≡ p
-
-pub record CutsLong (p q : Point) : Type 0 where
-  pub cuts : CutsIf (is_long (world_at p)) p q
+-- The history is cut or not, and is not long then. These are the lines of the entries that are cut.
+pub record MayCut (p : Point) (lines : List ℕ) (q : Point) : Type 0 where
+  pub cuts : ((q ≡ p) × (lines ≡ [])) ⊎ ((o : Outcome) × Does turn.Cut o p q × (lines ≡ lines_in (world_at p)))
   pub short : is_long (world_at q) ≡ false
 
--- A transaction runs to its end; then its response is given, and no other. A long history is cut.
-pub record Completes (p : Point) (bytes : List ℕ) (q : Point) : Type 0 where
+-- A transaction runs to its end; then its response is given, and no other. The history may be cut.
+pub record Completes (p : Point) (bytes lines : List ℕ) (q : Point) : Type 0 where
   pub own : Option Pairs
   pub ended : Point
   pub transacts : Transacts p own ended
   pub gives : AreFramed bytes (response_of own)
-  pub cuts : CutsLong (all_answered ended) q
+  pub cuts : MayCut (all_answered ended) lines q
   pub rest : IsAtRest q
 
 -- A batch: the requests are offered, in their order, and run by all sessions at once, until nothing waits, no session holds a
@@ -89,11 +86,6 @@ pub record Runs (requests : List Pairs) (p : Point) (bytes : List ℕ) (q : Poin
   pub gives : AreFramed bytes (responses (unanswered ended))
   pub answered : q ≡ all_answered ended
 
--- a history is cut or not, and is not long then
-pub record MayCut (p q : Point) : Type 0 where
-  pub cuts : (q ≡ p) ⊎ ((o : Outcome) × Does turn.Cut o p q)
-  pub short : is_long (world_at q) ≡ false
-
 -- what is done, from one response to the next
 pub data Round : Type 0 where
   Offered : (request : Pairs) → Round
@@ -102,19 +94,28 @@ pub data Round : Type 0 where
   Batched : (requests : List Pairs) → Round
   Trimmed : Round
 
--- One after the other, with what they give. A request is offered, or a batch, only when the switch is ready for it.
-abbrev pub Goes : List Round → Point → List ℕ → Point → Type 0
-Goes [] p bytes q = (bytes ≡ []) × (q ≡ p)
-Goes (Offered x ∷ rs) p bytes q = IsReady p × (o : Outcome) × (w : Point) × Does (turn.Offer x) o p w × Goes rs w bytes q
-Goes (Completed ∷ rs) p bytes q = (w : Point) × (first : List ℕ) × (later : List ℕ) × Completes p first w × Goes rs w later q × (bytes ≡ first ++ later)
-Goes (Released ∷ rs) p bytes q = (o : Outcome) × (w : Point) × Does turn.Release o p w × Goes rs w bytes q
-Goes (Batched xs ∷ rs) p bytes q = IsReady p × (w : Point) × (first : List ℕ) × (later : List ℕ) × Runs xs p first w × Goes rs w later q × (bytes ≡ first ++ later)
-Goes (Trimmed ∷ rs) p bytes q = (w : Point) × MayCut p w × Goes rs w bytes q
+-- One after the other, with what they give, and the lines of the entries that are cut. A request is offered, or a batch, only
+-- when the switch is ready for it.
+abbrev pub Goes : List Round → Point → List ℕ → List ℕ → Point → Type 0
+Goes [] p bytes lines q = (bytes ≡ []) × (lines ≡ []) × (q ≡ p)
+Goes (Offered x ∷ rs) p bytes lines q = IsReady p × (o : Outcome) × (w : Point) × Does (turn.Offer x) o p w × Goes rs w bytes lines q
+Goes (Completed ∷ rs) p bytes lines q =
+    (w : Point) × (first : List ℕ) × (later : List ℕ) × (cut : List ℕ) × (others : List ℕ)
+    × Completes p first cut w × Goes rs w later others q × (bytes ≡ first ++ later) × (lines ≡ cut ++ others)
+Goes (Released ∷ rs) p bytes lines q = (o : Outcome) × (w : Point) × Does turn.Release o p w × Goes rs w bytes lines q
+Goes (Batched xs ∷ rs) p bytes lines q = IsReady p × (w : Point) × (first : List ℕ) × (later : List ℕ) × Runs xs p first w × Goes rs w later lines q × (bytes ≡ first ++ later)
+Goes (Trimmed ∷ rs) p bytes lines q = (w : Point) × (cut : List ℕ) × (others : List ℕ) × MayCut p cut w × Goes rs w bytes others q × (lines ≡ cut ++ others)
 
 -- each request is offered, and the queue's first transaction runs to its end before the next is
 abbrev pub answering : List Pairs → List Round
 answering [] = []
 answering (x ∷ xs) = Offered x ∷ Completed ∷ answering xs
+
+-- without the cuts between two transactions
+abbrev pub untrimmed : List Round → List Round
+untrimmed [] = []
+untrimmed (Trimmed ∷ rs) = untrimmed rs
+untrimmed (r ∷ rs) = r ∷ untrimmed rs
 
 -- no request is offered any more
 abbrev pub IsRetry : Round → Type 0
@@ -135,20 +136,21 @@ offered_in (Offered x ∷ rs) = x ∷ offered_in rs
 offered_in (Batched xs ∷ rs) = xs ++ offered_in rs
 offered_in (_ ∷ rs) = offered_in rs
 
--- rounds, with what an output holds before and after, where that is known
+-- rounds, with what an output holds before and after, where that is known, and the lines of the entries that are cut
 pub record Serves (rounds : List Round) (p : Point) (before : Option (List ℕ)) (q : Point) (after : Option (List ℕ)) : Type 0 where
   pub bytes : List ℕ
-  pub goes : Goes rounds p bytes q
+  pub lines : List ℕ
+  pub goes : Goes rounds p bytes lines q
   pub appends : Appends before after bytes
 
--- rounds that answer these requests: one after the other, or in batches
+-- rounds that answer these requests: one after the other, or in batches. The history may be cut between them.
 abbrev pub RoundsFor : Bool → List Pairs → List Round → Type 0
-RoundsFor false requests rounds = rounds ≡ answering requests
+RoundsFor false requests rounds = untrimmed rounds ≡ answering requests
 RoundsFor true requests rounds = (offered_in rounds ≡ requests) × AllByRecursion IsOfBatches rounds
 
 -- of batches that were not all run, those that are to come stand behind
 abbrev pub RoundsToward : Bool → List Pairs → List Round → Type 0
-RoundsToward false requests rounds = rounds ≡ answering requests
+RoundsToward false requests rounds = untrimmed rounds ≡ answering requests
 RoundsToward true requests rounds = (later : List Pairs) × (requests ≡ offered_in rounds ++ later) × AllByRecursion IsOfBatches rounds
 
 -- these requests are answered
@@ -167,17 +169,6 @@ pub record Drains (p : Point) (before : Option (List ℕ)) (q : Point) (after : 
   pub serves : Serves rounds p before q after
   pub rest : IsAtRest q
   pub emptied : IsEmptied (world_at q)
-
--- Behind a batch: the responses of all transactions that ended are given, the queue and the shelf are emptied, and the history
--- may be cut.
-pub record Finishes (p : Point) (before : Option (List ℕ)) (q : Point) (after : Option (List ℕ)) : Type 0 where
-  pub text : List ℕ
-  pub framed : AreFramed text (responses (unanswered p))
-  pub between : Option (List ℕ)
-  pub gives : Appends before between text
-  pub drained : Point
-  pub drains : Drains (all_answered p) between drained after
-  pub cuts : MayCut drained q
 
 -- A recovery: turns that write and step session 0 alone. Then nothing is to recover, and nothing waits in the queue.
 pub record Recovers (p q : Point) : Type 0 where

@@ -9,7 +9,7 @@ use Rattle.flow_model.specs.declared.flow.Flow.{Flow}
 use Rattle.tx_plant.specs.Plant.{Seen}
 use Rattle.cli_run.specs.declared.stream.StreamEnd.{StreamEnd}
 use Rattle.cli_run.specs.Points.{IsReady, Point, all_answered, response_of, responses, unanswered, world_at}
-use Rattle.cli_run.specs.Rounds.{Batched, Completed, CutsLong, IsRetry, Round, RoundsToward, Serves, ServesFor, Together, Transacts}
+use Rattle.cli_run.specs.Rounds.{Batched, Completed, IsRetry, MayCut, Round, RoundsToward, Serves, ServesFor, Together, Transacts}
 use Rattle.cli_run.specs.Lines.{lines_in}
 use Rattle.cli_run.specs.Ran.{Begins}
 use Rattle.cli_run.specs.Requests.{ReadTo, Reads, requests}
@@ -99,10 +99,11 @@ pub record StopsBehind (threads : Bool) (input : Option (List ℕ)) (p : Point) 
   pub serves : ServesFor threads (requests frames) p before served between
   pub drains : DrainsSome served between after
 
--- a long history was cut, and what an input has was served, up to an error
+-- the history may be cut, and what an input has was served, up to an error
 pub record Serving (threads : Bool) (input : Option (List ℕ)) (p : Point) (before after : Option (List ℕ)) : Type 0 where
   pub begun : Point
-  pub cuts : CutsLong p begun
+  pub cut : List ℕ
+  pub cuts : MayCut p cut begun
   pub ready : IsReady begun
   pub serves : StopsWithin threads input begun before after ⊎ StopsBehind threads input begun before after
 

@@ -3,15 +3,15 @@
 ghost use Rattle.std.specs.Prelude.{◌≡◌, ◌≤◌, ◌++◌, option_to_list, List, ℕ, [], IfOk, OnErr, OnOk, length, vec_len, true};
 ghost use Rattle.sw_frame.specs.Feeds.{messages};
 ghost use Rattle.sw_frame.specs.Stream.{blank};
-ghost use Rattle.tx_engine.specs.Calls.{waits};
-ghost use Rattle.cli_run.specs.Points.{IsAtRest, IsReady, RestsGiven, point_of};
+ghost use Rattle.cli_run.specs.Points.{IsReady, RestsGiven, point_of};
 ghost use Rattle.cli_run.specs.Requests.{ReadTo, requests};
-ghost use Rattle.cli_run.specs.Rounds.{Finishes, MayCut, ServesFor};
+ghost use Rattle.cli_run.specs.Rounds.{Round, RoundsFor};
 ghost use Rattle.cli_run.specs.Stopped.{HaltsToward, StopsWithin, Unfinished};
+ghost use Rattle.cli_run.specs.Traces.{Finishes, Reports, ReportsFor, Tells, log_of, passed_over};
 
 use crate::error::ServeError;
 use crate::stream::{PIECE, Piece, Requests, StreamEnd, request_in};
-use crate::switch::{MANY_ENTRIES, MAX_BATCH, Switch};
+use crate::switch::{MAX_BATCH, Switch};
 use crate::told::Told;
 use cli_io::ReadError;
 use sqlite::Alter;
@@ -20,29 +20,8 @@ use std::io::{Read, Write};
 use std::sync::Wait;
 use std::thread::Threads;
 use sw_context::Context;
-use tx_plant::Turn;
 
 impl<S: Alter + Drop> Switch<S> {
-    // Cuts a history that is long, or whose lines are wanted; these are told before.
-    fn cut_told<E: Write>(
-        &mut self,
-        alloc: Global,
-        told: &mut Told<'_, E>,
-    ) -> Result<(), ServeError>
-        requires rest { IsAtRest (point_of S.Store self.old) }
-        requires empty { waits self.old.plant.running.engine ≡ [] }
-        ensures cuts { OnOk result (MayCut
-            (point_of S.Store self.old) (point_of S.Store self.new)) }
-        ensures ready { OnOk result (IsReady (point_of S.Store self.new)) }
-    {
-        if !told.trace && self.engine().history().len() < MANY_ENTRIES {
-            return Ok(());
-        }
-        told.trace(alloc, self.engine())?;
-        self.act(alloc, Turn::Cut)?;
-        Ok(())
-    }
-
     // Gives the responses of a batch, runs what is on the shelf, and tells the lines of the trace.
     fn finish<O: Write, E: Write>(
         &mut self,
@@ -51,8 +30,9 @@ impl<S: Alter + Drop> Switch<S> {
         told: &mut Told<'_, E>,
     ) -> Result<(), ServeError>
         requires { RestsGiven (point_of S.Store self.old) }
-        ensures finishes { OnOk result (Finishes (point_of S.Store self.old) (O.contents out.old)
-            (point_of S.Store self.new) (O.contents out.new)) }
+        ensures finishes { OnOk result (Finishes
+            (point_of S.Store self.old) (O.contents out.old) (log_of E.contents told.old)
+            (point_of S.Store self.new) (O.contents out.new) (log_of E.contents told.new)) }
         ensures ready { OnOk result (IsReady (point_of S.Store self.new)) }
         ensures unfinished { OnErr result (Unfinished (point_of S.Store self.old)
             (O.contents out.old) (O.contents out.new)) }
@@ -74,9 +54,10 @@ impl<S: Alter + Drop> Switch<S> {
     ) -> Result<Switch<S>, ServeError>
         requires ready { IsReady (point_of S.Store self) }
         requires few { vec_len requests ≤ 256 }
-        ensures serves { IfOk result (λ switch. ServesFor true requests.items
-            (point_of S.Store self) (O.contents out.old)
-            (point_of S.Store switch) (O.contents out.new)) }
+        ensures serves { IfOk result (λ switch. (rounds : List Round)
+            × RoundsFor true requests.items rounds × Reports rounds 0
+            (point_of S.Store self) (O.contents out.old) (log_of E.contents told.old)
+            (point_of S.Store switch) (O.contents out.new) (log_of E.contents told.new)) }
         ensures ready { IfOk result (λ switch. IsReady (point_of S.Store switch)) }
         ensures halts { OnErr result (HaltsToward true requests.items
             (point_of S.Store self) (O.contents out.old) (O.contents out.new)) }
@@ -113,6 +94,8 @@ fn requests_in<E: Write>(
     told: &mut Told<'_, E>,
 ) -> Result<Vec<Context>, ServeError>
     ensures all { IfOk result (λ found. found.items ≡ requests (messages list.now)) }
+    ensures told { OnOk result (Tells [] (passed_over (messages list.now))
+        (log_of E.contents told.old) (log_of E.contents told.new)) }
     ensures few { IfOk result (λ found. vec_len found ≤ length list.now) }
 {
     let mut found = Vec::new(alloc);
@@ -135,9 +118,9 @@ fn answer_batches<S: Alter + Drop, T: Threads + Wait + Sync, O: Write, E: Write>
     told: &mut Told<'_, E>,
 ) -> Result<Switch<S>, ServeError>
     requires ready { IsReady (point_of S.Store switch) }
-    ensures serves { IfOk result (λ after. ServesFor true (requests (messages list.now))
-        (point_of S.Store switch) (O.contents out.old)
-        (point_of S.Store after) (O.contents out.new)) }
+    ensures serves { IfOk result (λ after. ReportsFor true (messages list.now)
+        (point_of S.Store switch) (O.contents out.old) (log_of E.contents told.old)
+        (point_of S.Store after) (O.contents out.new) (log_of E.contents told.new)) }
     ensures ready { IfOk result (λ after. IsReady (point_of S.Store after)) }
     ensures halts { OnErr result (HaltsToward true (requests (messages list.now))
         (point_of S.Store switch) (O.contents out.old) (O.contents out.new)) }
@@ -175,8 +158,9 @@ impl Requests {
         requires fresh { self.old.framer ≡ blank }
         ensures serves { IfOk result (λ served. (frames : List (List ℕ))
             × ReadTo served.1 (R.remaining input.old) frames
-            × ServesFor true (requests frames) (point_of S.Store switch) (O.contents out.old)
-            (point_of S.Store served.0) (O.contents out.new)) }
+            × ReportsFor true frames
+            (point_of S.Store switch) (O.contents out.old) (log_of E.contents told.old)
+            (point_of S.Store served.0) (O.contents out.new) (log_of E.contents told.new)) }
         ensures ready { IfOk result (λ served. IsReady (point_of S.Store served.0)) }
         ensures stops { OnErr result (StopsWithin true (R.remaining input.old)
             (point_of S.Store switch) (O.contents out.old) (O.contents out.new)) }

@@ -13,10 +13,11 @@ ghost use Rattle.plant_outcome.specs.Lives.{IsMade};
 ghost use Rattle.cli_run.specs.Links.{sender_of};
 ghost use Rattle.cli_run.specs.Lines.{lines_in};
 ghost use Rattle.cli_run.specs.Points.{IsAtRest, point_of};
-ghost use Rattle.cli_run.specs.Ran.{Closes, Printed, Ran, ServesAll};
-ghost use Rattle.cli_run.specs.Rounds.{Drains, Recovers, Round, RoundsFor, answering};
+ghost use Rattle.cli_run.specs.Ran.{Closes, Printed, Ran, ServesAll, all_lines, lines_cut};
+ghost use Rattle.cli_run.specs.Rounds.{Recovers, Round, RoundsFor};
 ghost use Rattle.cli_run.specs.Requests.{ReadTo, requests};
 ghost use Rattle.cli_run.specs.Stopped.{DrainsSome, IsStopped, ServesSome};
+ghost use Rattle.cli_run.specs.Traces.{DrainsAll, Tells, log_of, passed_over};
 ghost use Rattle.cli_io.specs.Written.{AppendsBeginning};
 
 use crate::advices::send_advices;
@@ -70,9 +71,9 @@ impl<S: Alter> Switch<S> {
         told: &mut Told<'_, E>,
     ) -> Result<(), ServeError>
         requires rest { IsAtRest (point_of S.Store self.old) }
-        ensures drains { OnOk result (Drains
-            (point_of S.Store self.old) (O.contents out.old)
-            (point_of S.Store self.new) (O.contents out.new)) }
+        ensures drains { OnOk result (DrainsAll
+            (point_of S.Store self.old) (O.contents out.old) (log_of E.contents told.old)
+            (point_of S.Store self.new) (O.contents out.new) (log_of E.contents told.new)) }
         ensures stops { OnErr result (DrainsSome
             (point_of S.Store self.old) (O.contents out.old) (O.contents out.new)) }
     {
@@ -104,13 +105,16 @@ impl<S: Alter> Switch<S> {
         requires empty { waits self.old.plant.running.engine ≡ [] }
         ensures serves { IfOk result (λ end. (frames : List (List ℕ))
             × ReadTo end (R.remaining input) frames
-            × ServesAll (SendsAdvice L.sends L.receives L.starves (Unit {0})) first
-            (answering (requests frames))
-            (point_of S.Store self.old) sender.old (O.contents out.old) (O.contents out.new)) }
+            × (rounds : List Round) × RoundsFor false (requests frames) rounds
+            × (all : ServesAll (SendsAdvice L.sends L.receives L.starves (Unit {0})) first rounds
+            (point_of S.Store self.old) sender.old (O.contents out.old) (O.contents out.new))
+            × (all.end ≡ point_of S.Store self.new)
+            × Tells (lines_cut all) (passed_over frames)
+            (log_of E.contents told.old) (log_of E.contents told.new)) }
         ensures stops { OnErr result (ServesSome false (R.remaining input)
             (point_of S.Store self.old) (O.contents out.old) (O.contents out.new)) }
     {
-        self.cut_long(alloc, told)?;
+        self.cut_told(alloc, told)?;
         let mut input = input;
         let mut requests = Requests::new(alloc);
         let end = requests.serve_all(alloc, self, &mut input, out, told)?;
@@ -128,9 +132,12 @@ impl<S: Alter> Switch<S> {
         told: &mut Told<'_, E>,
     ) -> Result<(), ServeError>
         requires rest { IsAtRest (point_of S.Store self.old) }
-        ensures closes { OnOk result (Closes (SendsAdvice L.sends L.receives L.starves (Unit {0})) first
+        ensures closes { OnOk result (
+            (c : Closes (SendsAdvice L.sends L.receives L.starves (Unit {0})) first
             (point_of S.Store self.old) sender.old (O.contents out.old)
-            (point_of S.Store self.new) sender.new (O.contents out.new)) }
+            (point_of S.Store self.new) sender.new (O.contents out.new))
+            × Tells c.drains.serves.lines 0
+            (log_of E.contents told.old) (log_of E.contents told.new)) }
         ensures stops { OnErr result (DrainsSome
             (point_of S.Store self.old) (O.contents out.old) (O.contents out.new)) }
     {
@@ -157,13 +164,15 @@ impl<S: Alter + Drop> Switch<S> {
         ensures serves { IfOk result (λ end. (frames : List (List ℕ))
             × ReadTo end (R.remaining input) frames
             × (rounds : List Round) × RoundsFor true (requests frames) rounds
-            × ServesAll (SendsAdvice L.sends L.receives L.starves (Unit {0})) first rounds
-            (point_of S.Store self) sender.old (O.contents out.old) (O.contents out.new)) }
+            × (all : ServesAll (SendsAdvice L.sends L.receives L.starves (Unit {0})) first rounds
+            (point_of S.Store self) sender.old (O.contents out.old) (O.contents out.new))
+            × Tells (all_lines all) (passed_over frames)
+            (log_of E.contents told.old) (log_of E.contents told.new)) }
         ensures stops { OnErr result (ServesSome true (R.remaining input)
             (point_of S.Store self) (O.contents out.old) (O.contents out.new)) }
     {
         let mut switch = self;
-        switch.cut_long(alloc, told)?;
+        switch.cut_told(alloc, told)?;
         let mut input = input;
         let mut requests = Requests::new(alloc);
         let served = requests.serve_in_batches(rt, alloc, switch, &mut input, out, told)?;
@@ -206,9 +215,10 @@ pub struct Setup {
 // The error of what was served comes before that of the trace.
 fn end_of(
     served: Result<StreamEnd, ServeError>,
-    traced: Result<bool, ServeError>,
+    traced: Result<(), ServeError>,
 ) -> Result<StreamEnd, ServeError>
     ensures served { IfOk result (λ end. served ≡ Ok end) }
+    ensures traced { OnOk result (traced ≡ Ok tt) }
     ensures first { IfErr served (λ error. result ≡ Err error) }
 {
     let end = served?;
@@ -251,9 +261,11 @@ impl<S: Alter + Drop, R: Read + Drop, L: Link> Over<S, R, L> {
         ensures ran { IfOk result (λ end. IfSome self.input (λ reader. (frames : List (List ℕ))
             × ReadTo end (R.remaining reader) frames
             × (rounds : List Round) × RoundsFor self.threads (requests frames) rounds
-            × Ran code.now self.sessions (seen (kept S.Store self.journal))
+            × (ran : Ran code.now self.sessions (seen (kept S.Store self.journal))
             (SendsAdvice L.sends L.receives L.starves (Unit {0})) self.sender rounds
-            (O.contents out.old) (O.contents out.new))) }
+            (O.contents out.old) (O.contents out.new))
+            × Tells (all_lines ran.serves) (passed_over frames)
+            (log_of E.contents told.old) (log_of E.contents told.new))) }
         ensures printed { OnOk result (IfNone self.input (Printed code.now self.sessions
             (seen (kept S.Store self.journal)) (O.contents out.old) (O.contents out.new))) }
         ensures stopped { OnErr result (IsStopped self.threads (option_map R.remaining self.input)
@@ -297,8 +309,8 @@ fn boxed<P: Unjoined>(alloc: Global, participant: P) -> Result<Box<Bystander<P>>
 
 /// Recovers what the journal has unfinished. Without an input the lines of that are printed, and that is all.
 /// Else it answers the requests of an input as they come, then what is on the shelf, and sends the stored
-/// advices. At the end, also where it ends early, the lines of the trace are written. Where the stream of
-/// frames is refused, what came before is answered, and all else is done.
+/// advices. The lines of the trace so far are written before the input is read on, the rest at the end, also
+/// where it ends early. Where the stream of frames is refused, what came before is answered, and all is done.
 ///
 /// With threads the requests are answered in batches of those that have come, at most 256 at once; the lines
 /// of the trace are written behind each batch. Those of a batch that was given up are lost.
@@ -319,12 +331,14 @@ pub fn run<S: Alter + Drop, T: Threads + Wait + Sync, R: Read + Drop, O: Write, 
     ensures ran { IfOk result (λ end. IfSome input (λ reader. (frames : List (List ℕ))
         × ReadTo end (R.remaining reader) frames
         × (rounds : List Round) × RoundsFor setup.threads (requests frames) rounds
-        × Ran code.now setup.sessions (seen (kept S.Store journal))
+        × (ran : Ran code.now setup.sessions (seen (kept S.Store journal))
         (SendsAdvice ⟦<Issuer as Link>⟧.sends ⟦<Issuer as Link>⟧.receives
         ⟦<Issuer as Link>⟧.starves (Unit {0}))
         (sender_of (⟦<Issuer as Link>⟧.state setup.advised.alpha)
         (⟦<Issuer as Link>⟧.state setup.advised.beta)) rounds
-        (O.contents out.old) (O.contents out.new))) }
+        (O.contents out.old) (O.contents out.new))
+        × Tells (all_lines ran.serves) (passed_over frames)
+        (log_of E.contents told.old) (log_of E.contents told.new))) }
     ensures printed { OnOk result (IfNone input (Printed code.now setup.sessions
         (seen (kept S.Store journal)) (O.contents out.old) (O.contents out.new))) }
     ensures stopped { OnErr result (IsStopped setup.threads (option_map R.remaining input)

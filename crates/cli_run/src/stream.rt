@@ -8,10 +8,11 @@ ghost use Rattle.sw_frame.specs.Feeds.{messages};
 ghost use Rattle.sw_frame.specs.Stream.{blank};
 ghost use Rattle.iso_codec.specs.Reads.{read};
 ghost use Rattle.cli_run.specs.Points.{IsReady, point_of};
-ghost use Rattle.cli_run.specs.Rounds.{Serves, answering};
+ghost use Rattle.cli_run.specs.Rounds.{answering};
 ghost use Rattle.cli_run.specs.Errors.{result_of};
 ghost use Rattle.cli_run.specs.Requests.{EndsAs, FramesIn, ReadTo, ReadsOn, if_read, request_of, requests};
 ghost use Rattle.cli_run.specs.Stopped.{Halts, HaltsOn, StopsWithin};
+ghost use Rattle.cli_run.specs.Traces.{Reports, ReportsFor, Tells, if_passed, log_of, passed_over};
 ghost use Rattle.cli_run.specs.declared.stream.StreamEnd.TheVariants.{Unread};
 
 use crate::error::ServeError;
@@ -86,8 +87,10 @@ pub(crate) fn request_in<E: Write>(
     message: &[u8],
     told: &mut Told<'_, E>,
 ) -> Result<Option<Context>, ServeError>
-    ensures { IfOk result (λ request. option_to_list request
+    ensures request { IfOk result (λ request. option_to_list request
         ≡ map request_of (if_read (read message.now) message.now)) }
+    ensures told { OnOk result (Tells [] (if_passed (read message.now))
+        (log_of E.contents told.old) (log_of E.contents told.new)) }
 {
     match decode(alloc, message) {
         Ok(_) => {
@@ -99,7 +102,7 @@ pub(crate) fn request_in<E: Write>(
         }
         Err(DecodeError::OutOfMemory) => Err(ServeError::OutOfMemory),
         Err(error) => {
-            told.pass_over(number, &error);
+            told.pass_over(alloc, number, &error)?;
             Ok(None)
         }
     }
@@ -115,10 +118,10 @@ fn serve<S: Alter, O: Write, E: Write>(
     told: &mut Told<'_, E>,
 ) -> Result<(), ServeError>
     requires ready { IsReady (point_of S.Store switch.old) }
-    ensures serves { OnOk result (Serves (answering
-        (map request_of (if_read (read message.now) message.now)))
-        (point_of S.Store switch.old) (O.contents out.old)
-        (point_of S.Store switch.new) (O.contents out.new)) }
+    ensures serves { OnOk result (Reports (answering
+        (map request_of (if_read (read message.now) message.now))) (if_passed (read message.now))
+        (point_of S.Store switch.old) (O.contents out.old) (log_of E.contents told.old)
+        (point_of S.Store switch.new) (O.contents out.new) (log_of E.contents told.new)) }
     ensures halts { OnErr result (Halts (answering
         (map request_of (if_read (read message.now) message.now)))
         (point_of S.Store switch.old) (O.contents out.old) (O.contents out.new)) }
@@ -140,9 +143,10 @@ fn serve_messages<S: Alter, O: Write, E: Write>(
     told: &mut Told<'_, E>,
 ) -> Result<(), ServeError>
     requires ready { IsReady (point_of S.Store switch.old) }
-    ensures serves { OnOk result (Serves (answering (requests (messages list.now)))
-        (point_of S.Store switch.old) (O.contents out.old)
-        (point_of S.Store switch.new) (O.contents out.new)) }
+    ensures serves { OnOk result (Reports (answering (requests (messages list.now)))
+        (passed_over (messages list.now))
+        (point_of S.Store switch.old) (O.contents out.old) (log_of E.contents told.old)
+        (point_of S.Store switch.new) (O.contents out.new) (log_of E.contents told.new)) }
     ensures halts { OnErr result (Halts (answering (requests (messages list.now)))
         (point_of S.Store switch.old) (O.contents out.old) (O.contents out.new)) }
     ensures ready { OnOk result (IsReady (point_of S.Store switch.new)) }
@@ -228,7 +232,8 @@ impl Requests {
         Ok(Piece { messages, end })
     }
 
-    // Reads once, and answers the messages that are whole then. It tells how the stream ended, if it did.
+    // Reads once, and answers the messages that are whole then; the lines of the trace are told before. It
+    // tells how the stream ended, if it did.
     fn serve_read<S: Alter, R: Read, O: Write, E: Write>(
         &mut self,
         alloc: Global,
@@ -246,14 +251,15 @@ impl Requests {
         ensures serves { IfOk result (λ end. (more : List (List ℕ))
             × ReadsOn (R.remaining input.old) self.old.framer more
             (R.remaining input.new) self.new.framer
-            × Serves (answering (requests more))
-            (point_of S.Store switch.old) (O.contents out.old)
-            (point_of S.Store switch.new) (O.contents out.new)
+            × ReportsFor false more
+            (point_of S.Store switch.old) (O.contents out.old) (log_of E.contents told.old)
+            (point_of S.Store switch.new) (O.contents out.new) (log_of E.contents told.new)
             × IfSome end (λ e. EndsAs e self.new.framer (R.remaining input.new))) }
         ensures halts { OnErr result (HaltsOn false (R.remaining input.old) self.old.framer
             (point_of S.Store switch.old) (O.contents out.old) (O.contents out.new)) }
         ensures ready { OnOk result (IsReady (point_of S.Store switch.new)) }
     {
+        switch.cut_told(alloc, told)?;
         let Piece { messages, end } = self.read(alloc, input, buf)?;
         serve_messages(alloc, switch, &mut self.count, &messages, out, told)?;
         Ok(end)
@@ -272,9 +278,9 @@ impl Requests {
         requires fresh { self.old.framer ≡ blank }
         ensures serves { IfOk result (λ end. (frames : List (List ℕ))
             × ReadTo end (R.remaining input.old) frames
-            × Serves (answering (requests frames))
-            (point_of S.Store switch.old) (O.contents out.old)
-            (point_of S.Store switch.new) (O.contents out.new)) }
+            × ReportsFor false frames
+            (point_of S.Store switch.old) (O.contents out.old) (log_of E.contents told.old)
+            (point_of S.Store switch.new) (O.contents out.new) (log_of E.contents told.new)) }
         ensures stops { OnErr result (StopsWithin false (R.remaining input.old)
             (point_of S.Store switch.old) (O.contents out.old) (O.contents out.new)) }
         ensures ready { OnOk result (IsReady (point_of S.Store switch.new)) }

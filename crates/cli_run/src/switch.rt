@@ -1,16 +1,18 @@
 //! The plant of the switch, one transaction after the other.
 
-ghost use Rattle.std.specs.Prelude.{◌≡◌, ◌∷◌, List, ℕ, [], Option, IfOk, OnErr, OnOk};
+ghost use Rattle.std.specs.Prelude.{◌≡◌, ◌≤◌, ◌∷◌, List, ℕ, [], Option, IfOk, OnErr, OnOk};
 ghost use Rattle.std.specs.Io.KnownBytes.{Appends};
 ghost use Rattle.sw_context.specs.Pairs.{Pairs};
 ghost use Rattle.sw_frame.specs.Stream.{AreFramed};
+ghost use Rattle.tx_engine.specs.Calls.{waits};
 ghost use Rattle.plant_outcome.specs.Seated.{Seated};
 ghost use Rattle.cli_run.specs.Errors.{IsCause, IsNoStation};
 ghost use Rattle.cli_run.specs.Points.{IsAtRest, IsReady, all_answered, point_of};
 ghost use Rattle.cli_run.specs.Points.{responses, unanswered};
-ghost use Rattle.cli_run.specs.Rounds.{Completed, CutsLong, Does, IsDone, Serves};
-ghost use Rattle.cli_run.specs.Rounds.{Together, Transacts, answering};
+ghost use Rattle.cli_run.specs.Rounds.{Completed, Does, IsDone, Together, Transacts};
+ghost use Rattle.cli_run.specs.Rounds.{answering};
 ghost use Rattle.cli_run.specs.Stopped.{GivesSome, Halts};
+ghost use Rattle.cli_run.specs.Traces.{Cuts, Reports, log_of};
 
 use crate::error::ServeError;
 use crate::given::{last_above, text_above};
@@ -30,8 +32,9 @@ use tx_intake::Listed;
 use tx_plant::{Outcome, Plant, PlantError, Turn};
 use tx_pool::{Open, Pool};
 
-/// A history of so many entries is cut between two transactions: half of what it may have.
-pub(crate) const MANY_ENTRIES: usize = 524_288;
+/// A history of so many entries is cut between two transactions. Contracts know the bound, half of what a
+/// history may have, and not this number, which keeps a long run small.
+const MANY_ENTRIES: usize = 8_192;
 
 /// The most requests of a batch, and the places of its intake.
 pub(crate) const MAX_BATCH: usize = 256;
@@ -168,23 +171,48 @@ impl<S: Alter> Switch<S> {
         Ok(write_out(out, &text)?)
     }
 
-    /// Cuts a long history, its lines told before.
-    pub(crate) fn cut_long<E: Write>(
+    // Cuts a history of so many entries or more, its lines told before.
+    fn cut_from<E: Write>(
         &mut self,
         alloc: Global,
+        entries: usize,
         told: &mut Told<'_, E>,
     ) -> Result<(), ServeError>
         requires rest { IsAtRest (point_of S.Store self.old) }
-        ensures cuts { OnOk result (CutsLong
-            (point_of S.Store self.old) (point_of S.Store self.new)) }
+        requires bound { entries ≤ 524288 }
+        ensures cuts { OnOk result (Cuts
+            (point_of S.Store self.old) (log_of E.contents told.old)
+            (point_of S.Store self.new) (log_of E.contents told.new)) }
         ensures rest { OnOk result (IsAtRest (point_of S.Store self.new)) }
+        ensures queue { OnOk result (waits self.new.plant.running.engine
+            ≡ waits self.old.plant.running.engine) }
     {
-        if self.engine().history().len() < MANY_ENTRIES {
+        if self.engine().history().len() < entries {
             return Ok(());
         }
         told.trace(alloc, self.engine())?;
         self.act(alloc, Turn::Cut)?;
         Ok(())
+    }
+
+    /// Cuts a history whose lines are wanted, or that is long; these are told before. So lines of the trace
+    /// are told before an input is waited for.
+    pub(crate) fn cut_told<E: Write>(
+        &mut self,
+        alloc: Global,
+        told: &mut Told<'_, E>,
+    ) -> Result<(), ServeError>
+        requires rest { IsAtRest (point_of S.Store self.old) }
+        requires empty { waits self.old.plant.running.engine ≡ [] }
+        ensures cuts { OnOk result (Cuts
+            (point_of S.Store self.old) (log_of E.contents told.old)
+            (point_of S.Store self.new) (log_of E.contents told.new)) }
+        ensures ready { OnOk result (IsReady (point_of S.Store self.new)) }
+    {
+        if told.trace {
+            return self.cut_from(alloc, 1, told);
+        }
+        self.cut_from(alloc, MANY_ENTRIES, told)
     }
 
     /// Runs the transaction of the queue's first context to its end, and writes its response.
@@ -195,16 +223,16 @@ impl<S: Alter> Switch<S> {
         out: &mut O,
     ) -> Result<(), ServeError>
         requires rest { IsAtRest (point_of S.Store self.old) }
-        ensures serves { OnOk result (Serves (Completed ∷ [])
-            (point_of S.Store self.old) (O.contents out.old)
-            (point_of S.Store self.new) (O.contents out.new)) }
+        ensures serves { OnOk result (Reports (Completed ∷ []) 0
+            (point_of S.Store self.old) (O.contents out.old) (log_of E.contents told.old)
+            (point_of S.Store self.new) (O.contents out.new) (log_of E.contents told.new)) }
         ensures halts { OnErr result (Halts (Completed ∷ [])
             (point_of S.Store self.old) (O.contents out.old) (O.contents out.new)) }
         ensures rest { OnOk result (IsAtRest (point_of S.Store self.new)) }
     {
         self.serve_next(alloc)?;
         self.give(alloc, out)?;
-        self.cut_long(alloc, told)
+        self.cut_from(alloc, MANY_ENTRIES, told)
     }
 
     /// Runs the transaction of a request to its end, and writes its response.
@@ -216,9 +244,9 @@ impl<S: Alter> Switch<S> {
         out: &mut O,
     ) -> Result<(), ServeError>
         requires ready { IsReady (point_of S.Store self.old) }
-        ensures serves { OnOk result (Serves (answering (request ∷ []))
-            (point_of S.Store self.old) (O.contents out.old)
-            (point_of S.Store self.new) (O.contents out.new)) }
+        ensures serves { OnOk result (Reports (answering (request ∷ [])) 0
+            (point_of S.Store self.old) (O.contents out.old) (log_of E.contents told.old)
+            (point_of S.Store self.new) (O.contents out.new) (log_of E.contents told.new)) }
         ensures halts { OnErr result (Halts (answering (request ∷ []))
             (point_of S.Store self.old) (O.contents out.old) (O.contents out.new)) }
         ensures ready { OnOk result (IsReady (point_of S.Store self.new)) }

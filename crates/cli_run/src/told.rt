@@ -1,49 +1,74 @@
-//! What a run tells beside its responses.
+//! What a run writes to standard error.
 
-ghost use Rattle.std.specs.Prelude.{◌≡◌, ◌∷◌, ◌++◌, true, [], IfOk, OnOk};
+ghost use Rattle.std.specs.Prelude.{◌≡◌, ◌∷◌, ◌++◌, [], IfOk, OnOk, string_bytes};
 ghost use Rattle.std.specs.Io.KnownBytes.{Appends};
 ghost use Rattle.cli_io.specs.Written.{AppendsBeginning};
 ghost use Rattle.cli_run.specs.Lines.{lines_in};
+ghost use Rattle.cli_run.specs.Traces.{Tells, log_of, passed_line};
 
 use crate::error::ServeError;
 use cli_io::{WriteError, write_whole};
 use iso_codec::DecodeError;
-use std::alloc::Global;
+use std::alloc::{AllocError, Global};
 use std::io::Write;
 use tx_engine::Engine;
 use tx_trace::Tracer;
 
-/// Where messages that are passed over are told, and the trace goes. Where standard error takes nothing
-/// the run goes on, and ends as if it had taken all.
+/// Standard error, where messages that are passed over are told and the trace goes. Where a write fails
+/// the run goes on, and its result is as if all had been written.
 #[derive(Drop)]
 pub struct Told<'a, E> {
     pub err: &'a mut E,
-    /// Whether the lines of the trace are written.
+    /// Whether the lines of the trace are wanted.
     pub trace: bool,
+    /// Whether a write failed: what was told then is not written, or not all of it.
+    pub lost: bool,
+}
+
+// The line of a message that is passed over.
+fn passed_line(alloc: Global, number: u64, cause: &str) -> Result<String, AllocError>
+    ensures { IfOk result (λ line. string_bytes line ≡ passed_line number cause.now) }
+{
+    format!(in alloc; "cardswitch: message {number} is passed over: {cause}\n")
 }
 
 impl<'a, E: Write> Told<'a, E> {
-    /// Tells that a message is passed over.
-    pub(crate) fn pass_over(&mut self, number: u64, error: &DecodeError) {
-        let _told = writeln!(
-            self.err,
-            "cardswitch: message {number} is passed over: {error}"
-        );
+    /// Tells that a message is passed over. Out of memory is the only error.
+    pub(crate) fn pass_over(
+        &mut self,
+        alloc: Global,
+        number: u64,
+        error: &DecodeError,
+    ) -> Result<(), ServeError>
+        ensures { OnOk result (Tells [] 1
+            (log_of E.contents self.old) (log_of E.contents self.new)) }
+    {
+        let cause = format!(in alloc; "{error}")?;
+        let line = passed_line(alloc, number, cause.as_str())?;
+        match write_whole(self.err, line.as_bytes()) {
+            Ok(()) => Ok(()),
+            Err(_) => {
+                self.lost = true;
+                Ok(())
+            }
+        }
     }
 
-    /// Writes the lines of all entries of the engine's history, if a trace is wanted. Answers whether
-    /// standard error took them; out of memory is the only error.
-    pub(crate) fn trace(&mut self, alloc: Global, engine: &Engine) -> Result<bool, ServeError>
-        ensures lines { IfOk result (λ took. took ≡ true → self.old.trace ≡ true
-            → Appends (E.contents self.old.err.now) (E.contents self.new.err.now)
-            (lines_in engine.now)) }
+    /// Writes the lines of all entries of the engine's history, if a trace is wanted. Out of memory is the
+    /// only error.
+    pub(crate) fn trace(&mut self, alloc: Global, engine: &Engine) -> Result<(), ServeError>
+        ensures { OnOk result (Tells (lines_in engine.now) 0
+            (log_of E.contents self.old) (log_of E.contents self.new)) }
     {
         if !self.trace {
-            return Ok(true);
+            return Ok(());
         }
         match write_lines(alloc, engine, self.err) {
-            Ok(()) => Ok(true),
-            Err(ServeError::Write(_)) => Ok(false),
+            Ok(()) => Ok(()),
+            Err(ServeError::Write(_)) => {
+                self.lost = true;
+                Ok(())
+            }
             Err(error) => Err(error),
         }
     }

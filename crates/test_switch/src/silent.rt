@@ -67,6 +67,7 @@ pub fn run_silent<T: Threads + Wait + Sync>(
     let mut told = Told {
         err: &mut rt.stderr(),
         trace: false,
+        lost: false,
     };
     match serve(
         threads,

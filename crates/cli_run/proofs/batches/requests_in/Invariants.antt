@@ -1,10 +1,12 @@
-use Rattle.std.proofs.Common.{◌≡◌, ◌≤◌, take, length}
+use Rattle.std.proofs.Common.{◌≡◌, ◌≤◌, [], take, length}
 use Rattle.sw_frame.specs.Feeds.{messages}
 use Rattle.cli_run.specs.Requests.{requests}
+use Rattle.cli_run.specs.Traces.{Tells, log_of, passed_over}
 use Rattle.cli_run.proofs.batches.requests_in.Given as goal
 
 abbrev pub invariant-loop-message : goal.invariant-loop-message
 invariant-loop-message g l = record {
   all : l.found.items ≡ requests (messages (take l.message-index l.list));
+  told : Tells [] (passed_over (messages (take l.message-index l.list))) (log_of g.E.Write.contents l.fn.told) (log_of g.E.Write.contents l.told);
   few : length l.found.items ≤ l.message-index;
 }

@@ -1,5 +1,26 @@
+use Rattle.std.proofs.Common.{◌≡◌, ℕ, List, [], ◌∷◌, Option, subst}
+use Rattle.sw_context.specs.Pairs.{Pairs}
+use Rattle.cli_run.specs.Points.{Point}
+use Rattle.cli_run.specs.Rounds.{answering}
+use Rattle.cli_run.specs.Traces.{Log, Reports, Tells}
+use Rattle.cli_run.proofs.Rounds.{on_ok, reports_none, reports_passed}
 use Rattle.cli_run.proofs.Stops.{halts_none, on_err_of}
 use Rattle.cli_run.proofs.stream.serve.Goals as goal
 
+-- a message that is read, or passed over
+served_message : (xs ys : List Pairs) (n : ℕ) (p q : Point) (a b : Option (List ℕ)) (k l o : Log) → ys ≡ xs → Tells [] n k l → Reports (answering ys) 0 p a l q b o → Reports (answering xs) n p a k q b o
+served_message xs ys n p q a b k l o is passed s =
+    subst (λ (zs : List Pairs). Reports (answering zs) n p a k q b o) is (reports_passed (answering ys) n p q a b k l o passed s)
+
 pub returns-in_err-request-clause-halts : goal.returns-in_err-request-clause-halts
 returns-in_err-request-clause-halts g c = on_err_of c.from_residual.result (halts_none _ _ _)
+
+pub returns-in-Some-clause-serves : goal.returns-in-Some-clause-serves
+returns-in-Some-clause-serves g c =
+    let one = rw c.in-Some.is at c.in_ok-request.ensures.request in
+    on_ok c.answer.result (λ s. served_message _ (c.in-Some.request ∷ []) _ _ _ _ _ _ _ _ one c.in_ok-request.ensures.told s) c.answer.ensures.serves
+
+pub returns-in-None-clause-serves : goal.returns-in-None-clause-serves
+returns-in-None-clause-serves g c =
+    let none = rw c.in-None.is at c.in_ok-request.ensures.request in
+    served_message _ [] _ _ _ _ _ _ _ _ none c.in_ok-request.ensures.told (reports_none _ _ _)

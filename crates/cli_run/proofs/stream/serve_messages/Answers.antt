@@ -1,23 +1,17 @@
-use Rattle.std.proofs.Common.{map, take}
-use Rattle.sw_frame.specs.Feeds.{messages}
-use Rattle.iso_codec.specs.Reads.{read}
-use Rattle.cli_run.specs.Requests.{if_read, request_of, requests}
-use Rattle.cli_run.proofs.Rounds.{answers_then, serves_none}
-use Rattle.cli_run.proofs.Readings.{requests_next}
+use Rattle.cli_run.proofs.Reporting.{message_more}
+use Rattle.cli_run.proofs.Rounds.{reports_none}
 use Rattle.cli_run.proofs.Stops.{halts_message, on_err_of}
 use Rattle.cli_run.proofs.stream.serve_messages.Goals as goal
 
 pub loop-message-init : goal.loop-message-init
-loop-message-init g c = record { serves = serves_none _ _; ready = c.requires.ready }
+loop-message-init g c = record { serves = reports_none _ _ _; ready = c.requires.ready }
 
 pub loop-message-preserved : goal.loop-message-preserved
-loop-message-preserved g c =
-    let next = requests_next c.args.list.now c.loop-message.message-index c.message-item.result c.deref.result.now c.loop-message-test.true c.message-item.is c.deref.ensures.value in
-    record {
-      serves = rw next (answers_then (requests (messages (take c.loop-message.message-index c.args.list.now))) (map request_of (if_read (read c.deref.result.now) c.deref.result.now)) _ _ _ _ _ _ c.loop-message.invariant.serves c.in_ok-serve.ensures.serves);
-      ready = c.in_ok-serve.ensures.ready;
-    }
+loop-message-preserved g c = record {
+  serves = message_more c.args.list.now c.loop-message.message-index c.message-item.result c.deref.result.now _ _ _ _ _ _ _ _ _ c.loop-message-test.true c.message-item.is c.deref.ensures.value c.loop-message.invariant.serves c.in_ok-serve.ensures.serves;
+  ready = c.in_ok-serve.ensures.ready;
+}
 
 pub returns-in_err-serve-clause-halts : goal.returns-in_err-serve-clause-halts
 returns-in_err-serve-clause-halts g c =
-    on_err_of c.from_residual.result (halts_message c.args.list.now c.loop-message.message-index c.message-item.result c.deref.result.now _ _ _ _ _ c.loop-message-test.true c.message-item.is c.deref.ensures.value c.loop-message.invariant.serves c.in_err-serve.ensures.halts)
+    on_err_of c.from_residual.result (halts_message c.args.list.now c.loop-message.message-index c.message-item.result c.deref.result.now _ _ _ _ _ c.loop-message-test.true c.message-item.is c.deref.ensures.value c.loop-message.invariant.serves.serves c.in_err-serve.ensures.halts)

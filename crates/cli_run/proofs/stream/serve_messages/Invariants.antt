@@ -2,12 +2,13 @@ use Rattle.std.proofs.Common.{take}
 use Rattle.tx_journal.specs.Kept.{kept}
 use Rattle.sw_frame.specs.Feeds.{messages}
 use Rattle.cli_run.specs.Points.{IsReady, point}
-use Rattle.cli_run.specs.Rounds.{Serves, answering}
+use Rattle.cli_run.specs.Rounds.{answering}
+use Rattle.cli_run.specs.Traces.{Reports, log_of, passed_over}
 use Rattle.cli_run.specs.Requests.{requests}
 use Rattle.cli_run.proofs.stream.serve_messages.Given as goal
 
 abbrev pub invariant-loop-message : goal.invariant-loop-message
 invariant-loop-message g l = record {
-  serves : Serves (answering (requests (messages (take l.message-index l.list)))) (point l.fn.switch.plant.running.engine l.fn.switch.plant.running.seats (kept g.S.Store l.fn.switch.plant.journal) l.fn.switch.answered) (g.O.Write.contents l.fn.out) (point l.switch.plant.running.engine l.switch.plant.running.seats (kept g.S.Store l.switch.plant.journal) l.switch.answered) (g.O.Write.contents l.out);
+  serves : Reports (answering (requests (messages (take l.message-index l.list)))) (passed_over (messages (take l.message-index l.list))) (point l.fn.switch.plant.running.engine l.fn.switch.plant.running.seats (kept g.S.Store l.fn.switch.plant.journal) l.fn.switch.answered) (g.O.Write.contents l.fn.out) (log_of g.E.Write.contents l.fn.told) (point l.switch.plant.running.engine l.switch.plant.running.seats (kept g.S.Store l.switch.plant.journal) l.switch.answered) (g.O.Write.contents l.out) (log_of g.E.Write.contents l.told);
   ready : IsReady (point l.switch.plant.running.engine l.switch.plant.running.seats (kept g.S.Store l.switch.plant.journal) l.switch.answered);
 }

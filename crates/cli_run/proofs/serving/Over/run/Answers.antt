@@ -9,10 +9,9 @@ use Rattle.tx_plant.specs.Plant.{Whole, seen, whole}
 use Rattle.plant_outcome.specs.Lives.{IsMade}
 use Rattle.cli_run.specs.Lines.{lines_in}
 use Rattle.cli_run.specs.Requests.{requests}
-use Rattle.cli_run.specs.Rounds.{answering}
-use Rattle.cli_run.proofs.Batched.{for_one, for_threads, some_for}
+use Rattle.cli_run.proofs.Batched.{for_these, some_for}
 use Rattle.cli_run.proofs.Rounds.{if_ok, none_none, some_ok}
-use Rattle.cli_run.proofs.Runs.{begun_recovers, printed, ran, through}
+use Rattle.cli_run.proofs.Runs.{begun_recovers, printed, ran, through_both, told_last}
 use Rattle.cli_run.proofs.Halted.{served_all, stopped, stopped_some, stops_none, stops_some, unprinted}
 use Rattle.cli_run.proofs.Stops.{either_way, on_err, on_err_of}
 use Rattle.cli_run.proofs.serving.Over.run.Goals as goal
@@ -70,13 +69,8 @@ returns-then-threads-clause-ran g c =
     let view : JournalView = c.in-Ok.ensures.opened.0 in
     let is : IsMade c.args.code.now c.args.self.sessions view (seen (kept g.S.Store c.args.self.journal)) made = record { opened = c.in-Ok.ensures.opened.1; engine = c.in-Ok.ensures.engine } in
     let first : c.opened.result.now.next_id ≡ made.core.world.start.view.next_id = ap (λ (v : JournalView). v.next_id) (c.opened.ensures ∙ ap (λ (w : World). w.start.view) c.engine.ensures) in
-    if_ok c.serve_together.result (λ end served. some_ok _ c.args.self.input c.in-Some.input c.in-Some.is (
-      served.0,
-      served.1,
-      served.2,
-      for_threads c.args.self.threads (requests served.0) served.2 c.if-threads.true served.3,
-      ran c.args.code.now c.args.self.sessions view (seen (kept g.S.Store c.args.self.journal)) made c.opened.result.now.next_id c.saturating_sub.result _ _ _ _ _ _ is first c.saturating_sub.ensures c.in_ok-recover.ensures.recovers served.4,
-    )) c.serve_together.ensures.serves
+    if_ok c.serve_together.result (λ end served. some_ok _ c.args.self.input c.in-Some.input c.in-Some.is (let (done, told) = ran c.args.code.now c.args.self.sessions view (seen (kept g.S.Store c.args.self.journal)) made c.opened.result.now.next_id c.saturating_sub.result _ _ _ _ _ _ _ _ _ is first c.saturating_sub.ensures c.in_ok-recover.ensures.recovers (served.4, served.5) in
+    (served.0, served.1, served.2, for_these c.args.self.threads true (requests served.0) served.2 c.if-threads.true served.3, done, told))) c.serve_together.ensures.serves
 
 pub returns-then-threads-clause-stopped : goal.returns-then-threads-clause-stopped
 returns-then-threads-clause-stopped g c =
@@ -94,13 +88,9 @@ returns-clause-ran g c =
     let view : JournalView = c.in-Ok.ensures.opened.0 in
     let is : IsMade c.args.code.now c.args.self.sessions view (seen (kept g.S.Store c.args.self.journal)) made = record { opened = c.in-Ok.ensures.opened.1; engine = c.in-Ok.ensures.engine } in
     let first : c.opened.result.now.next_id ≡ made.core.world.start.view.next_id = ap (λ (v : JournalView). v.next_id) (c.opened.ensures ∙ ap (λ (w : World). w.start.view) c.engine.ensures) in
-    through c.serve_to_end-served.result c.end_of.result c.end_of.ensures.served c.serve_to_end-served.ensures.serves (λ end served. some_ok _ c.args.self.input c.in-Some.input c.in-Some.is (
-      served.0,
-      served.1,
-      answering (requests served.0),
-      for_one c.args.self.threads (requests served.0) c.if-threads.false,
-      ran c.args.code.now c.args.self.sessions view (seen (kept g.S.Store c.args.self.journal)) made c.opened.result.now.next_id c.saturating_sub.result _ _ _ _ _ _ is first c.saturating_sub.ensures c.in_ok-recover.ensures.recovers served.2,
-    ))
+    through_both c.serve_to_end-served.result c.trace.result c.end_of.result c.end_of.ensures.served c.end_of.ensures.traced c.serve_to_end-served.ensures.serves c.trace.ensures (λ end served left. some_ok _ c.args.self.input c.in-Some.input c.in-Some.is (let last = told_last _ _ _ _ _ _ _ _ _ _ _ _ _ served.4 served.5 c.engine-2.ensures served.6 left in
+    let (done, told) = ran c.args.code.now c.args.self.sessions view (seen (kept g.S.Store c.args.self.journal)) made c.opened.result.now.next_id c.saturating_sub.result _ _ _ _ _ _ _ _ _ is first c.saturating_sub.ensures c.in_ok-recover.ensures.recovers last in
+    (served.0, served.1, served.2, for_these c.args.self.threads false (requests served.0) served.2 c.if-threads.false served.3, done, told)))
 
 pub returns-in-Err-clause-stopped : goal.returns-in-Err-clause-stopped
 returns-in-Err-clause-stopped g c = inl (Keeps-refl _)
@@ -126,5 +116,5 @@ returns-clause-stopped g c =
     let is : IsMade c.args.code.now c.args.self.sessions view (seen (kept g.S.Store c.args.self.journal)) made = record { opened = c.in-Ok.ensures.opened.1; engine = c.in-Ok.ensures.engine } in
     let first : c.opened.result.now.next_id ≡ made.core.world.start.view.next_id = ap (λ (v : JournalView). v.next_id) (c.opened.ensures ∙ ap (λ (w : World). w.start.view) c.engine.ensures) in
     either_way c.serve_to_end-served.result c.end_of.result c.serve_to_end-served.ensures.serves c.serve_to_end-served.ensures.stops
-    (λ end served. inr (stops_some c.args.self.threads g.R.Read.remaining c.args.self.input c.in-Some.input c.in-Some.is (stopped c.args.self.threads c.args.code.now c.args.self.sessions view (seen (kept g.S.Store c.args.self.journal)) made c.opened.result.now.next_id c.saturating_sub.result _ _ _ _ is first c.saturating_sub.ensures c.in_ok-recover.ensures.recovers (served_all c.args.self.threads _ _ _ _ _ _ _ end served.0 (answering (requests served.0)) served.1 (for_one c.args.self.threads (requests served.0) c.if-threads.false) served.2))))
+    (λ end served. inr (stops_some c.args.self.threads g.R.Read.remaining c.args.self.input c.in-Some.input c.in-Some.is (stopped c.args.self.threads c.args.code.now c.args.self.sessions view (seen (kept g.S.Store c.args.self.journal)) made c.opened.result.now.next_id c.saturating_sub.result _ _ _ _ is first c.saturating_sub.ensures c.in_ok-recover.ensures.recovers (served_all c.args.self.threads _ _ _ _ _ _ _ end served.0 served.2 served.1 (for_these c.args.self.threads false (requests served.0) served.2 c.if-threads.false served.3) served.4))))
     (λ some. stopped_some c.args.self.threads g.R.Read.remaining c.args.self.input c.in-Some.input c.in-Some.is c.args.code.now c.args.self.sessions view (seen (kept g.S.Store c.args.self.journal)) made c.opened.result.now.next_id c.saturating_sub.result _ _ _ is first c.saturating_sub.ensures c.in_ok-recover.ensures.recovers (some_for c.args.self.threads false _ _ _ _ c.if-threads.false some))

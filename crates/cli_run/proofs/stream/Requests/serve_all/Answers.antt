@@ -1,9 +1,9 @@
-use Rattle.std.proofs.Common.{◌≡◌, ◌<◌, ◌≤◌, false, [], ◌++◌, length, drop, arith, ap, refl}
+use Rattle.std.proofs.Common.{◌≡◌, ◌<◌, ◌≤◌, false, [], ◌++◌, length, drop, arith, ap}
 use Rattle.sw_frame.specs.Stream.{State}
-use Rattle.cli_run.specs.Requests.{EndsAs, requests}
-use Rattle.cli_run.specs.Rounds.{answering}
-use Rattle.cli_run.proofs.Rounds.{if_none, if_some, serves_none}
-use Rattle.cli_run.proofs.Readings.{nothing_read, serves_frames, still_room}
+use Rattle.cli_run.specs.Requests.{EndsAs}
+use Rattle.cli_run.proofs.Reporting.{for_none, for_serves, for_then}
+use Rattle.cli_run.proofs.Rounds.{if_none, if_some}
+use Rattle.cli_run.proofs.Readings.{nothing_read, still_room}
 use Rattle.cli_run.proofs.Stops.{on_err_of, stops_fresh, stops_on}
 use Rattle.cli_run.proofs.stream.Requests.serve_all.Goals as goal
 
@@ -13,7 +13,7 @@ loop-init g c = record {
   sound = ap (λ (s : State). s.failed) c.requires.fresh;
   frames = [];
   reads = nothing_read (g.R.Read.remaining c.args.input.now) c.args.self.now.framer c.requires.fresh;
-  serves = serves_none _ _;
+  serves = for_none false _ _ _;
   ready = c.requires.ready;
 }
 
@@ -29,7 +29,7 @@ returns-in-Some g c =
           reads = adds (g.R.Read.remaining c.args.input.now) c.loop.invariant.frames c.loop.invariant.reads;
           ends = if_some (λ e. EndsAs e c.serve_read.new.self.framer (g.R.Read.remaining c.serve_read.new.input)) c.in_ok-end.end c.in-Some.end c.in-Some.is ends;
         },
-        serves_frames c.loop.invariant.frames more _ _ _ _ _ _ c.loop.invariant.serves serves,
+        for_then false c.loop.invariant.frames more _ _ _ _ _ _ _ _ _ c.loop.invariant.serves serves,
       );
       stops = tt;
       ready = c.in_ok-end.ensures.ready;
@@ -47,7 +47,7 @@ loop-preserved g c =
       sound = if_none _ c.in_ok-end.end c.in_default.is c.in_ok-end.ensures.goes_on;
       frames = c.loop.invariant.frames ++ more;
       reads = adds (g.R.Read.remaining c.args.input.now) c.loop.invariant.frames c.loop.invariant.reads;
-      serves = serves_frames c.loop.invariant.frames more _ _ _ _ _ _ c.loop.invariant.serves serves;
+      serves = for_then false c.loop.invariant.frames more _ _ _ _ _ _ _ _ _ c.loop.invariant.serves serves;
       ready = c.in_ok-end.ensures.ready;
     }
 
@@ -56,4 +56,4 @@ returns-in_err-buf-clause-stops g c = on_err_of c.from_residual.result (stops_fr
 
 pub returns-in_err-end-clause-stops : goal.returns-in_err-end-clause-stops
 returns-in_err-end-clause-stops g c =
-    on_err_of c.from_residual-in_err-end.result (stops_on false (g.R.Read.remaining c.args.input.now) _ c.loop.invariant.frames _ _ _ _ _ _ c.loop.invariant.reads (answering (requests c.loop.invariant.frames), refl, c.loop.invariant.serves) c.in_err-end.ensures.halts)
+    on_err_of c.from_residual-in_err-end.result (stops_on false (g.R.Read.remaining c.args.input.now) _ c.loop.invariant.frames _ _ _ _ _ _ c.loop.invariant.reads (for_serves false c.loop.invariant.frames _ _ _ _ _ _ c.loop.invariant.serves) c.in_err-end.ensures.halts)

@@ -1,8 +1,8 @@
 use Rattle.std.proofs.Common.{◌≡◌, ℕ, false, List, ◌<◌, length}
 use Rattle.tx_journal.specs.Kept.{kept}
 use Rattle.cli_run.specs.Points.{IsReady, point}
-use Rattle.cli_run.specs.Rounds.{Serves, answering}
-use Rattle.cli_run.specs.Requests.{Reads, requests}
+use Rattle.cli_run.specs.Requests.{Reads}
+use Rattle.cli_run.specs.Traces.{ReportsFor, log_of}
 use Rattle.cli_run.proofs.stream.Requests.serve_all.Given as goal
 
 abbrev pub invariant-loop : goal.invariant-loop
@@ -11,6 +11,6 @@ invariant-loop g l = record {
   sound : l.self.framer.failed ≡ false;
   frames : List (List ℕ);
   reads : Reads (g.R.Read.remaining l.fn.input) (g.R.Read.remaining l.input) frames l.self.framer;
-  serves : Serves (answering (requests frames)) (point l.fn.switch.plant.running.engine l.fn.switch.plant.running.seats (kept g.S.Store l.fn.switch.plant.journal) l.fn.switch.answered) (g.O.Write.contents l.fn.out) (point l.switch.plant.running.engine l.switch.plant.running.seats (kept g.S.Store l.switch.plant.journal) l.switch.answered) (g.O.Write.contents l.out);
+  serves : ReportsFor false frames (point l.fn.switch.plant.running.engine l.fn.switch.plant.running.seats (kept g.S.Store l.fn.switch.plant.journal) l.fn.switch.answered) (g.O.Write.contents l.fn.out) (log_of g.E.Write.contents l.fn.told) (point l.switch.plant.running.engine l.switch.plant.running.seats (kept g.S.Store l.switch.plant.journal) l.switch.answered) (g.O.Write.contents l.out) (log_of g.E.Write.contents l.told);
   ready : IsReady (point l.switch.plant.running.engine l.switch.plant.running.seats (kept g.S.Store l.switch.plant.journal) l.switch.answered);
 }

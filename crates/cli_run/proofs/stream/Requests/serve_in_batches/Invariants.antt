@@ -1,7 +1,7 @@
 use Rattle.std.proofs.Common.{◌≡◌, ℕ, true, false, List, ◌<◌, length}
 use Rattle.cli_run.specs.Points.{IsReady, point_of}
-use Rattle.cli_run.specs.Requests.{Reads, requests}
-use Rattle.cli_run.specs.Rounds.{ServesFor}
+use Rattle.cli_run.specs.Requests.{Reads}
+use Rattle.cli_run.specs.Traces.{ReportsFor, log_of}
 use Rattle.cli_run.proofs.stream.Requests.serve_in_batches.Given as goal
 
 abbrev pub invariant-loop : goal.invariant-loop
@@ -10,6 +10,6 @@ invariant-loop g l = record {
   sound : l.self.framer.failed ≡ false;
   frames : List (List ℕ);
   reads : Reads (g.R.Read.remaining l.fn.input) (g.R.Read.remaining l.input) frames l.self.framer;
-  serves : ServesFor true (requests frames) (point_of g.S.Store l.fn.switch) (g.O.Write.contents l.fn.out) (point_of g.S.Store l.switch) (g.O.Write.contents l.out);
+  serves : ReportsFor true frames (point_of g.S.Store l.fn.switch) (g.O.Write.contents l.fn.out) (log_of g.E.Write.contents l.fn.told) (point_of g.S.Store l.switch) (g.O.Write.contents l.out) (log_of g.E.Write.contents l.told);
   ready : IsReady (point_of g.S.Store l.switch);
 }

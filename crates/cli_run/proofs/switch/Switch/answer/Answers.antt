@@ -1,7 +1,7 @@
 use Rattle.std.proofs.Common.{[], ◌∷◌}
 use Rattle.cli_run.specs.Rounds.{Completed, answering}
 use Rattle.cli_run.proofs.Resting.{offered_rest}
-use Rattle.cli_run.proofs.Rounds.{on_ok, ready_again, serves_offer, the_completed}
+use Rattle.cli_run.proofs.Rounds.{on_ok, ready_again, reports_offer, the_completed}
 use Rattle.cli_run.proofs.Stops.{halts_none, halts_offer, on_err, on_err_of}
 use Rattle.cli_run.proofs.switch.Switch.answer.Goals as goal
 
@@ -10,9 +10,9 @@ answer_next-requires g c = record { rest = offered_rest _ _ _ _ c.requires.ready
 
 pub returns : goal.returns
 returns g c = record {
-  serves = on_ok c.answer_next.result (λ s. serves_offer c.args.request _ _ _ _ (Completed ∷ []) _ _ c.requires.ready c.in_ok-act.ensures.does s) c.answer_next.ensures.serves;
+  serves = on_ok c.answer_next.result (λ s. reports_offer c.args.request _ _ _ _ (Completed ∷ []) 0 _ _ _ _ c.requires.ready c.in_ok-act.ensures.does s) c.answer_next.ensures.serves;
   halts = on_err c.answer_next.result (λ h. halts_offer c.args.request _ _ _ (Completed ∷ []) _ _ c.requires.ready c.in_ok-act.ensures.does h) c.answer_next.ensures.halts;
-  ready = on_ok c.answer_next.result (λ s. (let (bytes, done) = the_completed _ _ _ _ s in ready_again c.args.request _ _ _ _ bytes c.requires.ready c.in_ok-act.ensures.does done)) c.answer_next.ensures.serves;
+  ready = on_ok c.answer_next.result (λ s. (let (bytes, lines, done) = the_completed _ _ _ _ s.serves in ready_again c.args.request _ _ _ _ bytes lines c.requires.ready c.in_ok-act.ensures.does done)) c.answer_next.ensures.serves;
 }
 
 pub returns-in_err-act-clause-halts : goal.returns-in_err-act-clause-halts

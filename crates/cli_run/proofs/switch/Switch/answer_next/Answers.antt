@@ -10,16 +10,16 @@ returns g c =
     let (own, transacts) = c.in_ok-serve_next.ensures.transacts in
     let (text, framed, appends) = c.in_ok-give.ensures.gives in
     record {
-      serves = on_both c.cut_long.result (λ cuts rest. completed own text _ _ _ _ _ _ c.requires.rest transacts framed c.in_ok-give.ensures.answered cuts rest appends) c.cut_long.ensures.cuts c.cut_long.ensures.rest;
-      halts = on_err_of c.cut_long.result (halts_given own text _ _ _ _ c.requires.rest transacts framed appends);
-      rest = c.cut_long.ensures.rest;
+      serves = on_both c.cut_from.result (λ cuts rest. completed own text _ _ _ _ _ _ _ _ c.requires.rest transacts framed c.in_ok-give.ensures.answered cuts rest appends) c.cut_from.ensures.cuts c.cut_from.ensures.rest;
+      halts = on_err_of c.cut_from.result (halts_given own text _ _ _ _ c.requires.rest transacts framed appends);
+      rest = c.cut_from.ensures.rest;
     }
 
-pub cut_long-requires : goal.cut_long-requires
-cut_long-requires g c =
+pub cut_from-requires-clause-rest : goal.cut_from-requires-clause-rest
+cut_from-requires-clause-rest g c =
     let (own, transacts) = c.in_ok-serve_next.ensures.transacts in
     let same = c.in_ok-give.ensures.answered in
-    record { rest = subst IsAtRest (sym same) (rest_given _ _ own c.requires.rest transacts c.in_ok-serve_next.ensures.seated (subst (λ (z : Point). unanswered z ≡ []) same c.in_ok-give.ensures.given)) }
+    subst IsAtRest (sym same) (rest_given _ _ own c.requires.rest transacts c.in_ok-serve_next.ensures.seated (subst (λ (z : Point). unanswered z ≡ []) same c.in_ok-give.ensures.given))
 
 pub returns-in_err-serve_next-clause-halts : goal.returns-in_err-serve_next-clause-halts
 returns-in_err-serve_next-clause-halts g c = on_err_of c.from_residual.result (halts_none (Completed ∷ []) _ _)

@@ -1,7 +1,13 @@
 use Rattle.std.proofs.Common.{inr}
-use Rattle.cli_run.proofs.Batched.{given_drains}
+use Rattle.cli_run.proofs.Batched.{finished, given_drains}
+use Rattle.cli_run.proofs.Rounds.{on_ok}
 use Rattle.cli_run.proofs.Stops.{drains_all, on_err_of}
 use Rattle.cli_run.proofs.switch.Switch.finish.Goals as goal
+
+pub returns-clause-finishes : goal.returns-clause-finishes
+returns-clause-finishes g c =
+    let (text, framed, gives) = c.in_ok-give.ensures.gives in
+    on_ok c.cut_told.result (λ cuts. finished text _ _ _ _ _ _ _ _ _ _ framed gives c.in_ok-give.ensures.answered c.in_ok-drain.ensures.drains cuts) c.cut_told.ensures.cuts
 
 pub returns-clause-unfinished : goal.returns-clause-unfinished
 returns-clause-unfinished g c =
@@ -11,5 +17,5 @@ returns-clause-unfinished g c =
       framed = framed;
       between = _;
       gives = gives;
-      drains = given_drains _ _ _ _ c.in_ok-give.ensures.answered (drains_all _ _ _ _ c.in_ok-drain.ensures.drains);
+      drains = given_drains _ _ _ _ c.in_ok-give.ensures.answered (drains_all _ _ _ _ c.in_ok-drain.ensures.drains.drains);
     }))

@@ -1,0 +1,30 @@
+use Rattle.std.proofs.Common.{◌≡◌, [], false, ap, refl, subst}
+use Rattle.tx_engine.specs.World.{World}
+use Rattle.cli_run.specs.Lines.{lines_in}
+use Rattle.cli_run.specs.Points.{is_long}
+use Rattle.cli_run.specs.Traces.{Tells, log_of}
+use Rattle.cli_run.proofs.Resting.{cut_rest, cuts_waits, history_short, may_cut, may_keep}
+use Rattle.cli_run.proofs.Tracing.{tells_none}
+use Rattle.cli_run.proofs.switch.Switch.cut_from.Goals as goal
+
+pub returns-then-history-entries : goal.returns-then-history-entries
+returns-then-history-entries g c =
+    let short = history_short c.engine.result.now c.history.result.now c.args.entries c.history.ensures.entries c.if-history-entries.true c.requires.bound in
+    record {
+      cuts = record { lines = []; cuts = may_keep _ (subst (λ (w : World). is_long w ≡ false) c.engine.ensures short); tells = tells_none _ };
+      rest = c.requires.rest;
+      queue = refl;
+    }
+
+pub returns : goal.returns
+returns g c =
+    let cuts = may_cut _ _ _ c.in_ok-act.ensures.does in
+    record {
+      cuts = record {
+        lines = _;
+        cuts = cuts;
+        tells = subst (λ (w : World). Tells (lines_in w) 0 (log_of g.E.Write.contents c.args.told.now) (log_of g.E.Write.contents c.trace.new.self)) c.engine-2.ensures c.in_ok-trace.ensures;
+      };
+      rest = cut_rest _ _ _ c.requires.rest c.in_ok-act.ensures.does c.in_ok-act.ensures.seated;
+      queue = cuts_waits _ _ _ cuts;
+    }

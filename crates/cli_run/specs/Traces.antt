@@ -1,0 +1,108 @@
+-- What a run writes to standard error: the lines of the trace, and between them a line for each message that is passed over.
+use Rattle.std.specs.Prelude.{◌≡◌, ℕ, ◌+◌, Bool, true, false, List, [], ◌∷◌, ◌++◌, Option, Result, Ok, Err, codes}
+use Rattle.std.specs.Fmt.{decimal}
+use Rattle.std.specs.Io.KnownBytes.{Appends}
+use Rattle.sw_frame.specs.Stream.{AreFramed}
+use Rattle.iso_msg.specs.Messages.{PlainMessage}
+use Rattle.iso_codec.specs.declared.error.DecodeError.{DecodeError}
+use Rattle.iso_codec.specs.Reads.{read}
+use Rattle.cli_run.specs.declared.told.Told.{Told}
+use Rattle.cli_run.specs.Points.{Point, all_answered, responses, unanswered}
+use Rattle.cli_run.specs.Requests.{requests}
+use Rattle.cli_run.specs.Rounds.{Drains, MayCut, Round, RoundsFor, Serves}
+
+-- lines of the trace, or the line of a message that is passed over: its number, and why
+pub data Piece : Type 0 where
+  Traced : (lines : List ℕ) → Piece
+  Passed : (number : ℕ) → (cause : List ℕ) → Piece
+
+abbrev pub passed_line : ℕ → List ℕ → List ℕ
+passed_line number cause = codes "cardswitch: message " ++ decimal number ++ codes " is passed over: " ++ cause ++ 10 ∷ []
+
+abbrev pub text_of : List Piece → List ℕ
+text_of [] = []
+text_of (Traced lines ∷ ps) = lines ++ text_of ps
+text_of (Passed number cause ∷ ps) = passed_line number cause ++ text_of ps
+
+-- the lines of the trace among them
+abbrev pub traced_in : List Piece → List ℕ
+traced_in [] = []
+traced_in (Traced lines ∷ ps) = lines ++ traced_in ps
+traced_in (Passed number cause ∷ ps) = traced_in ps
+
+-- how many messages are passed over
+abbrev pub passed_in : List Piece → ℕ
+passed_in [] = 0
+passed_in (Traced lines ∷ ps) = passed_in ps
+passed_in (Passed number cause ∷ ps) = 1 + passed_in ps
+
+-- these lines of the trace were added, all and in this order, and the lines of so many messages that are passed over
+pub record Adds (lines : List ℕ) (passed : ℕ) (before after : Option (List ℕ)) : Type 0 where
+  pub pieces : List Piece
+  pub traced : traced_in pieces ≡ lines
+  pub count : passed_in pieces ≡ passed
+  pub written : Appends before after (text_of pieces)
+
+-- standard error as a run sees it: whether the trace is wanted, whether a write failed, and what is written, where that is
+-- known
+pub record Log : Type 0 where
+  pub wanted : Bool
+  pub lost : Bool
+  pub text : Option (List ℕ)
+
+abbrev pub log_of : {E : Type 0} → (E → Option (List ℕ)) → Told E → Log
+log_of contents told = record { wanted = told.trace; lost = told.lost; text = contents told.err.now }
+
+abbrev pub if_wanted : Bool → List ℕ → List ℕ
+if_wanted true lines = lines
+if_wanted false lines = []
+
+-- these lines of the trace were told, where it is wanted, and so many messages that are passed over; all is written, unless a
+-- write failed
+pub record Tells (lines : List ℕ) (passed : ℕ) (a b : Log) : Type 0 where
+  pub wanted : b.wanted ≡ a.wanted
+  pub before : b.lost ≡ false → a.lost ≡ false
+  pub adds : b.lost ≡ false → Adds (if_wanted a.wanted lines) passed a.text b.text
+
+-- the messages that are passed over are those that cannot be read
+abbrev pub if_passed : Result PlainMessage DecodeError → ℕ
+if_passed (Ok m) = 0
+if_passed (Err e) = 1
+
+abbrev pub passed_over : List (List ℕ) → ℕ
+passed_over [] = 0
+passed_over (bytes ∷ more) = if_passed (read bytes) + passed_over more
+
+-- the history may be cut, and the lines of the entries that are cut were told
+pub record Cuts (p : Point) (a : Log) (q : Point) (b : Log) : Type 0 where
+  pub lines : List ℕ
+  pub cuts : MayCut p lines q
+  pub tells : Tells lines 0 a b
+
+-- rounds were done, and the lines of the entries that were cut told, beside so many messages that are passed over
+pub record Reports (rounds : List Round) (passed : ℕ) (p : Point) (before : Option (List ℕ)) (a : Log) (q : Point) (after : Option (List ℕ)) (b : Log) : Type 0 where
+  pub serves : Serves rounds p before q after
+  pub tells : Tells serves.lines passed a b
+
+-- the messages of these frames were answered, or passed over
+pub record ReportsFor (threads : Bool) (frames : List (List ℕ)) (p : Point) (before : Option (List ℕ)) (a : Log) (q : Point) (after : Option (List ℕ)) (b : Log) : Type 0 where
+  pub rounds : List Round
+  pub answers : RoundsFor threads (requests frames) rounds
+  pub reports : Reports rounds (passed_over frames) p before a q after b
+
+-- the queue and the shelf were emptied
+pub record DrainsAll (p : Point) (before : Option (List ℕ)) (a : Log) (q : Point) (after : Option (List ℕ)) (b : Log) : Type 0 where
+  pub drains : Drains p before q after
+  pub tells : Tells drains.serves.lines 0 a b
+
+-- Behind a batch: the responses of all transactions that ended are given, the queue and the shelf are emptied, and the history
+-- may be cut.
+pub record Finishes (p : Point) (before : Option (List ℕ)) (a : Log) (q : Point) (after : Option (List ℕ)) (b : Log) : Type 0 where
+  pub text : List ℕ
+  pub framed : AreFramed text (responses (unanswered p))
+  pub between : Option (List ℕ)
+  pub gives : Appends before between text
+  pub drained : Point
+  pub then : Log
+  pub drains : DrainsAll (all_answered p) between a drained after then
+  pub cuts : Cuts drained then q b
