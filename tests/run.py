@@ -33,7 +33,7 @@ def arguments():
     parser.add_argument("--seed", type=int, help="the seed of the random cases; else a new one")
     parser.add_argument("--count", type=int, default=4000, help="how many random cases; default 4000")
     parser.add_argument("--many", action="store_true", help="a hundred times as many random cases, for a night")
-    parser.add_argument("--every", action="store_true", help="each byte of the spoilt images by every other")
+    parser.add_argument("--every", action="store_true", help="each byte of both spoilt images by every other")
     parser.add_argument("--program", default=BUILT, help="the program; default the one that rt ci built")
     parser.add_argument("--show", action="store_true", help="print what came of each case, judge nothing")
     given = parser.parse_args()

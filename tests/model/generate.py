@@ -332,11 +332,11 @@ TWO_GROUPS = flows.image(Flow(7, [Group("main", [PICK, Entry("b")]), Group("b", 
 
 
 def spoilt_images(random, is_every):
-    """Each proper prefix of two images, and each byte of them by some others, or by every other."""
-    for title, text in (("two entries", SENDING), ("two groups", TWO_GROUPS)):
+    """Each proper prefix of two images, each byte of the first by every other, and of the second by some others, or by every other."""
+    for title, text, whole in (("two entries", SENDING, True), ("two groups", TWO_GROUPS, is_every)):
         for size in range(len(text)):
             yield listed(f"spoilt/list: {title}: the first {size} bytes", text[:size])
-            for byte in range(256) if is_every else {*b" \n019acp\xff", random.randrange(256)}:
+            for byte in range(256) if whole else {*b" \n019acp\xff", random.randrange(256)}:
                 changed = text[:size] + bytes([byte]) + text[size + 1 :]
                 yield listed(f"spoilt/list: {title}: byte {size} as {byte}", changed)
 

@@ -5,6 +5,7 @@ mod books;
 mod bounds;
 mod codec;
 mod contexts;
+mod debugging;
 mod flows;
 mod frames;
 mod keys;

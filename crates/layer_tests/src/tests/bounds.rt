@@ -25,10 +25,41 @@ fn played_from(alloc: Global, next_id: u64, script: &str) -> Result<String, Fail
     played(alloc, &mut engine, script)
 }
 
+const SPENT: &str = "\
+offer = 1
+take 0 = IdsSpent
+counts = 1 0 0 1 9223372036854775807 0
+";
+
+#[test]
+fn no_id_is_left(rt: HostRuntime) -> Result<(), Fail> {
+    let came = played_from(rt.alloc(), 9_223_372_036_854_775_807, SPENT)?;
+    assert_eq!(rt; came.as_str(), SPENT);
+    Ok(())
+}
+
 #[test]
 fn the_last_id(rt: HostRuntime) -> Result<(), Fail> {
     let came = played_from(rt.alloc(), 9_223_372_036_854_775_806, LAST)?;
     assert_eq!(rt; came.as_str(), LAST);
+    Ok(())
+}
+
+const OF_BREAKPOINTS: &str = "\
+offer = 1
+often 1048575 p = 1048576
+take 0 = HistoryFull
+release = HistoryFull
+go 0 = NotHeld
+break x = NoParticipant
+ack 1 0 = NoAdvice
+write 1048576 = 0
+";
+
+#[test]
+fn a_full_history_takes_no_entry(rt: HostRuntime) -> Result<(), Fail> {
+    let came = played_from(rt.alloc(), 1, OF_BREAKPOINTS)?;
+    assert_eq!(rt; came.as_str(), OF_BREAKPOINTS);
     Ok(())
 }
 

@@ -27,16 +27,17 @@ pub fn picking(alloc: Global) -> Result<Code, Fail> {
     assembled(alloc, groups)
 }
 
-/// `main` with the participant p, which is plain.
-fn plain(alloc: Global) -> Result<Code, Fail> {
+/// `main` with one participant, which is plain.
+pub fn plain(alloc: Global, name: &str) -> Result<Code, Fail> {
     let mut groups = Vec::new(alloc);
-    groups.push(Group::of(alloc, "main", &[("p", Kind::PLAIN)])?)?;
+    groups.push(Group::of(alloc, "main", &[(name, Kind::PLAIN)])?)?;
     assembled(alloc, groups)
 }
 
-/// An engine of one session on a journal without rows, whose next transaction has this id.
+/// An engine of one session on a journal without rows, whose next transaction has this id. Its flow has
+/// the participant p.
 pub fn opened(alloc: Global, next_id: u64) -> Result<Engine, Fail> {
-    let code = plain(alloc)?;
+    let code = plain(alloc, "p")?;
     let mut view = JournalView::blank(alloc);
     view.next_id = next_id;
     if !view.ok() {

@@ -3,9 +3,9 @@
 //!
 //! `counts` (queued, on the shelf, recovering, entries, next id of the opened journal, its rows),
 //! `often N NAME` (so many breakpoints, as the last answers), `offer`, `reserve`, `spare`,
-//! `offer_reserved`, `take S`, `next S`, `answer S BYTE`, `ack ID PLACE`, `break NAME`, `go S`, `release`,
-//! `write MARK`, `cut`. An event answers its entry's number, `reserve`, `write` and `cut` answer 0, and a
-//! refusal its name. Contexts are empty.
+//! `offer_reserved`, `take S`, `next S`, `answer S BYTE`, `ack ID PLACE`, `break NAME`, `clear NAME`, `go S`,
+//! `release`, `write MARK`, `cut`. An event answers its entry's number, `reserve`, `write` and `cut` answer 0,
+//! and a refusal its name. Contexts are empty.
 
 use std::alloc::Global;
 use std::test::Fail;
@@ -60,6 +60,10 @@ fn set_break(engine: &mut Engine, name: &str) -> Answer {
     engine.set_break(name)
 }
 
+fn clear_break(engine: &mut Engine, name: &str) -> Answer {
+    engine.clear_break(name)
+}
+
 fn cut(alloc: Global, engine: &mut Engine) -> Answer {
     zero(engine.cut(alloc))
 }
@@ -98,11 +102,16 @@ fn shown(alloc: Global, answer: Answer) -> Result<String, Fail> {
 
 fn next(alloc: Global, engine: &Engine, session: usize) -> Result<String, Fail> {
     Ok(match engine.next(session) {
+        Ok(Next::Idle) => format!(in alloc; "idle")?,
+        Ok(Next::Unwritten) => format!(in alloc; "unwritten")?,
         Ok(Next::Held(call)) => format!(in alloc;
             "held {} {} {:?}",
             call.id, call.participant, call.act
         )?,
-        Ok(_) => format!(in alloc; "not held")?,
+        Ok(Next::Due(call)) => format!(in alloc;
+            "due {} {} {:?}",
+            call.id, call.participant, call.act
+        )?,
         Err(error) => format!(in alloc; "{error:?}")?,
     })
 }
@@ -138,6 +147,7 @@ fn event(alloc: Global, engine: &mut Engine, call: &str, text: &str) -> Result<A
         "offer_reserved" => offer_reserved(alloc, engine),
         "release" => release(engine),
         "break" => set_break(engine, text),
+        "clear" => clear_break(engine, text),
         "cut" => cut(alloc, engine),
         "write" => write(engine, number(text)?),
         "often" => often(engine, number(first)?, rest),
