@@ -1,4 +1,4 @@
--- What the errors of the parts become: want of memory is told as such, and all else is carried.
+-- What the errors of the parts become: out of memory is reported as such, and all else is carried.
 use Rattle.std.specs.Prelude.{◌≡◌, ⊤, ℕ, List, Option, None, IfSome, Err}
 use Rattle.std.specs.Str.{IsUtf8}
 use Rattle.cli_io.specs.declared.error.ReadError.{ReadError}

@@ -40,7 +40,7 @@ pub enum FlowsError {
     Write(WriteError),
 }
 
-// By hand: a person is shown the same text, and a derived `fmt` is dear to prove.
+// By hand: a person is shown the same text, and a derived `fmt` is slow to prove.
 impl fmt::Debug for FlowsError {
     fn fmt<W: fmt::Write>(&self, f: &mut fmt::Formatter<W>) -> fmt::Result {
         fmt::Display::fmt(self, f)

@@ -7,7 +7,7 @@ use flow_toml::{FlowTomlError, Key, TablePath, value_at};
 use std::alloc::Global;
 use std::fmt;
 
-/// What a refusal quotes of the bytes, behind the text of the fault; nothing where it quotes nothing.
+/// What a refusal quotes of the bytes, after the text of the fault; nothing where it quotes nothing.
 #[derive(Drop)]
 pub(crate) struct Finding<'a>(&'a Option<Quoted>);
 

@@ -6,7 +6,7 @@
 //!   image of that flow;
 //! - where [`list`] is done, the bytes that its reader gave are the image of a flow, and what it wrote
 //!   is a flow file of that flow;
-//! - where either refuses its bytes, they have the fault that is told, and nothing is written.
+//! - where either refuses its bytes, they have the fault that is reported, and nothing is written.
 #![tactic(auto)]
 
 mod error;

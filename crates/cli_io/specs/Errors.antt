@@ -1,4 +1,4 @@
--- What the errors of a reader and of a writer become: want of memory is told as such, and every other is carried.
+-- What the errors of a reader and of a writer become: out of memory is reported as such, and every other is carried.
 use Rattle.std.specs.Prelude.{◌≡◌, ◌≢◌}
 use Rattle.std.specs.IoError.{error_kind}
 use Rattle.std.specs.declared.io.Error.{Error}

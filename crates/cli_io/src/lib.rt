@@ -7,7 +7,7 @@
 //!   bytes that the reader has still to give;
 //! - [`write_whole`] and [`write_out`] add their bytes to the writer's, the latter flushes, and after an
 //!   error a beginning of the bytes is added;
-//! - out of memory is told as such, whether it is a reader's, a writer's or our own;
+//! - out of memory is reported as such, whether it is a reader's, a writer's or our own;
 //! - what [`Quoted`] prints of an input's bytes is printable ASCII, and shows at most 40 of them.
 #![tactic(auto)]
 

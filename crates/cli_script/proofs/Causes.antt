@@ -1,4 +1,4 @@
--- The grammar refuses no line for want of memory.
+-- The grammar refuses no line where memory ran out.
 -- for: script::next_setting, actions::Actions::next
 use Rattle.std.proofs.Common.{◌≡◌, ◌∷◌, [], ℕ, Bool, not, true, false, List, Option, None, Some, Result, Ok, Err, refl, if◌then◌else◌}
 use Rattle.std.specs.Str.{bytes_eq}
@@ -23,7 +23,7 @@ abbrev is_memory : LineError → Bool
 is_memory refusal.OutOfMemory = true
 is_memory _ = false
 
--- the refusal is want of memory
+-- the refusal is out of memory
 abbrev wants : {A : Type 0} → Result A LineError → Bool
 wants (Ok x) = false
 wants (Err e) = is_memory e
@@ -202,6 +202,6 @@ form_meant (Err e) form answers = absurd (wanted e form answers) where
   wanted refusal.OutOfMemory form same = cc
   wanted d form same = cc
 
--- want of memory is told of a line that has a meaning
+-- out of memory is reported for a line that has a meaning
 pub memory_meant : (line : List ℕ) → Answers (meaning_of line) (Err refusal.OutOfMemory) → IsMeant (meaning_of line)
 memory_meant line answers = form_meant (meaning_of line) (line_form line) answers

@@ -93,7 +93,7 @@ pub line_refused : (has_file : Bool) (number : ℕ) (text : List ℕ) (cause : L
 line_refused has_file number text cause answers =
     line_refused_as has_file number text (meaning_of text) cause (memory_meant text) answers
 
--- so it is behind the settings
+-- so it is after the settings
 action_refused_as : (number : ℕ) (text : List ℕ) (meaning : Result ScriptLine LineError) (cause : LineError)
     → (Answers meaning (Err OutOfMemory) → IsMeant meaning) → Answers meaning (Err cause)
     → IsActionRefusal number text meaning (error_at number text cause)
@@ -118,7 +118,7 @@ setting_refused has_file script rest kept lines s head begins = record {
   refused = (line.Setting s, begins.1);
 }
 
--- where a script goes on behind its settings, it does so with an action
+-- where a script goes on after its settings, it does so with an action
 pub acts : (rest : List ℕ) → HasNoSetting rest → length rest ≢ 0 → BeginsWithAction rest
 acts rest (inl none) some = absurd (some (ap length none))
 acts rest (inr begins) some = begins

@@ -1,4 +1,4 @@
--- The form of each line: what the text behind its first word means, or why it is refused.
+-- The form of each line: what the text after its first word means, or why it is refused.
 use Rattle.std.specs.Prelude.{ℕ, List, [], ◌∷◌, Option, Some, None, Result, Ok, Err, if◌then◌else◌}
 use Rattle.sw_context.specs.Names.{is_name}
 use Rattle.sw_scripted.specs.declared.puts.Put.{Put}

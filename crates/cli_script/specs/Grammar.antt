@@ -14,7 +14,7 @@ use Rattle.cli_script.specs.declared.line.ScriptLine.TheVariants as line
 use Rattle.cli_script.specs.declared.line.Setting.TheVariants as setting
 use Rattle.cli_script.specs.declared.line.Action.TheVariants as action
 
--- a row: the first word of a line, and what the text behind its space means
+-- a row: the first word of a line, and what the text after its space means
 pub record Row : Type 0 where
   pub word : List ℕ
   pub meaning : List ℕ → Meaning
@@ -83,7 +83,7 @@ unless_refused (Some e) meaning = Err e
 abbrev pub meaning_of : List ℕ → Meaning
 meaning_of line = unless_refused (words_refusal line) (meaning_at rows (first_word line) (rest_of line))
 
--- what is answered is what was meant; want of memory is told of what has a meaning alone
+-- what is answered is what was meant; out of memory is reported for what has a meaning alone
 abbrev pub Answers : {A : Type 0} → Result A LineError → Result A LineError → Type 0
 Answers (Err e) answer = answer ≡ Err e
 Answers (Ok meant) (Ok answer) = answer ≡ meant

@@ -13,7 +13,7 @@ queue_at q name = option_map_or (λ d. d.items) (get_by_text q.held name) []
 abbrev pub at_name : {A : Type 0} → List ℕ → List ℕ → A → A → A
 at_name q name x y = if bytes_eq q name then x else y
 
--- the item is put behind those of its name, and all other queues stay
+-- the item is put after those of its name, and all other queues stay
 abbrev pub PutsBehind : {A : Type 0} → (List ℕ → List A) → (List ℕ → List A) → List ℕ → A → Type 0
 PutsBehind old new name item = (q : List ℕ) → new q ≡ old q ++ at_name q name (item ∷ []) []
 

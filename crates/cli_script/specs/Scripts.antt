@@ -1,4 +1,4 @@
--- A script: the settings at its head, and the lines behind them.
+-- A script: the settings at its head, and the lines after them.
 use Rattle.std.specs.Prelude.{◌≡◌, ◌≢◌, ◌⊎◌, ℕ, ◌+◌, ◌&&◌, Bool, true, false, List, [], ◌∷◌, length, Option, Some, None, Result, Ok, Err, is_some}
 use Rattle.std.specs.Borrow.{Bor}
 use Rattle.std.specs.List.{after_first, before_first, list_any}
@@ -34,12 +34,12 @@ others_of script = after_first is_line_feed script
 abbrev pub BeginsWith : List ℕ → Setting → Type 0
 BeginsWith script s = (script ≢ []) × (meaning_of (line_of script) ≡ Ok (line.Setting s))
 
--- the script begins with the lines of these settings, and this stands behind them
+-- the script begins with the lines of these settings, and this stands after them
 abbrev pub IsBehind : List Setting → List ℕ → List ℕ → Type 0
 IsBehind [] script rest = rest ≡ script
 IsBehind (s ∷ ss) script rest = BeginsWith script s × IsBehind ss (others_of script) rest
 
--- the line has a meaning, as every line at which want of memory is told
+-- the line has a meaning, as every line at which out of memory is told
 abbrev pub IsMeant : Result ScriptLine LineError → Type 0
 IsMeant meaning = (x : ScriptLine) × (meaning ≡ Ok x)
 
@@ -100,7 +100,7 @@ pub record IsHeadRead (has_file : Bool) (script : List ℕ) (kept : Settings) (r
   pub states : IsKeptOf stated kept
   pub placed : list_any (is_misplaced has_file) stated ≡ false
 
--- why a script is refused at its head: the first line that is refused, behind lines of settings that are not
+-- why a script is refused at its head: the first line that is refused, after lines of settings that are not
 pub record IsHeadRefused (has_file : Bool) (script : List ℕ) (e : ScriptError) : Type 0 where
   pub stated : List Setting
   pub rest : List ℕ
@@ -109,7 +109,7 @@ pub record IsHeadRefused (has_file : Bool) (script : List ℕ) (e : ScriptError)
   pub some : rest ≢ []
   pub refused : IsRefusedAt has_file (length stated) rest e
 
--- why a script is refused behind these settings: the next line, or at the first action the flow that they state
+-- why a script is refused after these settings: the next line, or at the first action the flow that they state
 abbrev pub IsRefusalBehind : Option Flow → List Setting → List ℕ → ScriptError → Type 0
 IsRefusalBehind file ss rest (error.Flow n cause) =
     (n ≡ length ss + 1) × BeginsWithAction rest × (first_fault (stated_flow file ss) ≡ Some cause)
@@ -146,7 +146,7 @@ abbrev pub crowds : Action → Bool
 crowds (Offer ps) = is_crowded ps
 crowds _ = false
 
--- why the line of this number, text and meaning is refused behind the settings
+-- why the line of this number, text and meaning is refused after the settings
 abbrev pub IsActionRefusal : ℕ → List ℕ → Result ScriptLine LineError → ScriptError → Type 0
 IsActionRefusal number text meaning (error.Line n cause found) =
     Tells number text n found × (meaning ≡ Err cause)

@@ -13,7 +13,7 @@ cut_at c text = if nat_lt (position_or_len (λ b. b == c) text) (length text)
 abbrev pub parts_shown : Option (Bor (List ℕ) × Bor (List ℕ)) → Option (List ℕ × List ℕ)
 parts_shown = option_map (λ p. (p.0.now, p.1.now))
 
--- what stands before the first space, and what behind it: nothing where there is none
+-- what stands before the first space, and what after it: nothing where there is none
 abbrev pub first_and_rest : List ℕ → List ℕ × List ℕ
 first_and_rest text = unwrap_or (cut_at 32 text) (text, [])
 

@@ -81,7 +81,7 @@ fn read_query(alloc: Global, word: &str, rest: &str) -> Result<ScriptLine, LineE
     Ok(ScriptLine::Action(action))
 }
 
-/// A line that runs something: what it means, by its first word and the text behind the word's space.
+/// A line that runs something: what it means, by its first word and the text after the word's space.
 #[tactic(auto, using(crate::proofs::Meant::parts_of_lines))]
 pub fn read_action(alloc: Global, word: &str, rest: &str) -> Result<ScriptLine, LineError>
     ensures { Answers (meaning_at action_rows word.now rest.now) result }

@@ -1,4 +1,4 @@
-//! The lines of a script behind its settings.
+//! The lines of a script after its settings.
 ghost use Rattle.std.specs.Prelude.{◌≡◌, ◌+◌, ◌<◌, ◌^◌, IfOk, MatchOption, OnSome, length};
 ghost use Rattle.cli_script.specs.declared.line.ScriptLine.TheVariants.{Action as Acts, Setting as Stated};
 ghost use Rattle.cli_script.specs.declared.line.Setting.{Setting};
@@ -22,7 +22,7 @@ pub struct Actions<'a> {
 impl<'a> Actions<'a> {
     ghost use Rattle.cli_script.specs.Scripts.{IsNextAction, bytes_left};
 
-    /// The lines of `rest`, behind so many others.
+    /// The lines of `rest`, after so many others.
     pub(crate) fn new(rest: &'a [u8], lines: usize) -> Actions<'a>
         requires { lines + length rest.now < 2 ^ 64 }
         ensures rest { result.rest.now ≡ rest.entry.now }

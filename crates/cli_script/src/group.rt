@@ -70,7 +70,7 @@ fn has_bad_entry(text: &str) -> bool
 }
 
 /// The entries of a text that may be empty. They are read once, and looked over again where that
-/// fails: marks that there are not are told before want of memory.
+/// fails: marks that there are not are reported before out of memory.
 fn read_entries(alloc: Global, text: &str) -> Result<Sequence<Entry>, LineError>
     ensures { Answers (or_refuse Marks (entries_spelled (further_words text.now))) result }
 {
@@ -91,7 +91,7 @@ fn read_group(alloc: Global, name: &str, text: &str) -> Result<ScriptLine, LineE
     Ok(ScriptLine::Setting(Setting::Flow(Group { name, entries })))
 }
 
-/// `GROUP ENTRY ..`, behind the first word.
+/// `GROUP ENTRY ..`, after the first word.
 pub fn read_flow(alloc: Global, rest: &str) -> Result<ScriptLine, LineError>
     ensures { Answers (flow_line rest.now) result }
 {

@@ -23,7 +23,7 @@ pub fn read_byte(word: &str) -> Option<u8>
     }
 }
 
-/// The byte of the first two digits, and the digits behind them.
+/// The byte of the first two digits, and the digits after them.
 fn first_byte(digits: &[u8]) -> Option<(u8, &[u8])>
     ensures { MatchOption result (IsNoByte digits.entry.now) (λ p. IsFirstByte digits.entry.now p.0 p.1.now) }
 {

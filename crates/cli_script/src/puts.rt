@@ -82,7 +82,7 @@ fn has_bad_put(text: &str) -> bool
 }
 
 /// The entries of a text that may be empty. They are read once, and looked over again where that
-/// fails: a word that is none is told before want of memory.
+/// fails: a word that is invalid is reported before out of memory.
 pub fn read_puts(alloc: Global, text: &str) -> Result<Sequence<Put>, LineError>
     ensures { Answers (or_refuse Entry (puts_spelled (further_words text.now))) result }
 {

@@ -26,7 +26,7 @@ impl<T: Drop> Queues<T> {
         }
     }
 
-    /// Puts an item behind those of its name.
+    /// Puts an item after those of its name.
     pub fn push(&mut self, name: String, item: T) -> Result<(), AllocError>
         ensures { OnOk result (PutsBehind (queue_at self.old) (queue_at self.new) (string_bytes name) item) }
     {

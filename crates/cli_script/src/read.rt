@@ -12,7 +12,7 @@ use crate::setting_lines::{
 use crate::words::{first_and_rest, has_control, has_empty_word};
 use std::alloc::Global;
 
-/// What a line with this first word means, by the text behind the word's space.
+/// What a line with this first word means, by the text after the word's space.
 fn read_row(alloc: Global, word: &str, rest: &str) -> Result<ScriptLine, LineError>
     ensures { Answers (meaning_at rows word.now rest.now) result }
 {
@@ -53,7 +53,7 @@ fn text_of(line: &[u8]) -> Result<&str, LineError>
 }
 
 /// What a line means, which stands here without its line feed. It is refused exactly where the written
-/// grammar refuses it, for the grammar's reason; want of memory is told of other lines alone.
+/// grammar refuses it, for the grammar's reason; out of memory is reported for other lines alone.
 pub fn read_line(alloc: Global, line: &[u8]) -> Result<ScriptLine, LineError>
     ensures { Answers (meaning_of line.now) result }
 {

@@ -1,4 +1,4 @@
-//! A script: the settings at its head, and the lines behind them.
+//! A script: the settings at its head, and the lines after them.
 ghost use Rattle.std.specs.Prelude.{◌≡◌, ◌+◌, ◌<◌, ◌≤◌, ◌^◌, IfErr, IfOk, length};
 ghost use Rattle.cli_script.specs.Scripts.{HasNoSetting, IsHeadRead, IsHeadRefused, IsNextSetting};
 ghost use Rattle.cli_script.specs.Scripts.{IsOpenedAs, IsScriptRefused, is_misplaced};
@@ -52,7 +52,7 @@ fn next_setting(
     }
 }
 
-/// What stands behind the settings at the head of a script.
+/// What stands after the settings at the head of a script.
 #[derive(Drop)]
 struct Head<'a> {
     settings: Settings,

@@ -92,7 +92,7 @@ pub fn read_choose(alloc: Global, rest: &str) -> Result<ScriptLine, LineError>
     Ok(ScriptLine::Setting(Setting::Choose { participant, text }))
 }
 
-/// The bytes of an advice. A word that is none is told before want of memory.
+/// The bytes of an advice. An invalid word is reported before out of memory.
 fn read_body(alloc: Global, word: &str) -> Result<Bytes, LineError>
     ensures { Answers (or_refuse refusal.Advice (hex_spelled word.now)) result }
 {

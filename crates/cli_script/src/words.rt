@@ -55,7 +55,7 @@ pub fn cut_at(text: &str, mark: char) -> Option<(&str, &str)>
     text.split_once(mark)
 }
 
-/// What stands before the first space, and what behind it: nothing where there is none.
+/// What stands before the first space, and what after it: nothing where there is none.
 pub fn first_and_rest(text: &str) -> (&str, &str)
     ensures word { result.0.now ≡ first_word text.entry.now }
     ensures rest { result.1.now ≡ rest_of text.entry.now }

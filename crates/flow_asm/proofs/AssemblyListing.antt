@@ -47,7 +47,7 @@ take_groups parts h zero gs = refl
 take_groups parts h (suc g) [] = refl
 take_groups parts h (suc g) (x ∷ gs) = ap (λ xs. placed_from parts h 0 x.entries ∷ xs) (take_groups parts (h + 1) g gs)
 
--- a group's first step is behind the steps of the groups before it
+-- a group's first step is after the steps of the groups before it
 pub first_is : (f : Flow) (g : ℕ) → first_step f g ≡ length (all_steps (parts_of f) (take g f.groups))
 first_is f g =
     ap (λ gs. length (flat_map stages_of_group gs)) (take_groups (parts_of f) 0 g f.groups) ∙ sym (length-map (flat_map stages_of_group (groups_from (parts_of f) 0 (take g f.groups))) step_of) ∙ ap length (map_groups (parts_of f) 0 (take g f.groups))

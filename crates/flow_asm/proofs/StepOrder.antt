@@ -23,7 +23,7 @@ Picks s (AtCall t ∷ xs) = ⊥
 Picks s (AtPick t ∷ xs) = t ≡ s
 Picks s (AtReturn ∷ xs) = ⊥
 
--- what stands behind a call
+-- what stands after a call
 abbrev pub Follows : PlacedEntry → List Stage → Type 0
 Follows s xs = ((s.kind.selector ≡ true) × Picks s xs) ⊎ ((s.kind.selector ≡ false) × Goes xs)
 

@@ -130,7 +130,7 @@ counted_pick f k g i p c h =
       next = w.3;
     }
 
--- behind a return counting begins anew
+-- after a return counting begins anew
 pub record IsReturn (f : Flow) (k g : ℕ) : Type 0 where
   pub place : place_of f k ≡ None
   pub next : Counted f (k + 1) (g + 1) 0 (drop (k + 1) (stages f))
@@ -205,7 +205,7 @@ call_counted f n g i (suc k) (AtPick t ∷ xs) s c h = call_counted f (n + 1) g 
 call_counted f n g i zero (AtReturn ∷ xs) s c h = absurd cc
 call_counted f n g i (suc k) (AtReturn ∷ xs) s c h = call_counted f (n + 1) (g + 1) 0 k xs s c h ∙ (let e : n + 1 + k ≡ n + suc k = omega arith in e)
 
--- a pick stands behind it
+-- a pick stands after it
 pub pick_counted : (f : Flow) (n g i k : ℕ) (xs : List Stage) (s : PlacedEntry) → Counted f n g i xs → slice_get xs k ≡ Some (AtPick s) → call_step f s.group s.index + 1 ≡ n + k
 pick_counted f n g i k [] s c h = absurd (none-some (AtPick s) h)
 pick_counted f n g i zero (AtCall t ∷ xs) s c h = absurd cc

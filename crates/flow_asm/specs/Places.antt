@@ -27,7 +27,7 @@ group_at (ss ∷ gs) (suc g) = group_at gs g
 abbrev pub call_within : List PlacedEntry → ℕ → ℕ
 call_within ss i = length (flat_map stages_of_entry (take i ss))
 
--- the step that calls the entry: it stands behind the steps of the groups and entries before it
+-- the step that calls the entry: it stands after the steps of the groups and entries before it
 abbrev pub call_step : Flow → ℕ → ℕ → ℕ
 call_step f g i = first_step f g + call_within (group_at (layout f) g) i
 
@@ -39,6 +39,6 @@ abbrev pub is_pick : Option Step → Bool
 is_pick (Some (Pick p)) = true
 is_pick step = false
 
--- the step calls the entry, or is the pick behind the step that does
+-- the step calls the entry, or is the pick after the step that does
 abbrev pub IsStepOf : Flow → ℕ → ℕ → ℕ → Type 0
 IsStepOf f g i step = (call_of f g i ≡ Some step) ⊎ ((is_pick (slice_get (steps_of f) step) ≡ true) × (call_of f g i ≡ Some (step - 1)))

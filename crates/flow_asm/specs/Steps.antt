@@ -33,7 +33,7 @@ abbrev pub stages_of_group : List PlacedEntry → List Stage
 stages_of_group [] = AtReturn ∷ []
 stages_of_group (s ∷ ss) = stages_of_entry s ++ stages_of_group ss
 
--- the groups stand one behind the other
+-- the groups stand one after the other
 abbrev pub stages : Flow → List Stage
 stages f = flat_map stages_of_group (layout f)
 

@@ -78,7 +78,7 @@ fn lay_out(
     Ok(Layout { starts, steps })
 }
 
-/// The steps of a checked flow. The only refusal is want of memory.
+/// The steps of a checked flow. The only refusal is out of memory.
 pub fn assemble(alloc: Global, flow: &Flow) -> Result<Code, AllocError>
     requires { IsChecked flow.now }
     ensures { IfOk result (λ code. code ≡ flow.now) }

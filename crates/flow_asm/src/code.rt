@@ -34,7 +34,7 @@ impl Drop for GroupStart {
 }
 
 /// The steps of a checked flow, numbered from 0: for each group in the flow's order, a `Call` for
-/// each entry, with a `Pick` behind the `Call` of a selector, and a `Return` at the end. At most
+/// each entry, with a `Pick` after the `Call` of a selector, and a `Return` at the end. At most
 /// 33,024 steps. Contracts see the flow.
 pub struct Code {
     pub(crate) retries: u8,
@@ -131,7 +131,7 @@ impl Code {
         self.steps.as_slice()
     }
 
-    /// The same steps once more. The only refusal is want of memory.
+    /// A copy of the steps. The only refusal is out of memory.
     pub fn copy(&self, alloc: Global) -> Result<Code, AllocError>
         ensures { IfOk result (λ copy. copy ≡ self.now) }
     {

@@ -4,7 +4,7 @@
 //! - [`assemble`] gives the steps of a checked flow, and [`list`] gives the flow of the steps back:
 //!   contracts see a [`Code`] as the flow that it was assembled from.
 //! - [`place`] and [`step_at`] agree: the call of an entry is the step whose place the entry is, and
-//!   a selector's pick is the step behind its call.
+//!   a selector's pick is the step after its call.
 //! - [`Code::look`] says what stands at a step, and [`Code::find_group`] finds a group by its name.
 #![tactic(auto)]
 

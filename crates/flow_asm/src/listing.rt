@@ -21,7 +21,7 @@ pub(crate) fn steps_from(steps: &[Step], first: usize) -> &[Step]
 }
 
 /// Adds the entry of the participant of this number; none where no participant has it. The only
-/// refusal is want of memory.
+/// refusal is out of memory.
 pub fn add_entry(entries: &mut Vec<Entry>, parts: &[Part], number: usize) -> Result<(), AllocError>
     ensures ok { OnOk result (AddsEntry entries.old.items entries.new.items (slice_get parts.now number)) }
     ensures err { OnErr result (entries.new.items ≡ entries.old.items) }
@@ -81,7 +81,7 @@ fn list_groups(
     Ok(groups)
 }
 
-/// The flow that the steps were assembled from. The only refusal is want of memory.
+/// The flow that the steps were assembled from. The only refusal is out of memory.
 pub fn list(alloc: Global, code: &Code) -> Result<Flow, AllocError>
     ensures flow { IfOk result (λ flow. flow ≡ code.now) }
     ensures checked { IfOk result (λ flow. IsChecked flow) }

@@ -56,7 +56,7 @@ fn number_entries<'a>(
     Ok(())
 }
 
-/// Numbers the participants of the groups behind those that have a number, in the order of first
+/// Numbers the participants of the groups after those that have a number, in the order of first
 /// appearance.
 pub fn number_groups<'a>(
     parts: &mut Vec<Part>,

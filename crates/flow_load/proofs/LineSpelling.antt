@@ -188,7 +188,7 @@ group_ok e text y h =
     with_bind _ (number_of e name.1) _ y (λ k is4 last.
     group_done text rest n name k y (word_is_ok e (codes "group") text rest is) (number_at_ok e rest n is2) (name_at_ok e n.1 name is3) (number_of_ok e name.1 k is4) last) more3) more2) more) h
 
--- a step's line behind its own number
+-- a step's line after its own number
 abbrev step_rest : Step → Text
 step_rest (Call p) = then_word (codes "call") (decimal p)
 step_rest (Pick p) = then_word (codes "pick") (decimal p)

@@ -40,7 +40,7 @@ lines_over_is text =
     over (items_at step_form h.0.steps 0 (2 + h.0.parts + h.0.groups) gs.1) _ _ _ _ (λ ss.
     plain (ended h.0 ss.1) _ _ _ (λ u. refl)))))
 
--- ---- a line by itself never has want of memory for its fault
+-- ---- a line by itself never has out of memory for its fault
 
 abbrev NotMemory : LoadError → Type 0
 NotMemory OutOfMemory = ⊥
@@ -165,7 +165,7 @@ pub looked_fault : (text : Text) (e : LoadError) → lines_over text ≡ Err e �
 unfolding load_of
 looked_fault text e h = fails_when e (load_of text) (stopped (lines_in text) (λ l. refused (version_fault l)) _ e (sym (lines_over_is text) ∙ h))
 
--- and never want of memory
+-- and never out of memory
 pub looked_memory : (text : Text) (e : LoadError) → e ≡ OutOfMemory → lines_over text ≡ Err e → ⊥
 looked_memory text e h is = subst NotMemory h (subst (λ (r : Result (Unit {0}) LoadError). Clean r) (sym (lines_over_is text) ∙ is) (clean_versioned text))
 

@@ -167,7 +167,7 @@ walk_ok parts line g numbered (Some q) at seen (Pick p ∷ xs) w le h =
     let ih = walk_ok parts line g numbered None (at + 1) seen xs w le went in
     record { steps = ap (λ ys. Pick p ∷ ys) ih.steps ∙ ap (λ n. Pick n ∷ (flat_map (entry_steps parts) w.entries ++ Return ∷ w.rest)) same; numbers = ih.numbers; place = omega (arith, ih.place); below = ih.below }) h
 
--- groups whose steps stand one behind the other, from step `at` on
+-- groups whose steps stand one after the other, from step `at` on
 abbrev pub starts_at : List Part → ℕ → List Group → List GroupStart
 starts_at parts at [] = []
 starts_at parts at (x ∷ xs) = record { name = x.name; first = at } ∷ starts_at parts (at + length (group_steps parts x)) xs

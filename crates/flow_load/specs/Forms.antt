@@ -73,7 +73,7 @@ header_form text = do
   s ← number_of BadHeader g.1
   Ok (record { version = v.0; retries = r.0; parts = p.0; groups = g.0; steps = s })
 
--- the first line, and the text behind it
+-- the first line, and the text after it
 unfoldable pub header_at : Text → Result (ImageHeader × Text) LoadError
 header_at text = do
   line ← found BadHeader (cut 10 text)
@@ -85,7 +85,7 @@ abbrev pub in_place : ℕ → ℕ → ℕ → Result (Unit {0}) LoadError
 in_place own n at = if own == n then Ok tt else Err (BadNumber at)
 
 module _ {A : Type 0} (form : LoadError → Text → Result (ℕ × A) LoadError) where
-  -- the item of number n, on the line of number `at`, and the text behind it
+  -- the item of number n, on the line of number `at`, and the text after it
   abbrev pub line_at : ℕ → ℕ → Text → Result (A × Text) LoadError
   line_at n at text =
       found (BadLine at) (cut 10 text) >>= λ line. form (BadLine at) line.0 >>= λ x. in_place x.0 n at >>= λ u. Ok (x.1, line.1)
@@ -95,7 +95,7 @@ module _ {A : Type 0} (form : LoadError → Text → Result (ℕ × A) LoadError
   items_at zero n at text = Ok ([], text)
   items_at (suc left) n at text = line_at n at text >>= λ x. items_at left (n + 1) (at + 1) x.1 >>= λ xs. Ok (x.0 ∷ xs.0, xs.1)
 
--- nothing stands behind the lines that the header counts
+-- nothing stands after the lines that the header counts
 abbrev pub ended : ImageHeader → Text → Result (Unit {0}) LoadError
 ended h text = if length text == 0 then Ok tt else Err (BadLine (2 + h.parts + h.groups + h.steps))
 

@@ -28,7 +28,7 @@ double_from parts n (p ∷ ps) = if nat_lt (number_in parts p.name) n then Some 
 abbrev pub double_fault : List Part → Option LoadError
 double_fault parts = option_map (λ n. BadTarget (2 + n)) (double_from parts 0 parts)
 
--- the pick that a call wants behind it
+-- the pick that a call wants after it
 abbrev pub wanted : ℕ → Option Part → Option ℕ
 wanted p None = None
 wanted p (Some x) = if x.kind.selector then Some p else None
@@ -101,7 +101,7 @@ module _ (parts : List Part) (line : ℕ) where
   abbrev pub end_fault : Walks → Option LoadError
   end_fault w = if nat_le 1 (length w.rest) then Some (BadTarget (line + w.at)) else (if nat_lt w.seen (length parts) then Some (BadTarget (2 + w.seen)) else None)
 
--- the line of step 0 is behind those of the header, the participants and the groups
+-- the line of step 0 is after those of the header, the participants and the groups
 abbrev pub steps_line : Lines → ℕ
 steps_line l = 2 + length l.parts + length l.starts
 

@@ -30,7 +30,7 @@ misversioned version (Some at) = if version == 2 then None else Some (BadLine at
 abbrev pub version_fault : Lines → Option LoadError
 version_fault l = misversioned l.version (first_recovering 2 l.parts)
 
--- The first fault of a line by itself, else of the version: what is told without memory.
+-- The first fault of a line by itself, else of the version: what is reported without memory.
 abbrev pub line_fault : Text → Option LoadError
 line_fault bytes = fault_of (lines_in bytes >>= λ l. refused (version_fault l))
 

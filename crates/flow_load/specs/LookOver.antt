@@ -11,11 +11,11 @@ use Rattle.sw_base.specs.Refusals.{refused}
 abbrev pub form_over : {A : Type 0} → (LoadError → Text → Result (ℕ × A) LoadError) → (A → Bool) → LoadError → Text → Result (ℕ × Bool) LoadError
 form_over form mark e text = form e text >>= λ x. Ok (x.0, mark x.1)
 
--- whether the item has this mark, and the text behind it
+-- whether the item has this mark, and the text after it
 abbrev pub line_over : {A : Type 0} → (LoadError → Text → Result (ℕ × A) LoadError) → (A → Bool) → ℕ → ℕ → Text → Result (Bool × Text) LoadError
 line_over form mark n at text = line_at form n at text >>= λ x. Ok (mark x.0, x.1)
 
--- the line of the first item with this mark, and the text behind the items
+-- the line of the first item with this mark, and the text after the items
 abbrev pub items_over : {A : Type 0} → (LoadError → Text → Result (ℕ × A) LoadError) → (A → Bool) → ℕ → ℕ → Text → Result (Option ℕ × Text) LoadError
 items_over form mark count at text = items_at form count 0 at text >>= λ xs. Ok (first_marked mark at xs.0, xs.1)
 

@@ -7,7 +7,7 @@ use Rattle.flow_load.specs.declared.error.LoadError.{LoadError}
 use Rattle.flow_load.specs.Image.{Text, kind_text}
 use Rattle.flow_load.specs.Reads.{◌>>=◌, found}
 
--- what stands before the first such byte, and behind it
+-- what stands before the first such byte, and after it
 abbrev pub cut : ℕ → Text → Option (Text × Text)
 cut byte [] = None
 cut byte (x ∷ xs) = if x == byte then Some ([], xs) else option_map (λ p. (x ∷ p.0, p.1)) (cut byte xs)

@@ -10,8 +10,8 @@ use thiserror::Error;
 #[derive(Clone, Copy, PartialEq, Eq, Error)]
 pub enum LoadError {
     /// An allocation failed. Each line by itself and the version are without fault (`BadHeader`,
-    /// `BadLine`, `BadNumber`), which is told without memory; the lines together and the flow may have
-    /// one, since those are told of lines that are kept.
+    /// `BadLine`, `BadNumber`), which is reported without memory; the lines together and the flow may have
+    /// one, since those are reported for lines that are kept.
     #[error("out of memory")]
     OutOfMemory,
     /// The first line is missing, not of its form, of a version other than 1 and 2, or counts more
@@ -20,7 +20,7 @@ pub enum LoadError {
          participants up to 16384, of groups up to 256 and of steps up to 33024; version 2 where a \
          participant recovers")]
     BadHeader,
-    /// The line is missing, has no line feed or is not of its form; or it stands behind the last
+    /// The line is missing, has no line feed or is not of its form; or it stands after the last
     /// one; or it marks a participant as recovering in version 1.
     #[error("line {0}: bad line: expected the participants, the groups and the steps that line 1 counts, \
          each line ended by a line feed, numbers up to 100000, and `recover` only in version 2")]
@@ -30,11 +30,11 @@ pub enum LoadError {
          from 0 without a gap")]
     BadNumber(usize),
     /// What the line says does not fit the lines before it: a doubled or unused participant, a
-    /// group that does not start behind the one before it, a call of a participant that is none or
-    /// not the next new one, a selector's call without its pick, a pick elsewhere, or a step behind
+    /// group that does not start after the one before it, a call of a participant that does not exist or
+    /// not the next new one, a selector's call without its pick, a pick elsewhere, or a step after
     /// the last group.
     #[error("line {0}: bad target: expected distinct participants in the order of their first calls, \
-         groups one behind the other, and a pick exactly behind each call of a selector")]
+         groups one after the other, and a pick right after each call of a selector")]
     BadTarget(usize),
     /// The steps end before the group's return.
     #[error("group {0}: no return: expected one at its end")]
@@ -44,7 +44,7 @@ pub enum LoadError {
     Flow(FlowError),
 }
 
-// By hand: a person is shown the same text, and a derived `fmt` of so many variants is dear to prove.
+// By hand: a person is shown the same text, and a derived `fmt` of so many variants is slow to prove.
 impl fmt::Debug for LoadError {
     fn fmt<W: fmt::Write>(&self, f: &mut fmt::Formatter<W>) -> fmt::Result {
         fmt::Display::fmt(self, f)

@@ -15,7 +15,7 @@ use flow_model::Part;
 use std::alloc::Global;
 use sw_participant::{Sequence, Text};
 
-/// A kind of lines behind the first one.
+/// A kind of lines after the first one.
 pub(crate) trait Line: Drop {
     ghost form: { LoadError → List ℕ → Result (ℕ × Self) LoadError };
 
@@ -215,7 +215,7 @@ pub fn test_number(own: usize, number: usize, at: usize) -> Result<(), LoadError
     }
 }
 
-// The item of this number, on the line of the number `at`, and the text behind it.
+// The item of this number, on the line of the number `at`, and the text after it.
 #[tactic(auto, using(crate::proofs::ItemLoop::fails_when))]
 fn item_at<T: Line>(
     alloc: Global,
@@ -252,7 +252,7 @@ fn read_items<T: Line>(
     Ok((items, rest))
 }
 
-/// Nothing stands behind the last line.
+/// Nothing stands after the last line.
 pub fn test_rest(header: ImageHeader, rest: &[u8]) -> Result<(), LoadError>
     requires { spec.is_header header ≡ true }
     ensures { Exactly (λ u. u) result (spec.ended header rest.now) }

@@ -19,7 +19,7 @@ use sw_participant::Sequence;
 pub(crate) enum StepRole {
     /// The next entry: a call of the participant of this number.
     Calls(usize),
-    /// The pick behind a selector's call.
+    /// The pick after a selector's call.
     Picks,
     /// The end of the group.
     Returns,
@@ -89,7 +89,7 @@ fn role_of(
     }
 }
 
-// The pick that a call wants behind it.
+// The pick that a call wants after it.
 fn wanted(parts: &[Part], number: usize) -> Option<usize>
     ensures { result ≡ spec.wanted number (slice_get parts.now number) }
 {
@@ -115,7 +115,7 @@ fn cut_off(group: usize, here: usize, select_due: Option<usize>) -> LoadError
     }
 }
 
-// A group, the number of the step behind its return, how many participants were seen so far, and the
+// A group, the number of the step after its return, how many participants were seen so far, and the
 // steps that are left.
 #[derive(Drop)]
 struct GroupRead<'a> {
@@ -164,7 +164,7 @@ fn read_group<'a>(
     Err(cut_off(group, line + at + steps.len(), select_due))
 }
 
-// The groups in their order, the number of the first step behind them, how many participants were
+// The groups in their order, the number of the first step after them, how many participants were
 // seen, and the steps that are left.
 #[derive(Drop)]
 struct GroupsRead<'a> {

@@ -34,7 +34,7 @@ pub fn test_version(version: usize, recovering: Option<usize>) -> Result<(), Loa
     }
 }
 
-// Whether the item of this number recovers, on the line of the number `at`, and the text behind it.
+// Whether the item of this number recovers, on the line of the number `at`, and the text after it.
 fn look_at<T: Line>(number: usize, at: usize, bytes: &[u8]) -> Result<(bool, &[u8]), LoadError>
     ensures { Exactly (λ p. (p.0, p.1.now)) result
         (line_over T.form T.recovers number at bytes.now) }
@@ -45,7 +45,7 @@ fn look_at<T: Line>(number: usize, at: usize, bytes: &[u8]) -> Result<(bool, &[u
     Ok((recovers, rest))
 }
 
-// The line of the first of so many items that recovers, and the text behind them.
+// The line of the first of so many items that recovers, and the text after them.
 fn look_items<T: Line>(
     count: usize,
     at: usize,

@@ -28,7 +28,7 @@ pub enum FlowError {
     BadRetries,
 }
 
-// By hand: a person is shown the same text, and a derived `fmt` of so many variants is dear to prove.
+// By hand: a person is shown the same text, and a derived `fmt` of so many variants is slow to prove.
 impl fmt::Debug for FlowError {
     fn fmt<W: fmt::Write>(&self, f: &mut fmt::Formatter<W>) -> fmt::Result {
         fmt::Display::fmt(self, f)

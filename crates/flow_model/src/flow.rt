@@ -42,7 +42,7 @@ impl Drop for Group {
 
 impl Group {
     /// The group of this name with these entries, each a participant's name and marks. The only
-    /// refusal is want of memory.
+    /// refusal is out of memory.
     pub fn of(alloc: Global, name: &str, entries: &[(&str, Kind)]) -> Result<Group, AllocError>
         ensures name { IfOk result (λ g. g.name ≡ name.now) }
         ensures entries { IfOk result (λ g.

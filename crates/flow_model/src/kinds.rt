@@ -122,7 +122,7 @@ impl Flow {
     ghost use Rattle.sw_base.specs.Refusals.{refused};
 
     /// As [`Flow::check`], but through a map from participants to kinds, so that n entries take
-    /// n × log n steps. The outer error is want of memory, which is told of a flow without a fault
+    /// n × log n steps. The outer error is out of memory, which is reported for a flow without a fault
     /// alone.
     pub fn check_by_map(&self, alloc: Global) -> Result<Result<(), FlowError>, AllocError>
         ensures checked { IfOk result (λ checked. checked ≡ refused (first_fault self.now)) }

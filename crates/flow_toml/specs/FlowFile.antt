@@ -39,7 +39,7 @@ tables_of (Some ds) = tables_in ds
 abbrev pub tables_at : Key → Members → List Members
 tables_at k ms = tables_of (option_and_then as_array (get_member (spelling k) ms))
 
--- 101, which no checked flow has, stands for each integer out of range
+-- 101, which no checked flow has, represents each integer out of range
 abbrev pub retries_of : Option ℤ → ℕ
 retries_of None = 0
 retries_of (Some (pos n)) = if nat_le n 100 then n else 101

@@ -22,7 +22,7 @@ pub enum FlowTomlError {
     /// A value of another kind stands at the key; of several such keys the least.
     #[error("{}: key {} has a value of the wrong kind: expected {}", .1, .0, .0.wants())]
     WrongKind(Key, TablePath),
-    /// The table has a key that is none of its keys; of several the least, by its bytes.
+    /// The table has a key that is not one of its keys; of several the least, by its bytes.
     #[error("{}: unknown key: expected one of {}", .1, keys_for(*.1))]
     Unknown(Text, TablePath),
     /// The file states a flow that its check refuses.
@@ -30,7 +30,7 @@ pub enum FlowTomlError {
     Flow(FlowError),
 }
 
-// By hand: a person is shown the same text, and a derived `fmt` is dear to prove.
+// By hand: a person is shown the same text, and a derived `fmt` is slow to prove.
 impl fmt::Debug for FlowTomlError {
     fn fmt<W: fmt::Write>(&self, f: &mut fmt::Formatter<W>) -> fmt::Result {
         fmt::Display::fmt(self, f)

@@ -111,7 +111,7 @@ fn print_table(alloc: Global, table: &Table) -> Result<String, AllocError>
 }
 
 /// A flow file of the flow, with every key written out and the tables under headers. The only
-/// refusal is want of memory.
+/// refusal is out of memory.
 pub fn print_flow(alloc: Global, flow: &Flow) -> Result<String, AllocError>
     requires { IsChecked flow.now }
     ensures { IfOk result (λ s. IsFlowFile flow.now (string_bytes s)) }

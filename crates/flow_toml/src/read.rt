@@ -155,7 +155,7 @@ fn flag_at(table: &Table, key: Key) -> bool
     }
 }
 
-// 101, which no checked flow has, stands for each integer out of range.
+// 101, which no checked flow has, represents each integer out of range.
 fn in_range(retries: i64) -> u8
     ensures { result ≡ spec.retries_of (Some retries) }
 {

@@ -1,4 +1,4 @@
--- What decoding answers: looking bytes over tells the fault of reading, which is never want of memory.
+-- What decoding answers: looking bytes over gives the fault of reading, which is never out of memory.
 -- for: read::decode, check::type_in
 use Rattle.std.proofs.Common.{◌≡◌, ℕ, Bool, true, false, cond, eqb, ltb, List, [], ◌∷◌, ◌++◌, length, take, drop, Option, Some, None, Result, Ok, Err, refl, sym, ap, subst, ◌∙◌}
 use Rattle.std.specs.List.{list_all}
@@ -228,7 +228,7 @@ looked_fault bytes e h =
     let same = over_fault (read bytes) e (sym (read_over_is bytes) ∙ h) in
     faulty e (read bytes) (subst (λ (r : Result PlainMessage DecodeError). Clean r) same (read_clean bytes)) same
 
--- want of memory, where looking over meets none
+-- out of memory, where looking over meets none
 pub looked_well : (bytes mti : List ℕ) → read_over bytes ≡ Ok mti → Answers (Err OutOfMemory) (read bytes)
 looked_well bytes mti h = over_ok (read bytes) mti (sym (read_over_is bytes) ∙ h)
 

@@ -10,7 +10,7 @@ use Rattle.iso_msg.specs.Messages.{Fields, PlainMessage, IsMti, numbers_of}
 use Rattle.iso_codec.specs.Digits.{bits_at, octets}
 use Rattle.sw_base.specs.Digits.{number_of}
 
--- The text of a value: the value itself, of its exact length; or behind as many digits of length as
+-- The text of a value: the value itself, of its exact length; or after as many digits of length as
 -- the form has, that tell the value's length; or sixteen hexadecimal digits of eight bytes.
 abbrev pub SpellsValue : Option Form → List ℕ → List ℕ → Type 0
 SpellsValue None text value = ⊥

@@ -67,7 +67,7 @@ front_at bytes = do
   ok ← known (field_numbers ns.0)
   Ok (front.0, field_numbers ns.0, ns.1)
 
--- a text behind digits of its length
+-- a text after digits of its length
 unfoldable pub behind_length : ℕ → ℕ → ℕ → List ℕ → Result (List ℕ × List ℕ) DecodeError
 behind_length places most n bytes = do
   digits ← part places bytes
@@ -112,7 +112,7 @@ read bytes = do
   fields ← fields_at (field_numbers ns.0) ns.1
   if length fields.1 == 0 then Ok (record { mti = mti; fields = fields.0 }) else Err Trailing
 
--- What decoding answers: the message or the first fault of the bytes, and want of memory only where
+-- What decoding answers: the message or the first fault of the bytes, and out of memory only where
 -- they have no fault.
 abbrev pub Answers : Result PlainMessage DecodeError → Result PlainMessage DecodeError → Type 0
 Answers (Ok m) reading = reading ≡ Ok m

@@ -8,8 +8,8 @@ use iso_msg::{ExpectedValue, FieldLabel, MessageError};
 use std::alloc::AllocError;
 use thiserror::Error;
 
-/// The first fault from the left, or want of memory. Fields have their number, and the text of a
-/// fault tells their name and what was expected. Their numbers are 0 of want of memory, and 1 to 7 in
+/// The first fault from the left, or out of memory. Fields have their number, and the text of a
+/// fault tells their name and what was expected. Their numbers are 0 of out of memory, and 1 to 7 in
 /// this order.
 #[derive(Clone, Copy, Debug, PartialEq, Eq, Drop, Error)]
 pub enum DecodeError {

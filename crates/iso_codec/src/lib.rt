@@ -6,7 +6,7 @@
 //!
 //! - `decode` answers a message exactly where the grammar relates it to the bytes, and else the
 //!   first fault from the left, which `read` of `specs/Reads.antt` names. It reads the bytes once
-//!   and copies only the values. Want of memory is told only of bytes that are readable.
+//!   and copies only the values. Out of memory is reported only of bytes that are readable.
 //! - `type_in` answers the type of the message alone, and takes no memory.
 //! - `encode` answers the one spelling with upper case digits and without an empty secondary
 //!   bitmap (`spelling` of `specs/Spelling.antt`), and what `decode` reads of it is the message. It

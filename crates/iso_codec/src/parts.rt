@@ -46,7 +46,7 @@ pub fn hex_digit(c: u8) -> Option<u8>
     None
 }
 
-/// The value of an LLVAR or LLLVAR field, behind digits of its length, and the bytes after it.
+/// The value of an LLVAR or LLLVAR field, after digits of its length, and the bytes after it.
 #[tactic(auto, unfolding(crate::specs::Reads::behind_length))]
 pub fn read_variable(
     length_digits: u16,

@@ -167,7 +167,7 @@ fn read_message(alloc: Global, bytes: &[u8]) -> Result<Message, DecodeError>
     Ok(message)
 }
 
-/// The refusal to tell where reading stopped with this one. Where that was want of memory, the
+/// The refusal to tell where reading stopped with this one. Where that was out of memory, the
 /// bytes are looked over for a fault, which would come first.
 fn settled(e: DecodeError, bytes: &[u8]) -> DecodeError
     requires { Fails e (read bytes.now) }
@@ -195,7 +195,7 @@ fn answer(alloc: Global, bytes: &[u8]) -> Result<Message, DecodeError>
 /// the order of reading: each part is taken whole (`Short`), and then looked at. The numbers are
 /// looked at after the bitmaps, and before the fields.
 ///
-/// Want of memory is told only where the bytes are those of a message.
+/// Out of memory is reported only where the bytes are those of a message.
 pub fn decode(alloc: Global, bytes: &[u8]) -> Result<Message, DecodeError>
     ensures found { IfOk result (λ m. Spells bytes.now m) }
     ensures only { (m : PlainMessage) → Spells bytes.now m

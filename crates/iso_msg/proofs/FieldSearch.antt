@@ -60,7 +60,7 @@ module _ (fs : List Field) (n : ℕ) (a : AreFields 1 (pairs fs)) where
       let q = parted comparisons_rise in
       sym (place_between fs n i within (λ j d l. ranked _ n _ (sym (q.0 j d (omega arith) l))) (λ j d l m. ranked _ n _ (sym (q.1 j d l m))))
 
--- a field goes behind those with lower numbers
+-- a field goes after those with lower numbers
 behind_all : (fs : List Field) (n : ℕ) (v : List ℕ) → ((i : ℕ) (d : Field) → i < length fs → (get_or fs i d).number < n) → with_value n v (pairs fs) ≡ pairs fs ++ (n, v) ∷ []
 behind_all [] n v under = refl
 behind_all (f ∷ fs) n v under = rw (lt-ltb f.number n (under 0 f (omega arith))) (ap (λ (x : Fields). pair f ∷ x) (behind_all fs n v (λ i d l. under (suc i) d (omega arith))))

@@ -10,7 +10,7 @@ use Rattle.iso_msg.specs.declared.table.Content.TheVariants.{Numeric, Printable}
 abbrev pub Row : Type 0
 Row = ℕ × FieldName × Form
 
--- The forms as the standard writes them: so many digits (n) or characters (ans), at most so many behind two
+-- The forms as the standard writes them: so many digits (n) or characters (ans), at most so many after two
 -- digits of length (LLVAR) or three (LLLVAR), and 64 bits (b).
 abbrev n : ℕ → Form
 n length = Fixed Numeric length

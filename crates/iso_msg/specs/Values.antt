@@ -42,7 +42,7 @@ refusal_by (Some form) n value =
 abbrev pub refusal : ℕ → List ℕ → Option MessageError
 refusal n value = refusal_by (form_of n) n value
 
--- The error that setting a field may give: the table's refusal, and want of memory only where the
+-- The error that setting a field may give: the table's refusal, and out of memory only where the
 -- table has none. A value never gives BadMti.
 abbrev pub IsRefusal : MessageError → ℕ → List ℕ → Type 0
 IsRefusal OutOfMemory n value = refusal n value ≡ None

@@ -9,8 +9,8 @@ use std::fmt;
 use thiserror::Error;
 
 /// A refusal. One that a field gets has the field's number; its text tells the name and what was
-/// expected too. The refusals of `Message::set` are tested in this order, want of memory last. Their
-/// numbers are 0 of want of memory, 1, 2 and 3 of a field's and 4 of a message type's.
+/// expected too. The refusals of `Message::set` are tested in this order, out of memory last. Their
+/// numbers are 0 of out of memory, 1, 2 and 3 of a field's and 4 of a message type's.
 #[derive(Clone, Copy, Debug, PartialEq, Eq, Drop, Error)]
 pub enum MessageError {
     /// The allocator has refused memory.

@@ -62,7 +62,7 @@ impl Message {
     }
 
     /// Puts a value at a number, in place of one that is there. The refusals are those of the
-    /// table, in the order of `MessageError`, and want of memory where the table has none.
+    /// table, in the order of `MessageError`, and out of memory where the table has none.
     pub fn set(&mut self, alloc: Global, number: u8, value: &[u8]) -> Result<(), MessageError>
         ensures ok { OnOk result (self.new
             ≡ record { mti = self.old.mti; fields = with_value number value.now self.old.fields }) }
@@ -102,7 +102,7 @@ impl Message {
         FieldNumbers::new(&self.fields)
     }
 
-    /// The same message once more, in memory of its own.
+    /// A copy of the message, in memory of its own.
     pub fn copy(&self, alloc: Global) -> Result<Message, AllocError>
         ensures { IfOk result (λ m. m ≡ self.now) }
     {

@@ -18,7 +18,7 @@ fn place(fields: &[Field], number: u8) -> Result<usize, usize>
     fields.binary_search_by_key(&number, |field| field.number)
 }
 
-/// Whether a number is above those of all fields, so that its field goes behind them.
+/// Whether a number is above those of all fields, so that its field goes after them.
 fn is_above(fields: &[Field], number: u8) -> bool
     requires { AreFields 1 (pairs fields.now) }
     ensures { IsTrue result → (value : List ℕ) → with_value number value (pairs fields.now)
@@ -54,7 +54,7 @@ fn put_among(fields: &mut Vec<Field>, number: u8, value: Vec<u8>) -> Result<(), 
     Ok(())
 }
 
-/// Decoding puts each field behind the others, which needs no search.
+/// Decoding puts each field after the others, which needs no search.
 pub fn put(fields: &mut Vec<Field>, number: u8, value: Vec<u8>) -> Result<(), MessageError>
     requires { AreFields 1 (pairs fields.old.items) }
     ensures ok { OnOk result (pairs fields.new.items

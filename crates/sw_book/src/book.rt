@@ -201,7 +201,7 @@ impl Book {
     }
 
     /// What was spent under the key is given back, and the key stays taken. Answers whether it was
-    /// spent, so the same reversal once more answers no; it takes no memory.
+    /// spent, so the same reversal again answers no; it takes no memory.
     pub fn reverse(&mut self, key: &BookKey) -> bool
         ensures changed { result ≡ is_used_in key.now self.old.items }
         ensures reversed { self.new ≡ with_items self.old (reversed key.now self.old.items) }

@@ -1,6 +1,6 @@
 //! What a book is about.
 
-/// A card: the digits of field 2, the primary account number, filled up with spaces behind them.
+/// A card: the digits of field 2, the primary account number, filled up with spaces after them.
 #[derive(Clone, Copy, PartialEq, Eq, Hash)]
 pub struct Card {
     /// The 19 places.

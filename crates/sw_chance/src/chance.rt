@@ -19,7 +19,7 @@ const READONLY: u8 = 0x80;
 /// A bit that no answer has.
 const UNKNOWN: u8 = 0x04;
 
-/// A participant that draws its replies. Each preparation puts a byte behind the context's entry
+/// A participant that draws its replies. Each preparation puts a byte after the context's entry
 /// `path`, its own number, and each outcome its number with the highest bit set.
 #[derive(Drop)]
 pub struct Chance {
@@ -30,7 +30,7 @@ pub struct Chance {
     groups: Vec<Text>,
 }
 
-// Puts the mark behind the path.
+// Puts the mark after the path.
 fn note(alloc: Global, context: &mut Context, mark: u8) -> Result<(), NoMemory>
     ensures { OnErr result (context.new ≡ context.old) }
 {

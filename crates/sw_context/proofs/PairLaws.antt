@@ -126,7 +126,7 @@ refused es name value e h =
     none-some : (f : ContextError) → None ≡ Some f → ⊥
     none-some f g = cc
 
--- where there is no refusal, only memory can be wanting
+-- where there is no refusal, only memory can run out
 pub wants-memory : (e : ContextError) (r : Option ContextError) → IsRefusal e r → r ≡ None → e ≡ OutOfMemory
 wants-memory OutOfMemory r h none = refl
 wants-memory Full r h none = absurd cc

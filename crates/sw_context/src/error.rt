@@ -11,7 +11,7 @@ pub enum ContextError {
     #[error("out of memory")]
     OutOfMemory = 0,
     /// The name is new, and there are 64 entries.
-    #[error("the context is full: it has 64 entries, and the name is none of theirs")]
+    #[error("the context is full: it has 64 entries, none with this name")]
     Full = 1,
     /// The name is empty, too long or has another byte.
     #[error("not a name: expected 1 to 32 bytes of a-z A-Z 0-9 _ - .")]

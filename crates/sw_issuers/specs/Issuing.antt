@@ -88,7 +88,7 @@ abbrev pub shown_issuer : Bool → List (List ℕ) → List ℕ
 shown_issuer silent waiting =
     shown (coded× coded_bool (coded_list (coded_list coded_ℕ))) (silent, waiting)
 
--- sending puts the answer behind those that wait
+-- sending puts the answer after those that wait
 abbrev pub Sends : List ℕ → List ℕ → List ℕ → Type 0
 Sends s bytes t = (silent : Bool) × (waiting : List (List ℕ))
     × (s ≡ shown_issuer silent waiting)

@@ -12,7 +12,7 @@ abbrev pub unspaced : List ℕ → List ℕ
 unspaced [] = []
 unspaced (c ∷ cs) = if c == 32 then unspaced cs else c ∷ cs
 
--- without the spaces behind
+-- without the spaces after
 abbrev pub unspaced_end : List ℕ → List ℕ
 unspaced_end text = reverse (unspaced (reverse text))
 

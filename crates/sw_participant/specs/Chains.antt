@@ -50,7 +50,7 @@ pub data ChainItem (V : Type 0) : Type 0 where
   Called : (call : Call) → (place : Option ℕ) → (reply : Reply) → ChainItem V
   Stopped : (view : V) → ChainItem V
 
--- the place of a call: where a member is told the outcome, and as it recovers before that, the number of members that
+-- the place of a call: where a member is notified of the outcome, and as it recovers before that, the number of members that
 -- were told before
 abbrev pub place_of : Act → ℕ → Option ℕ
 place_of Prepare told = None

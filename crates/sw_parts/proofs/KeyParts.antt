@@ -1,4 +1,4 @@
--- Parts put one behind the other.
+-- Parts put one after the other.
 -- for: limits::key_of
 use Rattle.std.proofs.Common.{◌≡◌, ℕ, List, [], ◌∷◌, ◌++◌, length, drop, refl, ap, subst, ◌∙◌, append-nil, length-append, arith}
 use Rattle.std.specs.Prelude.{replicate}

@@ -14,7 +14,7 @@ refuses = 0x40
 abbrev pub leaves_notes : ℕ
 leaves_notes = 0x41
 
--- ready, to be told the outcome, and nothing to save (PREPARED, READONLY)
+-- ready, to be notified of the outcome, and nothing to save (PREPARED, READONLY)
 abbrev pub joins : ℕ
 joins = 0x81
 
@@ -26,7 +26,7 @@ PassesOver o x byte p y = (p ≡ o) × (byte ≡ passes) × (y ≡ x)
 abbrev pub SelectsNone : List ℕ → List ℕ → List ℕ → Type 0
 SelectsNone o text p = (p ≡ o) × (text ≡ [])
 
--- an outcome that is told without effect and without advice
+-- an outcome that is reported without effect and without advice
 abbrev pub StaysQuiet : List ℕ → Pairs → Option (List ℕ) → List ℕ → Pairs → Type 0
 StaysQuiet o x advice p y = (p ≡ o) × (advice ≡ None) × (y ≡ x)
 

@@ -16,7 +16,7 @@ pub const REFUSES: u8 = 0x40;
 /// The answer of a participant that is ready without joining.
 pub const LEAVES_NOTES: u8 = 0x41;
 
-/// The answer of a participant that is ready, wants to be told the outcome, and has nothing to
+/// The answer of a participant that is ready, wants to be notified of the outcome, and has nothing to
 /// save.
 pub const JOINS: u8 = 0x81;
 

@@ -12,7 +12,7 @@
 //!
 //! Each states for each call of a participant what it may do, as a relation in `specs/`. What is
 //! not named there does nothing: a preparation answers that the participant is ready and does not
-//! join, an outcome is told without effect. Those that never join are [`Unjoined`], and
+//! join, an outcome has no effect. Those that never join are [`Unjoined`], and
 //! [`Bystander`] makes participants of them. A participant that is refused memory has changed
 //! nothing.
 #![tactic(auto)]

@@ -43,7 +43,7 @@ pub trait Unjoined: Drop {
         ensures context_kept { OnErr result (context.new ≡ context.old) };
 }
 
-/// The participant that one is which never joins: an outcome is told without effect.
+/// The participant that one is which never joins: an outcome has no effect.
 pub struct Bystander<P: Unjoined> {
     part: P,
 }

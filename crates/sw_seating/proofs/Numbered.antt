@@ -14,7 +14,7 @@ use Rattle.flow_model.specs.Places.{parts_from, parts_of, add_new, all_entries, 
 use Rattle.flow_model.proofs.Numbers.{number_cons, number_here, number_kept}
 use Rattle.sw_seating.specs.Seating.{AreNumbered}
 
--- a name that is new gets the number behind the last
+-- a name that is new gets the number after the last
 number_at_end : (ps : List Part) (q : Part) → length ps ≤ number_in ps q.name → number_in (ps ++ q ∷ []) q.name ≡ length ps
 number_at_end [] q new = number_here q [] q.name ((bytes_eq-Decides q.name q.name).1 refl)
 number_at_end (p ∷ ps) q new =

@@ -1,4 +1,4 @@
--- The station of a participant that has one is found behind those that are seated, and takes its place.
+-- The station of a participant that has one is found after those that are seated, and takes its place.
 -- for: seating::has_name, seating::test_doubles, seating::find_from, seating::seat_one, seating::seat
 use Rattle.std.proofs.Common.{◌≡◌, ℕ, suc, zero, ◌+◌, ◌<◌, ◌≤◌, Bool, true, false, ◌||◌, not, ◌⊎◌, inl, inr, ⊎_elim, List, [], ◌∷◌, ◌++◌, length, get_or, take, drop, set, swap, map, Option, None, Some, Result, Ok, Err, refl, sym, ap, ◌∙◌, subst, arith, if◌then◌else◌, true≢false, IsPermutation}
 use Rattle.std.specs.List.{list_any}

@@ -108,7 +108,7 @@ fn seat_all(stations: &mut Vec<Station>, parts: &[Part])
 }
 
 /// Puts the stations in the order of the participants' numbers, those that no participant calls for
-/// behind them. Refused are, and then nothing has moved: the least participant without a station of
+/// after them. Refused are, and then nothing has moved: the least participant without a station of
 /// its name, then the first station that has the name of an earlier one.
 pub fn seat(stations: &mut Vec<Station>, parts: &[Part]) -> Result<(), SeatingError>
     requires numbered { AreNumbered parts.now }

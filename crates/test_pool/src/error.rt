@@ -30,7 +30,7 @@ pub enum TestError {
     OutOfMemory(#[from] AllocError),
 }
 
-// By hand: a person is shown the same text, and a derived `fmt` of so many variants is dear to
+// By hand: a person is shown the same text, and a derived `fmt` of so many variants is slow to prove
 // prove.
 impl fmt::Debug for TestError {
     fn fmt<W: fmt::Write>(&self, f: &mut fmt::Formatter<W>) -> fmt::Result {

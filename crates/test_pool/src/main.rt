@@ -10,7 +10,7 @@
 //! Offer K of them, from 0, is the context `offer` = K in decimal digits. It prints
 //!
 //! - the lines of the trace of all that the plant did,
-//! - of each run `run FROM TO`: its entries are those behind number FROM up to number TO; for each
+//! - of each run `run FROM TO`: its entries are those after number FROM up to number TO; for each
 //!   session `receipts S NUMBER ..`; `finished COUNT` and `shelved COUNT`,
 //! - of each station `calls NAME COUNT`,
 //! - of each call, in the order in which they were made, `called S ID CALL NAME`,
@@ -90,7 +90,7 @@ fn play<R: Threads + Wait + Sync, W: Write>(
     for (number, part) in code.participants().iter().enumerate() {
         let number = (number & 0x7f) as u8;
         let chance = Chance::new(alloc, number, names_of(alloc, code)?, task.seed);
-        // A checked flow has no bad name, so only memory can be wanting.
+        // A checked flow has no bad name, so only memory can run out.
         match Station::new(alloc, part.name.as_str(), Box::new(alloc, chance)?) {
             Ok(station) => stations.push(station)?,
             Err(_) => return Err(TestError::OutOfMemory(AllocError)),

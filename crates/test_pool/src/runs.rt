@@ -16,7 +16,7 @@ use tx_pool::{Gate, Pool, PoolError, Report};
 /// More runs than the retries of a flow ask for, of which there are at most 100.
 const MOST_RUNS: u64 = 102;
 
-/// A run, with how many entries the history had before it and behind it.
+/// A run, with how many entries the history had before it and after it.
 #[derive(Drop)]
 pub struct Ran {
     pub from: usize,

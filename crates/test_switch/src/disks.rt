@@ -15,7 +15,7 @@ pub enum Cut {
     Power,
     /// The machine stops, and all that was written stays.
     Kill,
-    /// The call is refused, and those behind it are not.
+    /// The call is refused, and those after it are not.
     Refusal,
 }
 

@@ -39,7 +39,7 @@ pub enum TestError {
     Plant(#[from] PlantError),
     #[error("{0}")]
     Journal(#[from] JournalError),
-    #[error("the script has no line behind its settings")]
+    #[error("the script has no line after its settings")]
     NoLine,
     #[error("the journal was not opened again")]
     Lost,
@@ -51,7 +51,7 @@ pub enum TestError {
     OutOfMemory(#[from] AllocError),
 }
 
-// By hand: a person is shown the same text, and a derived `fmt` of so many variants is dear to prove.
+// By hand: a person is shown the same text, and a derived `fmt` of so many variants is slow to prove.
 impl fmt::Debug for TestError {
     fn fmt<W: fmt::Write>(&self, f: &mut fmt::Formatter<W>) -> fmt::Result {
         fmt::Display::fmt(self, f)

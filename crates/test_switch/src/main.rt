@@ -6,12 +6,12 @@
 //!
 //! `test_switch stopped power|kill|refusal < SCRIPT` runs the script of `cardswitch step` again and again over
 //! a journal in memory, cut at the first call of its disks, at the second and so on, up to a run that is
-//! not cut. Behind each run a new plant opens the journal again and recovers what it has unfinished;
+//! not cut. After each run a new plant opens the journal again and recovers what it has unfinished;
 //! as in a new process its stations are new. With the further word `twice` each recovery is cut at
 //! each of its calls too.
 //!
 //! It prints for each run `run CALLS`, the script's lines up to the cut, `found` with the journal that was
-//! opened again, the lines of the recovery, `left` with the journal behind it, and behind the lines of
+//! opened again, the lines of the recovery, `left` with the journal after it, and after the lines of
 //! each plant `calls NAME COUNT` for each of its stations.
 //!
 //! `test_switch opened PATH` prints the layout of the journal in the file, opens it, and prints its view, or why it is
@@ -64,7 +64,7 @@ fn cut_of(word: &str) -> Result<Cut, TestError> {
 }
 
 fn run_stopped(rt: &HostRuntime, cut: Cut, is_twice: bool) -> Result<(), TestError> {
-    // (behind a refusal the connection goes on, so that no second one can be laid into its disks)
+    // (after a refusal the connection goes on, so that no second one can be laid into its disks)
     if is_twice && matches!(cut, Cut::Refusal) {
         return Err(TestError::Words);
     }

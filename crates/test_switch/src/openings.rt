@@ -84,7 +84,7 @@ fn done<S: Alter + Drop, W: Write>(
 }
 
 // Does the task over these files. Whether it was refused, and the files. (Each function that calls a generic one at the
-// store of these disks is dear to prove: it is this one alone.)
+// store of these disks is slow to prove: it is this one alone.)
 fn over_files<W: Write>(
     alloc: Global,
     files: Disks,

@@ -39,7 +39,7 @@ fn begin<S: Alter + Drop, W: Write>(
     for part in code.participants() {
         let name = part.name.as_str();
         let participant = Scripted::new(alloc, script.replies.take(alloc, name));
-        // A checked flow has no bad name, so only memory can be wanting.
+        // A checked flow has no bad name, so only memory can run out.
         match Station::new(alloc, name, Box::new(alloc, participant)?) {
             Ok(station) => stations.push(station)?,
             Err(_) => return Err(TestError::OutOfMemory(AllocError)),
@@ -78,7 +78,7 @@ fn run_part<S: Alter + Drop, W: Write>(
     Ok((Some(is_cut), Left::Open(journal.into_connection())))
 }
 
-// Writes the lines of one plant over the journal of this connection, and adds whether it was cut. Behind a
+// Writes the lines of one plant over the journal of this connection, and adds whether it was cut. After a
 // refusal the connection goes on, where it can, with a second plant, of which the same is told.
 fn run_over<S: Alter + Drop, W: Write>(
     alloc: Global,
@@ -108,7 +108,7 @@ fn run_over<S: Alter + Drop, W: Write>(
 }
 
 // Writes the lines over the journal in these files, and gives them back. (Each function that calls a generic one at the
-// store of these disks is dear to prove: it is this one alone.)
+// store of these disks is slow to prove: it is this one alone.)
 fn run_files<W: Write>(
     alloc: Global,
     script: &[u8],
@@ -143,7 +143,7 @@ fn run_lines<W: Write>(
     let mut cuts = Vec::new(alloc);
     write_run(calls, out)?;
     for (place, count) in calls.iter().enumerate() {
-        // (behind a refusal two have run over one connection)
+        // (after a refusal two have run over one connection)
         if place < cuts.len() {
             continue;
         }

@@ -15,7 +15,7 @@ use Rattle.tx_history.proofs.OwnItems.{old_outcome}
 use Rattle.tx_engine.specs.Opening.{closing_entry}
 use Rattle.tx_engine.proofs.FilledMaps.{get_first}
 
--- whether a row has nobody to tell
+-- whether a row has nobody to notify
 
 length_map : {A B : Type 0} (g : A → B) (xs : List A) → length (map g xs) ≡ length xs
 length_map g [] = refl

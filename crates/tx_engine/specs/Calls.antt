@@ -56,7 +56,7 @@ next_in w s (Some id) = next_by (is_unwritten w id) (is_held_at w.flow w.start w
 abbrev pub next_of : World → ℕ → Next
 next_of w s = next_in w s (held_id w s)
 
--- refusals in order, want of memory aside
+-- refusals in order, out of memory aside
 
 abbrev pub offer_refusal : World → Option EngineError
 offer_refusal w = refused_if (is_full w) error.HistoryFull

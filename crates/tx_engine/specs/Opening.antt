@@ -13,7 +13,7 @@ use Rattle.tx_engine.specs.declared.error.EngineError.{EngineError}
 use Rattle.tx_engine.specs.declared.error.EngineError.TheVariants.{BadSessions, OutOfMemory, UnknownParticipant}
 use Rattle.tx_engine.specs.World.{World}
 
--- the entry that closes a journalled transaction with nobody to tell
+-- the entry that closes a journalled transaction with nobody to notify
 abbrev pub closing_entry : ℕ → ℕ → Entry
 closing_entry number id =
     record {

@@ -69,7 +69,7 @@ impl EngineError {
     }
 }
 
-// By hand: the texts are constants, and a derived `fmt` of so many variants is dear to prove.
+// By hand: the texts are constants, and a derived `fmt` of so many variants is slow to prove.
 impl fmt::Display for EngineError {
     fn fmt<W: fmt::Write>(&self, f: &mut fmt::Formatter<W>) -> fmt::Result {
         match self {

@@ -46,7 +46,7 @@ impl Model for Offer {
 }
 
 impl Offer {
-    /// Of this context. The only refusal is want of memory.
+    /// Of this context. The only refusal is out of memory.
     pub fn new(context: &Context) -> Result<Offer, AllocError>
         ensures { IfOk result (λ offer. offer ≡ bytes_of context.now) }
     {

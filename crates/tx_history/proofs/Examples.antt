@@ -29,7 +29,7 @@ left : journal flow start past ≡ record { next_id = 2; rows = (1, record { pha
 unfolding plain flow start past
 left = refl
 
--- after the stop: both are told to abort, in order, and nothing is left
+-- after the stop: both are notified of the abort, in order, and nothing is left
 again : holds flow (stopped flow start past) [] 0 ≡ Some 1
 unfolding plain flow start past
 again = refl

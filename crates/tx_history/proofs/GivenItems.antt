@@ -82,7 +82,7 @@ state_other f v past e id x j g d = rw (g.arrived, g.others j d) refl
 row_other : (f : Flow) (v : Start) (past : List Event) (e : Event) (id : ℕ) (x : Item) (j : ℕ) → Gave f v past e id x → j ≢ id → row_at f v (e ∷ past) j ≡ row_at f v past j
 row_other f v past e id x j g d = rw (g.arrived, g.closed j, g.others j d) refl
 
--- a closing entry is of a transaction with nobody to tell
+-- a closing entry is of a transaction with nobody to notify
 pub record Closing (f : Flow) (rows : List (ℕ × Row)) (id : ℕ) : Type 0 where
   pub row : Row
   pub there : look id rows ≡ Some row
@@ -110,7 +110,7 @@ pub closing : (f : Flow) (rows : List (ℕ × Row)) (n m k id : ℕ) → Rising 
 closing f [] n m k id rise h = absurd (cc)
 closing f (r ∷ rows) n m k id rise h = close_if f r rows m k id rise.2 (λ i. closing f rows (r.0 + 1) m i id rise.2) (is_ended f (reopened f r.1)) refl h
 
--- a closed transaction had nobody to tell
+-- a closed transaction had nobody to notify
 closed_if : (f : Flow) (v : Start) (past : List Event) (k id : ℕ) → IsOrdered v.view → slice_get (to_close f v.view.rows) (length past) ≡ Some k → (is_closed past id ≡ true → Closing f v.view.rows id)
     → (b : Bool) → (k == id) ≡ b → (b || is_closed past id) ≡ true → Closing f v.view.rows id
 closed_if f v past k id o at ih true e h =

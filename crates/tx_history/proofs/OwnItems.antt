@@ -101,7 +101,7 @@ old_outcome f r items =
 more_told : (n m k : ℕ) → n ≤ m → not (nat_lt n k) ≡ true → not (nat_lt m k) ≡ true
 more_told n m k le h = grind (arith, nat_tests)
 
--- with nobody to tell there never is
+-- with nobody to notify there never is
 pub ended_stays : (f : Flow) (r : Row) (items : List Item) → is_ended f (reopened f r) ≡ true → is_ended f (after_newest f (reopened f r) items) ≡ true
 ended_stays f r items h =
     let w = old_stays f (reopened f r) items refl refl in

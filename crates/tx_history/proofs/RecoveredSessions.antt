@@ -1,4 +1,4 @@
--- What session 0 serves while journalled transactions are recovered, and the last entries of those behind.
+-- What session 0 serves while journalled transactions are recovered, and the last entries of those after.
 -- for: whoever keeps of each session whom it serves and where that stands
 use Rattle.std.proofs.Common.{◌≡◌, ◌≢◌, ℕ, ◌+◌, ◌<◌, ◌≤◌, true, false, inl, inr, List, [], ◌∷◌, length, Option, Some, None, refl, sym, ◌∙◌, ap, arith}
 use Rattle.std.specs.Prelude.{if◌then◌else◌, nat_lt}
@@ -36,7 +36,7 @@ none_taken v (Cleared p ∷ past) s h = none_taken v past s h
 none_taken v (LetGo t ∷ past) s h = none_taken v past s h
 none_taken v (Closed i ∷ past) s h = none_taken v past s h
 
--- an item is not for one that waits behind the one that is recovered after it
+-- an item is not for one that waits after the one that is recovered after it
 pub record Passes (f : Flow) (v : Start) (past : List Event) (k j : ℕ) : Type 0 where
   pub apart : j ≢ k
   pub none : last_of f v past j ≡ 0
@@ -66,7 +66,7 @@ restored_apart f v past s k id j h r lt le z = elim (serves_who f v past s k h) 
   | inr a ↦ (let above = taken_from v past s k a in omega arith)
 ]
 
--- those behind the one that is recovered now have no entry yet
+-- those after the one that is recovered now have no entry yet
 pub last_none : (f : Flow) (v : Start) (past : List Event) (id j : ℕ) → IsOrdered v.view → IsLawful f v past → recovering f v past ≡ Some id → id < j → j < v.view.next_id → last_of f v past j ≡ 0
 last_none f v [] id j o law h lt le = refl
 last_none f v (Offered c ∷ past) id j o law h lt le = last_none f v past id j o law.2 h lt le
@@ -94,7 +94,7 @@ last_none f v (Cleared p ∷ past) id j o law h lt le = last_none f v past id j 
 last_none f v (LetGo t ∷ past) id j o law h lt le = last_none f v past id j o law.2 h lt le
 last_none f v (Closed i ∷ past) id j o law h lt le = last_none f v past id j o law.2 h lt le
 
--- the first one behind it with somebody to tell
+-- the first one after it with somebody to notify
 abbrev pub next_one : Flow → Start → ℕ → Option ℕ
 next_one f v id = first_unfinished f (behind id v.view.rows) fresh_items
 
@@ -111,7 +111,7 @@ session_goes_on f v past e id x o law g h going =
     let still : recovering f v (e ∷ past) ≡ Some id = recovering_next f v past e id x o law g h ∙ (rw (given, going) refl) in
     ap (λ (r : Option ℕ). state_of_served f v (e ∷ past) (or_taken r (taken v (e ∷ past) 0))) still ∙ ap (λ (s : TxState). Some (id, s)) given
 
--- who comes next stands behind it
+-- who comes next stands after it
 pub next_behind : (f : Flow) (v : Start) (past : List Event) (e : Event) (id j : ℕ) (x : Item) → IsOrdered v.view → IsLawful f v past → Gave f v past e id x → recovering f v past ≡ Some id
     → recovering f v (e ∷ past) ≡ Some j → j ≢ id → (id < j) × (j < v.view.next_id)
 next_behind f v past e id j x o law g h r apart =
@@ -119,7 +119,7 @@ next_behind f v past e id j x o law g h r apart =
     let below = recovering_below f v (e ∷ past) j o r in
     (omega (arith, apart), below)
 
--- the one behind stands as its row says
+-- the one after stands as its row says
 reopened_as : (f : Flow) (v : Start) (past : List Event) (e : Event) (id j : ℕ) (x : Item) → IsOrdered v.view → IsLawful f v past → Gave f v past e id x → recovering f v past ≡ Some id → id < j → j < v.view.next_id
     → state_of f v (e ∷ past) j ≡ reopened_at f (look j v.view.rows)
 reopened_as f v past e id j x o law g h lt le =

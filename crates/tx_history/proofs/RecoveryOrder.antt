@@ -61,7 +61,7 @@ gave_later f v past e k s id j x o acc g h r lt le ih (Some i) was = elim (serve
       g.others j (λ z. omega arith) ∙ ih i was (omega arith))
 ]
 
--- those behind the one that is recovered now have no items yet
+-- those after the one that is recovered now have no items yet
 pub later_none : (f : Flow) (v : Start) (past : List Event) (id j : ℕ) → IsOrdered v.view → IsLawful f v past → recovering f v past ≡ Some id → id < j → j < v.view.next_id → own_items f v past j ≡ []
 later_none f v [] id j o law h lt le = refl
 later_none f v (Offered x ∷ past) id j o law h lt le = later_none f v past id j o law.2 h lt le
@@ -129,7 +129,7 @@ next_on f [] a b n m k q rise same later there h = absurd (cc)
 next_on f (r ∷ rows) a b n m k q rise same later there h =
     next_if f r rows a b n m k q rise same later there (λ i t. next_on f rows a b (r.0 + 1) m k q rise.2 same later t i) (is_ended f (after_newest f (reopened f r.1) (a r.0))) refl h
 
--- after an item for the one that is recovered: the same one, or the first one behind it with somebody to tell
+-- after an item for the one that is recovered: the same one, or the first one after it with somebody to notify
 pub recovering_next : (f : Flow) (v : Start) (past : List Event) (e : Event) (id : ℕ) (x : Item) → IsOrdered v.view → IsLawful f v past → Gave f v past e id x → recovering f v past ≡ Some id
     → recovering f v (e ∷ past) ≡ one_after f v.view.rows id (is_ended f (state_of f v (e ∷ past) id))
 recovering_next f v past e id x o law g h =

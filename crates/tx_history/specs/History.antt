@@ -168,7 +168,7 @@ ids v past = next_id v past - 1
 abbrev pub shelf_of : Flow → Start → List Waiting → List Event → List (ℕ × Waiting)
 shelf_of f v arrived past = gather (shelved_at f v arrived past) 1 (ids v past)
 
--- the contexts offered and released, in order, behind those that were there
+-- the contexts offered and released, in order, after those that were there
 abbrev pub arrivals : Flow → Start → List Event → List Waiting
 arrivals f v [] = v.queue
 arrivals f v (Offered c ∷ past) = arrivals f v past ++ record { tries = f.retries; context = c } ∷ []

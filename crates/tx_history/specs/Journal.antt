@@ -110,7 +110,7 @@ entries f v (e ∷ past) = entries f v past ++ record { number = length past + 1
 
 -- what is accepted, the written mark aside
 
--- the journalled transactions with nobody to tell, ids rising
+-- the journalled transactions with nobody to notify, ids rising
 abbrev pub to_close : Flow → List (ℕ × Row) → List ℕ
 to_close f [] = []
 to_close f (r ∷ rows) = if is_ended f (reopened f r.1) then r.0 ∷ to_close f rows else to_close f rows

@@ -25,7 +25,7 @@ abbrev pub after_cut : Flow → Start → List Event → List ℕ → Start
 after_cut f v past breaks = record { view = journal f v past; queue = queue f v past; breaks = breaks }
 
 -- whom session 0 recovers after an item for the journalled transaction: the same one while it is unfinished, then the
--- first one behind it with somebody to tell
+-- first one after it with somebody to notify
 abbrev pub recovering_next : Flow → Start → List Event → ℕ → Option ℕ
 recovering_next f v past id =
     if is_ended f (state_of f v past id) then first_unfinished f (filter (λ (p : ℕ × Row). nat_lt id p.0) v.view.rows) (λ j. [])

@@ -1,4 +1,4 @@
-//! Copies of what a history and a journal hold. The only refusal is want of memory.
+//! Copies of what a history and a journal hold. The only refusal is out of memory.
 
 ghost use Rattle.std.specs.Prelude.{◌≡◌, IfOk};
 

@@ -25,7 +25,7 @@ pub enum Event {
         session: usize,
         text: Text,
     },
-    /// The member that was due was told the outcome, and may have given an advice.
+    /// The member that was due was notified of the outcome, and may have given an advice.
     Told {
         session: usize,
         advice: Option<Bytes>,
@@ -55,7 +55,7 @@ pub enum Event {
     LetGo {
         session: usize,
     },
-    /// A journalled transaction had nobody to tell.
+    /// A journalled transaction had nobody to notify.
     Closed {
         id: u64,
     },

@@ -30,7 +30,7 @@ pub struct Row {
     pub phase: Phase,
     /// The members, in the order of joining and once per joining; at most 1,001.
     pub joined: Sequence<Text>,
-    /// How many of them were told the outcome.
+    /// How many of them were notified of the outcome.
     pub told: usize,
     /// The participant of a preparation that was due: it may have been called.
     pub doing: Option<Text>,

@@ -76,8 +76,8 @@ pub fn checked_flows_fit()
     ensures { (f : Flow) → IsChecked f → FlowFits f }
 {}
 
-/// The journalled transactions are recovered one after the other, ids rising: those behind the one
-/// that is recovered have no items, and when it is over the first one behind it with somebody to
+/// The journalled transactions are recovered one after the other, ids rising: those after the one
+/// that is recovered have no items, and when it is over the first one after it with somebody to
 /// tell follows. An item moves its own transaction by the written table and leaves the others.
 pub fn recovered_in_turn()
     ensures untouched { (f : Flow) (v : Start) (past : List Event) (id j : ℕ)

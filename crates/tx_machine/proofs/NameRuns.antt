@@ -17,7 +17,7 @@ none_begun : (cs : List ℕ) → begins_with_name cs ≡ false → run_of cs ≡
 none_begun [] h = refl
 none_begun (c ∷ cs) h = rw (gap (is_gap c) h) refl
 
--- the first name is the run, and the others are those behind it
+-- the first name is the run, and the others are those after it
 pub names_of_run : (cs : List ℕ) → begins_with_name cs ≡ true → names_of cs ≡ take (run_of cs) cs ∷ names_of (drop (run_of cs) cs)
 names_of_run [] h = absurd (cc)
 names_of_run (c ∷ cs) h =

@@ -16,7 +16,7 @@ abbrev pub IsOfFlow : Flow → Upcoming → Type 0
 IsOfFlow f (Prepare e) = IsOfParticipant f e
 IsOfFlow f (Select e) = IsOfParticipant f e
 
--- until the outcome is decided nobody is told, each member is an answer, and without anything to come there is no
+-- until the outcome is decided nobody is notified, each member is an answer, and without anything to come there is no
 -- member
 pub record IsUndecided (s : TxState) : Type 0 where
   pub untold : s.told ≡ 0

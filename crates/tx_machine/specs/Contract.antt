@@ -38,7 +38,7 @@ unfoldable pub IsSound : Flow → Machine → Type 0
 IsSound f m = IsReady f m
 
 -- What becomes of an item that a machine is given. It is taken exactly where it is due, memory aside; where it is not
--- due, that is the refusal, before any want of memory; and a refusal leaves the machine where it stood.
+-- due, that is the refusal, before any out of memory; and a refusal leaves the machine where it stood.
 pub record TakesItem (f : Flow) (old : Machine) (x : Item) (result : Result (Unit {0}) MachineError) (new : Machine) : Type 0 where
   pub sound : IsSound f new
   pub taken : OnOk result (tx_state f new ≡ next f (tx_state f old) x)

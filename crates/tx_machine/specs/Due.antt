@@ -17,7 +17,7 @@ use Rattle.tx_machine.specs.Table.{TxState, Upcoming, Prepare, Select, is_open, 
 abbrev pub spot_of : Flow → PlacedEntry → Spot
 spot_of f s = record { step = call_step f s.group s.index; group = s.group; index = s.index; participant = s.participant }
 
--- the spot of a selection: a selector selects at the step behind its call
+-- the spot of a selection: a selector selects at the step after its call
 abbrev pub select_spot : Flow → PlacedEntry → Spot
 select_spot f s = record { step = call_step f s.group s.index + 1; group = s.group; index = s.index; participant = s.participant }
 

@@ -40,7 +40,7 @@ abbrev pub IsDoing : ℕ → Option ℕ → Type 0
 IsDoing count None = Unit {0}
 IsDoing count (Some p) = p < count
 
--- the bounds by phase: until the outcome is decided nobody is told, and then somebody is left and nothing else is
+-- the bounds by phase: until the outcome is decided nobody is notified, and then somebody is left and nothing else is
 -- under way; a recovered transaction has a member more, where a preparation was under way
 abbrev pub IsInPhase : Phase → Row → Type 0
 IsInPhase Preparing r = (r.told ≡ 0) × (length r.joined ≤ 1000)

@@ -34,13 +34,13 @@ pub record TxState : Type 0 where
   pub calls : ℕ
   -- the members: participants that joined, in the order of joining, once per joining
   pub joined : List ℕ
-  -- how many members were told the outcome
+  -- how many members were notified of the outcome
   pub told : ℕ
   pub saved : List ℕ
   pub tries : ℕ
 
 -- Once aborting, entries that are not abort-aware are passed over; of a selector among them the
--- selection stays. While a selection stands first, nothing behind it is passed over.
+-- selection stays. While a selection stands first, nothing after it is passed over.
 abbrev pub passed : List Upcoming → List Upcoming
 passed [] = []
 passed (Select s ∷ tail) = Select s ∷ tail
@@ -64,7 +64,7 @@ cut_at s (m ∷ ms) true = record s { phase = Aborting; rest = []; retry = false
 abbrev pub limited : TxState → TxState
 limited s = cut_at s s.rest (s.calls == 1000)
 
--- With nothing to come and members, the members are told: commit after preparing, abort after
+-- With nothing to come and members, the members are notified: commit after preparing, abort after
 -- aborting. Without members the transaction is over.
 abbrev pub outcome : Phase → Phase
 outcome Preparing = Committing
@@ -158,7 +158,7 @@ is_due s (Told advice) = not (is_open s.phase) && nat_lt s.told (length s.joined
 abbrev pub opening : Flow → ℕ → List ℕ → TxState
 opening f tries saved = advanced (record { phase = Preparing; rest = map Prepare (entries_named f (codes "main")); retry = false; bound = false; calls = 0; joined = []; told = 0; saved = saved; tries = tries })
 
--- a transaction that the journal has, before its first item: its members are told from a number on
+-- a transaction that the journal has, before its first item: its members are notified from a number on
 abbrev pub reopening : Bool → List ℕ → ℕ → ℕ → List ℕ → TxState
 reopening committing joined told tries saved = record { phase = if committing then Committing else Undoing; rest = []; retry = false; bound = false; calls = 0; joined = joined; told = told; saved = saved; tries = tries }
 

@@ -4,9 +4,9 @@
 //! - [`Machine`]'s due call, phase, members, number told, saved context, tries, bound and rest are
 //!   those of the written table (`specs/Table.antt`, `specs/Due.antt`), although it keeps a step and
 //!   a stack of selections and no list of what is to come;
-//! - an item that is not due is refused, and so is one for which memory is wanting: then nothing has
+//! - an item that is not due is refused, and so is one for which memory runs out: then nothing has
 //!   changed (`specs/Contract.antt`, `TakesItem`);
-//! - a transaction has at most 1,000 answers and choices, and at most 1,000 members are told
+//! - a transaction has at most 1,000 answers and choices, and at most 1,000 members are notified
 //!   ([`bounded_lists`]); members, number told and saved context are those of the whole list
 //!   ([`whole_lists`]);
 //! - the journal's row of a transaction (`specs/Row.antt`) keeps its bounds, of a reopened one too

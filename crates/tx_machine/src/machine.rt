@@ -116,7 +116,7 @@ impl Machine {
         machine
     }
 
-    /// A transaction that the journal has, whose members are told from a number on: to commit, or
+    /// A transaction that the journal has, whose members are notified from a number on: to commit, or
     /// else to abort. It is never shelved. It takes no memory.
     #[tactic(auto, unfolding(crate::specs::Contract::tx_state, crate::specs::Contract::IsSound))]
     pub fn reopened(
@@ -271,7 +271,7 @@ impl Machine {
         self.joined.as_slice()
     }
 
-    /// How many members were told the outcome.
+    /// How many members were notified of the outcome.
     #[tactic(auto, unfolding(crate::specs::Contract::tx_state))]
     pub fn told_count(&self) -> usize
         ensures { (f : Shown) → result ≡ (tx_state f self.now).told }
@@ -305,7 +305,7 @@ impl Machine {
 
     /// The places (group, index) of the entries to come, the next one first. A selector that is
     /// about to select is not among them, nor is an entry that the abort has passed over. The only
-    /// refusal is want of memory.
+    /// refusal is out of memory.
     #[tactic(auto, using(crate::proofs::RestPlaces::places_of_rest), unfolding(crate::specs::Contract::tx_state))]
     pub fn rest(&self, alloc: Global, code: &Code) -> Result<Vec<(usize, usize)>, AllocError>
         ensures { IfOk result (λ places.
@@ -317,7 +317,7 @@ impl Machine {
         Ok(places)
     }
 
-    /// A second machine that stands where this one does. The only refusal is want of memory.
+    /// A second machine that stands where this one does. The only refusal is out of memory.
     pub fn copy(&self) -> Result<Machine, AllocError>
         ensures state { IfOk result (λ m. (f : Shown) → tx_state f m ≡ tx_state f self.now) }
         ensures sound { IfOk result (λ m. (f : Shown) → IsSound f self.now → IsSound f m) }
@@ -357,7 +357,7 @@ impl Machine {
     {
         match item {
             Item::Answer(byte, context) => {
-                // The context is copied only where it is wanted, so that want of memory comes last.
+                // The context is copied only where it is wanted, so that out of memory comes last.
                 if !self.awaits_answer(code) {
                     return Err(MachineError::NotDue);
                 }
@@ -370,7 +370,7 @@ impl Machine {
     }
 
     /// The machine after these items, the earliest first. It refuses the list exactly where one of
-    /// the items was not due, or where memory is wanting before that is seen.
+    /// the items was not due, or where memory runs out before that is seen.
     pub fn after_items(
         alloc: Global,
         code: &Code,

@@ -39,7 +39,7 @@ fn run_len(text: &[u8]) -> usize
     text.len()
 }
 
-// A name, and the text behind it.
+// A name, and the text after it.
 #[derive(Clone, Copy)]
 struct FirstName<'a> {
     name: &'a [u8],

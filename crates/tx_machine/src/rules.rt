@@ -14,7 +14,7 @@ use sw_participant::read_answer;
 /// After so many answers and choices the rest is dropped.
 pub(crate) const MAX_CALLS: u16 = 1000;
 
-/// The phase in which the members are told.
+/// The phase in which the members are notified.
 pub(crate) fn outcome_of(phase: Phase) -> Phase
     ensures { result ≡ outcome phase }
 {

@@ -9,9 +9,9 @@ pub enum Phase {
     Preparing,
     /// A participant was not prepared: only abort-aware participants are called.
     Aborting,
-    /// The members are told to commit.
+    /// The members are notified of the commit.
     Committing,
-    /// The members are told to abort.
+    /// The members are notified of the abort.
     Undoing,
 }
 
@@ -35,9 +35,9 @@ pub enum Due {
     PrepareForAbort(Spot),
     /// A selector selects groups (jPOS: `GroupSelector.select`).
     Select(Spot),
-    /// The participant of this number, a member, is told to commit.
+    /// The participant of this number, a member, is notified of the commit.
     Commit(usize),
-    /// The participant of this number, a member, is told to abort.
+    /// The participant of this number, a member, is notified of the abort.
     Abort(usize),
     /// The transaction is aborted and goes on the shelf, to be tried again.
     Shelve,

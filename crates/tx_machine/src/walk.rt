@@ -16,7 +16,7 @@ use std::alloc::{AllocError, Global};
 
 /// A selection that is under way.
 pub(crate) struct Frame {
-    /// The step behind the selector's.
+    /// The step after the selector's.
     pub(crate) back: usize,
     /// The numbers of the chosen groups still to be entered before; at most 16.
     pub(crate) pending: Vec<usize>,
@@ -144,7 +144,7 @@ pub(crate) fn settle(code: &Code, aborting: bool, from: usize, stack: &mut Vec<F
     }
 }
 
-/// The same frames once more. The only refusal is want of memory.
+/// A copy of the frames. The only refusal is out of memory.
 pub(crate) fn copy_frames(alloc: Global, stack: &[Frame]) -> Result<Vec<Frame>, AllocError>
     ensures { IfOk result (λ copy. map shown copy.items ≡ map shown stack.now) }
 {

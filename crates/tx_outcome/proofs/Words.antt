@@ -78,7 +78,7 @@ adds f (Note n) p q h = ([], ap (λ (z : Plant). z.calls) h.2, λ ms. (h.0, h.1,
 adds f Cut p q h = ([], ap (λ (z : Plant). z.calls) h.3, λ ms. (h.0, h.1, h.2, ap (λ (z : Plant). with_calls z ms) h.3))
 adds f (Stop cs) p q h = (Halted (view f p) ∷ [], ap (λ (z : Plant). z.calls) h.1, λ ms. (h.0, ap (λ (z : Plant). with_calls z (Halted (view f p) ∷ ms)) h.1))
 
--- who is told after a stop is told the outcome that the row had
+-- who is notified after a stop is notified of the outcome that the row had
 
 follows_later : (a t : List Deed) → FollowsRows (a ++ t) → FollowsRows t
 follows_later [] t h = h

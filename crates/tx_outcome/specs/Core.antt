@@ -14,7 +14,7 @@ pub record IdView : Type 0 where
   pub advice : ℕ → ℕ → Option (List ℕ)
 
 -- A transaction is taken, with its tries and its context; a reply is given for it; an advice is acknowledged; a journalled
--- transaction with nobody to tell is closed; all other events.
+-- transaction with nobody to notify is closed; all other events.
 pub data IdEvent : Type 0 where
   Took : (head : Head) → IdEvent
   Given : (id : ℕ) → (x : FullReply) → IdEvent
@@ -129,7 +129,7 @@ Closings j [] = Unit {0}
 Closings j (Closed i ∷ cs) = ((r : Row) × (j.row i ≡ Some r) × (listed r ≡ [])) × (closed cs i ≡ false) × Closings j cs
 Closings j _ = ⊥
 
--- each row with nobody to tell is closed
+-- each row with nobody to notify is closed
 abbrev pub Covers : IdView → List IdEvent → Type 0
 Covers j cs = (id : ℕ) (r : Row) → j.row id ≡ Some r → listed r ≡ [] → closed cs id ≡ true
 
@@ -175,7 +175,7 @@ abbrev pub Closable : Flow → Option FullState → Type 0
 Closable f None = ⊥
 Closable f (Some st) = (st.state.joined ≡ []) × (due f st ≡ NoCall)
 
--- a row with nobody to tell, opened and not yet closed
+-- a row with nobody to notify, opened and not yet closed
 abbrev pub Stuck : Option FullState → Type 0
 Stuck None = ⊥
 Stuck (Some st) = (r : Row) × (st.opened ≡ Some r) × (st.state.joined ≡ [])

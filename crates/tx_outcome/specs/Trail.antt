@@ -141,7 +141,7 @@ abbrev pub IsOutcomeOf : Option Row → Bool → Type 0
 IsOutcomeOf None commit = Unit {0}
 IsOutcomeOf (Some r) commit = commit ≡ is_committing r.phase
 
--- who is told after a stop at which the journal had the transaction is told that outcome
+-- who is notified after a stop at which the journal had the transaction is told that outcome
 abbrev pub FollowsRows : List Deed → Type 0
 FollowsRows [] = Unit {0}
 FollowsRows (Told c p n a ∷ t) = IsOutcomeOf (last_row t) c × FollowsRows t
@@ -158,7 +158,7 @@ pub record InRow (t : List Deed) (r : Row) (advice : ℕ → Option (List ℕ)) 
   pub unadvised : (n : ℕ) → r.told ≤ n → advice n ≡ None
 
 -- The outcome law for one id, by its trail, whether it is below the journal's next id, its row and its advices by place:
--- one way (a): nobody is told to commit where anybody is told to abort;
+-- one way (a): nobody is notified of the commit where anybody is notified of the abort;
 -- all told (b): without a row in the journal, each participant was told at as many places as it prepared without NO_JOIN;
 -- in order (c): calls come in the order above, each member told once but for a stop that lost it;
 -- advised (d): an advice that the journal holds is what the last outcome call of its place gave;

@@ -79,7 +79,7 @@ fn agree(
     are_all_own(&history[from..], receipts)
 }
 
-// What contradicts the history is behind its last entry.
+// What contradicts the history is after its last entry.
 fn mismatch(engine: &Engine) -> Fault {
     Fault::ReceiptMismatch(engine.history().len().saturating_add(1))
 }

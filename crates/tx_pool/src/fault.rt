@@ -9,7 +9,7 @@ pub enum Fault {
     /// The journal refused a write.
     Journal(JournalError),
     /// The first entry that a receipt, a station's call, an offer or a written copy contradicts, or
-    /// the number behind the last one.
+    /// the number after the last one.
     ReceiptMismatch(usize),
     /// The engine refused an event, as where the ids are spent.
     Engine(EngineError),
@@ -18,7 +18,7 @@ pub enum Fault {
 }
 
 impl Fault {
-    /// What a refusal of the engine is told as.
+    /// What a refusal of the engine is reported as.
     pub(crate) fn of_engine(error: EngineError) -> Fault {
         match error {
             EngineError::OutOfMemory => Fault::OutOfMemory,

@@ -87,7 +87,7 @@ fn take(running: &mut Running, alloc: Global, session: usize) -> Result<usize, F
     }
 }
 
-// What contradicts the history is behind its last entry.
+// What contradicts the history is after its last entry.
 fn mismatch(running: &Running) -> Fault {
     Fault::ReceiptMismatch(running.engine().history().len().saturating_add(1))
 }

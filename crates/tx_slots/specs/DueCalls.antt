@@ -46,7 +46,7 @@ asked kind (next.Due call) = asks_for kind call.act
 asked kind next.Idle = false
 asked kind next.Unwritten = false
 
--- the entry whose call is due; none while members are told
+-- the entry whose call is due; none while members are notified
 abbrev pub spot_of : Due → Option Spot
 spot_of (due.Prepare s) = Some s
 spot_of (due.PrepareForAbort s) = Some s

@@ -18,12 +18,12 @@ use Rattle.tx_slots.specs.Slots.{slot_of}
 abbrev pub AreKnown : Flow → List (ℕ × Row) → Type 0
 AreKnown f rows = (k : ℕ) (r : ℕ × Row) → slice_get rows k ≡ Some r → All (λ n. number_of f n < length (parts_of f)) (to_tell r.1 r.1.doing)
 
--- the first of these transactions behind an id with somebody to tell
+-- the first of these transactions after an id with somebody to notify
 abbrev pub next_row : Flow → List (ℕ × Row) → ℕ → Option (ℕ × Row)
 next_row f [] id = None
 next_row f (r ∷ rows) id = if nat_lt id r.0 && not (is_ended f (reopened f r.1)) then Some r else next_row f rows id
 
--- those of these transactions behind an id with somebody to tell
+-- those of these transactions after an id with somebody to notify
 abbrev pub behind : Flow → List (ℕ × Row) → ℕ → List (ℕ × Row)
 behind f rows id = filter (λ (r : ℕ × Row). nat_lt id r.0 && not (is_ended f (reopened f r.1))) rows
 

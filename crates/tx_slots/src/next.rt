@@ -28,7 +28,7 @@ pub struct At {
     pub id: u64,
     pub phase: Phase,
     pub call: Call,
-    /// None while members are told the outcome.
+    /// None while members are notified of the outcome.
     pub spot: Option<Spot>,
 }
 

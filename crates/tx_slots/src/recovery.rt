@@ -61,14 +61,14 @@ pub fn is_over(row: &Row) -> bool
     }
 }
 
-// Whether the transaction of this id and row is behind another one and has somebody to tell.
+// Whether the transaction of this id and row is after another one and has somebody to notify.
 fn is_behind(id: u64, next: u64, row: &Row) -> bool
     ensures { (f : Flow) → result ≡ (nat_lt id next && not (is_ended f (reopened f row.now))) }
 {
     id < next && !is_over(row)
 }
 
-/// How many of these transactions behind an id have somebody to tell. There are at most 16 rows.
+/// How many of these transactions after an id have somebody to notify. There are at most 16 rows.
 pub fn open_behind(rows: &[(u64, Row)], id: u64) -> usize
     ensures counted { (f : Flow) → result ≡ length (behind f rows.now id) }
     ensures few { result ≤ length rows.now }
@@ -104,8 +104,8 @@ pub fn reopened(alloc: Global, code: &Code, row: &Row) -> Result<Machine, AllocE
     ))
 }
 
-/// The slot of session 0 when the transactions up to this id are over: the first behind it with
-/// somebody to tell. There are at most 16 rows.
+/// The slot of session 0 when the transactions up to this id are over: the first after it with
+/// somebody to notify. There are at most 16 rows.
 pub fn next_slot(
     alloc: Global,
     code: &Code,

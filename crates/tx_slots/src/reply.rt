@@ -33,7 +33,7 @@ pub struct Given {
     pub restored: bool,
 }
 
-// What goes on the shelf, once more.
+// A copy of what goes on the shelf.
 fn shelved_by(change: &Change) -> Result<Option<(u64, Waiting)>, AllocError>
     ensures { IfOk result (λ copy. copy ≡ change.now.shelved) }
 {
@@ -52,7 +52,7 @@ fn copy_advice(advice: &Option<Bytes>) -> Result<Option<Bytes>, AllocError>
     }
 }
 
-// The change of the advices, once more.
+// A copy of the change of the advices.
 fn advice_by(change: &Change) -> Result<Option<((u64, usize), Option<Bytes>)>, AllocError>
     ensures { IfOk result (λ copy. copy ≡ change.now.advice) }
 {
@@ -79,7 +79,7 @@ pub struct Ready {
     pub slot: Slot,
 }
 
-/// What the session's reply adds, as the entry of this number. The only refusal is want of memory.
+/// What the session's reply adds, as the entry of this number. The only refusal is out of memory.
 pub fn make_ready(
     alloc: Global,
     code: &Code,
@@ -129,7 +129,7 @@ pub fn make_ready(
 }
 
 /// A machine that stands where this one does after its due preparation is answered. Where no answer is due it
-/// is refused as for want of memory.
+/// is refused as where memory ran out.
 pub fn after_answer(
     code: &Code,
     machine: &Machine,
@@ -167,7 +167,7 @@ pub fn after_choice(
     }
 }
 
-/// A machine that stands where this one does after its due member is told; else as [`after_answer`].
+/// A machine that stands where this one does after its due member is notified; else as [`after_answer`].
 pub fn after_told(code: &Code, machine: &Machine) -> Result<Machine, AllocError>
     requires { IsSound code.now machine.now }
     ensures sound { IfOk result (IsSound code.now) }

@@ -49,7 +49,7 @@ get_last : {A : Type 0} (xs : List A) (x : A) → slice_get (xs ++ x ∷ []) (le
 get_last [] x = refl
 get_last (y ∷ xs) x = get_last xs x
 
--- the entry behind the first n, and its line
+-- the entry after the first n, and its line
 pub record Nth (f : Flow) (v : Start) (past : List Event) (n : ℕ) : Type 0 where
   pub event : Event
   pub split : earlier (n + 1) past ≡ event ∷ earlier n past
@@ -92,7 +92,7 @@ pub nth : (f : Flow) (v : Start) (past : List Event) (n : ℕ) → n < length pa
 nth f v [] n lt = absurd (omega arith)
 nth f v (e ∷ past) n lt = nth_if f v past e n lt (nth f v past n) (nat_lt n (length past)) refl
 
--- there is no line behind the last
+-- there is no line after the last
 pub line_past : (f : Flow) (v : Start) (past : List Event) (n : ℕ) → length past < n → line_of f v past n ≡ None
 line_past f v [] n h = refl
 line_past f v (e ∷ past) n h = let no : (length past + 1 == n) ≡ false = grind (arith, nat_tests) in rw no (line_past f v past n (omega arith))

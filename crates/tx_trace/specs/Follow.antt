@@ -32,7 +32,7 @@ earlier n (e ∷ past) = if nat_lt n (length past + 1) then earlier n past else 
 abbrev pub machine_at : BTreeMap ℕ Machine → ℕ → Option Machine
 machine_at machines id = get nat_cmp machines id
 
--- of the transactions of the journal behind an id the first with somebody to tell, before an outcome is told
+-- of the transactions of the journal after an id the first with somebody to notify, before an outcome is told
 abbrev pub next_recovered : Flow → List (ℕ × Row) → ℕ → Option ℕ
 next_recovered f rows over = first_unfinished f (filter (λ (r : ℕ × Row). nat_lt over r.0) rows) (λ id. [])
 

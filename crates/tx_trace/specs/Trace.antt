@@ -99,7 +99,7 @@ told_text advised place = word_if advised (codes "advice " ++ decimal place ++ c
 abbrev pub bound_text : Bool → Text
 bound_text bound = word_if bound (codes "bound ")
 
--- what an answer, a choice or a told adds behind its call
+-- what an answer, a choice or a told adds after its call
 abbrev pub event_text : Flow → Event → ℕ → Bool → Text
 event_text f (Answered s b c) place bound = answer_text b ++ bound_text bound
 event_text f (Chose s text) place bound = choice_text f text ++ bound_text bound
@@ -127,7 +127,7 @@ point_text f s = call_text f s.restores (due_of f s.state)
 abbrev pub head_text : ℕ → Phase → Text → Text
 head_text id phase call = decimal id ++ codes " " ++ phase_text phase ++ codes " " ++ call ++ codes " "
 
--- what an event on a transaction adds behind its call; `recovering` says that the transaction comes from the journal
+-- what an event on a transaction adds after its call; `recovering` says that the transaction comes from the journal
 abbrev pub detail_text : Flow → Bool → Event → ℕ → Bool → Text
 detail_text f recovering event place bound = word_if recovering (codes "recovering ") ++ event_text f event place bound
 

@@ -9,7 +9,7 @@ use std::alloc::{AllocError, Global};
 use tx_engine::Engine;
 
 /// The line of the entry of this number, without a line feed; none where there is no such entry.
-/// The only refusal is want of memory.
+/// The only refusal is out of memory.
 ///
 /// It goes through the entries before: for all lines in turn take a [`Tracer`].
 pub fn line(alloc: Global, engine: &Engine, number: usize) -> Result<Option<String>, AllocError>
@@ -22,7 +22,7 @@ pub fn line(alloc: Global, engine: &Engine, number: usize) -> Result<Option<Stri
 }
 
 /// The places (group, index) of the entries to come of the transaction that the session holds, the
-/// next one first; none for an idle or unknown session. The only refusal is want of memory.
+/// next one first; none for an idle or unknown session. The only refusal is out of memory.
 pub fn rest(alloc: Global, engine: &Engine, s: usize) -> Result<Vec<(usize, usize)>, AllocError>
     ensures { IfOk result (λ places. places.items ≡ rest_of engine.now s) }
 {

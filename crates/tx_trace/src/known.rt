@@ -95,7 +95,7 @@ impl fmt::Display for CommaList<'_> {
     }
 }
 
-// Names, each behind a comma.
+// Names, each after a comma.
 #[derive(Drop)]
 struct MoreNames<'a>(&'a [&'a str]);
 

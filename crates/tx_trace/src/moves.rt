@@ -21,7 +21,7 @@ fn choice(alloc: Global, code: &Code, text: &str, bound: &str) -> Result<String,
     format!(in alloc; "{choice}{bound}")
 }
 
-// What an event adds behind its call.
+// What an event adds after its call.
 fn detail(
     alloc: Global,
     code: &Code,
@@ -72,7 +72,7 @@ impl Point<'_> {
     }
 }
 
-// What an event adds behind its call, with what the transaction told before it and whether the
+// What an event adds after its call, with what the transaction told before it and whether the
 // bound is met after it.
 fn event_detail(
     alloc: Global,
@@ -143,7 +143,7 @@ pub(crate) fn moved_line(
 
 /// The line of an answer, a choice or a told that leads the transaction `id` from `before` to
 /// `after`, without a line feed; the transaction does not come from the journal. The only refusal
-/// is want of memory.
+/// is out of memory.
 pub fn step_line(
     alloc: Global,
     id: u64,

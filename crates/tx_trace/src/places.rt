@@ -10,7 +10,7 @@ use tx_machine::Phase;
 
 /// Where a transaction stands: its due call, the step of the code that asks for it (a
 /// preparation's `Call`, a selection's `Pick`), and the entry's group and index. The last three
-/// are none while members are told the outcome.
+/// are none while members are notified of the outcome.
 #[derive(Clone, Copy)]
 pub struct Place {
     pub id: u64,

@@ -235,7 +235,7 @@ impl Tracer {
     }
 
     /// The line of the next entry, without a line feed; none where it has gone through all. The
-    /// only refusal is want of memory, and the entry is then still the next one.
+    /// only refusal is out of memory, and the entry is then still the next one.
     ///
     /// The engine is the one that the tracer was made for, or goes on from what it was then: more
     /// entries may have come, but it was neither opened anew nor cut.
@@ -258,7 +258,7 @@ impl Tracer {
     }
 
     /// The line of the entry of this number, which it has not gone through; none where there is no
-    /// such entry. It goes on up to it. The only refusal is want of memory.
+    /// such entry. It goes on up to it. The only refusal is out of memory.
     ///
     /// The engine is as in [`Tracer::next`].
     pub fn line_at(
@@ -331,7 +331,7 @@ fn reopened_at(
     }
 }
 
-// Of the transactions of the journal behind an id the first one with somebody to tell. There are at
+// Of the transactions of the journal after an id the first one with somebody to notify. There are at
 // most 16 rows.
 fn next_recovered(
     alloc: Global,

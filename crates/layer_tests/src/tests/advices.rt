@@ -1,5 +1,5 @@
 //! The advices of an authorization that the switch approved by itself, byte by byte: as a later run sends
-//! them once more, and as the simulated issuer answers them. As they are stored, `tests/run/silent.cases` shows.
+//! them again, and as the simulated issuer answers them. As they are stored, `tests/run/silent.cases` shows.
 
 ghost use Rattle.std.specs.Prelude.{[]};
 
@@ -11,7 +11,7 @@ use sw_parts::{Link, Routing};
 
 // A reversal of the authorization with STAN 42 of card 4000000000000002 over 91 minor units: fields 2, 3, 4,
 // 7, 11, 41 and 49, and 90 (type, STAN, date and time of the request, and 22 zeros); as it is stored, and
-// once more.
+// again.
 const REVERSAL: &[u8] = b"0420F2200000008080000000004000000000\
     1640000000000000020000000000000000910102030405000042TERM0001978\
     010000004201020304050000000000000000000000";

@@ -15,7 +15,7 @@ use tx_history::{Entry, Event, JournalView, Row};
 use tx_machine::{Item, Machine, MachineError, Phase};
 use tx_trace::{line, step_line};
 
-/// The lines, written out by hand. The journal has a transaction with nobody to tell, and one to recover.
+/// The lines, written out by hand. The journal has a transaction with nobody to notify, and one to recover.
 const LINES: [&str; 18] = [
     "1 closed",
     "2 C recover r recovering -> commit r",

@@ -23,7 +23,7 @@ fn choice(alloc: Global, text: &str) -> Result<Item, AllocError> {
     Ok(Item::Choice(Text::from_str(alloc, text)?))
 }
 
-/// The worked selection: `pick` gives `b,a  x`; then pb, pa and last are prepared, and all are told.
+/// The worked selection: `pick` gives `b,a  x`; then pb, pa and last are prepared, and all are notified.
 fn selection(alloc: Global) -> Result<Vec<Item>, AllocError> {
     let mut items = Vec::new(alloc);
     items.push(answer(alloc, 0x01)?)?;

@@ -1,4 +1,4 @@
-//! Calls of an engine as lines of text, each with what it answers behind ` = `. Each call has a helper of its own
+//! Calls of an engine as lines of text, each with what it answers after ` = `. Each call has a helper of its own
 //! without a contract, so that the proof of a test carries no values.
 //!
 //! `counts` (queued, on the shelf, recovering, entries, next id of the opened journal, its rows),

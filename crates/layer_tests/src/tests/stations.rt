@@ -160,7 +160,7 @@ fn stamp_station(alloc: Global) -> Result<Station, Fail> {
     Ok(Station::new(alloc, "stamp", Box::new(alloc, stamp)?)?)
 }
 
-/// A scribe, and a stamp behind it.
+/// A scribe, and a stamp after it.
 fn both(alloc: Global) -> Result<Vec<Station>, Fail> {
     let mut stations = Vec::new(alloc);
     stations.push(scribe_station(alloc, "scribe")?)?;

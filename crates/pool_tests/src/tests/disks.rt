@@ -18,7 +18,7 @@ fn disks_of(alloc: Global, log: Memory, db: Memory, calls: u64) -> Result<Disks,
     Ok(Files { log, db })
 }
 
-/// New disks, of whose calls the one after so many others is refused, and those behind it are not.
+/// New disks, of whose calls the one after so many others is refused, and those after it are not.
 pub fn new_disks(alloc: Global, calls: u64) -> Result<Disks, Fail> {
     disks_of(alloc, Memory::new(alloc), Memory::new(alloc), calls)
 }

@@ -52,7 +52,7 @@ fn run_short<R: Runtime>(rt: &R) -> Result<(), Fail> {
     Ok(())
 }
 
-// The source is refused memory behind its third context.
+// The source is refused memory after its third context.
 fn read_short<R: Runtime>(rt: &R) -> Result<(), Fail> {
     let alloc = rt.alloc();
     let code = code_of_two(alloc)?;

@@ -18,8 +18,8 @@ const MOST_CALLS: u64 = 10_000;
 /// How many calls a transaction makes.
 const ALL: u64 = 4;
 /// How many calls a recovery makes of a transaction of which so many replies are written: `check`
-/// is told to abort, since it may be prepared; both are told to abort; both are told to commit;
-/// `send` is told to commit; nobody is told.
+/// is notified of the abort, since it may be prepared; both are notified of the abort; both are notified of the commit;
+/// `send` is notified of the commit; nobody is notified.
 const CALLS_OF_RECOVERY: [u64; 5] = [1, 2, 2, 1, 0];
 
 /// What a plant came to whose store refuses a call.
@@ -149,7 +149,7 @@ fn run_again<S: Alter + Drop, R: Runtime>(
 }
 
 // Runs a plant over the journal in these files; with stations, on what a first one left. (Each
-// function that calls a generic one at the store of these disks is dear to prove: it is this one.)
+// function that calls a generic one at the store of these disks is slow to prove: it is this one.)
 fn run_files<R: Runtime>(
     rt: &R,
     code: &Code,

@@ -91,7 +91,7 @@ fn view_of(
     })
 }
 
-// The contexts on the shelf under their ids, once more.
+// A copy of the contexts on the shelf, under their ids.
 fn shelf_items(
     alloc: Global,
     shelf: &BTreeMap<u64, Waiting>,
@@ -105,7 +105,7 @@ fn shelf_items(
     Ok(items)
 }
 
-// The advices under their places, once more.
+// A copy of the advices, under their places.
 fn advice_items(
     alloc: Global,
     advices: &BTreeMap<(u64, usize), Bytes>,
@@ -119,7 +119,7 @@ fn advice_items(
     Ok(items)
 }
 
-// The contexts that wait, once more.
+// A copy of the contexts that wait.
 fn queue_items(alloc: Global, queue: &VecDeque<Waiting>) -> Result<Vec<Waiting>, AllocError>
     ensures { IfOk result (λ items. items.items ≡ queue.now.items) }
 {

@@ -1,4 +1,4 @@
-//! Opening an engine on a journal's view: the closing entries of those with nobody to tell, and the
+//! Opening an engine on a journal's view: the closing entries of those with nobody to notify, and the
 //! first transaction that is told on.
 
 ghost use Rattle.std.specs.Prelude.{◌≡◌, ◌≤◌, ◌∷◌, [], IfErr, IfOk, None, OnOk, false, replicate, slice_set};
@@ -28,7 +28,7 @@ const MOST_SESSIONS: usize = 16;
 
 impl Engine {
     /// An engine on a journal's view, with so many sessions, which hold nothing: its history has a
-    /// closing entry for each row with nobody to tell, and session 0 is to tell on the first other
+    /// closing entry for each row with nobody to notify, and session 0 is to tell on the first other
     /// one. The queue is empty, and no breakpoint is set. Refuses, in this order, `BadSessions`
     /// unless there are 1 to 16, and `UnknownParticipant` of the least id, its members in order
     /// and then who is doing; out of memory only where the number of sessions is good.

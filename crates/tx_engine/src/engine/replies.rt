@@ -128,7 +128,7 @@ impl Engine {
         self.give(alloc, given)
     }
 
-    /// The session's due member was told the outcome, and may have given an advice. Answers the
+    /// The session's due member was notified of the outcome, and may have given an advice. Answers the
     /// entry's number; refuses `NoSession`, `NotDue` and `HistoryFull`.
     pub fn told(
         &mut self,
