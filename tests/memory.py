@@ -9,6 +9,9 @@ without. What it wrote has to be a beginning of what the undisturbed run wrote, 
 silent issuer leads to for one request, as it does where memory is refused after a query was sent; the plain model says what that is.
 A journal's file has to be sound, without a row at fault, and `recover` has to leave no transaction in it.
 
+`test_switch again` makes each turn of a script again that is refused for memory. With one request refused, what it prints has to be what
+the model prints; or, where memory was refused to the journal's store, what it prints with a stop before or after one line.
+
 --all takes every number, else so many of each command, spread evenly (--count, the numbers in all).
 """
 
@@ -27,10 +30,11 @@ sys.dont_write_bytecode = True
 
 from harness import shims  # noqa: E402
 from kills import end_faults, recovery_faults, tables_of  # noqa: E402
-from model import flows, journal, messages, switch  # noqa: E402
+from model import flows, journal, messages, script, switch  # noqa: E402
 
 TOP = os.path.dirname(os.path.dirname(os.path.abspath(__file__)))
 BUILT = os.path.join(TOP, "crates", "cardswitch", "out", "cardswitch")
+TESTS = os.path.join(TOP, "crates", "test_switch", "out", "test_switch")
 FLOW = os.path.join(TOP, "examples", "switch.toml")
 SCRIPTS = {
     "a retry": "retries 1\nflow main p\nanswer p 02 v=41\nanswer p 02\nauto\nrelease\ntake 0\nwrite\ncall 0\nwrite\ncall 0\nwrite\n",
@@ -42,6 +46,34 @@ SCRIPTS = {
     "call 0\nwrite\nsaved 0\nclear pick\ncall 0\nwrite\ncalls pick\nauto\n",
     "a cut": "flow main check\nauto\ncut\noffer\ncut\ntake 0\nwrite\ncall 0\nwrite\nauto\n",
 }
+# Scripts whose lines are all turns.
+TURNS = {
+    "a retry": "retries 1\nflow main p\nanswer p 02 v=41\nanswer p 02\noffer\ntake 0\nwrite\ncall 0\nwrite\ncall 0\nwrite\n"
+    "release\ntake 0\nwrite\ncall 0\nwrite\ncall 0\nwrite\n",
+    "two sessions": "flow main check send\nanswer send 01\nanswer send 00\noffer\noffer\ntake 0\ntake 1\ncall 0\nwrite\ncall 0\ncall 0\n"
+    "call 1\nwrite\ncall 0\ncall 1\ncall 0\nwrite\ncall 1\ncall 0\nwrite\ncall 0\ncall 1\nwrite\n",
+    "a stop": "flow main check send\noffer\ntake 0\nwrite\ncall 0\nwrite\nstop\ncall 0\nwrite\ncall 0\nwrite\n",
+    "a selection and a cut": "flow main pick:s last\nflow b pb:r\nchoose pick b\nadvice pb 42\noffer v=41\ntake 0\nwrite\ncall 0\nwrite\ncall 0\n"
+    "write\ncall 0\nwrite\ncall 0\nwrite\ncall 0\nwrite\ncall 0\nwrite\ncall 0\nwrite\nack 1 1\nwrite\ncut\noffer\n",
+}
+
+
+def printed(lines):
+    """What `test_switch again` prints of a script without refusals: as `step`, but for the sessions of calls that were not made."""
+    text, fault, _ = script.step("".join(f"{line}\n" for line in lines).encode())
+    assert fault is None, fault
+    return [line.split(" ")[0] if line.split(" ")[0] in ("idle", "unwritten", "held") else line for line in text.splitlines()]
+
+
+def with_a_stop(text):
+    """What it may print of a script: the model's lines, and those with a stop before a line or after it, whose own line is then lost."""
+    lines = text.splitlines()
+    first = next(at for at, line in enumerate(lines) if line.startswith("offer"))
+    yield printed(lines)
+    for at in range(first, len(lines)):
+        yield printed([*lines[:at], "stop", *lines[at:]])
+        stopped = printed([*lines[: at + 1], "stop", *lines[at:]])
+        yield stopped[: at - first] + stopped[at - first + 1 :]
 
 
 def read(name):
@@ -61,6 +93,8 @@ class Command:
     others: list = field(default_factory=list)
     # The journal's file that it begins with.
     begins_with: str = None
+    # Whether it goes on after a refusal, and what it may print then.
+    again: list = None
 
     def fresh(self):
         for name in glob.glob(glob.escape(self.path) + "*") if self.path else []:
@@ -97,6 +131,9 @@ def commands(program, room):
     yield asm
     yield Command("list", [program, "list"], subprocess.run(asm.words, input=asm.stdin, capture_output=True, check=True).stdout)
     yield Command("decode", [program, "decode"], requests)
+    for name, text in TURNS.items():
+        again = ["".join(f"{line}\n" for line in lines).encode() for lines in with_a_stop(text)]
+        yield Command(f"again: {name}", [TESTS, "again"], text.encode(), again=again)
 
 
 def journal_faults(program, path):
@@ -108,6 +145,17 @@ def journal_faults(program, path):
         yield f"a row is at fault: {fault}"
         return
     yield from recovery_faults(program, tables, path)
+
+
+def again_faults(command, came, goes_on):
+    """What is wrong with what came of a disturbed run that goes on."""
+    if not came.stdout and came.status in (1, 4):
+        # (its words or its input were not read)
+        return
+    if came.status != 0 and not goes_on:
+        yield f"status {came.status}: {came.stderr.decode('utf-8', 'replace')}"
+    if came.stdout not in command.again and not (goes_on and any(it.startswith(came.stdout) for it in command.again)):
+        yield f"it prints {came.stdout.decode('utf-8', 'replace')}"
 
 
 def stream_faults(command, whole, came):
@@ -131,11 +179,16 @@ def faults_of(shim, program, command, given, chosen):
     if whole.calls == 0:
         yield 0, "no request is counted"
         return
-    for at in shims.spread(chosen, whole.calls, whole.calls if given.all else given.count // 11):
+    if command.again and whole.stdout != command.again[0]:
+        yield 0, f"undisturbed it prints {whole.stdout.decode()}"
+    for at in shims.spread(chosen, whole.calls, whole.calls if given.all else given.count // 15):
         for goes_on in False, True:
             command.fresh()
             came = shim.run(command.words, command.stdin, at, goes_on)
-            found = [*stream_faults(command, whole, came), *(journal_faults(program, command.path) if command.path else [])]
+            if command.again:
+                found = [*again_faults(command, came, goes_on)]
+            else:
+                found = [*stream_faults(command, whole, came), *(journal_faults(program, command.path) if command.path else [])]
             yield f"request {at} of {whole.calls}{', and all after it' * goes_on}", "; ".join(found)
 
 

@@ -28,8 +28,9 @@ fn offer_of(alloc: Global, puts: &Sequence<Put>) -> Result<Turn, NoMemory>
     Ok(Turn::Offer(context))
 }
 
-// The turn that a line is; none where it only shows something, or is `auto`.
-fn turn_of(alloc: Global, action: &Action) -> Result<Option<Turn>, NoMemory>
+/// The turn that a line is; none where it only shows something, or is `auto`. Out of memory is the only
+/// refusal.
+pub fn turn_of(alloc: Global, action: &Action) -> Result<Option<Turn>, NoMemory>
     ensures { IfOk result (λ t. t ≡ turn_of action.now) }
 {
     let turn = match action {

@@ -16,5 +16,6 @@ mod script;
 mod shown;
 mod turns;
 
+pub use actions::turn_of;
 pub use error::StepError;
 pub use script::{run_actions, run_script};
