@@ -35,10 +35,9 @@ use std::sync::Wait;
 use std::thread::Threads;
 use sw_book::Book;
 use sw_issuers::{Issuer, Sender};
-use sw_participant::Station;
+use sw_participant::{Bystander, Station, Unjoined};
 use sw_parts::{
-    Bystander, CheckFields, Forward, Limits, Link, QueryIssuer, Respond, Reverse, Route, StandIn,
-    Unjoined,
+    CheckFields, Forward, Limits, Link, QueryIssuer, Respond, Reverse, Route, StandIn,
 };
 use tx_engine::Engine;
 use tx_journal::Journal;

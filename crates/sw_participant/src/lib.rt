@@ -6,6 +6,7 @@
 //!   states for it, and counts it; a call that is refused memory changes nothing and is not counted.
 //! - [`read_answer`] reads an answer byte by one written rule: a byte with an unknown bit is bad and
 //!   says nothing, and PREPARED silences RETRY.
+//! - A participant that never joins may implement [`Unjoined`]: [`Bystander`] makes the participant of it.
 //! - [`Text`], [`Bytes`] and [`Sequence`] are seen by contracts as plain lists, so a clause never
 //!   speaks of capacities or addresses.
 #![tactic(auto)]
@@ -17,6 +18,7 @@ mod kind;
 mod laws;
 mod participant;
 mod station;
+mod unjoined;
 mod values;
 
 pub use answer::{Answer, Reading, read_answer};
@@ -29,4 +31,5 @@ pub use laws::{
 };
 pub use participant::{AdviceResult, NoMemory, Participant};
 pub use station::{Station, StationError, call_station};
+pub use unjoined::{Bystander, Unjoined};
 pub use values::{Bytes, Sequence, Text};

@@ -5,11 +5,10 @@ ghost use Rattle.sw_parts.specs.Checks.{ChecksFields};
 ghost use Rattle.sw_parts.specs.Quiet.{PassesOver, SelectsNone};
 
 use crate::answers::{PASSES, decide};
-use crate::unjoined::Unjoined;
 use std::alloc::Global;
 use sw_context::Context;
 use sw_messages::{fault_of, request_in};
-use sw_participant::{NoMemory, Text};
+use sw_participant::{NoMemory, Text, Unjoined};
 
 /// Refuses what is no request of the switch: it notes the response code of the fault that
 /// [`sw_messages::fault_of`] tells, and the transaction aborts.

@@ -3,7 +3,8 @@
 ghost use Rattle.std.specs.Prelude.{◌≡◌, [], IfOk};
 ghost use Rattle.sw_messages.specs.Requests.{request_in};
 ghost use Rattle.sw_parts.specs.Forwards.{forward_byte, forwarded, forwarded_by};
-ghost use Rattle.sw_parts.specs.Quiet.{PassesOver, SelectsNone, StaysQuiet, RestoresNothing};
+ghost use Rattle.sw_participant.specs.Outcomes.{StaysQuiet, RestoresNothing};
+ghost use Rattle.sw_parts.specs.Quiet.{PassesOver, SelectsNone};
 
 use crate::answers::{JOINS, PASSES};
 use iso_msg::Message;

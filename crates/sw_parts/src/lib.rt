@@ -12,8 +12,8 @@
 //!
 //! Each states for each call of a participant what it may do, as a relation in `specs/`. What is
 //! not named there does nothing: a preparation answers that the participant is ready and does not
-//! join, an outcome has no effect. Those that never join are [`Unjoined`], and
-//! [`Bystander`] makes participants of them. A participant that is refused memory has changed
+//! join, an outcome has no effect. Those that never join are [`Unjoined`](sw_participant::Unjoined),
+//! and [`Bystander`](sw_participant::Bystander) makes participants of them. A participant that is refused memory has changed
 //! nothing.
 #![tactic(auto)]
 
@@ -28,7 +28,6 @@ mod respond;
 mod reverse;
 mod route;
 mod stand_in;
-mod unjoined;
 
 pub use check::CheckFields;
 pub use forward::Forward;
@@ -40,4 +39,3 @@ pub use respond::Respond;
 pub use reverse::Reverse;
 pub use route::{Route, Routing, route_of};
 pub use stand_in::StandIn;
-pub use unjoined::{Bystander, Unjoined};

@@ -9,7 +9,8 @@ ghost use Rattle.sw_parts.specs.Asking.{card_of, key_of, asked, original, code_f
 ghost use Rattle.sw_parts.specs.Holding.{Holds, HoldsBy, HoldsAsked};
 ghost use Rattle.sw_parts.specs.Holding.{committed, given_back, aborted};
 ghost use Rattle.sw_parts.specs.ShownBooks.{shown_book};
-ghost use Rattle.sw_parts.specs.Quiet.{PassesOver, SelectsNone, RestoresNothing};
+ghost use Rattle.sw_participant.specs.Outcomes.{RestoresNothing};
+ghost use Rattle.sw_parts.specs.Quiet.{PassesOver, SelectsNone};
 
 use crate::answers::{JOINS, PASSES, REFUSES};
 use iso_msg::Message;

@@ -11,7 +11,6 @@ ghost use Rattle.sw_parts.specs.Quiet.{PassesOver, SelectsNone};
 use crate::answers::{LEAVES_NOTES, PASSES, REFUSES};
 use crate::link::Link;
 use crate::memory::{Heap, Memory};
-use crate::unjoined::Unjoined;
 use iso_msg::Message;
 use std::alloc::Global;
 use sw_context::Context;
@@ -19,7 +18,7 @@ use sw_messages::{
     APPROVAL, CODE, Class, LATE, REQUEST, ResponseCode, SENT, note, note_code, request_in,
 };
 use sw_mux::{Key, Mux, MuxError, Outcome};
-use sw_participant::{NoMemory, Text};
+use sw_participant::{NoMemory, Text, Unjoined};
 
 /// The message of these bytes, where it has the key that waits.
 fn answer_in<M: Memory>(

@@ -7,12 +7,11 @@ ghost use Rattle.sw_parts.specs.Quiet.{SelectsNone};
 ghost use Rattle.sw_parts.specs.Responses.{responded};
 
 use crate::answers::{LEAVES_NOTES, REFUSES};
-use crate::unjoined::Unjoined;
 use iso_codec::encode;
 use std::alloc::Global;
 use sw_context::Context;
 use sw_messages::{RESPONSE, ResponseCode, note, request_in, response_to, response_type};
-use sw_participant::{NoMemory, Text};
+use sw_participant::{NoMemory, Text, Unjoined};
 
 /// Writes the response to the request of a context. The code in `rc` is its field 39, and without
 /// one it is 00 where the transaction prepares and 96 where it aborts; the code in `auth` is its

@@ -2,7 +2,8 @@
 
 ghost use Rattle.std.specs.Prelude.{◌≡◌, [], IfOk};
 ghost use Rattle.sw_messages.specs.Requests.{request_in};
-ghost use Rattle.sw_parts.specs.Quiet.{PassesOver, SelectsNone, RestoresNothing};
+ghost use Rattle.sw_participant.specs.Outcomes.{RestoresNothing};
+ghost use Rattle.sw_parts.specs.Quiet.{PassesOver, SelectsNone};
 ghost use Rattle.sw_parts.specs.Reversals.{is_due, advice_of, committed_advice, aborted_advice};
 ghost use Rattle.sw_parts.specs.Reversals.{reverse_byte};
 

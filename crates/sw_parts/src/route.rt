@@ -8,12 +8,11 @@ ghost use Rattle.sw_parts.specs.Routes.{longer, if_prefix, route_for, route_of, 
 ghost use Rattle.sw_parts.specs.Routes.{ChecksRoute, group_by, chosen_group, shown_routes};
 
 use crate::answers::{PASSES, decide};
-use crate::unjoined::Unjoined;
 use iso_msg::Message;
 use std::alloc::Global;
 use sw_context::Context;
 use sw_messages::{CODE, Class, ResponseCode, class_of, request_in};
-use sw_participant::{NoMemory, Sequence, Text};
+use sw_participant::{NoMemory, Sequence, Text, Unjoined};
 
 /// The cards whose numbers begin with a prefix are asked for by a group of the flow.
 pub struct Routing {

@@ -7,14 +7,13 @@ ghost use Rattle.sw_parts.specs.StandIns.{is_open, is_small, stand_in_code, stoo
 ghost use Rattle.sw_parts.specs.StandIns.{Judged, StandsInBy, StandsIn};
 
 use crate::answers::{LEAVES_NOTES, PASSES, REFUSES};
-use crate::unjoined::Unjoined;
 use iso_msg::Message;
 use std::alloc::Global;
 use sw_context::Context;
 use sw_messages::{
     APPROVAL, CODE, LATE, ResponseCode, STAND_IN, amount_of, note, note_code, put_part, request_in,
 };
-use sw_participant::{NoMemory, Text};
+use sw_participant::{NoMemory, Text, Unjoined};
 
 /// The greatest amount that the switch approves by itself.
 const MOST_AMOUNT: u64 = 1_000;

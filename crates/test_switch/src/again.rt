@@ -165,11 +165,7 @@ fn write_told<W: Write>(
 }
 
 // Makes a turn.
-fn drive(
-    alloc: Global,
-    plant: &mut Plant<MemStore>,
-    action: &Action,
-) -> Result<Outcome, Refused> {
+fn drive(alloc: Global, plant: &mut Plant<MemStore>, action: &Action) -> Result<Outcome, Refused> {
     let turn = match turn_again(alloc, action) {
         Ok(turn) => turn,
         Err(error) => return Err(Refused::Other(error)),
@@ -260,7 +256,10 @@ fn play<W: Write>(
 }
 
 fn is_memory(error: &TestError) -> bool {
-    matches!(error, TestError::OutOfMemory(_) | TestError::Script(ScriptError::OutOfMemory))
+    matches!(
+        error,
+        TestError::OutOfMemory(_) | TestError::Script(ScriptError::OutOfMemory)
+    )
 }
 
 /// Makes the turns of a script's lines over a journal in memory, and prints what comes of each. A turn that is

@@ -44,7 +44,13 @@ fn is_preparing_send(row: &Row) -> bool {
 fn the_row_of_a_transaction_that_is_preparing(rt: HostRuntime) -> Result<(), Fail> {
     let alloc = rt.alloc();
     let stations = stations_of_two(alloc)?;
-    let mut plant = plant_on(alloc, &code_of_two(alloc)?, new_journal(alloc)?, stations, 1)?;
+    let mut plant = plant_on(
+        alloc,
+        &code_of_two(alloc)?,
+        new_journal(alloc)?,
+        stations,
+        1,
+    )?;
     assert!(rt; plant.drive(alloc, &turns(alloc)).is_ok());
     let (_, mut journal, _) = plant.parts();
     let view = journal.view(alloc)?;
