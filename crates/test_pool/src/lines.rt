@@ -78,6 +78,37 @@ fn write_ended<W: Write>(id: u64, context: &Context, out: &mut W) -> io::Result<
     writeln!(out)
 }
 
+// Writes the stations' counts, and the calls that were made.
+fn write_calls<W: Write>(
+    code: &Code,
+    plant: &Plant<MemStore>,
+    calls: &[Called],
+    out: &mut W,
+) -> io::Result<()> {
+    for part in code.participants() {
+        let name = part.name.as_str();
+        let count = plant.calls(name).unwrap_or(0);
+        writeln!(out, "calls {name} {count}")?;
+    }
+    for called in calls {
+        write_called(code, called, out)?;
+    }
+    Ok(())
+}
+
+/// Writes the trace of the plant's history, its stations' counts, and the calls that threads made.
+pub fn write_made<W: Write>(
+    alloc: Global,
+    code: &Code,
+    plant: &Plant<MemStore>,
+    calls: &[Called],
+    out: &mut W,
+) -> Result<(), TestError> {
+    write_trace(alloc, plant.engine(), out)?;
+    write_calls(code, plant, calls, out)?;
+    Ok(out.flush()?)
+}
+
 /// Writes the trace of the plant's history, its runs, its stations' counts, the calls that were
 /// made, and the contexts of the transactions that are done.
 pub fn write_all<W: Write>(
@@ -92,14 +123,7 @@ pub fn write_all<W: Write>(
     for ran in runs {
         write_run(ran, out)?;
     }
-    for part in code.participants() {
-        let name = part.name.as_str();
-        let count = plant.calls(name).unwrap_or(0);
-        writeln!(out, "calls {name} {count}")?;
-    }
-    for called in calls {
-        write_called(code, called, out)?;
-    }
+    write_calls(code, plant, calls, out)?;
     for (id, context) in plant.ended() {
         write_ended(*id, context, out)?;
     }

@@ -15,18 +15,26 @@
 //! - of each station `calls NAME COUNT`,
 //! - of each call, in the order in which they were made, `called S ID CALL NAME`,
 //! - of each transaction that is done `ended ID NAME=HEX ..`, the context that it ended with.
+//!
+//! `test_pool again FLOW SESSIONS OFFERS SEED` runs such a plant once, for tests that refuse it memory. Where the run is
+//! given up, a new plant is made on what it left and recovers, and it prints `given up`. Then that plant, or the same,
+//! runs as many offers again. It prints the lines of the trace of the last plant, the stations' counts and the calls that
+//! threads made, as above.
 #![tactic(auto)]
 
+mod again;
 mod error;
 mod lines;
 mod runs;
 mod watch;
 
 use cli_flows::open_flow;
+use again::{Ran, run_once};
 use error::TestError;
 use flow_asm::{Code, assemble};
-use lines::write_all;
+use lines::{write_all, write_made};
 use runs::{new_journal, offers_of, run_all};
+use sqlite::MemStore;
 use std::alloc::{AllocError, Global};
 use std::fs::Files;
 use std::io::{self, BufWriter, Write};
@@ -45,6 +53,8 @@ struct Task {
     offers: usize,
     capacity: usize,
     seed: u64,
+    /// Whether it is run for tests that refuse it memory.
+    is_again: bool,
 }
 
 fn number(word: &str) -> Result<usize, TestError> {
@@ -58,6 +68,14 @@ fn read_task(words: &[String]) -> Result<Task, TestError> {
             offers: number(offers.as_str())?,
             capacity: number(capacity.as_str())?,
             seed: number(seed.as_str())? as u64,
+            is_again: false,
+        }),
+        [sessions, offers, seed] => Ok(Task {
+            sessions: number(sessions.as_str())?,
+            offers: number(offers.as_str())?,
+            capacity: 1,
+            seed: number(seed.as_str())? as u64,
+            is_again: true,
         }),
         _ => Err(TestError::Words),
     }
@@ -74,6 +92,50 @@ fn names_of(alloc: Global, code: &Code) -> Result<Vec<Text>, TestError> {
         }
     }
     Ok(names)
+}
+
+// Runs the plant as the task says, and writes what it did.
+fn run_plant<R: Threads + Wait + Sync, W: Write>(
+    rt: &R,
+    alloc: Global,
+    code: &Code,
+    plant: Plant<MemStore>,
+    task: Task,
+    out: &mut W,
+) -> Result<(), TestError> {
+    let watch = Watch::new(rt, alloc);
+    let offers = offers_of(alloc, task.offers)?;
+    plant.is_engine();
+    let (plant, runs) = run_all(rt, alloc, plant, offers, task.capacity, &watch)?;
+    let calls = watch.into_calls()?;
+    write_all(alloc, code, &plant, runs.as_slice(), calls.as_slice(), out)
+}
+
+// Runs it, or what goes on where it is given up, and then again.
+fn run_again<R: Threads + Wait + Sync, W: Write>(
+    rt: &R,
+    alloc: Global,
+    code: &Code,
+    plant: Plant<MemStore>,
+    task: Task,
+    out: &mut W,
+) -> Result<(), TestError> {
+    let watch = Watch::new(rt, alloc);
+    let first = run_once(rt, alloc, code, plant, task.sessions, task.offers, &watch)?;
+    let Ran {
+        plant,
+        was_given_up,
+    } = first;
+    let second = run_once(rt, alloc, code, plant, task.sessions, task.offers, &watch)?;
+    let Ran {
+        plant,
+        was_given_up: was_again,
+    } = second;
+    let calls = watch.into_calls()?;
+    if was_given_up || was_again {
+        writeln!(out, "given up")?;
+    }
+    write_made(alloc, code, &plant, calls.as_slice(), out)
 }
 
 // Makes a station for each participant of the flow, runs a plant of them as the task says, and
@@ -101,11 +163,10 @@ fn play<R: Threads + Wait + Sync, W: Write>(
         Ok(plant) => plant,
         Err((error, _, _)) => return Err(TestError::Plant(error)),
     };
-    let watch = Watch::new(rt, alloc);
-    let offers = offers_of(alloc, task.offers)?;
-    let (plant, runs) = run_all(rt, alloc, plant, offers, task.capacity, &watch)?;
-    let calls = watch.into_calls()?;
-    write_all(alloc, code, &plant, runs.as_slice(), calls.as_slice(), out)
+    if task.is_again {
+        return run_again(rt, alloc, code, plant, task, out);
+    }
+    run_plant(rt, alloc, code, plant, task, out)
 }
 
 fn run_words<R: Files + Threads + Wait + Sync, W: Write>(
@@ -116,6 +177,11 @@ fn run_words<R: Files + Threads + Wait + Sync, W: Write>(
 ) -> Result<(), TestError> {
     match words {
         [] | [_] => Ok(()),
+        [_, again, flow, numbers @ ..] if again.as_str() == "again" => {
+            let task = read_task(numbers)?;
+            let flow = open_flow(alloc, rt, flow.as_str())?;
+            play(rt, alloc, &assemble(alloc, &flow)?, task, out)
+        }
         [_, flow, numbers @ ..] => {
             let task = read_task(numbers)?;
             let flow = open_flow(alloc, rt, flow.as_str())?;
