@@ -4,9 +4,8 @@
     tests/wrong_bodies.py [CRATE ..]
 
 The gate tries the edits of each crate's must-fail/ again in every run. Those of wrong-bodies/, of the same form, are tried
-here by `rt ci`, on a copy: all of them, or those of the crates named. It is for whoever changes a contract of such a crate,
-and costs a check of each crate, one more of it and of those below it where no earlier run on this machine had the same
-files, and some 30 seconds for each edit.
+here by `rt must-fail`, on a copy: all of them, or those of the crates named. It is for whoever changes a contract of such a crate,
+and costs a check of each crate and of those below it, and some 30 seconds for each edit.
 
 An edit that falls only because a proof file names what it takes away counts as failed. The last line counts; the status is
 1 where a wrong body is not refused.
@@ -49,7 +48,7 @@ def main():
         sys.exit(f"tests/wrong_bodies.py: no crate {lacking[0]} with wrong-bodies/: expected one of {', '.join(found)}")
     with tempfile.TemporaryDirectory() as room:
         lay(room, crates)
-        ran = subprocess.run(["rt", "ci", *crates], cwd=room, stdout=subprocess.PIPE, stderr=subprocess.STDOUT, text=True)
+        ran = subprocess.run(["rt", "must-fail", *crates], cwd=room, stdout=subprocess.PIPE, stderr=subprocess.STDOUT, text=True)
     print(ran.stdout, end="")
     refused = set(re.findall(r"must-fail (\S+\.edit): refused, as it must be(?! \(only because)", ran.stdout))
     wanted = [f"{crate}/{edit}" for crate in crates for edit in found[crate]]
