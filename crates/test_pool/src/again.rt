@@ -13,6 +13,7 @@ use tx_plant::Plant;
 use tx_pool::{Early, Fault, Gate, Late, Pool, PoolError};
 
 /// What a run came to.
+#[derive(Drop)]
 pub struct Ran {
     /// The plant that was run, or a new one on what it left, which has recovered.
     pub plant: Plant<MemStore>,

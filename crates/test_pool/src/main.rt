@@ -28,8 +28,8 @@ mod lines;
 mod runs;
 mod watch;
 
-use cli_flows::open_flow;
 use again::{Ran, run_once};
+use cli_flows::open_flow;
 use error::TestError;
 use flow_asm::{Code, assemble};
 use lines::{write_all, write_made};

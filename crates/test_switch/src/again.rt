@@ -21,6 +21,7 @@ use tx_trace::line;
 const TRIES: usize = 1_000;
 
 /// What comes of a try that was refused.
+#[derive(Drop)]
 enum Refused {
     /// Memory was refused, and nothing has changed.
     Memory,
@@ -142,9 +143,18 @@ fn told(alloc: Global, engine: &Engine, outcome: &Outcome) -> Result<String, All
         Outcome::Idle => format!(in alloc; "idle"),
         Outcome::Unwritten => format!(in alloc; "unwritten"),
         Outcome::Held(_) => format!(in alloc; "held"),
-        Outcome::Written(mark) => format!(in alloc; "written {mark}"),
-        Outcome::Restarted(unfinished) => format!(in alloc; "restart {unfinished}"),
-        Outcome::Cut(next_id) => format!(in alloc; "cut {next_id}"),
+        Outcome::Written(mark) => {
+            let mark = *mark;
+            format!(in alloc; "written {mark}")
+        }
+        Outcome::Restarted(unfinished) => {
+            let unfinished = *unfinished;
+            format!(in alloc; "restart {unfinished}")
+        }
+        Outcome::Cut(next_id) => {
+            let next_id = *next_id;
+            format!(in alloc; "cut {next_id}")
+        }
     }
 }
 
