@@ -1,4 +1,4 @@
-/* What `test_switch engine` does, in plain C: transactions of two participants, one after the other, with a queue, a history
+/* What `test_bench engine` does, in plain C: transactions of two participants, one after the other, with a queue, a history
  * that keeps every event with its context, and for each entry the row that the journal is to have afterwards. Each copy that
  * the engine makes is made here too; nothing is proved, and nobody else's call is looked for. */
 

@@ -1,8 +1,8 @@
 #!/usr/bin/env python3
 """Events a second of the engine at 10,000, 100,000 and 1,000,000 entries of one history, and what an entry keeps.
 
-Run from the top of the repository after `(cd crates/test_switch && rt run)`, which leaves the program in
-crates/test_switch/out/test_switch. Beside it stands a plain C program (bench/engine.c, compiled here) that keeps the same
+Run from the top of the repository after `(cd crates/test_bench && rt run)`, which leaves the program in
+crates/test_bench/out/test_bench. Beside it stands a plain C program (bench/engine.c, compiled here) that keeps the same
 queue, history and rows with the same copies: what somebody would write who wants an engine and no proof. No journal is
 written on either side; bench/journal.py times that. All runs are pinned to one core where the machine has taskset, and
 take turns; the best of each counts, less a run without transactions. What an entry keeps is the growth of the most memory
@@ -15,7 +15,7 @@ import sys
 import tempfile
 import time
 
-PROGRAM = "crates/test_switch/out/test_switch"
+PROGRAM = "crates/test_bench/out/test_bench"
 ROUNDS = 5
 COUNTS = (10_000, 100_000, 1_000_000)
 # A transaction of two participants: offered, taken, answered twice, told twice.
@@ -49,7 +49,7 @@ def measure(programs, transactions):
 
 def main():
     if not os.access(PROGRAM, os.X_OK):
-        sys.exit(f"there is no program {PROGRAM}: build it by `(cd crates/test_switch && rt run)`")
+        sys.exit(f"there is no program {PROGRAM}: build it by `(cd crates/test_bench && rt run)`")
     with tempfile.TemporaryDirectory() as room:
         plain = os.path.join(room, "engine")
         subprocess.run(["gcc", "-O2", "-o", plain, "bench/engine.c"], check=True)

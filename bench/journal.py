@@ -1,8 +1,8 @@
 #!/usr/bin/env python3
 """Commits a second of the journal beside SQLite's C library, side by side in one run.
 
-Run from the top of the repository after `(cd crates/test_switch && rt run)`, which leaves the program in
-crates/test_switch/out/test_switch. Both sides run the same statements: a transaction is taken (next id and a row with
+Run from the top of the repository after `(cd crates/test_bench && rt run)`, which leaves the program in
+crates/test_bench/out/test_bench. Both sides run the same statements: a transaction is taken (next id and a row with
 a context of 64 bytes are put), and the next entry drops its row. Each commit is synced on a file (WAL, synchronous FULL);
 in memory nothing is. The sides take turns, and the best of each counts.
 """
@@ -13,7 +13,7 @@ import sys
 import tempfile
 import time
 
-PROGRAM = "crates/test_switch/out/test_switch"
+PROGRAM = "crates/test_bench/out/test_bench"
 ROUNDS = 3
 SCHEMA = """
 CREATE TABLE meta (k INTEGER PRIMARY KEY NOT NULL, v INTEGER NOT NULL) STRICT;
@@ -87,7 +87,7 @@ def measure(name, commits, entries, room):
 
 def main():
     if not os.access(PROGRAM, os.X_OK):
-        sys.exit(f"there is no program {PROGRAM}: build it by `(cd crates/test_switch && rt run)`")
+        sys.exit(f"there is no program {PROGRAM}: build it by `(cd crates/test_bench && rt run)`")
     with tempfile.TemporaryDirectory(dir=".") as room:
         for entries in (1, 16):
             measure("memory", 20_000 // entries, entries, room)

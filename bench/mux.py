@@ -1,8 +1,8 @@
 #!/usr/bin/env python3
 """Times the multiplexer: a request and a response while many keys wait, and a request and a deadline that comes.
 
-Run from the top of the repository after `(cd crates/test_switch && rt run)`, which leaves the program in
-crates/test_switch/out/test_switch. The oldest key is answered each time, as by an issuer that answers in order.
+Run from the top of the repository after `(cd crates/test_bench && rt run)`, which leaves the program in
+crates/test_bench/out/test_bench. The oldest key is answered each time, as by an issuer that answers in order.
 Beside it, in the same run: the program's `map`, which puts the same keys into a hash map of the standard library and
 takes them out (what one writes who needs neither an order nor deadlines), and a dict of Python, which most test tools
 of the trade use. Each counts by the best of some rounds, what the same run without requests takes taken away.
@@ -14,7 +14,7 @@ import sys
 import time
 from collections import deque
 
-PROGRAM = "crates/test_switch/out/test_switch"
+PROGRAM = "crates/test_bench/out/test_bench"
 ROUNDS, COUNT = 5, 1_000_000
 
 
@@ -61,7 +61,7 @@ def python_dict(keys):
 
 def main():
     if not os.access(PROGRAM, os.X_OK):
-        sys.exit(f"there is no program {PROGRAM}: build it by `(cd crates/test_switch && rt run)`")
+        sys.exit(f"there is no program {PROGRAM}: build it by `(cd crates/test_bench && rt run)`")
     for keys in (100, 10_000, 100_000):
         took = {"mux": program("mux", keys), "its deadlines": program("ticks", keys)}
         took["hash map"] = program("map", keys)

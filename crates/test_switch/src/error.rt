@@ -14,11 +14,8 @@ use tx_plant::PlantError;
 #[derive(Drop, Error)]
 pub enum TestError {
     #[error("expected: silent FLOW JOURNAL, stopped power|kill [twice], stopped refusal, again, opened PATH, \
-         turned power|kill|refusal, journal PATH COMMITS ENTRIES, \
-         engine COUNT, or mux mux|map|ticks KEYS ROUNDS")]
+         or turned power|kill|refusal")]
     Words,
-    #[error("{0}")]
-    Bench(&'static str),
     #[error("the flow was refused")]
     Flow,
     #[error("the journal's file was not opened")]
@@ -57,12 +54,6 @@ pub enum TestError {
 impl fmt::Debug for TestError {
     fn fmt<W: fmt::Write>(&self, f: &mut fmt::Formatter<W>) -> fmt::Result {
         fmt::Display::fmt(self, f)
-    }
-}
-
-impl From<&'static str> for TestError {
-    fn from(text: &'static str) -> TestError {
-        TestError::Bench(text)
     }
 }
 

@@ -1,5 +1,4 @@
-//! The switch under faults that no subcommand lays into it, for tests, and its parts, for bench/*.py to time. Without
-//! words it does nothing.
+//! The switch under faults that no subcommand lays into it, for tests. Without words it does nothing.
 //!
 //! `test_switch silent FLOW JOURNAL` answers the requests of its input as `cardswitch run --flow FLOW --journal
 //! JOURNAL` does, but its issuer alpha is silent.
@@ -24,20 +23,9 @@
 //! `test_switch turned power|kill|refusal < SQL` makes a database by the statements of its input, one a line, and opens
 //! it as a journal, cut at the first call of its disks, at the second and so on, up to an opening that is not cut. Each
 //! time what is left is opened again. It prints for each run `run CALLS`, the layout that was left, and the view.
-//!
-//! `test_switch journal PATH COMMITS ENTRIES` makes so many commits of so many entries each in a journal in
-//! the file at the path, or in memory where the path is `memory`.
-//!
-//! `test_switch engine COUNT` runs so many transactions of two participants, one after the other, six entries
-//! each, with every entry written before the next call.
-//!
-//! `test_switch mux WHAT KEYS ROUNDS` lets so many keys wait, and then, so many times, lets one more wait and
-//! takes the response to the oldest. WHAT is `mux`, or `map`: a hash map of keys as it is used without a
-//! multiplexer, or `ticks`: a multiplexer in which the oldest comes to its deadline instead.
 #![tactic(auto)]
 
 mod again;
-mod bench;
 mod disks;
 mod error;
 mod lines;
@@ -47,7 +35,6 @@ mod runs;
 mod silent;
 
 use again::run_again;
-use bench::{time_engine, time_journal, time_mux};
 use cli_io::{Input, read_input};
 use disks::Cut;
 use error::TestError;
@@ -94,20 +81,6 @@ fn run_turned(rt: &HostRuntime, cut: Cut) -> Result<(), TestError> {
     open_each(alloc, sql, cut, &mut rt.stdout())
 }
 
-// Times a part of the switch.
-fn run_bench(rt: &HostRuntime, words: &[String]) -> Result<(), TestError> {
-    Ok(match words {
-        [_, part, path, commits, entries] if part.as_str() == "journal" => {
-            time_journal(rt, path.as_str(), commits.as_str(), entries.as_str())?
-        }
-        [_, part, count] if part.as_str() == "engine" => time_engine(rt, count.as_str())?,
-        [_, part, what, keys, rounds] if part.as_str() == "mux" => {
-            time_mux(rt, what.as_str(), keys.as_str(), rounds.as_str())?
-        }
-        _ => return Err(TestError::Words),
-    })
-}
-
 fn run_words<T: Threads + Wait + Sync>(
     threads: &T,
     rt: &HostRuntime,
@@ -127,7 +100,7 @@ fn run_words<T: Threads + Wait + Sync>(
         [_, test] if test.as_str() == "again" => run_refused(rt),
         [_, test, path] if test.as_str() == "opened" => open_file(rt, path.as_str()),
         [_, test, cut] if test.as_str() == "turned" => run_turned(rt, cut_of(cut.as_str())?),
-        _ => run_bench(rt, words),
+        _ => Err(TestError::Words),
     }
 }
 

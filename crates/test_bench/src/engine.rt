@@ -1,6 +1,6 @@
 //! Transactions of an engine.
 
-use crate::bench::MEMORY;
+use crate::MEMORY;
 use flow_asm::{Code, assemble};
 use flow_model::{Flow, Group};
 use std::alloc::Global;

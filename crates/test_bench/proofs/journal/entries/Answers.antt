@@ -3,7 +3,7 @@ use Rattle.std.specs.Result.{is_ok}
 use Rattle.std.proofs.lemmas.List.Elements.{All-push}
 use Rattle.tx_history.specs.declared.event.Entry.{Entry}
 use Rattle.journal_tables.specs.Small.{IsEntrySmall}
-use Rattle.test_switch.proofs.bench.journal.entries.Goals as goal
+use Rattle.test_bench.proofs.journal.entries.Goals as goal
 
 -- whether it was pushed or not
 one_more : (b : Bool) (xs : List Entry) (x : Entry) → All IsEntrySmall xs → IsEntrySmall x → All IsEntrySmall (if b then xs ++ x ∷ [] else xs)

@@ -3,7 +3,7 @@
 ghost use Rattle.std.specs.Prelude.{◌<◌, ◌≤◌, ◌+◌, All, IfOk};
 ghost use Rattle.journal_tables.specs.Small.{IsEntrySmall, IsRowSmall};
 
-use crate::bench::MEMORY;
+use crate::MEMORY;
 use sqlite::{Alter, Connection};
 use std::alloc::{AllocError, Global};
 use sw_participant::{Bytes, Sequence, Text};

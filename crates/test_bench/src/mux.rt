@@ -1,6 +1,6 @@
 //! Requests and responses of a multiplexer.
 
-use crate::bench::MEMORY;
+use crate::MEMORY;
 use iso_codec::decode;
 use iso_msg::Message;
 use std::alloc::Global;

@@ -1,0 +1,64 @@
+//! The switch's parts, for bench/*.py to time. Without words it does nothing.
+//!
+//! `test_bench journal PATH COMMITS ENTRIES` makes so many commits of so many entries each in a journal in
+//! the file at the path, or in memory where the path is `memory`.
+//!
+//! `test_bench engine COUNT` runs so many transactions of two participants, one after the other, six entries
+//! each, with every entry written before the next call.
+//!
+//! `test_bench mux WHAT KEYS ROUNDS` lets so many keys wait, and then, so many times, lets one more wait and
+//! takes the response to the oldest. WHAT is `mux`, or `map`: a hash map of keys as it is used without a
+//! multiplexer, or `ticks`: a multiplexer in which the oldest comes to its deadline instead.
+#![tactic(auto)]
+
+mod engine;
+mod journal;
+mod mux;
+
+use journal::Load;
+use std::io::Write;
+use std::process::ExitCode;
+
+pub(crate) const MEMORY: &str = "out of memory";
+
+const WORDS: &str =
+    "expected: journal PATH COMMITS ENTRIES, engine COUNT, or mux mux|map|ticks KEYS ROUNDS";
+
+fn number(word: &String) -> Result<u64, &'static str> {
+    word.parse::<u64>().map_err(|_| "expected a number")
+}
+
+fn run_words(rt: &HostRuntime, words: &[String]) -> Result<(), &'static str> {
+    match words {
+        [_] => Ok(()),
+        [_, part, path, commits, entries] if part.as_str() == "journal" => {
+            let load = Load {
+                commits: number(commits)?,
+                entries: number(entries)?,
+            };
+            journal::run(rt, path.as_str(), load)
+        }
+        [_, part, count] if part.as_str() == "engine" => engine::run(rt.alloc(), number(count)?),
+        [_, part, what, keys, rounds] if part.as_str() == "mux" => {
+            mux::run(rt.alloc(), what.as_str(), number(keys)?, number(rounds)?)
+        }
+        _ => Err(WORDS),
+    }
+}
+
+fn main(rt: HostRuntime) -> ExitCode {
+    let words = match std::env::args(&rt) {
+        Ok(words) => words.collect::<Vec<String>>(rt.alloc()),
+        Err(_) => return ExitCode::from(2),
+    };
+    let Ok(words) = words else {
+        return ExitCode::from(4);
+    };
+    match run_words(&rt, words.as_slice()) {
+        Ok(()) => ExitCode::from(0),
+        Err(error) => {
+            let _told = writeln!(rt.stderr(), "test_bench: {error}");
+            ExitCode::from(1)
+        }
+    }
+}
