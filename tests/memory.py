@@ -67,10 +67,10 @@ TURNS = {
 
 
 def printed(lines):
-    """What `test_switch again` prints of a script without refusals: as `step`, but for the sessions of calls that were not made."""
+    """The lines that `step` prints of a script."""
     text, fault, _ = script.step("".join(f"{line}\n" for line in lines).encode())
     assert fault is None, fault
-    return [line.split(" ")[0] if line.split(" ")[0] in ("idle", "unwritten", "held") else line for line in text.splitlines()]
+    return text.splitlines()
 
 
 def with_a_stop(text):

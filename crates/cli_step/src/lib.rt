@@ -18,4 +18,5 @@ mod turns;
 
 pub use actions::turn_of;
 pub use error::StepError;
+pub use said::told;
 pub use script::{run_actions, run_script};

@@ -73,8 +73,14 @@ pub fn where_line(alloc: Global, engine: &Engine, s: usize) -> Result<String, Al
     }
 }
 
-// The line of what is no entry.
-fn told(alloc: Global, engine: &Engine, s: usize, outcome: &Outcome) -> Result<String, AllocError>
+/// What `step` prints of a turn of this session that made no entry: a refusal, `idle S`, `unwritten S`,
+/// `held S NEXT`, `written MARK`, `restart UNFINISHED`, `cut NEXTID`. Empty for an entry, whose line is that of the trace.
+pub fn told(
+    alloc: Global,
+    engine: &Engine,
+    s: usize,
+    outcome: &Outcome,
+) -> Result<String, AllocError>
     ensures { IfOk result (λ line. string_bytes line ≡ told engine.now s outcome.now) }
 {
     match outcome {

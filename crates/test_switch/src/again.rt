@@ -5,7 +5,7 @@
 use crate::error::TestError;
 use cli_io::write_whole;
 use cli_script::{Action, Actions, ScriptError, open_script};
-use cli_step::turn_of;
+use cli_step::{told, turn_of};
 use flow_asm::{Code, assemble};
 use sqlite::{Connection, MemStore};
 use std::alloc::{AllocError, Global};
@@ -133,45 +133,43 @@ fn reopened(
 }
 
 // What is printed of a turn of a session.
-fn told(alloc: Global, engine: &Engine, outcome: &Outcome) -> Result<String, AllocError> {
+fn line_of(
+    alloc: Global,
+    engine: &Engine,
+    session: usize,
+    outcome: &Outcome,
+) -> Result<String, AllocError> {
     match outcome {
         Outcome::Accepted(number) => match line(alloc, engine, *number)? {
             Some(text) => Ok(text),
             None => Ok(String::new(alloc)),
         },
-        Outcome::Refused(error) => format!(in alloc; "refused {error:?}"),
-        Outcome::Idle => format!(in alloc; "idle"),
-        Outcome::Unwritten => format!(in alloc; "unwritten"),
-        Outcome::Held(_) => format!(in alloc; "held"),
-        Outcome::Written(mark) => {
-            let mark = *mark;
-            format!(in alloc; "written {mark}")
-        }
-        Outcome::Restarted(unfinished) => {
-            let unfinished = *unfinished;
-            format!(in alloc; "restart {unfinished}")
-        }
-        Outcome::Cut(next_id) => {
-            let next_id = *next_id;
-            format!(in alloc; "cut {next_id}")
-        }
+        other => told(alloc, engine, session, other),
     }
 }
 
 fn write_told<W: Write>(
     alloc: Global,
     engine: &Engine,
+    session: usize,
     outcome: &Outcome,
     out: &mut W,
 ) -> Result<(), TestError> {
     for _ in 0..TRIES {
-        if let Ok(text) = told(alloc, engine, outcome) {
+        if let Ok(text) = line_of(alloc, engine, session, outcome) {
             write_whole(out, text.as_bytes())?;
             write_whole(out, b"\n")?;
             return Ok(());
         }
     }
     Err(TestError::OutOfMemory(AllocError))
+}
+
+fn session_of(action: &Action) -> usize {
+    match action {
+        Action::Call(session) => *session as usize,
+        _ => 0,
+    }
 }
 
 // Makes a turn.
@@ -202,14 +200,14 @@ fn act<W: Write>(
     for _ in 0..TRIES {
         match drive(alloc, &mut plant, action) {
             Ok(outcome) => {
-                write_told(alloc, plant.engine(), &outcome, out)?;
+                write_told(alloc, plant.engine(), session_of(action), &outcome, out)?;
                 return Ok(plant);
             }
             Err(Refused::Memory) => {}
             Err(Refused::Store) => {
                 plant = reopened(alloc, plant, sessions)?;
                 let restarted = Outcome::Restarted(plant.engine().recovering());
-                write_told(alloc, plant.engine(), &restarted, out)?;
+                write_told(alloc, plant.engine(), 0, &restarted, out)?;
             }
             Err(Refused::Other(error)) => return Err(error),
         }
