@@ -592,12 +592,65 @@ def decode_case(random, name):
     return case
 
 
-def decoded(name, text, random=None):
+def mask_case(random, name):
+    parts = stream(random)
+    case = decoded(name, b"".join(parts), is_masked=True)
+    case.remake, case.parts = lambda other: decoded(name, other, is_masked=True), parts
+    return case
+
+
+def plain_text(random):
+    """The text of some messages, and their frames, each in the spelling that is written."""
+    made = []
+    for _ in range(random.choice([0, 1, 2, 5, 20])):
+        numbers = random.sample(sorted(messages.FORMS), random.randint(0, 8))
+        fields = {number: value(random, number) for number in numbers}
+        fields = {it: fields[it].upper() if messages.FORMS[it][0] == messages.BINARY else fields[it] for it in fields}
+        made.append(messages.framed(messages.encode(b"%04d" % random.randrange(10_000), fields)))
+    frames = b"".join(made)
+    return messages.decoded(frames)[0], frames
+
+
+def encode_case(random, name):
+    """A text and its frames; or there and back; or a text with a line or a byte spoilt."""
+    text, frames = plain_text(random)
+    what = random.randrange(4)
+    if what == 0:
+        case = Case(name, "cardswitch encode | cardswitch decode", text)
+        case.stdout, case.stderr = Exactly(text), Exactly(b"")
+        return case
+    if what == 1:
+        case = Case(name, "cardswitch decode | cardswitch encode", frames)
+        case.stdout, case.stderr = Exactly(frames), Exactly(b"")
+        return case
+    lines = text.splitlines(keepends=True)
+    if lines and what == 2:
+        at, other = random.randrange(len(lines)), random.randrange(len(lines))
+        lines[at] = random.choice([lines[other], b"", lines[at] + lines[other], b"mti 0100\n"])
+        text = b"".join(lines)
+    if lines and what == 3:
+        text = spoil_bytes(random, text, b"0123456789 \nmAaFf*\r\xff")
+    case = encoded(name, text)
+    case.remake, case.parts = lambda other: encoded(name, other), lines
+    return case
+
+
+def encoded(name, text):
+    """The case of `encode` on a text."""
+    case = Case(name, "cardswitch encode", text)
+    frames, refused = messages.encoded(text)
+    case.stdout, case.stderr = Exactly(frames), Exactly(b"")
+    if refused:
+        case.stderr, case.status = Begins(b"cardswitch: standard input: line %d: " % refused), 1
+    return case
+
+
+def decoded(name, text, random=None, is_masked=False):
     """The case of `decode` on a stream, in random pieces where there is randomness."""
-    case = Case(name, "cardswitch decode", text)
+    case = Case(name, "cardswitch decode --mask" if is_masked else "cardswitch decode", text)
     if random:
         case.pieces = inputs.cut(random, text)
-    printed, is_refused = messages.decoded(text)
+    printed, is_refused = messages.decoded(text, is_masked)
     case.stdout = Exactly(printed)
     case.stderr, case.status = (Begins(REFUSED), 1) if is_refused else (Exactly(b""), 0)
     return case
@@ -649,6 +702,7 @@ def cases(random, count, is_every=False):
     yield requests.fields_case(random, "fields/run: each field of a request missing, and spoilt")
     kinds = [("step", step_case)] * 4 + [("whole", whole_case)] * 4
     kinds += [("asm", asm_case)] * 2 + [("list", list_case)] * 2 + [("decode", decode_case), ("graph", graph_case)]
+    kinds += [("mask", mask_case)] + [("encode", encode_case)] * 2
     kinds += [("run", requests.run_case)] * 2
     for number in range(count // 200):
         yield stopped_case(random, f"random/stops {number}")

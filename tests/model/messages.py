@@ -113,17 +113,32 @@ def shown(text):
     return b"\n".join([*made, text[sum(map(len, made)) :]])
 
 
-def paragraph(number, message):
+# The fields that `--mask` shows by their length alone.
+HIDDEN = {35, 45, 52, 55, 64, 128}
+
+
+def line(number, value, is_masked=False):
+    """A field's line."""
+    if not is_masked or number not in HIDDEN | {2}:
+        return b"%d %s\n" % (number, value)
+    if number in HIDDEN:
+        size = 8 if FORMS[number][0] == BINARY else len(value)
+        return b"%d* %d bytes\n" % (number, size)
+    seen = value[:6] + b"*" * (len(value) - 10) + value[-4:] if len(value) > 10 else b"*" * len(value)
+    return b"2* %s\n" % seen
+
+
+def paragraph(number, message, is_masked=False):
     """What is printed for one frame, and whether the message is refused."""
     try:
         mti, fields = decode(message)
     except Refused as refused:
         return b"message %d refused %s\n" % (number, str(refused).encode()), True
     lines = [b"message %d\n" % number, b"mti %s\n" % mti]
-    return b"".join(lines + [b"%d %s\n" % pair for pair in fields.items()]), False
+    return b"".join(lines + [line(*pair, is_masked) for pair in fields.items()]), False
 
 
-def decoded(stream):
+def decoded(stream, is_masked=False):
     """What `decode` prints of a stream, and whether anything is refused."""
     printed, is_refused, at, number = [], False, 0, 0
     while at < len(stream):
@@ -135,7 +150,7 @@ def decoded(stream):
             left = len(stream) - at
             return b"".join([*printed, b"frame refused Truncated %d\n" % left]), True
         number += 1
-        text, refused = paragraph(number, stream[at + 4 : end])
+        text, refused = paragraph(number, stream[at + 4 : end], is_masked)
         printed.append(text)
         is_refused |= refused
         at = end
@@ -154,3 +169,39 @@ def encode(mti, fields):
     bits = ("1" + bits[1:]) if "1" in bits[64:] else bits[:64]
     maps = b"%0*X" % (len(bits) // 4, int(bits, 2))
     return mti + maps + b"".join(spelled(number, fields[number]) for number in sorted(fields))
+
+
+def fits(fields, line):
+    """The number and the value of a field's line, which may stand after these fields; or None."""
+    found = re.fullmatch(rb"([1-9][0-9]{0,2}) (.*)", line, re.DOTALL)
+    if not found or int(found[1]) not in FORMS or int(found[1]) <= max(fields, default=0):
+        return None
+    number, value = int(found[1]), found[2]
+    content, digits, size = FORMS[number]
+    alike = rb"[0-9A-F]*" if content == BINARY else content
+    length = len(value) <= size if digits else len(value) == size
+    return (number, value) if length and is_all(alike, value) else None
+
+
+def encoded(text):
+    """The frames that `encode` writes for a text, and the number of the line that it refuses, or None."""
+    *lines, rest = text.split(b"\n")
+    written, begun = [], None
+    for at, line in enumerate(lines, 1):
+        field = fits(begun[1], line) if isinstance(begun, tuple) else None
+        if line.startswith(b"message ") and begun != "headed":
+            written += [framed(encode(*begun))] if begun else []
+            begun = None
+            if line != b"message %d" % (len(written) + 1):
+                return b"".join(written), at
+            begun = "headed"
+        elif begun == "headed" and re.fullmatch(rb"mti [0-9]{4}", line):
+            begun = (line[4:], {})
+        elif field:
+            begun[1][field[0]] = field[1]
+        else:
+            return b"".join(written), at
+    if rest or begun == "headed":
+        return b"".join(written), len(lines) + 1
+    written += [framed(encode(*begun))] if begun else []
+    return b"".join(written), None

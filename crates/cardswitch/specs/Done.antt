@@ -1,19 +1,32 @@
 -- What a subcommand has done, by the status with which it ends.
-use Rattle.std.specs.Prelude.{◌≡◌, ⊤, ℕ, true, false, List, Option, None, Some}
+use Rattle.std.specs.Prelude.{◌≡◌, ⊤, ℕ, Bool, true, false, IfSome, List, Option, None, Some}
 use Rattle.sqlite_trees.specs.declared.store.Store.{Ghosts}
 use Rattle.flow_model.specs.Check.{IsChecked}
 use Rattle.flow_model.specs.declared.flow.Flow.{Flow}
 use Rattle.cli_io.specs.declared.error.WriteError.{WriteError}
+use Rattle.cli_decode.specs.declared.masking.Masking.{Masking}
+use Rattle.cli_decode.specs.declared.masking.Masking.TheVariants.{Off, On}
 use Rattle.cli_decode.specs.Decoded.{IsDecodedStream}
+use Rattle.cli_encode.specs.Refusals.{IsRefusal}
+use Rattle.cli_encode.specs.Texts.{IsEncoded}
 use Rattle.cli_flows.specs.Errors.{IsUnwritten, RefusesFile, RefusesImage}
 use Rattle.cli_flows.specs.Subcommands.{IsAssembled, IsListed}
 use Rattle.cli_options.specs.declared.choice.Options.{Options}
-use Rattle.cli_options.specs.declared.choice.Options.TheVariants.{Asm, Decode, Graph, List as ListImage, Recover, Run, Step}
+use Rattle.cli_options.specs.declared.choice.Options.TheVariants.{Asm, Decode, Encode, Graph, List as ListImage, Recover, Run, Step}
 use Rattle.cardswitch.specs.Errors.{error_of_write, run_status}
 use Rattle.cardswitch.specs.Drawings.{IsDrawFault, IsDrawn}
 use Rattle.cardswitch.specs.Runs.{Answered, IsRecoverFault, IsRunFault, Recovered}
 use Rattle.cardswitch.specs.declared.error.RunError.{RunError}
 use Rattle.cardswitch.specs.declared.error.RunError.TheVariants as error
+
+-- `--mask` masks
+abbrev pub masking_of : Bool → Masking
+masking_of true = On
+masking_of false = Off
+
+-- the bytes that were to be read are the text of messages, and their frames are written
+abbrev pub IsEncodedText : Option (List ℕ) → Option (List ℕ) → Option (List ℕ) → Type 0
+IsEncodedText unread written written_now = IfSome unread (λ bytes. IsEncoded bytes written written_now)
 
 -- what is said of the bytes that were to be read and those that are written, `files` being the store over files; of a script
 -- nothing
@@ -24,7 +37,8 @@ IsDone files (Run o) unread written written_now = (f : Flow) × IsChecked f × A
 IsDone files Asm unread written written_now = IsAssembled unread written written_now
 IsDone files ListImage unread written written_now = IsListed unread written written_now
 IsDone files (Graph flow dot) unread written written_now = IsDrawn dot written written_now
-IsDone files Decode unread written written_now = IsDecodedStream unread written written_now false
+IsDone files (Decode mask) unread written written_now = IsDecodedStream (masking_of mask) unread written written_now false
+IsDone files Encode unread written written_now = IsEncodedText unread written written_now
 
 -- why a flow file from standard input is refused: it has the fault that is told, and nothing is written
 abbrev pub IsAsmError : Option (List ℕ) → Option (List ℕ) → Option (List ℕ) → RunError → Type 0
@@ -43,12 +57,21 @@ IsListError unread written written_now error.OutOfMemory = ⊤
 IsListError unread written written_now _ = ⊥
 
 -- why a stream is refused: its text is written, and something of it is refused
-abbrev pub IsDecodeError : Option (List ℕ) → Option (List ℕ) → Option (List ℕ) → RunError → Type 0
-IsDecodeError unread written written_now error.Refused = IsDecodedStream unread written written_now true
-IsDecodeError unread written written_now (error.Read e) = ⊤
-IsDecodeError unread written written_now (error.Write e) = ⊤
-IsDecodeError unread written written_now error.OutOfMemory = ⊤
-IsDecodeError unread written written_now _ = ⊥
+abbrev pub IsDecodeError : Bool → Option (List ℕ) → Option (List ℕ) → Option (List ℕ) → RunError → Type 0
+IsDecodeError mask unread written written_now error.Refused = IsDecodedStream (masking_of mask) unread written written_now true
+IsDecodeError mask unread written written_now (error.Read e) = ⊤
+IsDecodeError mask unread written written_now (error.Write e) = ⊤
+IsDecodeError mask unread written written_now error.OutOfMemory = ⊤
+IsDecodeError mask unread written written_now _ = ⊥
+
+-- why a text is refused: it is the text of no messages, and the frames before the refused line are written
+abbrev pub IsEncodeFault : Option (List ℕ) → Option (List ℕ) → Option (List ℕ) → RunError → Type 0
+IsEncodeFault unread written written_now (error.Text e) =
+    IfSome unread (λ bytes. IsRefusal bytes e.line written written_now)
+IsEncodeFault unread written written_now (error.Read e) = IfSome unread (λ bytes. written_now ≡ written)
+IsEncodeFault unread written written_now (error.Write e) = ⊤
+IsEncodeFault unread written written_now error.OutOfMemory = ⊤
+IsEncodeFault unread written written_now _ = ⊥
 
 -- what an error says of the bytes that were to be read and those that are written; of a script nothing
 abbrev pub IsErrorOf : Options → Option (List ℕ) → Option (List ℕ) → Option (List ℕ) → RunError → Type 0
@@ -58,7 +81,8 @@ IsErrorOf (Run o) unread written written_now e = IsRunFault o written written_no
 IsErrorOf Asm unread written written_now e = IsAsmError unread written written_now e
 IsErrorOf ListImage unread written written_now e = IsListError unread written written_now e
 IsErrorOf (Graph flow dot) unread written written_now e = IsDrawFault flow.now e
-IsErrorOf Decode unread written written_now e = IsDecodeError unread written written_now e
+IsErrorOf (Decode mask) unread written written_now e = IsDecodeError mask unread written written_now e
+IsErrorOf Encode unread written written_now e = IsEncodeFault unread written written_now e
 
 -- a run tells messages that it passes over, and its trace, and is done all the same
 abbrev pub IsQuiet : Options → Type 0

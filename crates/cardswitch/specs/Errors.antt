@@ -2,6 +2,8 @@
 use Rattle.std.specs.Prelude.{ℕ}
 use Rattle.cli_decode.specs.declared.error.StreamError.{StreamError}
 use Rattle.cli_decode.specs.declared.error.StreamError.TheVariants as stream
+use Rattle.cli_encode.specs.declared.error.EncodeError.{EncodeError}
+use Rattle.cli_encode.specs.declared.error.EncodeError.TheVariants as encode
 use Rattle.cli_flows.specs.declared.error.FlowsError.{FlowsError}
 use Rattle.cli_flows.specs.declared.error.FlowsError.TheVariants as flows
 use Rattle.cli_io.specs.declared.error.ReadError.{ReadError}
@@ -11,7 +13,7 @@ use Rattle.cli_io.specs.declared.error.WriteError.TheVariants as write
 use Rattle.cli_step.specs.declared.error.StepError.{StepError}
 use Rattle.cli_step.specs.declared.error.StepError.TheVariants as step
 use Rattle.cardswitch.specs.declared.error.RunError.{RunError}
-use Rattle.cardswitch.specs.declared.error.RunError.TheVariants.{Input, JournalFile, OutOfMemory, Read, Serve, Step, Write}
+use Rattle.cardswitch.specs.declared.error.RunError.TheVariants.{Input, JournalFile, OutOfMemory, Read, Serve, Step, Text, Write}
 use Rattle.cli_run.specs.declared.error.ServeError.{ServeError}
 use Rattle.cli_run.specs.declared.error.ServeError.TheVariants as serve
 
@@ -45,6 +47,12 @@ abbrev pub error_of_stream : StreamError → RunError
 error_of_stream (stream.Read e) = Read e
 error_of_stream (stream.Write e) = Write e
 error_of_stream stream.OutOfMemory = OutOfMemory
+
+abbrev pub error_of_encode : EncodeError → RunError
+error_of_encode (encode.Text e) = Text e
+error_of_encode (encode.Read e) = Read e
+error_of_encode (encode.Write e) = Write e
+error_of_encode encode.OutOfMemory = OutOfMemory
 
 abbrev pub error_of_flows : FlowsError → RunError
 error_of_flows (flows.Read e) = Read e

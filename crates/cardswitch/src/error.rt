@@ -1,10 +1,11 @@
 //! Why a run of the program ends early, and with which exit status.
 ghost use Rattle.std.specs.Prelude.{◌≡◌};
-ghost use Rattle.cardswitch.specs.Errors.{error_of_flows, error_of_read, error_of_serve, error_of_step};
+ghost use Rattle.cardswitch.specs.Errors.{error_of_encode, error_of_flows, error_of_read, error_of_serve, error_of_step};
 ghost use Rattle.cardswitch.specs.Errors.{error_of_stream, error_of_write, run_status};
 ghost use Rattle.cardswitch.specs.declared.error.RunError.TheVariants.{OutOfMemory};
 
 use cli_decode::StreamError;
+use cli_encode::{EncodeError, TextError};
 use cli_flows::FlowsError;
 use cli_io::{ReadError, WriteError};
 use cli_run::ServeError;
@@ -42,6 +43,9 @@ pub enum RunError {
     /// The standard input is no flow file or no image.
     #[error("standard input: {0}")]
     Input(FlowsError),
+    /// A line of a text of messages is refused. The frames of the messages before it are written.
+    #[error("standard input: {0}")]
+    Text(TextError),
     /// A message or a frame of a stream is refused; what it prints says which.
     #[error("a message or a frame of the input is refused; expected frames of ISO 8583:1987 messages")]
     Refused,
@@ -131,6 +135,19 @@ impl From<StreamError> for RunError {
             StreamError::Read(error) => RunError::Read(error),
             StreamError::Write(error) => RunError::Write(error),
             StreamError::OutOfMemory => RunError::OutOfMemory,
+        }
+    }
+}
+
+impl From<EncodeError> for RunError {
+    ghost from_gives = { λ e f. f ≡ error_of_encode e };
+
+    fn from(error: EncodeError) -> RunError {
+        match error {
+            EncodeError::Text(error) => RunError::Text(error),
+            EncodeError::Read(error) => RunError::Read(error),
+            EncodeError::Write(error) => RunError::Write(error),
+            EncodeError::OutOfMemory => RunError::OutOfMemory,
         }
     }
 }

@@ -2,8 +2,8 @@
 ghost use Rattle.std.specs.Prelude.{◌≡◌, ◌≢◌, IfErr, OnOk, false};
 ghost use Rattle.std.specs.Io.KnownBytes.{Keeps};
 ghost use Rattle.std.specs.IoError.{error_kind};
-ghost use Rattle.cardswitch.specs.Done.{IsAsmError, IsDecodeError, IsDone, IsErrorOf, IsFailed};
-ghost use Rattle.cardswitch.specs.Done.{IsListError, IsQuiet, IsShown};
+ghost use Rattle.cardswitch.specs.Done.{IsAsmError, IsDecodeError, IsDone, IsEncodeFault, IsEncodedText};
+ghost use Rattle.cardswitch.specs.Done.{IsErrorOf, IsFailed, IsListError, IsQuiet, IsShown, masking_of};
 ghost use Rattle.cardswitch.specs.Drawings.{IsDrawFault, IsDrawn, form_of};
 ghost use Rattle.cardswitch.specs.Errors.{run_status};
 ghost use Rattle.cli_decode.specs.Decoded.{IsDecodedStream};
@@ -13,7 +13,8 @@ ghost use Rattle.cli_options.specs.Refusal.{status_of};
 use crate::error::RunError;
 use crate::flow_file::flow_at;
 use crate::requests::{answer_requests, recover};
-use cli_decode::decode_stream;
+use cli_decode::{Masking, decode_stream};
+use cli_encode::encode_stream;
 use cli_graph::{Form, draw};
 use cli_io::{Input, WriteError, read_input};
 use cli_options::OptionsError;
@@ -118,16 +119,36 @@ fn graph<O: Write>(
     Ok(draw(alloc, form_of(dot), &flow, out)?)
 }
 
-fn decode<R: Read + Drop, O: Write>(alloc: Global, input: R, out: &mut O) -> Result<(), RunError>
-    ensures done { OnOk result (IsDecodedStream
+fn masking_of(mask: bool) -> Masking
+    ensures { result ≡ masking_of mask }
+{
+    if mask { Masking::On } else { Masking::Off }
+}
+
+fn decode<R: Read + Drop, O: Write>(
+    alloc: Global,
+    mask: bool,
+    input: R,
+    out: &mut O,
+) -> Result<(), RunError>
+    ensures done { OnOk result (IsDecodedStream (masking_of mask)
         (R.remaining input) (O.contents out.old) (O.contents out.new) false) }
-    ensures failed { IfErr result (IsDecodeError
+    ensures failed { IfErr result (IsDecodeError mask
         (R.remaining input) (O.contents out.old) (O.contents out.new)) }
 {
-    if decode_stream(alloc, &mut Input::new(input), out)? {
+    if decode_stream(alloc, masking_of(mask), &mut Input::new(input), out)? {
         return Err(RunError::Refused);
     }
     Ok(())
+}
+
+fn encode<R: Read + Drop, O: Write>(alloc: Global, input: R, out: &mut O) -> Result<(), RunError>
+    ensures done { OnOk result (IsEncodedText
+        (R.remaining input) (O.contents out.old) (O.contents out.new)) }
+    ensures failed { IfErr result (IsEncodeFault
+        (R.remaining input) (O.contents out.old) (O.contents out.new)) }
+{
+    Ok(encode_stream(alloc, &mut Input::new(input), out)?)
 }
 
 fn run_subcommand<T: Threads + Wait + Sync, R: Read + Drop, O: Write, E: Write>(
@@ -150,7 +171,8 @@ fn run_subcommand<T: Threads + Wait + Sync, R: Read + Drop, O: Write, E: Write>(
         Options::Asm => asm(alloc, input, out),
         Options::List => list(alloc, input, out),
         Options::Graph { flow, dot } => graph(alloc, rt, flow, *dot, out),
-        Options::Decode => decode(alloc, input, out),
+        Options::Decode { mask } => decode(alloc, *mask, input, out),
+        Options::Encode => encode(alloc, input, out),
         Options::Recover { flow, journal } => recover(threads, alloc, rt, flow, journal, out),
         Options::Run(options) => { answer_requests(threads, alloc, rt, options, input, out, err) }
     }

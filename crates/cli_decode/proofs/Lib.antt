@@ -1,3 +1,4 @@
+mod Masks
 mod PieceText
 mod StreamText
 mod MessageText

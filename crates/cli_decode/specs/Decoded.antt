@@ -12,6 +12,9 @@ use Rattle.iso_codec.specs.Reads.{read}
 use Rattle.iso_codec.specs.Spelling.{hex}
 use Rattle.std.specs.Io.KnownBytes.{Appends}
 use Rattle.sw_frame.specs.Stream.{State, Stream}
+use Rattle.cli_decode.specs.declared.masking.Masking.{Masking}
+use Rattle.cli_decode.specs.declared.masking.Masking.TheVariants.{Off, On}
+use Rattle.cli_decode.specs.Masks.{AgreeMessages, is_sensitive, masked_line}
 
 -- a binary value is shown as upper case hexadecimal digits, every other as it is
 abbrev pub shown : Option Form → List ℕ → List ℕ
@@ -30,6 +33,18 @@ abbrev pub message_text : ℕ → PlainMessage → List ℕ
 message_text n m =
     codes "message " ++ (decimal n ++ (codes "\nmti " ++ (m.mti ++ (codes "\n" ++ flat_map field_line m.fields))))
 
+-- the same, with sensitive fields masked where that is asked for
+abbrev pub line_by : Masking → Option Form → ℕ → List ℕ → List ℕ
+line_by Off form n value = line_of form n value
+line_by On form n value = if is_sensitive n then masked_line n value else line_of form n value
+
+abbrev pub shown_line : Masking → ℕ × List ℕ → List ℕ
+shown_line k f = line_by k (form_of f.0) f.0 f.1
+
+abbrev pub view_text : Masking → ℕ → PlainMessage → List ℕ
+view_text k n m =
+    codes "message " ++ (decimal n ++ (codes "\nmti " ++ (m.mti ++ (codes "\n" ++ flat_map (shown_line k) m.fields))))
+
 abbrev pub fault_name : DecodeError → List ℕ
 fault_name fault.Short = codes "Short"
 fault_name fault.BadMti = codes "BadMti"
@@ -44,13 +59,13 @@ fault_name fault.OutOfMemory = codes "OutOfMemory"
 abbrev pub refused_text : ℕ → DecodeError → List ℕ
 refused_text n e = codes "message " ++ (decimal n ++ (codes " refused " ++ (fault_name e ++ codes "\n")))
 
-abbrev pub outcome_text : ℕ → Result PlainMessage DecodeError → List ℕ
-outcome_text n (Ok m) = message_text n m
-outcome_text n (Err e) = refused_text n e
+abbrev pub outcome_text : Masking → ℕ → Result PlainMessage DecodeError → List ℕ
+outcome_text k n (Ok m) = view_text k n m
+outcome_text k n (Err e) = refused_text n e
 
 -- what the bytes of a frame read as
-unfoldable pub frame_text : ℕ → List ℕ → List ℕ
-frame_text n bytes = outcome_text n (read bytes)
+unfoldable pub frame_text : Masking → ℕ → List ℕ → List ℕ
+frame_text k n bytes = outcome_text k n (read bytes)
 
 abbrev pub is_err : Result PlainMessage DecodeError → Bool
 is_err (Ok m) = false
@@ -60,9 +75,9 @@ unfoldable pub is_refused : List ℕ → Bool
 is_refused bytes = is_err (read bytes)
 
 -- frames, the first of this number
-abbrev pub frames_text : ℕ → List (List ℕ) → List ℕ
-frames_text n [] = []
-frames_text n (f ∷ fs) = frame_text n f ++ frames_text (n + 1) fs
+abbrev pub frames_text : Masking → ℕ → List (List ℕ) → List ℕ
+frames_text k n [] = []
+frames_text k n (f ∷ fs) = frame_text k n f ++ frames_text k (n + 1) fs
 
 abbrev pub cut_text : ℕ → List ℕ
 cut_text pending = codes "frame refused Truncated " ++ (decimal pending ++ codes "\n")
@@ -77,14 +92,20 @@ abbrev pub is_cut : State → Bool
 is_cut s = s.failed || not (length s.pending == 0)
 
 -- the text of a stream with these frames, and whether anything of it is refused
-abbrev pub stream_text : List (List ℕ) → State → List ℕ
-stream_text fs s = frames_text 1 fs ++ end_text s
+abbrev pub stream_text : Masking → List (List ℕ) → State → List ℕ
+stream_text k fs s = frames_text k 1 fs ++ end_text s
 
 abbrev pub has_refusal : List (List ℕ) → State → Bool
 has_refusal fs s = list_any is_refused fs || is_cut s
 
 -- What was decoded of a reader with these bytes: a stream of some frames, and its text is added to what a writer has.
-abbrev pub IsDecodedStream : Option (List ℕ) → Option (List ℕ) → Option (List ℕ) → Bool → Type 0
-IsDecodedStream unread written written_now refused =
+abbrev pub IsDecodedStream : Masking → Option (List ℕ) → Option (List ℕ) → Option (List ℕ) → Bool → Type 0
+IsDecodedStream k unread written written_now refused =
     IfSome unread (λ bytes. (fs : List (List ℕ)) × (s : State) × Stream bytes fs s
-    × Appends written written_now (stream_text fs s) × (refused ≡ has_refusal fs s))
+    × Appends written written_now (stream_text k fs s) × (refused ≡ has_refusal fs s))
+
+-- Frames of messages that differ in what is masked alone have the same masked text.
+abbrev pub MaskedTextsHide : Type 0
+MaskedTextsHide =
+    (n : ℕ) (f g : List ℕ) (m k : PlainMessage) → read f ≡ Ok m → read g ≡ Ok k → AgreeMessages m k
+    → frame_text On n f ≡ frame_text On n g

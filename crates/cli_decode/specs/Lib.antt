@@ -1,3 +1,4 @@
+pub mod Masks
 pub mod Decoded
 pub mod Progress
 pub mod Steps

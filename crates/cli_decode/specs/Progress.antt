@@ -4,6 +4,7 @@ use Rattle.std.specs.List.{list_any}
 use Rattle.std.specs.Io.KnownBytes.{Consumes, Appends}
 use Rattle.sw_frame.specs.Stream.{Stream}
 use Rattle.cli_decode.specs.declared.decoder.Decoder.{Decoder}
+use Rattle.cli_decode.specs.declared.masking.Masking.{Masking}
 use Rattle.cli_decode.specs.Decoded.{frames_text, is_refused}
 
 -- after these bytes, which begin with these frames
@@ -13,10 +14,10 @@ pub record IsDecoded (bytes : List ℕ) (fs : List (List ℕ)) (d : Decoder) : T
   pub refused : d.refused ≡ list_any is_refused fs
 
 -- a reader and a writer before, both now, and what was done between: so many reads of at most 65,536 bytes
-pub record IsSoFar (unread unread_now written written_now : Option (List ℕ)) (reads : ℕ) (d : Decoder) : Type 0 where
+pub record IsSoFar (k : Masking) (unread unread_now written written_now : Option (List ℕ)) (reads : ℕ) (d : Decoder) : Type 0 where
   pub bytes : List ℕ
   pub frames : List (List ℕ)
   pub consumed : Consumes unread unread_now bytes
   pub few : length bytes ≤ 65536 * reads
   pub decoded : IsDecoded bytes frames d
-  pub printed : Appends written written_now (frames_text 1 frames)
+  pub printed : Appends written written_now (frames_text k 1 frames)

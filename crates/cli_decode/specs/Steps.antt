@@ -2,21 +2,22 @@
 use Rattle.std.specs.Prelude.{◌≡◌, ℕ, ◌+◌, ◌^◌, ◌<◌, ◌⊎◌, Bool, true, false, List, [], ◌++◌, length, Option}
 use Rattle.std.specs.Io.KnownBytes.{IsAtEnd, Appends}
 use Rattle.cli_decode.specs.declared.decoder.Decoder.{Decoder}
+use Rattle.cli_decode.specs.declared.masking.Masking.{Masking}
 use Rattle.cli_decode.specs.Decoded.{frames_text}
 use Rattle.cli_decode.specs.Progress.{IsDecoded, IsSoFar}
 
 -- After bytes that were these frames, a piece: frames more, and their text. Numbers stay below 2^64
 -- where the stream has fewer bytes.
-abbrev pub DecodesPiece : Decoder → List ℕ → Decoder → List ℕ → List ℕ → Type 0
-DecodesPiece d piece e old new =
+abbrev pub DecodesPiece : Masking → Decoder → List ℕ → Decoder → List ℕ → List ℕ → Type 0
+DecodesPiece k d piece e old new =
     (bytes : List ℕ) (fs : List (List ℕ)) → IsDecoded bytes fs d → length (bytes ++ piece) < 2 ^ 63
     → (more : List (List ℕ)) × IsDecoded (bytes ++ piece) (fs ++ more) e
-    × (new ≡ old ++ frames_text (length fs + 1) more)
+    × (new ≡ old ++ frames_text k (length fs + 1) more)
 
 -- a piece is decoded, and its text is written
-abbrev pub PrintsPiece : Decoder → List ℕ → Decoder → Option (List ℕ) → Option (List ℕ) → Type 0
-PrintsPiece d piece e written written_now =
-    (text : List ℕ) × DecodesPiece d piece e [] text × Appends written written_now text
+abbrev pub PrintsPiece : Masking → Decoder → List ℕ → Decoder → Option (List ℕ) → Option (List ℕ) → Type 0
+PrintsPiece k d piece e written written_now =
+    (text : List ℕ) × DecodesPiece k d piece e [] text × Appends written written_now text
 
 -- a reader, a writer, the reads that were made and what is decoded
 pub record Moment : Type 0 where
@@ -26,8 +27,8 @@ pub record Moment : Type 0 where
   pub decoder : Decoder
 
 -- What was decoded so far goes on; where no more comes, the reader is at its end or the stream has failed.
-abbrev pub DecodingGoesOn : Moment → Moment → Bool → Type 0
-DecodingGoesOn m n more =
-    ((first start : Option (List ℕ)) → IsSoFar first m.unread start m.written m.reads m.decoder
-    → IsSoFar first n.unread start n.written n.reads n.decoder)
+abbrev pub DecodingGoesOn : Masking → Moment → Moment → Bool → Type 0
+DecodingGoesOn k m n more =
+    ((first start : Option (List ℕ)) → IsSoFar k first m.unread start m.written m.reads m.decoder
+    → IsSoFar k first n.unread start n.written n.reads n.decoder)
     × (more ≡ false → IsAtEnd n.unread ⊎ (n.decoder.framer.failed ≡ true))

@@ -6,6 +6,7 @@ ghost use Rattle.sw_frame.specs.Stream.{blank};
 ghost use Rattle.sw_frame.specs.Feeds.{messages as messages_of};
 ghost use Rattle.cli_decode.specs.Decoded.{cut_text, end_text, frames_text, is_cut, is_refused};
 
+use crate::masking::Masking;
 use crate::text::{push_frame, push_number};
 use std::alloc::{AllocError, Global};
 use sw_frame::{FrameError, Framer};
@@ -30,18 +31,19 @@ fn either(one: bool, other: bool) -> bool
 fn push_frames(
     alloc: Global,
     text: &mut Vec<u8>,
+    masking: Masking,
     first: u64,
     messages: &[Vec<u8>],
 ) -> Result<bool, AllocError>
     ensures text { OnOk result (first + length messages.now < 2 ^ 64
-        → text.new.items ≡ text.old.items ++ frames_text first (messages_of messages.now)) }
+        → text.new.items ≡ text.old.items ++ frames_text masking first (messages_of messages.now)) }
     ensures refused { IfOk result (λ b. b ≡ list_any is_refused (messages_of messages.now)) }
 {
     let mut refused = false;
     let mut number = first;
     let mut paragraph = Vec::new(alloc);
     for message in messages {
-        if push_frame(&mut paragraph, text, number, message)? {
+        if push_frame(&mut paragraph, text, masking, number, message)? {
             refused = true;
         }
         number = number.saturating_add(1);
@@ -90,17 +92,18 @@ impl Decoder {
     pub fn piece(
         &mut self,
         alloc: Global,
+        masking: Masking,
         piece: &[u8],
         text: &mut Vec<u8>,
     ) -> Result<(), AllocError>
-        ensures { OnOk result (DecodesPiece self.old piece.now self.new
+        ensures { OnOk result (DecodesPiece masking self.old piece.now self.new
             text.old.items text.new.items) }
     {
         match self.framer.feed(piece) {
             Ok(messages) => {
                 let whole = messages.as_slice();
                 let first = self.count.saturating_add(1);
-                let refused = push_frames(alloc, text, first, whole)?;
+                let refused = push_frames(alloc, text, masking, first, whole)?;
                 self.count = self.count.saturating_add(whole.len() as u64);
                 self.refused = either(self.refused, refused);
                 Ok(())

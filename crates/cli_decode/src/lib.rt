@@ -4,12 +4,20 @@
 //! `specs/Decoded.antt` writes down for the frames of these bytes, however they came in pieces: a
 //! paragraph for each message, numbered from 1, or one line that says why it is refused, and a last
 //! line for a bad length or an unfinished frame. It answers whether anything was refused.
+//!
+//! With [`Masking::On`] sensitive fields are masked, and [`masked_texts_hide`] says what a masked text tells: frames
+//! whose messages differ in what is masked alone have the same text.
 #![tactic(auto)]
 
 mod decoder;
 mod error;
+mod laws;
+mod mask;
+mod masking;
 mod stream;
 mod text;
 
 pub use error::StreamError;
+pub use laws::masked_texts_hide;
+pub use masking::Masking;
 pub use stream::decode_stream;

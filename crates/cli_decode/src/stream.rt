@@ -9,6 +9,7 @@ ghost use Rattle.cli_decode.specs.Steps.{DecodingGoesOn, PrintsPiece};
 
 use crate::decoder::Decoder;
 use crate::error::StreamError;
+use crate::masking::Masking;
 use cli_io::{Input, WriteError, write_out};
 use std::alloc::Global;
 use std::io::{Read, Write};
@@ -19,15 +20,16 @@ const PIECE: usize = 65_536;
 // Writes the texts of the messages that a piece makes whole.
 fn print_piece<W: Write>(
     alloc: Global,
+    masking: Masking,
     decoder: &mut Decoder,
     piece: &[u8],
     out: &mut W,
 ) -> Result<(), WriteError>
-    ensures { OnOk result (PrintsPiece decoder.old piece.now decoder.new
+    ensures { OnOk result (PrintsPiece masking decoder.old piece.now decoder.new
         (W.contents out.old) (W.contents out.new)) }
 {
     let mut text = Vec::with_capacity(alloc, PIECE + PIECE / 2)?;
-    decoder.piece(alloc, piece, &mut text)?;
+    decoder.piece(alloc, masking, piece, &mut text)?;
     Ok(out.write_all(text.as_slice())?)
 }
 
@@ -35,13 +37,14 @@ fn print_piece<W: Write>(
 // come.
 fn decode_piece<R: Read, W: Write>(
     alloc: Global,
+    masking: Masking,
     input: &mut Input<R>,
     decoder: &mut Decoder,
     buf: &mut [u8],
     out: &mut W,
 ) -> Result<bool, StreamError>
     requires { length buf.old ≡ 65536 }
-    ensures goes_on { IfOk result (DecodingGoesOn
+    ensures goes_on { IfOk result (DecodingGoesOn masking
         (record {
           unread = unread R.remaining input.old;
           written = W.contents out.old;
@@ -61,7 +64,7 @@ fn decode_piece<R: Read, W: Write>(
     if count == 0 {
         return Ok(false);
     }
-    print_piece(alloc, decoder, &buf[..count], out)?;
+    print_piece(alloc, masking, decoder, &buf[..count], out)?;
     Ok(!decoder.failed())
 }
 
@@ -83,17 +86,18 @@ fn finish<W: Write>(alloc: Global, decoder: &Decoder, out: &mut W) -> Result<boo
 /// error stands.
 pub fn decode_stream<R: Read, W: Write>(
     alloc: Global,
+    masking: Masking,
     input: &mut Input<R>,
     out: &mut W,
 ) -> Result<bool, StreamError>
-    ensures text { IfOk result (IsDecodedStream (unread R.remaining input.old)
+    ensures text { IfOk result (IsDecodedStream masking (unread R.remaining input.old)
         (W.contents out.old) (W.contents out.new)) }
     ensures too_many { IfErr result (IsReadToSpent (reads_made input.new)) }
 {
     let mut decoder = Decoder::new(alloc);
     let mut buf = [0u8; PIECE];
     loop {
-        let more = decode_piece(alloc, input, &mut decoder, &mut buf, out)?;
+        let more = decode_piece(alloc, masking, input, &mut decoder, &mut buf, out)?;
         if !more {
             return Ok(finish(alloc, &decoder, out)?);
         }

@@ -5,10 +5,12 @@ ghost use Rattle.std.specs.Fmt.{decimal};
 ghost use Rattle.iso_msg.specs.Table.{IsForm, form_of};
 ghost use Rattle.iso_codec.specs.Reads.{Gives};
 ghost use Rattle.cli_decode.specs.Decoded.{fault_name as name_of, frame_text, is_refused};
-ghost use Rattle.cli_decode.specs.Decoded.{line_of, refused_text, shown};
+ghost use Rattle.cli_decode.specs.Decoded.{line_by, line_of, refused_text, shown};
 ghost use Rattle.cli_decode.specs.Printing.{paragraph_of, with_field, with_fields};
 ghost use Rattle.cli_decode.specs.Printing.{with_form, with_message, with_value};
 
+use crate::mask::push_masked;
+use crate::masking::{Masking, is_sensitive};
 use iso_codec::{
     DecodeError, Numbers, check_content, push_hex, read_binary, read_front, read_variable, split,
 };
@@ -32,7 +34,7 @@ fn push_value(text: &mut Vec<u8>, form: Form, value: &[u8]) -> Result<(), AllocE
     }
 }
 
-fn push_line(text: &mut Vec<u8>, form: Form, number: u8, value: &[u8]) -> Result<(), AllocError>
+fn push_plain(text: &mut Vec<u8>, form: Form, number: u8, value: &[u8]) -> Result<(), AllocError>
     ensures { OnOk result (text.new.items
         ≡ text.old.items ++ line_of (Some form) number value.now) }
 {
@@ -42,37 +44,56 @@ fn push_line(text: &mut Vec<u8>, form: Form, number: u8, value: &[u8]) -> Result
     text.extend_from_slice(b"\n")
 }
 
+// Adds a field's line, masked where that is asked for and the field is sensitive.
+fn push_line(
+    text: &mut Vec<u8>,
+    masking: Masking,
+    form: Form,
+    number: u8,
+    value: &[u8],
+) -> Result<(), AllocError>
+    ensures { OnOk result (text.new.items
+        ≡ text.old.items ++ line_by masking (Some form) number value.now) }
+{
+    match masking {
+        Masking::On if is_sensitive(number) => push_masked(text, number, value),
+        _ => push_plain(text, form, number, value),
+    }
+}
+
 // Adds the line of a value that the field takes, and answers the bytes after it.
 fn push_checked<'a>(
     text: &mut Vec<u8>,
+    masking: Masking,
     form: Form,
     number: u8,
     value: &[u8],
     rest: &'a [u8],
 ) -> Result<&'a [u8], DecodeError>
     ensures { Gives (λ rest. (text.new.items, rest.now)) result
-        (with_value form text.old.items number (value.now, rest.now)) }
+        (with_value masking form text.old.items number (value.now, rest.now)) }
 {
     check_content(form, number, value)?;
-    push_line(text, form, number, value)?;
+    push_line(text, masking, form, number, value)?;
     Ok(rest)
 }
 
 // Adds the line of a field of this form, and answers the bytes after the field.
 fn push_form<'a>(
     text: &mut Vec<u8>,
+    masking: Masking,
     form: Form,
     number: u8,
     bytes: &'a [u8],
 ) -> Result<&'a [u8], DecodeError>
     requires { IsForm form }
     ensures { Gives (λ rest. (text.new.items, rest.now)) result
-        (with_form form text.old.items number bytes.now) }
+        (with_form masking form text.old.items number bytes.now) }
 {
     match form {
         Form::Fixed { length, .. } => {
             let (value, rest) = split(bytes, length as usize)?;
-            push_checked(text, form, number, value, rest)
+            push_checked(text, masking, form, number, value, rest)
         }
         Form::Variable {
             length_digits,
@@ -80,52 +101,58 @@ fn push_form<'a>(
             ..
         } => {
             let (value, rest) = read_variable(length_digits, max_length, number, bytes)?;
-            push_checked(text, form, number, value, rest)
+            push_checked(text, masking, form, number, value, rest)
         }
         Form::Binary => {
             let (value, rest) = read_binary(number, bytes)?;
-            push_checked(text, form, number, &value, rest)
+            push_checked(text, masking, form, number, &value, rest)
         }
     }
 }
 
 // The same for the field of this number.
-fn push_field<'a>(text: &mut Vec<u8>, number: u8, bytes: &'a [u8]) -> Result<&'a [u8], DecodeError>
+fn push_field<'a>(
+    text: &mut Vec<u8>,
+    masking: Masking,
+    number: u8,
+    bytes: &'a [u8],
+) -> Result<&'a [u8], DecodeError>
     ensures { Gives (λ rest. (text.new.items, rest.now)) result
-        (with_field (form_of number) text.old.items number bytes.now) }
+        (with_field masking (form_of number) text.old.items number bytes.now) }
 {
     match form_at(number) {
         None => Err(DecodeError::FieldNotInProfile(number)),
-        Some(form) => push_form(text, form, number, bytes),
+        Some(form) => push_form(text, masking, form, number, bytes),
     }
 }
 
 #[tactic(auto, unfolding(crate::specs::Printing::with_fields))]
 fn push_fields<'a>(
     text: &mut Vec<u8>,
+    masking: Masking,
     numbers: &[u8],
     bytes: &'a [u8],
 ) -> Result<&'a [u8], DecodeError>
     ensures { Gives (λ rest. (text.new.items, rest.now)) result
-        (with_fields text.old.items numbers.now bytes.now) }
+        (with_fields masking text.old.items numbers.now bytes.now) }
 {
     let mut rest = bytes;
     for number in numbers {
-        rest = push_field(text, *number, rest)?;
+        rest = push_field(text, masking, *number, rest)?;
     }
     Ok(rest)
 }
 
 // Adds the type and the fields of the message that the bytes spell.
 #[tactic(auto, unfolding(crate::specs::Printing::with_message))]
-fn push_message(text: &mut Vec<u8>, bytes: &[u8]) -> Result<(), DecodeError>
-    ensures { Gives (λ _. text.new.items) result (with_message text.old.items bytes.now) }
+fn push_message(text: &mut Vec<u8>, masking: Masking, bytes: &[u8]) -> Result<(), DecodeError>
+    ensures { Gives (λ _. text.new.items) result (with_message masking text.old.items bytes.now) }
 {
     let mut numbers = Numbers::new();
     let (digits, rest) = read_front(bytes, &mut numbers)?;
     text.extend_from_slice(digits)?;
     text.extend_from_slice(b"\n")?;
-    let rest = push_fields(text, numbers.fields(), rest)?;
+    let rest = push_fields(text, masking, numbers.fields(), rest)?;
     if rest.is_empty() {
         Ok(())
     } else {
@@ -159,14 +186,19 @@ fn push_refusal(text: &mut Vec<u8>, number: u64, error: DecodeError) -> Result<(
 }
 
 // Puts the text of the message of this number in place of the earlier one.
-fn write_paragraph(paragraph: &mut Vec<u8>, number: u64, bytes: &[u8]) -> Result<(), DecodeError>
-    ensures { Gives (λ _. paragraph.new.items) result (paragraph_of number bytes.now) }
+fn write_paragraph(
+    paragraph: &mut Vec<u8>,
+    masking: Masking,
+    number: u64,
+    bytes: &[u8],
+) -> Result<(), DecodeError>
+    ensures { Gives (λ _. paragraph.new.items) result (paragraph_of masking number bytes.now) }
 {
     paragraph.clear();
     paragraph.extend_from_slice(b"message ")?;
     push_number(paragraph, number)?;
     paragraph.extend_from_slice(b"\nmti ")?;
-    push_message(paragraph, bytes)
+    push_message(paragraph, masking, bytes)
 }
 
 /// Adds the text of the frame of this number, and answers whether it is refused. `paragraph` is where
@@ -175,13 +207,14 @@ fn write_paragraph(paragraph: &mut Vec<u8>, number: u64, bytes: &[u8]) -> Result
 pub fn push_frame(
     paragraph: &mut Vec<u8>,
     text: &mut Vec<u8>,
+    masking: Masking,
     number: u64,
     bytes: &[u8],
 ) -> Result<bool, AllocError>
-    ensures text { OnOk result (text.new.items ≡ text.old.items ++ frame_text number bytes.now) }
+    ensures text { OnOk result (text.new.items ≡ text.old.items ++ frame_text masking number bytes.now) }
     ensures refused { IfOk result (λ b. b ≡ is_refused bytes.now) }
 {
-    match write_paragraph(paragraph, number, bytes) {
+    match write_paragraph(paragraph, masking, number, bytes) {
         Ok(()) => {
             text.extend_from_slice(paragraph)?;
             Ok(false)

@@ -8,7 +8,7 @@ use Rattle.clap.specs.Words.{App, Row, Rule, Text, app_of, first_of, new_app, ne
 use Rattle.clap.specs.declared.builder.Command.{Command}
 use Rattle.clap.specs.declared.builder.Command.TheViews.{out-Command}
 use Rattle.cli_options.specs.declared.choice.Options.{Options}
-use Rattle.cli_options.specs.declared.choice.Options.TheVariants.{Asm, Decode, Graph, List as ListImage, Recover, Run, Step}
+use Rattle.cli_options.specs.declared.choice.Options.TheVariants.{Asm, Decode, Encode, Graph, List as ListImage, Recover, Run, Step}
 use Rattle.cli_options.specs.declared.choice.RunOptions.{RunOptions}
 use Rattle.clap.specs.declared.builder.action.ArgAction.TheVariants.{SetTrue}
 
@@ -48,9 +48,13 @@ list_app = new_app (codes "list")
 abbrev pub graph_app : App
 graph_app = with_rule (with_rule (new_app (codes "graph")) (needed_rule (codes "flow"))) (flag_rule (codes "dot"))
 
--- `decode`, without options
+-- `decode [--mask]`
 abbrev pub decode_app : App
-decode_app = new_app (codes "decode")
+decode_app = with_rule (new_app (codes "decode")) (flag_rule (codes "mask"))
+
+-- `encode`, without options
+abbrev pub encode_app : App
+encode_app = new_app (codes "encode")
 
 -- `recover --flow PATH --journal PATH`
 abbrev pub recover_app : App
@@ -68,7 +72,7 @@ program_app = record (new_app (codes "cardswitch")) {
 
 -- the program with its subcommands
 abbrev pub switch_app : App
-switch_app = with_subcommand (with_subcommand (with_subcommand (with_subcommand (with_subcommand (with_subcommand (with_subcommand program_app step_app.top) asm_app.top) list_app.top) graph_app.top) decode_app.top) recover_app.top) run_app.top
+switch_app = with_subcommand (with_subcommand (with_subcommand (with_subcommand (with_subcommand (with_subcommand (with_subcommand (with_subcommand program_app step_app.top) asm_app.top) list_app.top) graph_app.top) decode_app.top) encode_app.top) recover_app.top) run_app.top
 
 -- the text that a borrow shows
 abbrev pub text_of : Option (Bor Text) → Option Text
@@ -103,7 +107,8 @@ AreOptionsAt name rows Asm = name ≡ codes "asm"
 AreOptionsAt name rows ListImage = name ≡ codes "list"
 AreOptionsAt name rows (Graph flow dot) =
     (name ≡ codes "graph") × (Some flow.now ≡ first_of (codes "flow") rows) × (dot ≡ is_set (first_of (codes "dot") rows))
-AreOptionsAt name rows Decode = name ≡ codes "decode"
+AreOptionsAt name rows (Decode mask) = (name ≡ codes "decode") × (mask ≡ is_set (first_of (codes "mask") rows))
+AreOptionsAt name rows Encode = name ≡ codes "encode"
 AreOptionsAt name rows (Recover flow journal) = (name ≡ codes "recover") × (Some flow.now ≡ first_of (codes "flow") rows) × (Some journal.now ≡ first_of (codes "journal") rows)
 AreOptionsAt name rows (Run o) = (name ≡ codes "run") × AreRunOptions rows o
 

@@ -18,8 +18,13 @@ pub enum Options<'a> {
         flow: &'a str,
         dot: bool,
     },
-    /// `decode`: prints the fields of the messages in frames from standard input.
-    Decode,
+    /// `decode`: prints the fields of the messages in frames from standard input, with `--mask` without what
+    /// sensitive fields hold.
+    Decode {
+        mask: bool,
+    },
+    /// `encode`: writes the frames of the messages whose text, as `decode` prints it, comes from standard input.
+    Encode,
     /// `recover`: finishes what a journal has unfinished, by the flow of the flow file at a path, and
     /// prints its lines.
     Recover {

@@ -104,7 +104,10 @@ fn options_at<'a>(name: &str, found: &ArgMatches<'a>) -> Result<Options<'a>, Opt
             }),
             None => Err(OptionsError::NoSubcommand),
         },
-        "decode" => Ok(Options::Decode),
+        "decode" => Ok(Options::Decode {
+            mask: is_set(text_at(found, "mask")),
+        }),
+        "encode" => Ok(Options::Encode),
         "recover" => match (text_at(found, "flow"), text_at(found, "journal")) {
             (Some(flow), Some(journal)) => Ok(Options::Recover { flow, journal }),
             _ => Err(OptionsError::NoSubcommand),

@@ -25,7 +25,7 @@ struct CommandRow<'a> {
     options: &'a [OptionRow<'a>],
 }
 
-const COMMANDS: [CommandRow<'static>; 7] = [
+const COMMANDS: [CommandRow<'static>; 8] = [
     CommandRow {
         name: "step",
         about: "Runs a script of transactions from standard input and prints one line for each step",
@@ -67,6 +67,16 @@ const COMMANDS: [CommandRow<'static>; 7] = [
     CommandRow {
         name: "decode",
         about: "Prints the fields of each ISO 8583 message in frames from standard input",
+        options: &[OptionRow {
+            name: "mask",
+            value: None,
+            help: "Masks card numbers and hides tracks, PIN, chip data and MAC",
+            is_required: false,
+        }],
+    },
+    CommandRow {
+        name: "encode",
+        about: "Writes the frames of messages whose fields, as decode prints them, are standard input",
         options: &[],
     },
     CommandRow {

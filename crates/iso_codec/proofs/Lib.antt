@@ -2,9 +2,9 @@ mod DigitLoops
 mod ResultSteps
 mod FieldValues
 mod Bitmaps
-mod MessageReads
+pub mod MessageReads
 mod BitmapWrites
-mod Encoding
+pub mod Encoding
 mod EncodedLength
 mod DecodeAnswers
 pub mod FrontReads

@@ -1,0 +1,58 @@
+-- A masked text is that of what is not masked.
+-- for: laws::masked_texts_hide
+use Rattle.std.proofs.Common.{◌≡◌, ◌∙◌, ◌<◌, ◌-◌, ◌||◌, ◌==◌, inl, inr, ℕ, Bool, true, false, cond, ltb, List, [], ◌∷◌, ◌++◌, length, take, drop, refl, sym, ap}
+use Rattle.std.specs.Prelude.{codes, replicate}
+use Rattle.std.specs.Fmt.{decimal}
+use Rattle.std.specs.List.{flat_map}
+use Rattle.std.proofs.lemmas.Bool.{lt-ltb}
+use Rattle.iso_msg.specs.Table.{form_of}
+use Rattle.iso_msg.specs.Messages.{Fields, PlainMessage}
+use Rattle.cli_decode.specs.declared.masking.Masking.TheVariants.{On}
+use Rattle.cli_decode.specs.Decoded.{MaskedTextsHide, frame_text, line_of, outcome_text, shown_line, view_text}
+use Rattle.cli_decode.specs.Masks.{AgreeFields, AgreeMessages, AgreesAs, AgreesNumber, is_hidden, masked_length, masked_number}
+
+abbrev both_ends : ℕ → List ℕ → List ℕ → List ℕ
+both_ends n first last = cond (ltb n 11) (replicate n 42) (first ++ (replicate (n - 10) 42 ++ last))
+
+few_digits : (n : ℕ) (a b c d : List ℕ) → n < 11 → both_ends n a b ≡ both_ends n c d
+few_digits n a b c d h = rw (lt-ltb n 11 h) refl
+
+number_same : (v w : List ℕ) → AgreesNumber v w → masked_number v ≡ masked_number w
+number_same v w h =
+    elim h.1 [
+      | inl few ↦
+          few_digits (length v) (take 6 v) (drop (length v - 4) v) (take 6 w) (drop (length w - 4) w) few
+          ∙ ap (λ n. both_ends n (take 6 w) (drop (length w - 4) w)) h.0
+      | inr ends ↦
+          ap (λ (l : List ℕ). both_ends (length v) l (drop (length v - 4) v)) ends.0
+          ∙ ap (λ (l : List ℕ). both_ends (length v) (take 6 w) l) ends.1
+          ∙ ap (λ n. both_ends n (take 6 w) (drop (length w - 4) w)) h.0
+    ]
+
+-- what one test and another make of a field's line
+abbrev line_for : Bool → Bool → ℕ → List ℕ → List ℕ
+line_for two hidden n v =
+    cond (two || hidden) (decimal n ++ (codes "* " ++ (cond two (masked_number v) (masked_length v) ++ codes "\n"))) (line_of (form_of n) n v)
+
+line_same : (two hidden : Bool) (n : ℕ) (v w : List ℕ) → AgreesAs two hidden v w → line_for two hidden n v ≡ line_for two hidden n w
+line_same true hidden n v w h = ap (λ (l : List ℕ). decimal n ++ (codes "* " ++ (l ++ codes "\n"))) (number_same v w h)
+line_same false true n v w h = ap (λ k. decimal n ++ (codes "* " ++ ((decimal k ++ codes " bytes") ++ codes "\n"))) h
+line_same false false n v w h = ap (λ (l : List ℕ). line_of (form_of n) n l) h
+
+fields_same : (fs gs : Fields) → AgreeFields fs gs → flat_map (shown_line On) fs ≡ flat_map (shown_line On) gs
+fields_same [] [] h = refl
+fields_same [] (g ∷ gs) h = absurd h
+fields_same (f ∷ fs) [] h = absurd h
+fields_same (f ∷ fs) (g ∷ gs) h =
+    ap (λ (l : List ℕ). l ++ flat_map (shown_line On) fs)
+    (line_same (f.0 == 2) (is_hidden f.0) f.0 f.1 g.1 h.1 ∙ ap (λ n. shown_line On (n, g.1)) h.0)
+    ∙ ap (λ (l : List ℕ). shown_line On g ++ l) (fields_same fs gs h.2)
+
+view_same : (n : ℕ) (m k : PlainMessage) → AgreeMessages m k → view_text On n m ≡ view_text On n k
+view_same n m k h =
+    ap (λ (d : List ℕ). codes "message " ++ (decimal n ++ (codes "\nmti " ++ (d ++ (codes "\n" ++ flat_map (shown_line On) m.fields))))) h.0
+    ∙ ap (λ (t : List ℕ). codes "message " ++ (decimal n ++ (codes "\nmti " ++ (k.mti ++ (codes "\n" ++ t))))) (fields_same m.fields k.fields h.1)
+
+pub texts_hide : MaskedTextsHide
+unfolding frame_text
+texts_hide n f g m k rf rg h = ap (outcome_text On n) rf ∙ view_same n m k h ∙ sym (ap (outcome_text On n) rg)

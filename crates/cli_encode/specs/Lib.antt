@@ -1,0 +1,7 @@
+pub mod Texts
+pub mod Lines
+pub mod Reading
+pub mod Frames
+pub mod Refusals
+pub mod Errors
+pub mod Laws

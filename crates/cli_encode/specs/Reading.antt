@@ -1,0 +1,149 @@
+-- How a text is read, line by line, for the contracts of the steps.
+use Rattle.std.specs.Prelude.{◌≡◌, ◌≢◌, ◌⊎◌, ℕ, ◌+◌, ◌&&◌, nat_lt, Bool, true, false, List, [], ◌∷◌, ◌++◌, length, Option, Some, None, option_and_then, ◌==◌, if◌then◌else◌, codes}
+use Rattle.std.specs.Fmt.{decimal}
+use Rattle.std.specs.List.{All, count_by}
+use Rattle.std.specs.Option.{is_none}
+use Rattle.std.specs.Str.{bytes_eq}
+use Rattle.iso_msg.specs.Values.{refusal}
+use Rattle.iso_msg.specs.Messages.{Fields, PlainMessage, IsMessage}
+use Rattle.cli_decode.specs.Decoded.{message_text}
+use Rattle.cli_encode.specs.declared.encoder.Encoder.{Encoder}
+use Rattle.cli_encode.specs.declared.encoder.Stage.{Stage}
+use Rattle.cli_encode.specs.declared.encoder.Stage.TheVariants.{Between, Headed, Open}
+use Rattle.cli_encode.specs.declared.error.TextError.{TextError}
+use Rattle.cli_encode.specs.Lines.{PlainLine, Heading, MessageType, Field, IsLine, line_bytes, text_of_lines}
+use Rattle.cli_encode.specs.Refusals.{IsNoText}
+use Rattle.cli_encode.specs.Texts.{AreFramesOf, messages_text}
+
+-- the messages that were read to their end, and what was begun
+pub record Point : Type 0 where
+  pub done : List PlainMessage
+  pub stage : Stage
+
+-- the number of the last field, and of no field this number
+abbrev pub last_from : ℕ → Fields → ℕ
+last_from low [] = low
+last_from low (f ∷ fs) = last_from f.0 fs
+
+abbrev pub last_of : Fields → ℕ
+last_of fields = last_from 1 fields
+
+-- the message with a field after its last one
+abbrev pub with_last : PlainMessage → ℕ → List ℕ → PlainMessage
+with_last m n value = record { mti = m.mti; fields = m.fields ++ (n, value) ∷ [] }
+
+abbrev pub follows : PlainMessage → ℕ → List ℕ → Bool
+follows m n value = nat_lt (last_of m.fields) n && is_none (refusal n value)
+
+-- a field goes after the last one where it may, and else the message is as it was
+abbrev pub AddsField : PlainMessage → ℕ → List ℕ → PlainMessage → Bool → Type 0
+AddsField m n value m' true = (follows m n value ≡ true) × (m' ≡ with_last m n value)
+AddsField m n value m' false = (follows m n value ≡ false) × (m' ≡ m)
+
+-- a message that was begun is ended
+abbrev pub closed_at : List PlainMessage → Stage → Point
+closed_at done (Open m) = record { done = done ++ m ∷ []; stage = Between }
+closed_at done stage = record { done = done; stage = stage }
+
+abbrev pub closed : Point → Point
+closed p = closed_at p.done p.stage
+
+-- a heading with the next message's number
+abbrev pub headed : List PlainMessage → List ℕ → Option Point
+headed done word =
+    if bytes_eq word (decimal (length done + 1)) then Some (record { done = done; stage = Headed }) else None
+
+-- what a line makes of it, if the line may stand there
+unfoldable pub step_at : List PlainMessage → Stage → PlainLine → Option Point
+step_at done Between (Heading word) = headed done word
+step_at done (Open m) (Heading word) = headed (done ++ m ∷ []) word
+step_at done Headed (MessageType digits) = Some (record { done = done; stage = Open (record { mti = digits; fields = [] }) })
+step_at done (Open m) (Field n value) =
+    if follows m n value then Some (record { done = done; stage = Open (with_last m n value) }) else None
+step_at done stage l = None
+
+abbrev pub step : Point → PlainLine → Option Point
+step p l = step_at p.done p.stage l
+
+-- the text of what was read
+abbrev pub stage_text : ℕ → Stage → List ℕ
+stage_text n Between = []
+stage_text n Headed = codes "message " ++ (decimal n ++ codes "\n")
+stage_text n (Open m) = message_text n m
+
+abbrev pub text_of : Point → List ℕ
+text_of p = messages_text 1 p.done ++ stage_text (length p.done + 1) p.stage
+
+abbrev pub IsMessageIn : Stage → Type 0
+IsMessageIn (Open m) = IsMessage m
+IsMessageIn _ = Unit {0}
+
+-- an encoder that has read so far
+pub record IsAt (p : Point) (e : Encoder) : Type 0 where
+  pub stage : p.stage ≡ e.stage
+  pub count : e.count ≡ length p.done
+  pub valid : All IsMessage p.done
+  pub begun : IsMessageIn p.stage
+  pub frames : AreFramesOf e.frames.items p.done
+
+-- nothing was read
+abbrev pub IsBlank : Encoder → Type 0
+IsBlank e = (e.stage ≡ Between) × (e.count ≡ 0) × (e.frames.items ≡ [])
+
+-- the message that was begun is ended, if it has a type
+abbrev pub Closes : Encoder → Encoder → Type 0
+Closes e e' = (p : Point) → IsAt p e → IsAt (closed p) e'
+
+-- A line is taken; or it may not stand there, and what was read is as it was but for a message that may be ended.
+abbrev pub Takes : Encoder → PlainLine → Encoder → Bool → Type 0
+Takes e l e' true = (p : Point) → IsAt p e → (q : Point) × (step p l ≡ Some q) × IsAt q e'
+Takes e l e' false = (p : Point) → IsAt p e → (step p l ≡ None) × (q : Point) × ((q ≡ p) ⊎ (q ≡ closed p)) × IsAt q e'
+
+-- The text ends: what was begun is ended; or a heading was last, and all is as it was.
+abbrev pub Finishes : Encoder → Encoder → Bool → Type 0
+Finishes e e' true = (p : Point) → IsAt p e → (p.stage ≢ Headed) × IsAt (closed p) e'
+Finishes e e' false = (p : Point) → IsAt p e → (p.stage ≡ Headed) × IsAt p e'
+
+-- what lines make of it, one after the other, if each may stand there
+abbrev pub run : Point → List PlainLine → Option Point
+run p [] = Some p
+run p (l ∷ ls) = option_and_then (λ q. run q ls) (step p l)
+
+abbrev pub start : Point
+start = record { done = []; stage = Between }
+
+-- So much of a text was read, by an encoder that is now here: so many lines, each of which could stand where it did.
+pub record IsSoFar (text rest : List ℕ) (lines : ℕ) (e : Encoder) : Type 0 where
+  pub read : List PlainLine
+  pub point : Point
+  pub are_lines : All IsLine read
+  pub reached : run start read ≡ Some point
+  pub at : IsAt point e
+  pub whole : text ≡ text_of_lines read ++ rest
+  pub counted : lines ≡ length read
+
+-- the whole text was read: it is that of the messages that are done
+abbrev pub IsReadWhole : List ℕ → Encoder → Type 0
+IsReadWhole text e = (p : Point) × IsAt p e × (p.stage ≡ Between) × (text ≡ messages_text 1 p.done)
+
+-- A text was read up to a line, after so many others: what comes before the line begins the text of messages that are
+-- done and one that may be begun, and the text is that of no messages.
+pub record IsReadUpTo (text : List ℕ) (lines : ℕ) (e : Encoder) : Type 0 where
+  pub point : Point
+  pub before : List ℕ
+  pub rest : List ℕ
+  pub at : IsAt point e
+  pub whole : text ≡ before ++ rest
+  pub begun : before ≡ text_of point
+  pub counted : lines ≡ count_by (λ b. b == 10) before
+  pub refused : IsNoText text
+
+abbrev pub IsReading : List ℕ → Encoder → Option TextError → Type 0
+IsReading text e None = IsReadWhole text e
+IsReading text e (Some error) = (lines : ℕ) × (error.line ≡ lines + 1) × IsReadUpTo text lines e
+
+-- a line of these bytes is taken, or none of these bytes may stand there
+abbrev pub TakesBytes : Encoder → List ℕ → Encoder → Bool → Type 0
+TakesBytes e bytes e' true = (l : PlainLine) × IsLine l × (line_bytes l ≡ bytes) × Takes e l e' true
+TakesBytes e bytes e' false = (p : Point) → IsAt p e
+    → ((l : PlainLine) → IsLine l → line_bytes l ≡ bytes → step p l ≡ None) × (q : Point) × ((q ≡ p) ⊎ (q ≡ closed p)) × IsAt q e'

@@ -1,0 +1,197 @@
+//! Why a text is not encoded to its end.
+
+ghost use Rattle.std.specs.Prelude.{◌≡◌};
+ghost use Rattle.cli_encode.specs.Errors.{error_of_read, error_of_write};
+ghost use Rattle.cli_encode.specs.declared.error.EncodeError.TheVariants.{OutOfMemory, Text};
+
+use cli_io::{Quoted, ReadError, WriteError};
+use iso_msg::{ExpectedValue, FieldLabel, Form, form_at};
+use std::alloc::AllocError;
+use std::fmt;
+use thiserror::Error;
+
+/// What is wrong with a line, and what was expected.
+#[derive(Drop)]
+pub enum Fault {
+    /// The text ends after a heading.
+    Ended,
+    /// The last line has no line feed.
+    NoLineFeed,
+    /// The line ends with a carriage return.
+    CarriageReturn,
+    /// Not the heading of the message of this number.
+    Heading {
+        found: Quoted,
+        expected: u64,
+    },
+    /// Not a message's type.
+    MessageType {
+        found: Quoted,
+    },
+    /// Neither a field nor the heading of the message of this number.
+    Unknown {
+        found: Quoted,
+        next: u64,
+    },
+    /// The value of this field is masked.
+    Masked(u8),
+    /// The profile has no field of this number.
+    UnknownField(u8),
+    /// The field stands before this one already.
+    Repeated(u8),
+    /// The field stands after one of a higher number.
+    Order {
+        number: u8,
+        last: u8,
+    },
+    /// The field does not take this value, which has so many bytes.
+    Value {
+        number: u8,
+        found: Quoted,
+        length: usize,
+    },
+}
+
+// What a field's value is on a line.
+#[derive(Clone, Copy)]
+struct ExpectedText(u8);
+
+impl fmt::Display for ExpectedText {
+    fn fmt<W: fmt::Write>(&self, f: &mut fmt::Formatter<W>) -> fmt::Result {
+        match form_at(self.0) {
+            Some(Form::Binary) => f.write_str("16 hexadecimal digits in upper case"),
+            _ => write!(f, "{}", ExpectedValue(self.0)),
+        }
+    }
+}
+
+fn fmt_value<W: fmt::Write>(
+    f: &mut fmt::Formatter<W>,
+    number: u8,
+    found: &Quoted,
+    length: usize,
+) -> fmt::Result {
+    let (label, expected) = (FieldLabel(number), ExpectedText(number));
+    write!(
+        f,
+        "{label}: found {found}, {length} bytes; expected {expected}"
+    )
+}
+
+impl fmt::Display for Fault {
+    fn fmt<W: fmt::Write>(&self, f: &mut fmt::Formatter<W>) -> fmt::Result {
+        match self {
+            Fault::Ended => f.write_str("the text ends; expected \"mti\" and 4 digits"),
+            Fault::NoLineFeed => f.write_str("the last line has no line feed"),
+            Fault::CarriageReturn => {
+                f.write_str("found a carriage return; expected a line feed alone")
+            }
+            Fault::Heading { found, expected } => {
+                write!(f, "found {found}; expected \"message {expected}\"")
+            }
+            Fault::MessageType { found } => {
+                write!(f, "found {found}; expected \"mti\" and 4 digits")
+            }
+            Fault::Unknown { found, next } => write!(
+                f,
+                "found {found}; expected a field's number and value, or \"message {next}\""
+            ),
+            Fault::Masked(number) => write!(
+                f,
+                "{}: the value is masked; expected the text of decode without --mask",
+                FieldLabel(*number)
+            ),
+            Fault::UnknownField(number) => {
+                write!(f, "field {number}: the profile has no field of this number")
+            }
+            Fault::Repeated(number) => write!(f, "{}: given twice", FieldLabel(*number)),
+            Fault::Order { number, last } => write!(
+                f,
+                "{}: found after field {last}; expected rising numbers",
+                FieldLabel(*number)
+            ),
+            Fault::Value {
+                number,
+                found,
+                length,
+            } => fmt_value(f, *number, found, *length),
+        }
+    }
+}
+
+/// A line that is refused, the first being 1, and why.
+#[derive(Drop, Error)]
+#[error("line {line}: {fault}")]
+pub struct TextError {
+    pub line: usize,
+    pub fault: Fault,
+}
+
+// A person is shown the same text.
+impl fmt::Debug for TextError {
+    fn fmt<W: fmt::Write>(&self, f: &mut fmt::Formatter<W>) -> fmt::Result {
+        fmt::Display::fmt(self, f)
+    }
+}
+
+/// Why a text is not encoded to its end.
+#[derive(Drop, Error)]
+pub enum EncodeError {
+    /// A line is refused. The frames of the messages before it are written.
+    #[error("{0}")]
+    Text(TextError),
+    /// The input could not be read to its end. Nothing is written.
+    #[error("reading the input: {0}")]
+    Read(ReadError),
+    /// The frames could not be written.
+    #[error("writing the output: {0}")]
+    Write(WriteError),
+    /// No memory was left.
+    #[error("out of memory")]
+    OutOfMemory,
+}
+
+// A person is shown the same text.
+impl fmt::Debug for EncodeError {
+    fn fmt<W: fmt::Write>(&self, f: &mut fmt::Formatter<W>) -> fmt::Result {
+        fmt::Display::fmt(self, f)
+    }
+}
+
+impl From<ReadError> for EncodeError {
+    ghost from_gives = { λ e f. f ≡ error_of_read e };
+
+    fn from(error: ReadError) -> EncodeError {
+        match error {
+            ReadError::OutOfMemory => EncodeError::OutOfMemory,
+            other => EncodeError::Read(other),
+        }
+    }
+}
+
+impl From<WriteError> for EncodeError {
+    ghost from_gives = { λ e f. f ≡ error_of_write e };
+
+    fn from(error: WriteError) -> EncodeError {
+        match error {
+            WriteError::OutOfMemory => EncodeError::OutOfMemory,
+            other => EncodeError::Write(other),
+        }
+    }
+}
+
+impl From<AllocError> for EncodeError {
+    ghost from_gives = { λ _ f. f ≡ OutOfMemory };
+
+    fn from(_error: AllocError) -> EncodeError {
+        EncodeError::OutOfMemory
+    }
+}
+
+impl From<TextError> for EncodeError {
+    ghost from_gives = { λ e f. f ≡ Text e };
+
+    fn from(error: TextError) -> EncodeError {
+        EncodeError::Text(error)
+    }
+}

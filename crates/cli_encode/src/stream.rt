@@ -1,0 +1,38 @@
+//! The text of an input, and the frames on an output.
+
+ghost use Rattle.std.specs.Prelude.{◌≡◌, IfErr, IfSome, OnOk};
+ghost use Rattle.cli_io.specs.Inputs.{reads_made, unread};
+ghost use Rattle.cli_encode.specs.Errors.{IsEncodeError, IsReadToSpent};
+ghost use Rattle.cli_encode.specs.Texts.{IsEncoded};
+
+use crate::encoder::Encoder;
+use crate::error::EncodeError;
+use crate::text::read_text;
+use cli_io::{Input, read_input, write_out};
+use std::alloc::Global;
+use std::io::{Read, Write};
+
+/// Writes the frames of the messages whose text an input gives, and flushes. The text is read whole, and the
+/// frames are written at its end, or where a line is refused: then those of the messages before the refused one.
+///
+/// Too many reads are told only of an input that was read 1,048,576 times.
+pub fn encode_stream<R: Read, W: Write>(
+    alloc: Global,
+    input: &mut Input<R>,
+    out: &mut W,
+) -> Result<(), EncodeError>
+    ensures encoded { OnOk result (IfSome (unread R.remaining input.old) (λ bytes.
+        IsEncoded bytes (W.contents out.old) (W.contents out.new))) }
+    ensures refused { IfErr result (λ e. IfSome (unread R.remaining input.old) (λ bytes.
+        IsEncodeError bytes (W.contents out.old) (W.contents out.new) e)) }
+    ensures too_many { IfErr result (IsReadToSpent (reads_made input.new)) }
+{
+    let text = read_input(alloc, input)?;
+    let mut encoder = Encoder::new(alloc);
+    let refusal = read_text(alloc, &mut encoder, &text)?;
+    write_out(out, &encoder.frames)?;
+    match refusal {
+        None => Ok(()),
+        Some(error) => Err(EncodeError::from(error)),
+    }
+}
