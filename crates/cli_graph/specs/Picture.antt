@@ -66,7 +66,8 @@ label_close Dot = codes "\";"
 
 abbrev pub box_label : Form → ℕ → Text → Text
 box_label form g name =
-    codes "  subgraph " ++ (box_open form ++ (decimal g ++ (label_open form ++ (name ++ (label_close form ++ codes "\n")))))
+    codes "  subgraph " ++ (box_open form ++ (decimal g
+    ++ (label_open form ++ (name ++ (label_close form ++ codes "\n")))))
 
 abbrev pub head_open : Form → Text
 head_open Mermaid = codes "([\""
@@ -156,6 +157,10 @@ selection_text form gs g i k =
 abbrev pub selection_entry : Form → List Group → ℕ → ℕ → Entry → Text
 selection_entry form gs g i e = selection_text form gs g i e.kind
 
+-- those of all selectors of a group
+abbrev pub selections : Form → List Group → ℕ → List Entry → Text
+selections form gs g es = texts (selection_entry form gs g) 0 es
+
 abbrev pub line_end : Form → Text
 line_end Mermaid = codes "\n"
 line_end Dot = codes ";\n"
@@ -164,11 +169,15 @@ line_end Dot = codes ";\n"
 abbrev pub group_paths : Form → List Group → ℕ → Group → Text
 group_paths form gs g x =
     codes "  " ++ (head_name g ++ (texts (plain_entry form g) 0 x.entries ++ (line_end form
-    ++ (abort_path form g x.entries ++ texts (selection_entry form gs g) 0 x.entries))))
+    ++ (abort_path form g x.entries ++ selections form gs g x.entries))))
+
+-- the arrows of all groups
+abbrev pub all_paths : Form → List Group → Text
+all_paths form gs = texts (group_paths form gs) 0 gs
 
 abbrev pub whole : Form → Text → Text → Text
 whole Mermaid boxes paths = codes "flowchart TD\n" ++ (boxes ++ paths)
 whole Dot boxes paths = codes "digraph flow {\n" ++ (boxes ++ (paths ++ codes "}\n"))
 
 abbrev pub picture_of : Form → Flow → Text
-picture_of form f = whole form (texts (group_text form) 0 f.groups) (texts (group_paths form f.groups) 0 f.groups)
+picture_of form f = whole form (texts (group_text form) 0 f.groups) (all_paths form f.groups)

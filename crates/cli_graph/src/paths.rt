@@ -205,7 +205,7 @@ struct Selections<'a> {
 }
 
 impl fmt::Display for Selections<'_> {
-    ghost output = { λ s. Some (spec.texts (spec.selection_entry s.form s.groups.now s.group) 0 s.entries.now) };
+    ghost output = { λ s. Some (spec.selections s.form s.groups.now s.group s.entries.now) };
 
     fn fmt<W: fmt::Write>(&self, f: &mut fmt::Formatter<W>) -> fmt::Result {
         for (index, entry) in self.entries.iter().enumerate() {
@@ -293,7 +293,7 @@ pub(crate) struct AllPaths<'a> {
 }
 
 impl fmt::Display for AllPaths<'_> {
-    ghost output = { λ p. Some (spec.texts (spec.group_paths p.form p.groups.now) 0 p.groups.now) };
+    ghost output = { λ p. Some (spec.all_paths p.form p.groups.now) };
 
     fn fmt<W: fmt::Write>(&self, f: &mut fmt::Formatter<W>) -> fmt::Result {
         for (number, group) in self.groups.iter().enumerate() {

@@ -1,19 +1,19 @@
--- What was written, piece by piece.
--- for: output::write_text
-use Rattle.std.proofs.Common.{◌≡◌, ◌∷◌, ◌++◌, ◌∙◌, [], ℕ, ◌+◌, zero, suc, List, Option, drop, take, refl, ap, arith, subst, sym}
-use Rattle.std.proofs.KnownBytes.{Appends-trans}
+-- A beginning of a text, by how many bytes it has.
+-- for: script::put_out
+use Rattle.std.proofs.Common.{◌∙◌, ℕ, List, Option, length, take, ap, subst, sym}
+use Rattle.std.proofs.Math.Seq.{take-append_seam}
 use Rattle.std.specs.Io.KnownBytes.{Appends}
+use Rattle.cli_io.specs.Written.{AppendsBeginning}
+use Rattle.cli_io.specs.declared.error.WriteError.{WriteError}
+use Rattle.cli_io.specs.declared.error.WriteError.TheVariants as write
+use Rattle.cli_step.specs.Errors.{error_of_write}
+use Rattle.cli_step.specs.Runs.{IsWriting}
 
-none : (k : ℕ) → ◌≡◌ {A = List ℕ} (take k []) []
-none zero = refl
-none (suc k) = refl
+pub counted : (a b : Option (List ℕ)) (text : List ℕ) → AppendsBeginning a b text → (count : ℕ) × Appends a b (take count text)
+counted a b text (first, rest, joined, written) =
+    (length first, subst (Appends a b) (sym (ap (take (length first)) joined ∙ take-append_seam first rest)) written)
 
-take_two : (n k : ℕ) (xs : List ℕ) → take n xs ++ take k (drop n xs) ≡ take (n + k) xs
-take_two zero k xs = let all : k ≡ 0 + k = omega arith in ap (λ n. take n xs) all
-take_two (suc n) k [] = none k ∙ sym (none (suc n + k))
-take_two (suc n) k (x ∷ xs) =
-    let all : suc (n + k) ≡ suc n + k = omega arith in ap (λ l. x ∷ l) (take_two n k xs) ∙ ap (λ m. take m (x ∷ xs)) all
-
-pub written_more : (a b c : Option (List ℕ)) (n k : ℕ) (xs : List ℕ) → Appends a b (take n xs) → Appends b c (take k (drop n xs))
-    → Appends a c (take (n + k) xs)
-written_more a b c n k xs one more = subst (Appends a c) (take_two n k xs) (Appends-trans a b c (take n xs) (take k (drop n xs)) one more)
+-- a failed write is the output's
+pub is_writing : (e : WriteError) → IsWriting (error_of_write e)
+is_writing write.OutOfMemory = tt
+is_writing (write.Failed f) = tt

@@ -1,4 +1,4 @@
--- The errors that end a run, made of those of its parts: want of memory is told as such.
+-- The errors that end a run, made of those of its parts: out of memory is told as such.
 use Rattle.std.specs.Prelude.{ℕ}
 use Rattle.cli_io.specs.declared.error.WriteError.{WriteError}
 use Rattle.cli_io.specs.declared.error.WriteError.TheVariants as write

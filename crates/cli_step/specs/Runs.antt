@@ -94,7 +94,7 @@ IsOfNext rest p text = (text ≡ []) ⊎ ((a : Action) × Means rest a × (IsLef
 abbrev pub IsFailed : List ℕ → Text → Type 0
 IsFailed rest text = (a : Action) × Means rest a × IsLeft a text
 
--- why a run ends early behind so many lines, and before these: `text` is of those, `more` of the next line
+-- why a run ends early after so many lines, and before these: `text` is of those, `more` of the next line
 abbrev pub IsCause : StepError → ℕ → List ℕ → Option (List ℕ) → Option (List ℕ) → Text → Text → Type 0
 IsCause (error.Script e) lines rest before after text more =
     (rest ≢ []) × IsActionRefusal (lines + 1) (line_of rest) (meaning_of (line_of rest)) e × Appends before after text

@@ -9,7 +9,6 @@
 mod actions;
 mod auto;
 mod error;
-mod output;
 mod places;
 mod said;
 mod script;

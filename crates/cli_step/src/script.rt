@@ -10,8 +10,7 @@ ghost use Rattle.cli_step.specs.Runs.{RunsLine, Stopped};
 
 use crate::actions::run_action;
 use crate::error::{ActionError, StepError};
-use crate::output::write_text;
-use cli_io::WriteError;
+use cli_io::{WriteError, write_whole};
 use cli_script::{Action, Actions, Script, open_script};
 use flow_asm::{Code, assemble};
 use flow_model::Flow;
@@ -44,7 +43,7 @@ fn put_out<W: Write>(
     ensures refused { IfErr result (IsUnwritten
         (W.contents out.old) (W.contents out.new) text.now ran line) }
 {
-    write_text(out, text.as_bytes())?;
+    write_whole(out, text.as_bytes())?;
     match ran {
         Ok(()) => Ok(()),
         Err(error) => Err(error.at_line(line)),
@@ -73,7 +72,7 @@ fn run_line<S: Alter, W: Write>(
     put_out(out, text.as_str(), ran, line)
 }
 
-/// Runs the lines behind the settings over a plant, and writes what each prints. Where it ends early,
+/// Runs the lines after the settings over a plant, and writes what each prints. Where it ends early,
 /// what was written is what the lines before printed, and of the next one a beginning.
 pub fn run_actions<S: Alter, W: Write>(
     alloc: Global,
@@ -106,7 +105,7 @@ fn memory_journal(alloc: Global) -> Result<Journal<MemStore>, ActionError>
     }
 }
 
-// Runs the lines behind the settings over a plant of these stations with a journal in memory (apart, so that its
+// Runs the lines after the settings over a plant of these stations with a journal in memory (apart, so that its
 // proof does not carry their making).
 fn play_over<W: Write>(
     alloc: Global,
@@ -132,7 +131,7 @@ fn play_over<W: Write>(
     run_actions(alloc, &mut plant, &mut tracer, actions, out)
 }
 
-// Makes a participant by the script for each one of the flow, and runs the lines behind the settings. (It hands
+// Makes a participant by the script for each one of the flow, and runs the lines after the settings. (It hands
 // no station out, so that contracts know of every participant whose it is.)
 fn play<W: Write>(alloc: Global, script: Script<'_>, out: &mut W) -> Result<(), StepError>
     requires { IsChecked script.flow }
@@ -150,7 +149,7 @@ fn play<W: Write>(alloc: Global, script: Script<'_>, out: &mut W) -> Result<(), 
     for part in code.participants() {
         let name = part.name.as_str();
         let participant = Scripted::new(alloc, replies.take(alloc, name));
-        // A checked flow has no bad name, so only memory can be wanting.
+        // A checked flow has no bad name, so the only refusal is out of memory.
         match Station::new(alloc, name, Box::new(alloc, participant)?) {
             Ok(station) => stations.push(station)?,
             Err(_) => return Err(StepError::OutOfMemory),
