@@ -19,8 +19,8 @@ use tx_pool::{Early, Fault, Late, PoolError};
 #[derive(Debug, Drop, Error)]
 pub enum ServeError {
     /// The flow has a participant that the switch does not have.
-    #[error("participant {} of the flow is none of the switch; expected check, limits, route, \
-        query_alpha, query_beta, reverse, standin, forward or respond", .0.as_str())]
+    #[error("unknown participant {}; the switch has check, limits, route, query_alpha, query_beta, \
+        reverse, standin, forward and respond", .0.as_str())]
     NoStation(Text),
     /// The engine refused a turn.
     #[error("the engine refused: {0}")]
