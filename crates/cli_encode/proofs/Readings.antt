@@ -88,6 +88,7 @@ up_to_line text rest line after lines e e' h cut clean small takes =
       begun = read_is text rest lines e h ∙ sym (same_text h.point r.1 r.2);
       counted = counted_is text rest lines e h;
       refused = none_there text line after h.read h.point h.are_lines h.reached (h.whole ∙ ap (λ (t : List ℕ). text_of_lines h.read ++ t) (sym cut)) small clean r.0;
+      stuck = inr (line, after, sym cut, clean, λ more few. none_there (text_of_lines h.read ++ (line ++ 10 ∷ more)) line more h.read h.point h.are_lines h.reached refl few clean r.0);
     }
 
 pub up_to_end : (text rest : List ℕ) (lines : ℕ) (e : Encoder) → IsSoFar text rest lines e → has_byte 10 rest ≡ false → (rest ≡ [] → ⊥)
@@ -101,6 +102,7 @@ up_to_end text rest lines e h clean some small = record {
   begun = read_is text rest lines e h;
   counted = counted_is text rest lines e h;
   refused = none_unended text rest h.read h.point h.are_lines h.reached h.whole small clean some;
+  stuck = inl clean;
 }
 
 pub up_to_heading : (text rest : List ℕ) (lines : ℕ) (e e' : Encoder) → IsSoFar text rest lines e → rest ≡ [] → length text < 2 ^ 63
@@ -116,6 +118,7 @@ up_to_heading text rest lines e e' h none small ends =
       begun = read_is text rest lines e h;
       counted = counted_is text rest lines e h;
       refused = none_headed text rest h.read h.point h.are_lines h.reached h.whole small none r.0;
+      stuck = inl (ap (has_byte 10) none);
     }
 
 between_at : (done : List PlainMessage) (s : Stage) → (s ≡ Headed → ⊥) → (closed_at done s).stage ≡ Between
@@ -157,6 +160,7 @@ refused_at text lines line e old new h is wrote = record {
   begun = (stage_text (length h.point.done + 1) h.point.stage, h.begun, head_of (length h.point.done + 1) h.point.stage h.at.begun);
   line_number = is ∙ ap (λ n. n + 1) h.counted;
   refused = h.refused;
+  stuck = h.stuck;
   written_frames = (e.frames.items, h.at.frames, wrote);
 }
 

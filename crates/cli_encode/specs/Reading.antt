@@ -12,7 +12,7 @@ use Rattle.cli_encode.specs.declared.encoder.Stage.{Stage}
 use Rattle.cli_encode.specs.declared.encoder.Stage.TheVariants.{Between, Headed, Open}
 use Rattle.cli_encode.specs.declared.error.TextError.{TextError}
 use Rattle.cli_encode.specs.Lines.{PlainLine, Heading, MessageType, Field, IsLine, line_bytes, text_of_lines}
-use Rattle.cli_encode.specs.Refusals.{IsNoText}
+use Rattle.cli_encode.specs.Refusals.{IsNoText, IsStuckAfter}
 use Rattle.cli_encode.specs.Texts.{AreFramesOf, messages_text}
 
 -- the messages that were read to their end, and what was begun
@@ -137,6 +137,7 @@ pub record IsReadUpTo (text : List ℕ) (lines : ℕ) (e : Encoder) : Type 0 whe
   pub begun : before ≡ text_of point
   pub counted : lines ≡ count_by (λ b. b == 10) before
   pub refused : IsNoText text
+  pub stuck : IsStuckAfter before rest
 
 abbrev pub IsReading : List ℕ → Encoder → Option TextError → Type 0
 IsReading text e None = IsReadWhole text e
