@@ -10,8 +10,9 @@ use Rattle.tx_journal.specs.Kept.{Kept, kept}
 use Rattle.tx_plant.specs.Plant.{Seen, seen}
 use Rattle.cli_options.specs.declared.choice.RunOptions.{RunOptions}
 use Rattle.cli_run.specs.Ran.{Printed}
+use Rattle.cli_run.specs.declared.serving.Setup.{Setup}
 use Rattle.cardswitch.specs.Journals.{IsFound, IsNewJournal, IsOfFile}
-use Rattle.cardswitch.specs.Runs.{Answered, IsRunFault, IsServeFault, Recovered, Served, new_sender}
+use Rattle.cardswitch.specs.Runs.{Answered, IsRunFault, IsServeFault, IsSetUp, Recovered, Served, new_sender}
 use Rattle.cardswitch.specs.declared.error.RunError.{RunError}
 use Rattle.cardswitch.specs.declared.error.RunError.TheVariants as error
 
@@ -23,29 +24,35 @@ on_ok P Q (Err e) f h = h
 taken : {E : Type 0} (P : Flow → Type 0) (code : Result Flow E) (flow : Flow) → code ≡ Ok flow → P flow → IfOk code P
 taken {E} P code flow same h = subst (λ (c : Result Flow E). IfOk c P) (sym same) h
 
-answered : {S : Type 0} (files : Ghosts S) (flow : Flow) (o : RunOptions) (threads : Bool) (sessions : ℕ) (j : Seen) (unread before after : Option (List ℕ))
-    → o.limit ≤ 999999999999999 → threads ≡ o.threads → sessions ≡ o.sessions → IsFound files o.journal j
-    → Served threads flow sessions j new_sender unread before after → Answered files flow o unread before after
-answered files flow o threads sessions j unread before after limit as_threads same found h =
-    record { limit = limit; journal = j; found = found; served = subst (λ (n : ℕ). Served o.threads flow n j new_sender unread before after) same (subst (λ (b : Bool). Served b flow sessions j new_sender unread before after) as_threads h) }
-
-pub answered_by_file : {S : Type 0} (files : Ghosts S) (flow : Flow) (code : Result Flow RunError) (o : RunOptions) (threads : Bool) (sessions : ℕ) (path : Bor (List ℕ)) (journal : Kept S) (unread before after : Option (List ℕ)) (r : Result (Unit {0}) RunError)
-    → code ≡ Ok flow → o.limit ≤ 999999999999999 → threads ≡ o.threads → sessions ≡ o.sessions → o.journal ≡ Some path → IsOfFile files path.now journal
-    → OnOk r (Served threads flow sessions (seen (kept files journal)) new_sender unread before after)
+pub answered_by_file : {S : Type 0} (files : Ghosts S) (flow : Flow) (code : Result Flow RunError) (o : RunOptions) (setup : Setup) (path : Bor (List ℕ)) (journal : Kept S) (unread before after : Option (List ℕ)) (r : Result (Unit {0}) RunError)
+    → code ≡ Ok flow → IsSetUp o.limit o.sessions o.threads setup → o.journal ≡ Some path → IsOfFile files path.now journal
+    → OnOk r (Served setup.threads flow setup.sessions (seen (kept files journal)) new_sender unread before after)
     → IfOk code (λ f. OnOk r (Answered files f o unread before after))
-answered_by_file files flow code o threads sessions path journal unread before after r took limit as_threads same named opened h =
+answered_by_file files flow code o setup path journal unread before after r took set_up named opened h =
     let found : IsFound files o.journal (seen (kept files journal)) = subst (λ (x : Option (Bor (List ℕ))). IsFound files x (seen (kept files journal))) (sym named) (journal, opened, refl) in
     taken (λ f. OnOk r (Answered files f o unread before after)) code flow took
-    (on_ok _ _ r (answered files flow o threads sessions (seen (kept files journal)) unread before after limit as_threads same found) h)
+    (on_ok _ _ r (λ (served : Served setup.threads flow setup.sessions (seen (kept files journal)) new_sender unread before after). record {
+      setup = setup;
+      is_set_up = set_up;
+      journal = seen (kept files journal);
+      found = found;
+      served = served;
+    }) h)
 
-pub answered_in_memory : {S : Type 0} (files : Ghosts S) (flow : Flow) (code : Result Flow RunError) (o : RunOptions) (threads : Bool) (sessions : ℕ) (journal : Kept MemStore) (unread before after : Option (List ℕ)) (r : Result (Unit {0}) RunError)
-    → code ≡ Ok flow → o.limit ≤ 999999999999999 → threads ≡ o.threads → sessions ≡ o.sessions → o.journal ≡ None → IsNewJournal journal
-    → OnOk r (Served threads flow sessions (seen (kept over_memory journal)) new_sender unread before after)
+pub answered_in_memory : {S : Type 0} (files : Ghosts S) (flow : Flow) (code : Result Flow RunError) (o : RunOptions) (setup : Setup) (journal : Kept MemStore) (unread before after : Option (List ℕ)) (r : Result (Unit {0}) RunError)
+    → code ≡ Ok flow → IsSetUp o.limit o.sessions o.threads setup → o.journal ≡ None → IsNewJournal journal
+    → OnOk r (Served setup.threads flow setup.sessions (seen (kept over_memory journal)) new_sender unread before after)
     → IfOk code (λ f. OnOk r (Answered files f o unread before after))
-answered_in_memory files flow code o threads sessions journal unread before after r took limit as_threads same none opened h =
+answered_in_memory files flow code o setup journal unread before after r took set_up none opened h =
     let found : IsFound files o.journal (seen (kept over_memory journal)) = subst (λ (x : Option (Bor (List ℕ))). IsFound files x (seen (kept over_memory journal))) (sym none) (journal, opened, refl) in
     taken (λ f. OnOk r (Answered files f o unread before after)) code flow took
-    (on_ok _ _ r (answered files flow o threads sessions (seen (kept over_memory journal)) unread before after limit as_threads same found) h)
+    (on_ok _ _ r (λ (served : Served setup.threads flow setup.sessions (seen (kept over_memory journal)) new_sender unread before after). record {
+      setup = setup;
+      is_set_up = set_up;
+      journal = seen (kept over_memory journal);
+      found = found;
+      served = served;
+    }) h)
 
 served_fault : (o : RunOptions) (before after : Option (List ℕ)) (e : RunError) → o.limit ≤ 999999999999999 → IsServeFault e → IsRunFault o before after e
 served_fault o before after (error.Serve e) limit h = (limit, h)
@@ -59,7 +66,7 @@ served_fault o before after (error.Write e) limit h = absurd h
 served_fault o before after (error.Step e) limit h = absurd h
 served_fault o before after (error.Input e) limit h = absurd h
 
--- a run that is refused behind its limit
+-- a run that is refused after its limit was taken
 pub refused : (code : Result Flow RunError) (o : RunOptions) (before after : Option (List ℕ)) (r : Result (Unit {0}) RunError)
     → o.limit ≤ 999999999999999 → IfErr r IsServeFault → IfOk code (λ f. IfErr r (IsRunFault o before after))
 refused (Ok flow) o before after (Ok u) limit h = h

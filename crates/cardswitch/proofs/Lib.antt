@@ -1,4 +1,6 @@
 mod Answering
 mod Doing
+mod Drawing
 mod Openings
 mod Serving
+mod Stepping

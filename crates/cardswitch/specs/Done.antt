@@ -1,8 +1,10 @@
 -- What a subcommand has done, by the status with which it ends.
-use Rattle.std.specs.Prelude.{◌≡◌, ⊤, ℕ, Bool, true, false, IfSome, List, Option, None, Some}
+use Rattle.std.specs.Prelude.{◌≡◌, ◌==◌, ⊤, ℕ, Bool, true, false, IfSome, List, Option, Result, Ok, Err, if◌then◌else◌}
+use Rattle.std.specs.Io.KnownBytes.{Appends}
 use Rattle.sqlite_trees.specs.declared.store.Store.{Ghosts}
 use Rattle.flow_model.specs.Check.{IsChecked}
 use Rattle.flow_model.specs.declared.flow.Flow.{Flow}
+use Rattle.cli_io.specs.Written.{AppendsBeginning}
 use Rattle.cli_io.specs.declared.error.WriteError.{WriteError}
 use Rattle.cli_decode.specs.declared.masking.Masking.{Masking}
 use Rattle.cli_decode.specs.declared.masking.Masking.TheVariants.{Off, On}
@@ -11,11 +13,15 @@ use Rattle.cli_encode.specs.Refusals.{IsRefusal}
 use Rattle.cli_encode.specs.Texts.{IsEncoded}
 use Rattle.cli_flows.specs.Errors.{IsUnwritten, RefusesFile, RefusesImage}
 use Rattle.cli_flows.specs.Subcommands.{IsAssembled, IsListed}
+use Rattle.cli_options.specs.Refusal.{status_of}
 use Rattle.cli_options.specs.declared.choice.Options.{Options}
-use Rattle.cli_options.specs.declared.choice.Options.TheVariants.{Asm, Decode, Encode, Graph, List as ListImage, Recover, Run, Step}
+use Rattle.cli_options.specs.declared.choice.Options.TheVariants.{Asm, Decode, Encode, Graph, List as ListImage}
+use Rattle.cli_options.specs.declared.choice.Options.TheVariants.{Recover, Run, Step}
+use Rattle.cli_options.specs.declared.error.OptionsError.{OptionsError}
 use Rattle.cardswitch.specs.Errors.{error_of_write, run_status}
 use Rattle.cardswitch.specs.Drawings.{IsDrawFault, IsDrawn}
 use Rattle.cardswitch.specs.Runs.{Answered, IsRecoverFault, IsRunFault, Recovered}
+use Rattle.cardswitch.specs.Steps.{IsStepFault, IsStepped}
 use Rattle.cardswitch.specs.declared.error.RunError.{RunError}
 use Rattle.cardswitch.specs.declared.error.RunError.TheVariants as error
 
@@ -28,12 +34,13 @@ masking_of false = Off
 abbrev pub IsEncodedText : Option (List ℕ) → Option (List ℕ) → Option (List ℕ) → Type 0
 IsEncodedText unread written written_now = IfSome unread (λ bytes. IsEncoded bytes written written_now)
 
--- what is said of the bytes that were to be read and those that are written, `files` being the store over files; of a script
--- nothing
+-- what is said of the bytes that were to be read and those that are written, `files` being the store over files
 abbrev pub IsDone : {S : Type 0} → Ghosts S → Options → Option (List ℕ) → Option (List ℕ) → Option (List ℕ) → Type 0
-IsDone files (Step flow) unread written written_now = ⊤
-IsDone files (Recover flow journal) unread written written_now = (f : Flow) × IsChecked f × Recovered files f journal.now written written_now
-IsDone files (Run o) unread written written_now = (f : Flow) × IsChecked f × Answered files f o unread written written_now
+IsDone files (Step flow) unread written written_now = IsStepped flow unread written written_now
+IsDone files (Recover flow journal) unread written written_now =
+    (f : Flow) × IsChecked f × Recovered files f journal.now written written_now
+IsDone files (Run o) unread written written_now =
+    (f : Flow) × IsChecked f × Answered files f o unread written written_now
 IsDone files Asm unread written written_now = IsAssembled unread written written_now
 IsDone files ListImage unread written written_now = IsListed unread written written_now
 IsDone files (Graph flow dot) unread written written_now = IsDrawn dot written written_now
@@ -73,14 +80,15 @@ IsEncodeFault unread written written_now (error.Write e) = ⊤
 IsEncodeFault unread written written_now error.OutOfMemory = ⊤
 IsEncodeFault unread written written_now _ = ⊥
 
--- what an error says of the bytes that were to be read and those that are written; of a script nothing
+-- what an error says of the bytes that were to be read and those that are written
 abbrev pub IsErrorOf : Options → Option (List ℕ) → Option (List ℕ) → Option (List ℕ) → RunError → Type 0
-IsErrorOf (Step flow) unread written written_now e = ⊤
-IsErrorOf (Recover flow journal) unread written written_now e = IsRecoverFault flow.now journal.now written written_now e
+IsErrorOf (Step flow) unread written written_now e = IsStepFault flow written written_now e
+IsErrorOf (Recover flow journal) unread written written_now e =
+    IsRecoverFault flow.now journal.now written written_now e
 IsErrorOf (Run o) unread written written_now e = IsRunFault o written written_now e
 IsErrorOf Asm unread written written_now e = IsAsmError unread written written_now e
 IsErrorOf ListImage unread written written_now e = IsListError unread written written_now e
-IsErrorOf (Graph flow dot) unread written written_now e = IsDrawFault flow.now e
+IsErrorOf (Graph flow dot) unread written written_now e = IsDrawFault dot flow.now written written_now e
 IsErrorOf (Decode mask) unread written written_now e = IsDecodeError mask unread written written_now e
 IsErrorOf Encode unread written written_now e = IsEncodeFault unread written written_now e
 
@@ -94,10 +102,16 @@ abbrev pub IsFailed : Options → Option (List ℕ) → Option (List ℕ) → Op
 IsFailed o unread written written_now status =
     (e : RunError) × (status ≡ run_status e) × IsErrorOf o unread written written_now e
 
-abbrev pub shown_status : Option WriteError → ℕ
-shown_status None = 0
-shown_status (Some fault) = run_status (error_of_write fault)
+-- the status of help and of the version, by what became of writing them: 0, or that of the failed write
+abbrev pub shown_status : Result Unit WriteError → ℕ
+shown_status (Ok done) = 0
+shown_status (Err fault) = run_status (error_of_write fault)
 
--- the status of a text that was asked for: 0, or that of the failed write
-abbrev pub IsShown : ℕ → Type 0
-IsShown status = (fault : Option WriteError) × (status ≡ shown_status fault)
+-- the status of words that give no options; `shown` is what became of writing help or the version
+abbrev pub refused_status : OptionsError → Result Unit WriteError → ℕ
+refused_status e shown = if status_of e == 0 then shown_status shown else status_of e
+
+-- help or the version is written, or after a failed write a beginning of it
+abbrev pub IsShown : List ℕ → Option (List ℕ) → Option (List ℕ) → Result Unit WriteError → Type 0
+IsShown text written written_now (Ok done) = Appends written written_now text
+IsShown text written written_now (Err fault) = AppendsBeginning written written_now text

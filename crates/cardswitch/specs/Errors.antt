@@ -13,11 +13,12 @@ use Rattle.cli_io.specs.declared.error.WriteError.TheVariants as write
 use Rattle.cli_step.specs.declared.error.StepError.{StepError}
 use Rattle.cli_step.specs.declared.error.StepError.TheVariants as step
 use Rattle.cardswitch.specs.declared.error.RunError.{RunError}
-use Rattle.cardswitch.specs.declared.error.RunError.TheVariants.{Input, JournalFile, OutOfMemory, Read, Serve, Step, Text, Write}
+use Rattle.cardswitch.specs.declared.error.RunError.TheVariants.{Input, JournalFile, OutOfMemory}
+use Rattle.cardswitch.specs.declared.error.RunError.TheVariants.{Read, Serve, Step, Text, Write}
 use Rattle.cli_run.specs.declared.error.ServeError.{ServeError}
 use Rattle.cli_run.specs.declared.error.ServeError.TheVariants as serve
 
--- 4 for want of memory, 3 where a journal refused, 1 for a refused input, a failed read and a failed write
+-- 4 where memory ran out, 3 where a journal refused, 1 for a refused input, a failed read and a failed write
 abbrev pub run_status : RunError → ℕ
 run_status OutOfMemory = 4
 run_status (Step (step.Journal line cause)) = 3
@@ -25,7 +26,7 @@ run_status (Serve (serve.Journal cause)) = 3
 run_status (JournalFile path) = 3
 run_status _ = 1
 
--- what the errors of the parts become: want of memory is told as such, and all else is carried
+-- what the errors of the parts become: out of memory is told as such, and all else is carried
 abbrev pub error_of_read : ReadError → RunError
 error_of_read read.OutOfMemory = OutOfMemory
 error_of_read e = Read e

@@ -1,5 +1,6 @@
 pub mod Errors
 pub mod Journals
 pub mod Runs
+pub mod Steps
 pub mod Drawings
 pub mod Done

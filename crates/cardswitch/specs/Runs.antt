@@ -15,6 +15,7 @@ use Rattle.cli_run.specs.Links.{sender_of}
 use Rattle.cli_run.specs.Ran.{Printed, Ran}
 use Rattle.cli_run.specs.Requests.{ReadTo, requests}
 use Rattle.cli_run.specs.Rounds.{Round, RoundsFor}
+use Rattle.cli_run.specs.declared.serving.Setup.{Setup}
 use Rattle.cli_run.specs.declared.stream.StreamEnd.TheVariants.{Whole}
 use Rattle.cli_run.specs.declared.error.ServeError.TheVariants as serve
 use Rattle.cardswitch.specs.Journals.{IsFound, IsFoundAt}
@@ -29,24 +30,35 @@ issuer_step = SendsAdvice Sends Receives (λ s. ⊥) (Unit {0})
 abbrev pub new_sender : PlainSender
 new_sender = sender_of (shown_issuer false []) (shown_issuer false [])
 
+-- What a run is set up with: a new book with this limit, which a card may have, and nothing in it; and so many sessions, as
+-- threads or not.
+pub record IsSetUp (limit count : ℕ) (as_threads : Bool) (setup : Setup) : Type 0 where
+  pub within : limit ≤ 999999999999999
+  pub book : setup.book ≡ record { limit = limit; items = [] }
+  pub sessions : setup.sessions ≡ count
+  pub threads : setup.threads ≡ as_threads
+
 -- over this journal the requests of a whole input were answered, one after the other, or by threads in batches
-pub record Served (threads : Bool) (flow : Flow) (sessions : ℕ) (j : Seen) (sender : PlainSender) (unread before after : Option (List ℕ)) : Type 0 where
+pub record Served (threads : Bool) (flow : Flow) (sessions : ℕ) (j : Seen) (sender : PlainSender)
+    (unread before after : Option (List ℕ)) : Type 0 where
   pub frames : List (List ℕ)
   pub reads : ReadTo Whole unread frames
   pub rounds : List Round
   pub answers : RoundsFor threads (requests frames) rounds
   pub ran : Ran flow sessions j issuer_step sender rounds before after
 
--- `run` has answered the requests of its input by this flow, over the journal that it found, with as many sessions as it was
--- given, as threads or not, under a limit that a card may have
-pub record Answered {S : Type 0} (files : Ghosts S) (flow : Flow) (o : RunOptions) (unread before after : Option (List ℕ)) : Type 0 where
-  pub limit : o.limit ≤ 999999999999999
+-- `run` has answered the requests of its input by this flow, over the journal that it found, set up as its options say
+pub record Answered {S : Type 0} (files : Ghosts S) (flow : Flow) (o : RunOptions)
+    (unread before after : Option (List ℕ)) : Type 0 where
+  pub setup : Setup
+  pub is_set_up : IsSetUp o.limit o.sessions o.threads setup
   pub journal : Seen
   pub found : IsFound files o.journal journal
-  pub served : Served o.threads flow o.sessions journal new_sender unread before after
+  pub served : Served setup.threads flow setup.sessions journal new_sender unread before after
 
 -- `recover` has finished what the journal of the file has unfinished, and printed its lines
-pub record Recovered {S : Type 0} (files : Ghosts S) (flow : Flow) (path : List ℕ) (before after : Option (List ℕ)) : Type 0 where
+pub record Recovered {S : Type 0} (files : Ghosts S) (flow : Flow) (path : List ℕ)
+    (before after : Option (List ℕ)) : Type 0 where
   pub journal : Seen
   pub found : IsFoundAt files path journal
   pub printed : Printed flow 1 journal before after
@@ -78,7 +90,8 @@ IsFileFault path before after e = IsServeFault e
 abbrev pub IsRunFault : RunOptions → Option (List ℕ) → Option (List ℕ) → RunError → Type 0
 IsRunFault o before after (error.FlowFile path cause) = (path ≡ o.flow.now) × (after ≡ before)
 IsRunFault o before after error.BadLimit = (999999999999999 < o.limit) × (after ≡ before)
-IsRunFault o before after (error.JournalFile path) = (o.limit ≤ 999999999999999) × (text_of o.journal ≡ Some path) × (after ≡ before)
+IsRunFault o before after (error.JournalFile path) =
+    (o.limit ≤ 999999999999999) × (text_of o.journal ≡ Some path) × (after ≡ before)
 IsRunFault o before after (error.Serve e) = (o.limit ≤ 999999999999999) × (e ≢ serve.OutOfMemory)
 IsRunFault o before after error.OutOfMemory = 999999999999999 < o.limit → after ≡ before
 IsRunFault o before after _ = ⊥

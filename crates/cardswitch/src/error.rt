@@ -54,7 +54,7 @@ pub enum RunError {
     OutOfMemory,
 }
 
-// By hand: a person is shown the same text, and a derived `fmt` of so many variants is dear to prove.
+// By hand: a person is shown the same text, and a derived `fmt` of so many variants takes long to prove.
 impl fmt::Debug for RunError {
     fn fmt<W: fmt::Write>(&self, f: &mut fmt::Formatter<W>) -> fmt::Result {
         fmt::Display::fmt(self, f)
@@ -63,7 +63,7 @@ impl fmt::Debug for RunError {
 
 impl RunError {
     /// The exit status of a run that ends with this error: 1 for a refused input and for failed reads
-    /// and writes, 3 where a journal refused, 4 for want of memory.
+    /// and writes, 3 where a journal refused, 4 where memory ran out.
     pub fn status(&self) -> u8
         ensures { result ≡ run_status self.now }
     {

@@ -2,7 +2,7 @@
 //!
 //! The edge of the program: it reads its words and its input, runs the subcommand, and tells an error
 //! by a text on standard error and by the exit status: 0 done, 1 refused input or a failed read or
-//! write, 2 a bad command line, 3 a refusal of a journal, 4 want of memory.
+//! write, 2 a bad command line, 3 a refusal of a journal, 4 out of memory.
 #![tactic(auto)]
 
 mod error;
@@ -11,15 +11,27 @@ mod journal_file;
 mod journals;
 mod program;
 mod requests;
+mod steps;
 
+use cli_io::WriteError;
+use cli_options::OptionsError;
 use cli_options::command_line::options;
 use std::alloc::Global;
-use std::io;
+use std::io::{self, Write};
 use std::process::ExitCode;
 
 /// The words of the command line, the program's name first.
 fn arguments(rt: &HostRuntime, alloc: Global) -> io::Result<Vec<String>> {
     Ok(std::env::args(rt)?.collect(alloc)?)
+}
+
+/// Shows help or the version, or says on `err` why the words are refused; gives the exit status.
+fn refuse<O: Write, E: Write>(alloc: Global, error: &OptionsError, out: &mut O, err: &mut E) -> u8 {
+    let shown = match format!(in alloc; "{error}") {
+        Ok(text) => program::show(error, text.as_str(), out),
+        Err(fault) => Err(WriteError::from(fault)),
+    };
+    program::refuse(error, shown, err)
 }
 
 fn main(rt: HostRuntime) -> ExitCode {
@@ -32,6 +44,6 @@ fn main(rt: HostRuntime) -> ExitCode {
     };
     ExitCode::from(match options(alloc, words.as_slice()) {
         Ok(options) => program::run(&rt, alloc, &rt, &options, rt.stdin(), &mut out, &mut err),
-        Err(error) => program::refuse(&error, &mut out, &mut err),
+        Err(error) => refuse(alloc, &error, &mut out, &mut err),
     })
 }

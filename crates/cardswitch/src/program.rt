@@ -1,9 +1,10 @@
 //! The subcommands, over a reader and two writers.
-ghost use Rattle.std.specs.Prelude.{◌≡◌, ◌≢◌, IfErr, OnOk, false};
+ghost use Rattle.std.specs.Prelude.{◌≡◌, ◌≢◌, IfErr, Ok, OnOk, false};
 ghost use Rattle.std.specs.Io.KnownBytes.{Keeps};
 ghost use Rattle.std.specs.IoError.{error_kind};
 ghost use Rattle.cardswitch.specs.Done.{IsAsmError, IsDecodeError, IsDone, IsEncodeFault, IsEncodedText};
-ghost use Rattle.cardswitch.specs.Done.{IsErrorOf, IsFailed, IsListError, IsQuiet, IsShown, masking_of};
+ghost use Rattle.cardswitch.specs.Done.{IsErrorOf, IsFailed, IsListError, IsQuiet, IsShown};
+ghost use Rattle.cardswitch.specs.Done.{masking_of, refused_status};
 ghost use Rattle.cardswitch.specs.Drawings.{IsDrawFault, IsDrawn, form_of};
 ghost use Rattle.cardswitch.specs.Errors.{run_status};
 ghost use Rattle.cli_decode.specs.Decoded.{IsDecodedStream};
@@ -13,13 +14,13 @@ ghost use Rattle.cli_options.specs.Refusal.{status_of};
 use crate::error::RunError;
 use crate::flow_file::flow_at;
 use crate::requests::{answer_requests, recover};
+use crate::steps::step;
 use cli_decode::{Masking, decode_stream};
 use cli_encode::encode_stream;
 use cli_graph::{Form, draw};
-use cli_io::{Input, WriteError, read_input};
+use cli_io::{Input, WriteError, write_out};
 use cli_options::OptionsError;
 use cli_options::choice::Options;
-use cli_step::run_script;
 use sqlite_std_file::File;
 use sqlite_store::FileStore;
 use sqlite_trees::store::Store;
@@ -62,22 +63,6 @@ fn tell<E: Write>(error: &RunError, err: &mut E) -> u8
     error.status()
 }
 
-// Runs a script over the flow of its own lines, or over that of a flow file.
-fn step<R: Read + Drop, O: Write>(
-    alloc: Global,
-    rt: &HostRuntime,
-    path: Option<&str>,
-    input: R,
-    out: &mut O,
-) -> Result<(), RunError> {
-    let flow = match path {
-        Some(path) => Some(flow_at(alloc, rt, path)?),
-        None => None,
-    };
-    let script = read_input(alloc, &mut Input::new(input))?;
-    Ok(run_script(alloc, flow, script.as_slice(), out)?)
-}
-
 // `asm` with this program's errors (apart, so that the proof of `run_subcommand` has its clauses alone).
 fn asm<R: Read + Drop, O: Write>(alloc: Global, input: R, out: &mut O) -> Result<(), RunError>
     ensures done { OnOk result (IsAssembled
@@ -104,7 +89,7 @@ fn form_of(dot: bool) -> Form
     if dot { Form::Dot } else { Form::Mermaid }
 }
 
-// Writes the picture of the flow in the flow file at a path.
+// Writes the picture of the flow in the flow file at a path, after an error a beginning of it.
 fn graph<O: Write>(
     alloc: Global,
     rt: &HostRuntime,
@@ -113,7 +98,8 @@ fn graph<O: Write>(
     out: &mut O,
 ) -> Result<(), RunError>
     ensures drawn { OnOk result (IsDrawn dot (O.contents out.old) (O.contents out.new)) }
-    ensures failed { IfErr result (IsDrawFault path.now) }
+    ensures failed { IfErr result (IsDrawFault dot path.now
+        (O.contents out.old) (O.contents out.new)) }
 {
     let flow = flow_at(alloc, rt, path)?;
     Ok(draw(alloc, form_of(dot), &flow, out)?)
@@ -178,33 +164,39 @@ fn run_subcommand<T: Threads + Wait + Sync, R: Read + Drop, O: Write, E: Write>(
     }
 }
 
-/// Writes a text that was asked for.
-fn show<O: Write>(text: &OptionsError, out: &mut O) -> Result<(), WriteError> {
-    write!(out, "{text}")?;
-    Ok(out.flush()?)
+/// Writes help or the version to `out`, where the words ask for one: `text`, which is that of the error. After a
+/// failed write a beginning of it is written. Of words that are refused nothing is written.
+pub fn show<O: Write>(error: &OptionsError, text: &str, out: &mut O) -> Result<(), WriteError>
+    ensures asked { status_of error.now ≡ 0
+        → IsShown text.now (O.contents out.old) (O.contents out.new) result }
+    ensures unasked { status_of error.now ≢ 0 → result ≡ Ok tt }
+    ensures kept { status_of error.now ≢ 0 → Keeps (O.contents out.old) (O.contents out.new) }
+{
+    if error.use_stderr() {
+        return Ok(());
+    }
+    write_out(out, text.as_bytes())
 }
 
-/// Tells why a command line gives no options, and gives the exit status. Help and the version go to
-/// `out`, and all else to `err`.
-pub fn refuse<O: Write, E: Write>(error: &OptionsError, out: &mut O, err: &mut E) -> u8
-    ensures status { status_of error.now ≢ 0 → result ≡ status_of error.now }
-    ensures shown { status_of error.now ≡ 0 → IsShown result }
-    ensures out { status_of error.now ≢ 0 → Keeps (O.contents out.old) (O.contents out.new) }
-    ensures err { result ≡ 0 → Keeps (E.contents err.old) (E.contents err.new) }
+/// Gives the exit status of words that give no options. For help and the version that is 0, or the status of the
+/// failed write where `shown` is one, and `err` gets its text. `err` also gets why other words are refused.
+pub fn refuse<E: Write>(error: &OptionsError, shown: Result<(), WriteError>, err: &mut E) -> u8
+    ensures status { result ≡ refused_status error.now shown }
+    ensures quiet { result ≡ 0 → Keeps (E.contents err.old) (E.contents err.new) }
 {
     if error.use_stderr() {
         // Where standard error takes nothing the status still says it.
         let _ = write!(err, "{error}");
         return error.status();
     }
-    match show(error, out) {
+    match shown {
         Ok(()) => error.status(),
         Err(fault) => tell(&RunError::from(fault), err),
     }
 }
 
-/// Tells that the words of the command line could not be had, and gives the exit status: 4 for want
-/// of memory, and else 2, since they are no text.
+/// Tells that the words of the command line could not be read, and gives the exit status: 4 where memory ran out,
+/// and else 2, since they are no text.
 pub fn refuse_words<E: Write>(error: io::Error, err: &mut E) -> u8
     ensures memory { error_kind error ≡ ErrorKind.OutOfMemory → result ≡ 4 }
     ensures no_text { (error_kind error ≢ ErrorKind.OutOfMemory) → result ≡ 2 }

@@ -8,7 +8,7 @@ ghost use Rattle.tx_plant.specs.Plant.{seen};
 ghost use Rattle.cli_run.specs.Links.{sender_of};
 ghost use Rattle.cli_run.specs.Ran.{Printed};
 ghost use Rattle.cardswitch.specs.Runs.{Answered, IsFlowFault, IsRecoverFault, IsRunFault};
-ghost use Rattle.cardswitch.specs.Runs.{IsServeFault, Recovered, Served, new_sender};
+ghost use Rattle.cardswitch.specs.Runs.{IsServeFault, IsSetUp, Recovered, Served, new_sender};
 
 use crate::error::RunError;
 use crate::flow_file::flow_at;
@@ -29,7 +29,7 @@ use sw_issuers::Issuer;
 use sw_parts::Link;
 use tx_journal::Journal;
 
-/// What a card may spend where nothing is said.
+/// The limit of `recover`, whose book answers no request.
 const LIMIT: u64 = 10_000;
 
 /// The greatest limit: that of a book, of which `Book::new` says only that it takes every smaller one.
@@ -46,11 +46,10 @@ fn issuers(alloc: Global) -> Issuers
     }
 }
 
+// What a run is set up with: a new book with a limit, new links, and so many sessions. (That the participants have
+// this book no contract of `run` can say, since they are boxed; so this one says which book it is.)
 fn setup(alloc: Global, limit: u64, sessions: usize, threads: bool) -> Result<Setup, RunError>
-    ensures limit { IfOk result (λ _. limit ≤ 999999999999999) }
-    ensures book { IfOk result (λ s. s.book ≡ record { limit = limit; items = [] }) }
-    ensures sessions { IfOk result (λ s. s.sessions ≡ sessions) }
-    ensures threads { IfOk result (λ s. s.threads ≡ threads) }
+    ensures set_up { IfOk result (IsSetUp limit sessions threads) }
     ensures sender { IfOk result (λ s. sender_of (⟦<Issuer as Link>⟧.state s.advised.alpha)
         (⟦<Issuer as Link>⟧.state s.advised.beta) ≡ new_sender) }
     ensures refused { IfErr result (λ e. (e ≡ RunError.BadLimit) × (999999999999999 < limit)) }

@@ -1,0 +1,56 @@
+-- What `step` has done, by what became of its flow file.
+-- for: steps::step
+use Rattle.std.proofs.Common.{◌≡◌, ℕ, List, Option, Some, None, Result, Ok, Err, IfErr, IfOk, OnOk, Bor, ap, subst, sym}
+use Rattle.flow_model.specs.declared.flow.Flow.{Flow}
+use Rattle.cardswitch.specs.Steps.{IsFileFlow, IsFileFlowFault, IsScriptFault, IsStepFault, IsStepped, RunsScript}
+use Rattle.cardswitch.specs.declared.error.RunError.{RunError}
+use Rattle.cardswitch.specs.declared.error.RunError.TheVariants as error
+
+pub stepped : (path : Option (Bor (List ℕ))) (file : Result (Option Flow) RunError) (unread before after : Option (List ℕ)) (r : Result (Unit {0}) RunError)
+    → IfOk file (IsFileFlow path) → IfErr file (λ e. (r ≡ Err e) × (after ≡ before))
+    → IfOk file (λ flow. OnOk r (RunsScript flow unread before after)) → OnOk r (IsStepped path unread before after)
+stepped path (Ok flow) unread before after (Ok done) is_flow no_flow ran = (flow, is_flow, ran)
+stepped path (Ok flow) unread before after (Err e) is_flow no_flow ran = tt
+stepped path (Err f) unread before after (Ok done) is_flow no_flow ran = let differ : Ok done ≡ Err f = no_flow.0 in cc
+stepped path (Err f) unread before after (Err e) is_flow no_flow ran = tt
+
+-- a fault of the flow file
+flow_fault : (path : Option (Bor (List ℕ))) (before after : Option (List ℕ)) (e : RunError) → IsFileFlowFault path e → after ≡ before
+    → IsStepFault path before after e
+flow_fault None before after e h same = absurd h
+flow_fault (Some path) before after (error.FlowFile p cause) h same = (ap Some (sym h), same)
+flow_fault (Some path) before after error.OutOfMemory h same = tt
+flow_fault (Some path) before after error.BadLimit h same = absurd h
+flow_fault (Some path) before after (error.JournalFile p) h same = absurd h
+flow_fault (Some path) before after error.Refused h same = absurd h
+flow_fault (Some path) before after (error.Read e) h same = absurd h
+flow_fault (Some path) before after (error.Write e) h same = absurd h
+flow_fault (Some path) before after (error.Step e) h same = absurd h
+flow_fault (Some path) before after (error.Serve e) h same = absurd h
+flow_fault (Some path) before after (error.Input e) h same = absurd h
+
+-- a fault of the script
+script_fault : (path : Option (Bor (List ℕ))) (before after : Option (List ℕ)) (e : RunError) → IsScriptFault before after e
+    → IsStepFault path before after e
+script_fault path before after (error.Read e) h = h
+script_fault path before after (error.Write e) h = h
+script_fault path before after (error.Step e) h = h
+script_fault path before after error.OutOfMemory h = h
+script_fault path before after (error.FlowFile p cause) h = absurd h
+script_fault path before after error.BadLimit h = absurd h
+script_fault path before after (error.JournalFile p) h = absurd h
+script_fault path before after error.Refused h = absurd h
+script_fault path before after (error.Serve e) h = absurd h
+script_fault path before after (error.Input e) h = absurd h
+
+same_error : (e f : RunError) → ◌≡◌ {A = Result (Unit {0}) RunError} (Err e) (Err f) → e ≡ f
+same_error e f same = cc
+
+pub step_failed : (path : Option (Bor (List ℕ))) (file : Result (Option Flow) RunError) (before after : Option (List ℕ)) (r : Result (Unit {0}) RunError)
+    → IfErr file (IsFileFlowFault path) → IfErr file (λ e. (r ≡ Err e) × (after ≡ before))
+    → IfOk file (λ flow. IfErr r (IsScriptFault before after)) → IfErr r (IsStepFault path before after)
+step_failed path (Ok flow) before after (Ok done) refused no_flow failed = tt
+step_failed path (Ok flow) before after (Err e) refused no_flow failed = script_fault path before after e failed
+step_failed path (Err f) before after (Ok done) refused no_flow failed = tt
+step_failed path (Err f) before after (Err e) refused no_flow failed =
+    subst (IsStepFault path before after) (sym (same_error e f no_flow.0)) (flow_fault path before after f refused no_flow.1)

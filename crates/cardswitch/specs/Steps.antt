@@ -1,0 +1,49 @@
+-- What `step` has done, and why it ends early. What a flow file holds no clause can say; the flow of one is checked.
+use Rattle.std.specs.Prelude.{◌≡◌, ⊤, ℕ, List, Option, Some, None, IfSome}
+use Rattle.std.specs.Borrow.{Bor}
+use Rattle.flow_model.specs.Check.{IsChecked}
+use Rattle.flow_model.specs.declared.flow.Flow.{Flow}
+use Rattle.cli_options.specs.CommandLine.{text_of}
+use Rattle.cli_step.specs.Runs.{IsRun}
+use Rattle.cli_step.specs.declared.error.StepError.{StepError}
+use Rattle.cli_step.specs.declared.error.StepError.TheVariants as script
+use Rattle.cardswitch.specs.Runs.{IsFlowFault}
+use Rattle.cardswitch.specs.declared.error.RunError.{RunError}
+use Rattle.cardswitch.specs.declared.error.RunError.TheVariants as error
+
+-- the flow of the flow file that `--flow` names; none without it
+abbrev pub IsFileFlow : Option (Bor (List ℕ)) → Option Flow → Type 0
+IsFileFlow None file = file ≡ None
+IsFileFlow (Some path) file = (flow : Flow) × IsChecked flow × (file ≡ Some flow)
+
+-- why no flow is taken of that file
+abbrev pub IsFileFlowFault : Option (Bor (List ℕ)) → RunError → Type 0
+IsFileFlowFault None e = ⊥
+IsFileFlowFault (Some path) e = IsFlowFault path.now e
+
+-- the script that was to be read, where its bytes are known, was run over this flow, and its text written
+abbrev pub RunsScript : Option Flow → Option (List ℕ) → Option (List ℕ) → Option (List ℕ) → Type 0
+RunsScript file unread before after = IfSome unread (λ script. IsRun file script before after)
+
+-- `step` has run the script of its input, over the flow of its flow file where it was given one
+abbrev pub IsStepped : Option (Bor (List ℕ)) → Option (List ℕ) → Option (List ℕ) → Option (List ℕ) → Type 0
+IsStepped path unread before after = (file : Option Flow) × IsFileFlow path file × RunsScript file unread before after
+
+-- a script, its plant or its journal is refused; failed writes and out of memory have errors of their own
+abbrev pub IsScriptCause : StepError → Type 0
+IsScriptCause (script.Write e) = ⊥
+IsScriptCause script.OutOfMemory = ⊥
+IsScriptCause _ = ⊤
+
+-- why a script was not run to its end; nothing is written where it could not be read
+abbrev pub IsScriptFault : Option (List ℕ) → Option (List ℕ) → RunError → Type 0
+IsScriptFault before after (error.Read e) = after ≡ before
+IsScriptFault before after (error.Step e) = IsScriptCause e
+IsScriptFault before after (error.Write e) = ⊤
+IsScriptFault before after error.OutOfMemory = ⊤
+IsScriptFault before after _ = ⊥
+
+-- the faults of `step`, the first of which it tells: its flow file, before which nothing is written, then those of its script
+abbrev pub IsStepFault : Option (Bor (List ℕ)) → Option (List ℕ) → Option (List ℕ) → RunError → Type 0
+IsStepFault path before after (error.FlowFile p cause) = (text_of path ≡ Some p) × (after ≡ before)
+IsStepFault path before after e = IsScriptFault before after e

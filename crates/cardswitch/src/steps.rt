@@ -1,0 +1,61 @@
+//! The subcommand `step`: a script, over the flow of its own lines or of a flow file.
+
+ghost use Rattle.std.specs.Prelude.{◌≡◌, IfErr, IfOk, OnOk};
+ghost use Rattle.cardswitch.specs.Steps.{IsFileFlow, IsFileFlowFault, IsScriptFault, IsStepFault};
+ghost use Rattle.cardswitch.specs.Steps.{IsStepped, RunsScript};
+
+use crate::error::RunError;
+use crate::flow_file::flow_at;
+use cli_io::{Input, read_input};
+use cli_step::run_script;
+use flow_model::Flow;
+use std::alloc::Global;
+use std::io::{Read, Write};
+
+// The flow of the flow file that the options name, if they name one.
+fn file_flow(alloc: Global, rt: &HostRuntime, path: Option<&str>) -> Result<Option<Flow>, RunError>
+    ensures flow { IfOk result (IsFileFlow path.entry) }
+    ensures failed { IfErr result (IsFileFlowFault path.entry) }
+{
+    match path {
+        Some(path) => Ok(Some(flow_at(alloc, rt, path)?)),
+        None => Ok(None),
+    }
+}
+
+// Runs the script of an input. (The flow comes as what became of its file, so that contracts can say that its
+// fault is the first.)
+fn step_over<R: Read + Drop, O: Write>(
+    alloc: Global,
+    file: Result<Option<Flow>, RunError>,
+    input: R,
+    out: &mut O,
+) -> Result<(), RunError>
+    ensures no_flow { IfErr file (λ e. (result ≡ Err e)
+        × (O.contents out.new ≡ O.contents out.old)) }
+    ensures ran { IfOk file (λ flow. OnOk result (RunsScript flow
+        (R.remaining input) (O.contents out.old) (O.contents out.new))) }
+    ensures failed { IfOk file (λ _. IfErr result
+        (IsScriptFault (O.contents out.old) (O.contents out.new))) }
+{
+    let flow = file?;
+    let script = read_input(alloc, &mut Input::new(input))?;
+    Ok(run_script(alloc, flow, script.as_slice(), out)?)
+}
+
+/// Runs the script of an input over the flow of its own lines, or over that of the flow file at a path.
+pub fn step<R: Read + Drop, O: Write>(
+    alloc: Global,
+    rt: &HostRuntime,
+    path: Option<&str>,
+    input: R,
+    out: &mut O,
+) -> Result<(), RunError>
+    ensures stepped { OnOk result (IsStepped path.entry
+        (R.remaining input) (O.contents out.old) (O.contents out.new)) }
+    ensures failed { IfErr result
+        (IsStepFault path.entry (O.contents out.old) (O.contents out.new)) }
+{
+    let file = file_flow(alloc, rt, path);
+    step_over(alloc, file, input, out)
+}
