@@ -12,7 +12,7 @@ use tx_journal::{Cause, Journal, JournalError};
 use tx_plant::Plant;
 use tx_pool::{Early, Fault, Gate, Late, Pool, PoolError};
 
-/// What a run came to.
+/// What a run came to, or two.
 #[derive(Drop)]
 pub struct Ran {
     /// The plant that was run, or a new one on what it left, which has recovered.
@@ -57,9 +57,9 @@ fn recovered(
     }
 }
 
-/// Runs a plant over so many offers. Where the run is given up since memory was refused, a new plant is made on what it
-/// left, which recovers.
-pub fn run_once<G: Gate + Sync, R: Threads + Wait + Sync>(
+// Runs a plant over so many offers. Where the run is given up since memory was refused, a new plant is made on what it
+// left, which recovers.
+fn run_once<G: Gate + Sync, R: Threads + Wait + Sync>(
     rt: &R,
     alloc: Global,
     code: &Code,
@@ -85,4 +85,28 @@ pub fn run_once<G: Gate + Sync, R: Threads + Wait + Sync>(
             was_given_up: true,
         }),
     }
+}
+
+/// Runs a plant over so many offers, or what goes on where that is given up, and then over as many again.
+pub fn run_twice<G: Gate + Sync, R: Threads + Wait + Sync>(
+    rt: &R,
+    alloc: Global,
+    code: &Code,
+    plant: Plant<MemStore>,
+    sessions: usize,
+    offers: usize,
+    gate: &G,
+) -> Result<Ran, TestError> {
+    let Ran {
+        plant,
+        was_given_up: was_first,
+    } = run_once(rt, alloc, code, plant, sessions, offers, gate)?;
+    let Ran {
+        plant,
+        was_given_up: was_second,
+    } = run_once(rt, alloc, code, plant, sessions, offers, gate)?;
+    Ok(Ran {
+        plant,
+        was_given_up: was_first || was_second,
+    })
 }

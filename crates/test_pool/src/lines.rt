@@ -1,5 +1,6 @@
 //! What the program prints.
 
+use crate::again;
 use crate::error::TestError;
 use crate::runs::Ran;
 use crate::watch::Called;
@@ -96,16 +97,20 @@ fn write_calls<W: Write>(
     Ok(())
 }
 
-/// Writes the trace of the plant's history, its stations' counts, and the calls that threads made.
+/// Writes whether a run was given up, the trace of the last plant's history, its stations' counts, and the calls that
+/// threads made.
 pub fn write_made<W: Write>(
     alloc: Global,
     code: &Code,
-    plant: &Plant<MemStore>,
+    ran: &again::Ran,
     calls: &[Called],
     out: &mut W,
 ) -> Result<(), TestError> {
-    write_trace(alloc, plant.engine(), out)?;
-    write_calls(code, plant, calls, out)?;
+    if ran.was_given_up {
+        writeln!(out, "given up")?;
+    }
+    write_trace(alloc, ran.plant.engine(), out)?;
+    write_calls(code, &ran.plant, calls, out)?;
     Ok(out.flush()?)
 }
 

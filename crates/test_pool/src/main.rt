@@ -28,13 +28,12 @@ mod lines;
 mod runs;
 mod watch;
 
-use again::{Ran, run_once};
+use again::run_twice;
 use cli_flows::open_flow;
 use error::TestError;
 use flow_asm::{Code, assemble};
 use lines::{write_all, write_made};
 use runs::{new_journal, offers_of, run_all};
-use sqlite::MemStore;
 use std::alloc::{AllocError, Global};
 use std::fs::Files;
 use std::io::{self, BufWriter, Write};
@@ -94,50 +93,6 @@ fn names_of(alloc: Global, code: &Code) -> Result<Vec<Text>, TestError> {
     Ok(names)
 }
 
-// Runs the plant as the task says, and writes what it did.
-fn run_plant<R: Threads + Wait + Sync, W: Write>(
-    rt: &R,
-    alloc: Global,
-    code: &Code,
-    plant: Plant<MemStore>,
-    task: Task,
-    out: &mut W,
-) -> Result<(), TestError> {
-    let watch = Watch::new(rt, alloc);
-    let offers = offers_of(alloc, task.offers)?;
-    plant.is_engine();
-    let (plant, runs) = run_all(rt, alloc, plant, offers, task.capacity, &watch)?;
-    let calls = watch.into_calls()?;
-    write_all(alloc, code, &plant, runs.as_slice(), calls.as_slice(), out)
-}
-
-// Runs it, or what goes on where it is given up, and then again.
-fn run_again<R: Threads + Wait + Sync, W: Write>(
-    rt: &R,
-    alloc: Global,
-    code: &Code,
-    plant: Plant<MemStore>,
-    task: Task,
-    out: &mut W,
-) -> Result<(), TestError> {
-    let watch = Watch::new(rt, alloc);
-    let first = run_once(rt, alloc, code, plant, task.sessions, task.offers, &watch)?;
-    let Ran {
-        plant,
-        was_given_up,
-    } = first;
-    let second = run_once(rt, alloc, code, plant, task.sessions, task.offers, &watch)?;
-    let Ran {
-        plant,
-        was_given_up: was_again,
-    } = second;
-    let calls = watch.into_calls()?;
-    if was_given_up || was_again {
-        writeln!(out, "given up")?;
-    }
-    write_made(alloc, code, &plant, calls.as_slice(), out)
-}
-
 // Makes a station for each participant of the flow, runs a plant of them as the task says, and
 // writes what it did. (It hands no station out, so that contracts know of every participant whose
 // it is.)
@@ -163,10 +118,15 @@ fn play<R: Threads + Wait + Sync, W: Write>(
         Ok(plant) => plant,
         Err((error, _, _)) => return Err(TestError::Plant(error)),
     };
+    let watch = Watch::new(rt, alloc);
     if task.is_again {
-        return run_again(rt, alloc, code, plant, task, out);
+        let ran = run_twice(rt, alloc, code, plant, task.sessions, task.offers, &watch)?;
+        return write_made(alloc, code, &ran, watch.into_calls()?.as_slice(), out);
     }
-    run_plant(rt, alloc, code, plant, task, out)
+    let offers = offers_of(alloc, task.offers)?;
+    let (plant, runs) = run_all(rt, alloc, plant, offers, task.capacity, &watch)?;
+    let calls = watch.into_calls()?;
+    write_all(alloc, code, &plant, runs.as_slice(), calls.as_slice(), out)
 }
 
 fn run_words<R: Files + Threads + Wait + Sync, W: Write>(
