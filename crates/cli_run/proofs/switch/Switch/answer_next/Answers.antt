@@ -1,5 +1,5 @@
-use Rattle.std.proofs.Common.{[], ◌∷◌, sym, subst}
-use Rattle.cli_run.specs.Points.{IsAtRest}
+use Rattle.std.proofs.Common.{◌≡◌, [], ◌∷◌, sym, subst}
+use Rattle.cli_run.specs.Points.{IsAtRest, Point, unanswered}
 use Rattle.cli_run.specs.Rounds.{Completed}
 use Rattle.cli_run.proofs.Rounds.{completed, on_both, rest_given}
 use Rattle.cli_run.proofs.Stops.{halts_given, halts_gives, halts_none, on_err_of}
@@ -18,7 +18,8 @@ returns g c =
 pub cut_from-requires-clause-rest : goal.cut_from-requires-clause-rest
 cut_from-requires-clause-rest g c =
     let (own, transacts) = c.in_ok-serve_next.ensures.transacts in
-    subst IsAtRest (sym c.in_ok-give.ensures.answered) (rest_given _ _ own c.requires.rest transacts c.in_ok-serve_next.ensures.seated)
+    let same = c.in_ok-give.ensures.answered in
+    subst IsAtRest (sym same) (rest_given _ _ own c.requires.rest transacts c.in_ok-serve_next.ensures.seated (subst (λ (z : Point). unanswered z ≡ []) same c.in_ok-give.ensures.given))
 
 pub returns-in_err-serve_next-clause-halts : goal.returns-in_err-serve_next-clause-halts
 returns-in_err-serve_next-clause-halts g c = on_err_of c.from_residual.result (halts_none (Completed ∷ []) _ _)
