@@ -1,13 +1,13 @@
 -- What `run` and `recover` have done, of their parts.
 -- for: requests::answer_by, requests::recover
-use Rattle.std.proofs.Common.{◌≡◌, ◌<◌, ◌≤◌, ℕ, Bool, List, Option, Some, None, Result, Ok, Err, IfErr, IfOk, OnOk, Bor, arith, refl, sym, subst}
+use Rattle.std.proofs.Common.{◌≡◌, ◌≤◌, ℕ, List, Option, Some, None, Result, Ok, Err, IfErr, IfOk, OnOk, Bor, arith, refl, sym, subst}
 use Rattle.sqlite_trees.specs.declared.store.Store.{Ghosts}
 use Rattle.sqlite_trees.specs.declared.memory.MemStore.{MemStore}
 use Rattle.sqlite.specs.Steps.{over_memory}
 use Rattle.flow_model.specs.Check.{IsChecked}
 use Rattle.flow_model.specs.declared.flow.Flow.{Flow}
 use Rattle.tx_journal.specs.Kept.{Kept, kept}
-use Rattle.tx_plant.specs.Plant.{Seen, seen}
+use Rattle.tx_plant.specs.Plant.{seen}
 use Rattle.cli_options.specs.declared.choice.RunOptions.{RunOptions}
 use Rattle.cli_run.specs.Ran.{Printed}
 use Rattle.cli_run.specs.declared.serving.Setup.{Setup}

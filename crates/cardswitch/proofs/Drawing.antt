@@ -1,6 +1,6 @@
 -- Pictures that were not drawn whole.
 -- for: program::graph
-use Rattle.std.proofs.Common.{◌≡◌, ℕ, Bool, List, Option, inl, inr, refl}
+use Rattle.std.proofs.Common.{ℕ, Bool, List, Option, inl, inr, refl}
 use Rattle.cli_io.specs.Written.{AppendsBeginning}
 use Rattle.cli_io.specs.declared.error.WriteError.{WriteError}
 use Rattle.cli_io.specs.declared.error.WriteError.TheVariants as write

@@ -1,6 +1,6 @@
 -- Journals that were opened.
 -- for: journals::open_file, journals::open_in_memory
-use Rattle.std.proofs.Common.{◌≡◌, ◌≢◌, ℕ, List, Result, Ok, Err, IfOk, codes, refl, sym, ap, ◌∙◌, subst, inl, inr}
+use Rattle.std.proofs.Common.{◌≡◌, ◌≢◌, ℕ, List, Result, Ok, Err, IfOk, codes, refl, sym, ap, ◌∙◌, subst, inr}
 use Rattle.sqlite_trees.specs.declared.store.Store.{Ghosts}
 use Rattle.sqlite_trees.specs.declared.memory.MemStore.{MemStore}
 use Rattle.sqlite_schema.specs.declared.schema.Schema.{Schema}
@@ -11,7 +11,7 @@ use Rattle.sqlite.specs.State.{HasCleanDisk, IsLive, Opens}
 use Rattle.sqlite.specs.Steps.{IsEmpty, over_memory}
 use Rattle.sqlite.proofs.Callers.{memory_is_clean}
 use Rattle.tx_journal.specs.Kept.{IsCleanJournal, Kept, kept}
-use Rattle.tx_journal.specs.Opened.{IsViewOf, blank_view}
+use Rattle.tx_journal.specs.Opened.{blank_view}
 use Rattle.tx_journal.specs.Making.{no_schema}
 use Rattle.cardswitch.specs.Journals.{IsNewJournal, IsOfFile, IsOpenedOf}
 

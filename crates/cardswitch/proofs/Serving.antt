@@ -1,6 +1,6 @@
 -- Runs that were served to their end.
 -- for: requests::serve
-use Rattle.std.proofs.Common.{◌≡◌, ℕ, Bool, List, Option, Some, None, Result, Ok, Err, IfSome, subst}
+use Rattle.std.proofs.Common.{◌≡◌, ℕ, Bool, List, Option, Some, None, Ok, IfSome, subst}
 use Rattle.flow_model.specs.declared.flow.Flow.{Flow}
 use Rattle.sw_issuers.specs.Sending.{PlainSender}
 use Rattle.tx_plant.specs.Plant.{Seen}
@@ -11,7 +11,6 @@ use Rattle.cli_run.specs.Requests.{ReadTo, requests}
 use Rattle.cli_run.specs.Rounds.{Round, RoundsFor}
 use Rattle.cli_run.specs.declared.stream.StreamEnd.{StreamEnd}
 use Rattle.cli_run.specs.declared.stream.StreamEnd.TheVariants.{Whole, BadLength, Truncated, Unread}
-use Rattle.cli_run.specs.declared.error.ServeError.{ServeError}
 use Rattle.cardswitch.specs.Runs.{Served, issuer_step, new_sender}
 
 -- what a run has read, done and told, as `cli_run` has it
