@@ -2,7 +2,7 @@
 
 use std::alloc::Global;
 use std::fs::{self, File};
-use std::io::{self, Write};
+use std::io::{self, Read, Write};
 
 /// The bytes of a page of a new journal. Its rows are short, and a commit writes each page that it changes whole, so
 /// that larger ones would be written for little.
@@ -18,6 +18,21 @@ const EMPTY: &[u8] = b"SQLite format 3\x00\
     \x00\x00\x00\x00\x00\x00\x00\x00\x00\x00\x00\x00\x00\x00\x00\x00\
     \x00\x00\x00\x00\x00\x00\x00\x01\x00\x2e\x63\x01\
     \x0d\x00\x00\x00\x00\x02\x00\x00";
+
+/// The bytes with which a database begins.
+const HEADER: &[u8; 16] = b"SQLite format 3\x00";
+
+/// Whether a file that is not empty begins otherwise than a database, and no log of changes is beside it, from which the
+/// database could still be made. The store would lay a log beside it before it refuses it.
+pub fn is_foreign(rt: &HostRuntime, alloc: Global, path: &str) -> io::Result<bool> {
+    let mut first = [0u8; 16];
+    let count = File::open(rt, path)?.read(&mut first)?;
+    if count == 0 || first == *HEADER {
+        return Ok(false);
+    }
+    let log = format!(in alloc; "{path}-wal")?;
+    Ok(!fs::exists(rt, log.as_str())?)
+}
 
 // Writes a database without tables, where no file is.
 fn write_empty(rt: &HostRuntime, path: &str) -> io::Result<()> {

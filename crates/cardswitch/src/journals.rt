@@ -5,7 +5,7 @@ ghost use Rattle.cardswitch.specs.Journals.{IsNewJournal, IsOfFile, IsOpenedOf};
 ghost use Rattle.cardswitch.specs.Runs.{IsOpenFault, IsServeFault};
 
 use crate::error::RunError;
-use crate::journal_file::lay;
+use crate::journal_file::{is_foreign, lay};
 use cli_run::ServeError;
 use sqlite::{Alter, Connection, MemStore};
 use sqlite_std_file::File;
@@ -35,6 +35,11 @@ pub fn open_file(
     ensures journal { IfOk result (IsOfFile ⟦<FileStore<File> as Store>⟧ path.now) }
     ensures failed { IfErr result (IsOpenFault path.now) }
 {
+    if let Ok(true) = is_foreign(rt, alloc, path) {
+        return Err(RunError::JournalFile {
+            path: Text::from_str(alloc, path)?,
+        });
+    }
     // Where no file was laid, the journal is made as it is opened.
     let _laid = lay(rt, alloc, path);
     match Connection::open(rt, path) {

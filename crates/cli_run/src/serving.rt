@@ -36,9 +36,7 @@ use std::thread::Threads;
 use sw_book::Book;
 use sw_issuers::{Issuer, Sender};
 use sw_participant::{Bystander, Station, Unjoined};
-use sw_parts::{
-    CheckFields, Forward, Limits, Link, QueryIssuer, Respond, Reverse, Route, StandIn,
-};
+use sw_parts::{CheckFields, Forward, Limits, Link, QueryIssuer, Respond, Reverse, Route, StandIn};
 use tx_engine::Engine;
 use tx_journal::Journal;
 use tx_plant::{Plant, Turn};
