@@ -1,5 +1,5 @@
 -- What `run` and `recover` have done, of their parts.
--- for: requests::answer_by, requests::recover
+-- for: requests::answer_by, requests::answer_requests, requests::recover
 use Rattle.std.proofs.Common.{◌≡◌, ◌≤◌, ℕ, List, Option, Some, None, Result, Ok, Err, IfErr, IfOk, OnOk, Bor, arith, refl, sym, subst}
 use Rattle.sqlite_trees.specs.declared.store.Store.{Ghosts}
 use Rattle.sqlite_trees.specs.declared.memory.MemStore.{MemStore}
@@ -54,6 +54,16 @@ answered_in_memory files flow code o setup journal unread before after r took se
       served = served;
     }) h)
 
+-- the flow that was taken is checked, and the requests were answered by it
+pub answered_requests : {S : Type 0} (files : Ghosts S) (code : Result Flow RunError) (o : RunOptions) (unread before after : Option (List ℕ)) (r : Result (Unit {0}) RunError)
+    → IfOk code (λ f. IsChecked f) → IfErr code (λ e. (r ≡ Err e) × (after ≡ before))
+    → IfOk code (λ f. OnOk r (Answered files f o unread before after))
+    → OnOk r ((f : Flow) × IsChecked f × Answered files f o unread before after)
+answered_requests files (Ok flow) o unread before after (Ok done) checked no_flow h = (flow, checked, h)
+answered_requests files (Ok flow) o unread before after (Err e) checked no_flow h = tt
+answered_requests files (Err f) o unread before after (Ok done) checked no_flow h = let differ : Ok done ≡ Err f = no_flow.0 in cc
+answered_requests files (Err f) o unread before after (Err e) checked no_flow h = tt
+
 served_fault : (o : RunOptions) (before after : Option (List ℕ)) (e : RunError) → o.limit ≤ 999999999999999 → IsServeFault e → IsRunFault o before after e
 served_fault o before after (error.Serve e) limit h = (limit, h)
 served_fault o before after error.OutOfMemory limit h = λ over. absurd (omega arith)
@@ -65,6 +75,7 @@ served_fault o before after (error.Read e) limit h = absurd h
 served_fault o before after (error.Write e) limit h = absurd h
 served_fault o before after (error.Step e) limit h = absurd h
 served_fault o before after (error.Input e) limit h = absurd h
+served_fault o before after (error.Text e) limit h = absurd h
 
 -- a run that is refused after its limit was taken
 pub refused : (code : Result Flow RunError) (o : RunOptions) (before after : Option (List ℕ)) (r : Result (Unit {0}) RunError)

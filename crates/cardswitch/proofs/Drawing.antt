@@ -25,6 +25,7 @@ no_flow dot path before (error.Write e) h = absurd h
 no_flow dot path before (error.Step e) h = absurd h
 no_flow dot path before (error.Serve e) h = absurd h
 no_flow dot path before (error.Input e) h = absurd h
+no_flow dot path before (error.Text e) h = absurd h
 
 -- writing failed
 pub unwritten : (dot : Bool) (path : List ℕ) (before after : Option (List ℕ)) (flow : Flow) (e : WriteError) → IsChecked flow

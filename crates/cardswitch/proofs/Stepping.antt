@@ -1,10 +1,26 @@
 -- What `step` has done, by what became of its flow file.
--- for: steps::step
-use Rattle.std.proofs.Common.{◌≡◌, ℕ, List, Option, Some, None, Result, Ok, Err, IfErr, IfOk, OnOk, Bor, ap, subst, sym}
+-- for: steps::step, steps::step_over
+use Rattle.std.proofs.Common.{◌≡◌, ℕ, List, Option, Some, None, Result, Ok, Err, IfErr, IfOk, IfSome, OnOk, Bor, ap, subst, sym, ◌∙◌}
 use Rattle.flow_model.specs.declared.flow.Flow.{Flow}
+use Rattle.cli_step.specs.Runs.{IsRun}
 use Rattle.cardswitch.specs.Steps.{IsFileFlow, IsFileFlowFault, IsScriptFault, IsStepFault, IsStepped, RunsScript}
 use Rattle.cardswitch.specs.declared.error.RunError.{RunError}
 use Rattle.cardswitch.specs.declared.error.RunError.TheVariants as error
+
+-- the bytes that were read, where they are known, were run
+ran_known : (flow : Option Flow) (known : Option (List ℕ)) (items script : List ℕ) (before after : Option (List ℕ))
+    → IfSome known (λ xs. items ≡ xs) → script ≡ items → IsRun flow script before after → RunsScript flow known before after
+ran_known flow None items script before after read whole ran = tt
+ran_known flow (Some xs) items script before after read whole ran =
+    subst (λ (bytes : List ℕ). IsRun flow bytes before after) (whole ∙ read) ran
+
+-- over the flow that was taken
+pub ran_over : (file : Result (Option Flow) RunError) (flow : Option Flow) (known unread : Option (List ℕ)) (items script : List ℕ) (before after : Option (List ℕ))
+    → file ≡ Ok flow → known ≡ unread → IfSome known (λ xs. items ≡ xs) → script ≡ items → IsRun flow script before after
+    → IfOk file (λ f. RunsScript f unread before after)
+ran_over file flow known unread items script before after took same read whole ran =
+    subst (λ (x : Result (Option Flow) RunError). IfOk x (λ f. RunsScript f unread before after)) (sym took)
+    (subst (λ (u : Option (List ℕ)). RunsScript flow u before after) same (ran_known flow known items script before after read whole ran))
 
 pub stepped : (path : Option (Bor (List ℕ))) (file : Result (Option Flow) RunError) (unread before after : Option (List ℕ)) (r : Result (Unit {0}) RunError)
     → IfOk file (IsFileFlow path) → IfErr file (λ e. (r ≡ Err e) × (after ≡ before))
@@ -28,6 +44,7 @@ flow_fault (Some path) before after (error.Write e) h same = absurd h
 flow_fault (Some path) before after (error.Step e) h same = absurd h
 flow_fault (Some path) before after (error.Serve e) h same = absurd h
 flow_fault (Some path) before after (error.Input e) h same = absurd h
+flow_fault (Some path) before after (error.Text e) h same = absurd h
 
 -- a fault of the script
 script_fault : (path : Option (Bor (List ℕ))) (before after : Option (List ℕ)) (e : RunError) → IsScriptFault before after e
@@ -42,6 +59,7 @@ script_fault path before after (error.JournalFile p) h = absurd h
 script_fault path before after error.Refused h = absurd h
 script_fault path before after (error.Serve e) h = absurd h
 script_fault path before after (error.Input e) h = absurd h
+script_fault path before after (error.Text e) h = absurd h
 
 same_error : (e f : RunError) → ◌≡◌ {A = Result (Unit {0}) RunError} (Err e) (Err f) → e ≡ f
 same_error e f same = cc
