@@ -78,19 +78,7 @@ fn journal_of(alloc: Global, conn: Connection<MemStore>) -> Result<Journal<MemSt
             Ok(journal) => return Ok(journal),
             Err((JournalError::BadRow(_), _)) => return Err(TestError::Lost),
             Err((_, Left::Open(back))) => conn = back,
-            Err((_, Left::Closed(store))) => conn = connection_over(alloc, store)?,
-        }
-    }
-    Err(TestError::OutOfMemory(AllocError))
-}
-
-// A new connection over the store of one that was closed.
-fn connection_over(alloc: Global, store: MemStore) -> Result<Connection<MemStore>, TestError> {
-    let mut store = store;
-    for _ in 0..TRIES {
-        match Connection::over(alloc, store) {
-            Ok(conn) => return Ok(conn),
-            Err((_, back)) => store = back,
+            Err((_, Left::Closed(_))) => return Err(TestError::Lost),
         }
     }
     Err(TestError::OutOfMemory(AllocError))
