@@ -9,12 +9,6 @@ without. What it wrote has to be a beginning of what the undisturbed run wrote, 
 silent issuer leads to for one request, as it does where memory is refused after a query was sent; the plain model says what that is.
 A journal's file has to be sound, without a row at fault, and `recover` has to leave no transaction in it.
 
-`test_switch again` makes each turn of a script again that is refused for memory. With one request refused, what it prints has to be what
-the model prints; or, where memory was refused to the journal's store, what it prints with a stop before or after one line.
-
-`test_pool again` runs eight offers by four sessions as threads, twice. A run that is refused memory is given up, and a new plant recovers on
-what it left and goes on: no transaction has both a commit and an abort, and the offers of the second run are all taken.
-
 --all takes every number, else so many of each command, spread evenly (--count, the numbers in all).
 """
 
@@ -22,7 +16,6 @@ import argparse
 import glob
 import os
 import random
-import re
 import shutil
 import subprocess
 import sys
@@ -34,15 +27,10 @@ sys.dont_write_bytecode = True
 
 from harness import shims  # noqa: E402
 from kills import end_faults, recovery_faults, tables_of  # noqa: E402
-from model import flows, journal, messages, script, switch  # noqa: E402
+from model import flows, journal, messages, switch  # noqa: E402
 
 TOP = os.path.dirname(os.path.dirname(os.path.abspath(__file__)))
 BUILT = os.path.join(TOP, "crates", "cardswitch", "out", "cardswitch")
-TESTS = os.path.join(TOP, "crates", "test_switch", "out", "test_switch")
-POOL = os.path.join(TOP, "crates", "test_pool", "out", "test_pool")
-# Of the threads that are refused memory: so many sessions, and so many offers in each of two runs.
-SESSIONS, OFFERS = 4, 8
-OUTCOME = re.compile(r"(?:called \d+ (\d+) (commit|abort) \S+|(\d+) [CU] (commit|abort) .*)")
 FLOW = os.path.join(TOP, "examples", "switch.toml")
 SCRIPTS = {
     "a retry": "retries 1\nflow main p\nanswer p 02 v=41\nanswer p 02\nauto\nrelease\ntake 0\nwrite\ncall 0\nwrite\ncall 0\nwrite\n",
@@ -54,34 +42,6 @@ SCRIPTS = {
     "call 0\nwrite\nsaved 0\nclear pick\ncall 0\nwrite\ncalls pick\nauto\n",
     "a cut": "flow main check\nauto\ncut\noffer\ncut\ntake 0\nwrite\ncall 0\nwrite\nauto\n",
 }
-# Scripts whose lines are all turns.
-TURNS = {
-    "a retry": "retries 1\nflow main p\nanswer p 02 v=41\nanswer p 02\noffer\ntake 0\nwrite\ncall 0\nwrite\ncall 0\nwrite\n"
-    "release\ntake 0\nwrite\ncall 0\nwrite\ncall 0\nwrite\n",
-    "two sessions": "flow main check send\nanswer send 01\nanswer send 00\noffer\noffer\ntake 0\ntake 1\ncall 0\nwrite\ncall 0\ncall 0\n"
-    "call 1\nwrite\ncall 0\ncall 1\ncall 0\nwrite\ncall 1\ncall 0\nwrite\ncall 0\ncall 1\nwrite\n",
-    "a stop": "flow main check send\noffer\ntake 0\nwrite\ncall 0\nwrite\nstop\ncall 0\nwrite\ncall 0\nwrite\n",
-    "a selection and a cut": "flow main pick:s last\nflow b pb:r\nchoose pick b\nadvice pb 42\noffer v=41\ntake 0\nwrite\ncall 0\nwrite\ncall 0\n"
-    "write\ncall 0\nwrite\ncall 0\nwrite\ncall 0\nwrite\ncall 0\nwrite\ncall 0\nwrite\nack 1 1\nwrite\ncut\noffer\n",
-}
-
-
-def printed(lines):
-    """The lines that `step` prints of a script."""
-    text, fault, _ = script.step("".join(f"{line}\n" for line in lines).encode())
-    assert fault is None, fault
-    return text.splitlines()
-
-
-def with_a_stop(text):
-    """What it may print of a script: the model's lines, and those with a stop before a line or after it, whose own line is then lost."""
-    lines = text.splitlines()
-    first = next(at for at, line in enumerate(lines) if line.startswith("offer"))
-    yield printed(lines)
-    for at in range(first, len(lines)):
-        yield printed([*lines[:at], "stop", *lines[at:]])
-        stopped = printed([*lines[: at + 1], "stop", *lines[at:]])
-        yield stopped[: at - first] + stopped[at - first + 1 :]
 
 
 def read(name):
@@ -101,10 +61,6 @@ class Command:
     others: list = field(default_factory=list)
     # The journal's file that it begins with.
     begins_with: str = None
-    # Whether it goes on after a refusal, and what it may print then.
-    again: list = None
-    # Whether it runs sessions as threads.
-    threads: bool = False
 
     def fresh(self):
         for name in glob.glob(glob.escape(self.path) + "*") if self.path else []:
@@ -126,7 +82,7 @@ def with_silence(requests):
             switch.issued = heard
 
 
-def commands(program, room, chosen):
+def commands(program, room):
     """All commands, in the order in which they are tried."""
     requests = read("examples/requests.frames")
     others = list(with_silence([frame[4:] for frame in messages.frames(requests)]))
@@ -141,11 +97,6 @@ def commands(program, room, chosen):
     yield asm
     yield Command("list", [program, "list"], subprocess.run(asm.words, input=asm.stdin, capture_output=True, check=True).stdout)
     yield Command("decode", [program, "decode"], requests)
-    for name, text in TURNS.items():
-        again = ["".join(f"{line}\n" for line in lines).encode() for lines in with_a_stop(text)]
-        yield Command(f"again: {name}", [TESTS, "again"], text.encode(), again=again)
-    flow = os.path.join(TOP, "tests", "pool", "plain.toml")
-    yield Command("again: threads", [POOL, "again", flow, str(SESSIONS), str(OFFERS), str(chosen.randrange(10**9))], b"", threads=True)
 
 
 def journal_faults(program, path):
@@ -157,34 +108,6 @@ def journal_faults(program, path):
         yield f"a row is at fault: {fault}"
         return
     yield from recovery_faults(program, tables, path)
-
-
-def threads_faults(came, goes_on):
-    """What is wrong with what came of threads that were refused memory."""
-    if not came.stdout and (came.status in (1, 4) or goes_on):
-        # (its words or its flow were not read; where all is refused, nothing goes on)
-        return
-    if came.status != 0:
-        yield f"status {came.status}: {came.stderr.decode('utf-8', 'replace')}"
-    lines, outcomes = came.stdout.decode().splitlines(), {}
-    for line in lines:
-        if found := OUTCOME.fullmatch(line):
-            outcomes.setdefault(found[1] or found[3], set()).add(found[2] or found[4])
-    yield from (f"transaction {number} has a commit and an abort" for number, its in outcomes.items() if len(its) > 1)
-    takes, runs = sum(" take " in line for line in lines), 1 if "given up" in lines else 2
-    if takes < OFFERS * runs:
-        yield f"{takes} takes of {OFFERS * runs} offers"
-
-
-def again_faults(command, came, goes_on):
-    """What is wrong with what came of a disturbed run that goes on."""
-    if not came.stdout and came.status in (1, 4):
-        # (its words or its input were not read)
-        return
-    if came.status != 0 and not goes_on:
-        yield f"status {came.status}: {came.stderr.decode('utf-8', 'replace')}"
-    if came.stdout not in command.again and not (goes_on and any(it.startswith(came.stdout) for it in command.again)):
-        yield f"it prints {came.stdout.decode('utf-8', 'replace')}"
 
 
 def stream_faults(command, whole, came):
@@ -208,18 +131,11 @@ def faults_of(shim, program, command, given, chosen):
     if whole.calls == 0:
         yield 0, "no request is counted"
         return
-    if command.again and whole.stdout != command.again[0]:
-        yield 0, f"undisturbed it prints {whole.stdout.decode()}"
-    for at in shims.spread(chosen, whole.calls, whole.calls if given.all else given.count // 16):
+    for at in shims.spread(chosen, whole.calls, whole.calls if given.all else given.count // 11):
         for goes_on in False, True:
             command.fresh()
             came = shim.run(command.words, command.stdin, at, goes_on)
-            if command.threads:
-                found = [*threads_faults(came, goes_on)]
-            elif command.again:
-                found = [*again_faults(command, came, goes_on)]
-            else:
-                found = [*stream_faults(command, whole, came), *(journal_faults(program, command.path) if command.path else [])]
+            found = [*stream_faults(command, whole, came), *(journal_faults(program, command.path) if command.path else [])]
             yield f"request {at} of {whole.calls}{', and all after it' * goes_on}", "; ".join(found)
 
 
@@ -239,7 +155,7 @@ def main():
     chosen, began, passed, failed = random.Random(given.seed), time.monotonic(), 0, 0
     with tempfile.TemporaryDirectory() as room:
         shim = shims.Shim("memory", "REFUSE", room)
-        for command in commands(given.program, room, chosen):
+        for command in commands(given.program, room):
             for refused, fault in faults_of(shim, given.program, command, given, chosen):
                 passed, failed = passed + (not fault), failed + bool(fault)
                 if fault:

@@ -54,15 +54,21 @@ answered_in_memory files flow code o setup journal unread before after r took se
       served = served;
     }) h)
 
+-- of a flow that was taken: both facts, where the run is done
+both : {F E : Type 0} (P Q : F → Type 0) (K : Type 0) (code : Result F E) (r : Result (Unit {0}) E)
+    → IfOk code P → IfErr code (λ e. (r ≡ Err e) × K) → IfOk code (λ f. OnOk r (Q f)) → OnOk r ((f : F) × P f × Q f)
+both P Q K (Ok flow) (Ok done) checked no_flow h = (flow, checked, h)
+both P Q K (Ok flow) (Err e) checked no_flow h = tt
+both P Q K (Err f) (Ok done) checked no_flow h = let differ : Ok done ≡ Err f = no_flow.0 in cc
+both P Q K (Err f) (Err e) checked no_flow h = tt
+
 -- the flow that was taken is checked, and the requests were answered by it
 pub answered_requests : {S : Type 0} (files : Ghosts S) (code : Result Flow RunError) (o : RunOptions) (unread before after : Option (List ℕ)) (r : Result (Unit {0}) RunError)
     → IfOk code (λ f. IsChecked f) → IfErr code (λ e. (r ≡ Err e) × (after ≡ before))
     → IfOk code (λ f. OnOk r (Answered files f o unread before after))
     → OnOk r ((f : Flow) × IsChecked f × Answered files f o unread before after)
-answered_requests files (Ok flow) o unread before after (Ok done) checked no_flow h = (flow, checked, h)
-answered_requests files (Ok flow) o unread before after (Err e) checked no_flow h = tt
-answered_requests files (Err f) o unread before after (Ok done) checked no_flow h = let differ : Ok done ≡ Err f = no_flow.0 in cc
-answered_requests files (Err f) o unread before after (Err e) checked no_flow h = tt
+answered_requests files code o unread before after r checked no_flow h =
+    both (λ f. IsChecked f) (λ f. Answered files f o unread before after) (after ≡ before) code r checked no_flow h
 
 served_fault : (o : RunOptions) (before after : Option (List ℕ)) (e : RunError) → o.limit ≤ 999999999999999 → IsServeFault e → IsRunFault o before after e
 served_fault o before after (error.Serve e) limit h = (limit, h)

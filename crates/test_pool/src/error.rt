@@ -10,7 +10,7 @@ use tx_pool::{Early, Fault};
 /// Why the program ends early.
 #[derive(Drop, Error)]
 pub enum TestError {
-    #[error("expected: FLOW SESSIONS OFFERS CAPACITY SEED, or again FLOW SESSIONS OFFERS SEED")]
+    #[error("expected: FLOW SESSIONS OFFERS CAPACITY SEED, where the last four are numbers")]
     Words,
     #[error("{0}")]
     Flow(#[from] FlowsError),
@@ -30,8 +30,7 @@ pub enum TestError {
     OutOfMemory(#[from] AllocError),
 }
 
-// By hand: a person is shown the same text, and a derived `fmt` of so many variants is slow to prove
-// prove.
+// By hand: a person is shown the same text, and a derived `fmt` of so many variants is slow to prove.
 impl fmt::Debug for TestError {
     fn fmt<W: fmt::Write>(&self, f: &mut fmt::Formatter<W>) -> fmt::Result {
         fmt::Display::fmt(self, f)

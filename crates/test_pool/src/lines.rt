@@ -1,6 +1,5 @@
 //! What the program prints.
 
-use crate::again;
 use crate::error::TestError;
 use crate::runs::Ran;
 use crate::watch::Called;
@@ -79,41 +78,6 @@ fn write_ended<W: Write>(id: u64, context: &Context, out: &mut W) -> io::Result<
     writeln!(out)
 }
 
-// Writes the stations' counts, and the calls that were made.
-fn write_calls<W: Write>(
-    code: &Code,
-    plant: &Plant<MemStore>,
-    calls: &[Called],
-    out: &mut W,
-) -> io::Result<()> {
-    for part in code.participants() {
-        let name = part.name.as_str();
-        let count = plant.calls(name).unwrap_or(0);
-        writeln!(out, "calls {name} {count}")?;
-    }
-    for called in calls {
-        write_called(code, called, out)?;
-    }
-    Ok(())
-}
-
-/// Writes whether a run was given up, the trace of the last plant's history, its stations' counts, and the calls that
-/// threads made.
-pub fn write_made<W: Write>(
-    alloc: Global,
-    code: &Code,
-    ran: &again::Ran,
-    calls: &[Called],
-    out: &mut W,
-) -> Result<(), TestError> {
-    if ran.was_given_up {
-        writeln!(out, "given up")?;
-    }
-    write_trace(alloc, ran.plant.engine(), out)?;
-    write_calls(code, &ran.plant, calls, out)?;
-    Ok(out.flush()?)
-}
-
 /// Writes the trace of the plant's history, its runs, its stations' counts, the calls that were
 /// made, and the contexts of the transactions that are done.
 pub fn write_all<W: Write>(
@@ -128,7 +92,14 @@ pub fn write_all<W: Write>(
     for ran in runs {
         write_run(ran, out)?;
     }
-    write_calls(code, plant, calls, out)?;
+    for part in code.participants() {
+        let name = part.name.as_str();
+        let count = plant.calls(name).unwrap_or(0);
+        writeln!(out, "calls {name} {count}")?;
+    }
+    for called in calls {
+        write_called(code, called, out)?;
+    }
     for (id, context) in plant.ended() {
         write_ended(*id, context, out)?;
     }

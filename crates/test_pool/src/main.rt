@@ -15,24 +15,17 @@
 //! - of each station `calls NAME COUNT`,
 //! - of each call, in the order in which they were made, `called S ID CALL NAME`,
 //! - of each transaction that is done `ended ID NAME=HEX ..`, the context that it ended with.
-//!
-//! `test_pool again FLOW SESSIONS OFFERS SEED` runs such a plant once, for tests that refuse it memory. Where the run is
-//! given up, a new plant is made on what it left and recovers, and it prints `given up`. Then that plant, or the same,
-//! runs as many offers again. It prints the lines of the trace of the last plant, the stations' counts and the calls that
-//! threads made, as above.
 #![tactic(auto)]
 
-mod again;
 mod error;
 mod lines;
 mod runs;
 mod watch;
 
-use again::run_twice;
 use cli_flows::open_flow;
 use error::TestError;
 use flow_asm::{Code, assemble};
-use lines::{write_all, write_made};
+use lines::write_all;
 use runs::{new_journal, offers_of, run_all};
 use std::alloc::{AllocError, Global};
 use std::fs::Files;
@@ -52,8 +45,6 @@ struct Task {
     offers: usize,
     capacity: usize,
     seed: u64,
-    /// Whether it is run for tests that refuse it memory.
-    is_again: bool,
 }
 
 fn number(word: &str) -> Result<usize, TestError> {
@@ -67,14 +58,6 @@ fn read_task(words: &[String]) -> Result<Task, TestError> {
             offers: number(offers.as_str())?,
             capacity: number(capacity.as_str())?,
             seed: number(seed.as_str())? as u64,
-            is_again: false,
-        }),
-        [sessions, offers, seed] => Ok(Task {
-            sessions: number(sessions.as_str())?,
-            offers: number(offers.as_str())?,
-            capacity: 1,
-            seed: number(seed.as_str())? as u64,
-            is_again: true,
         }),
         _ => Err(TestError::Words),
     }
@@ -119,10 +102,6 @@ fn play<R: Threads + Wait + Sync, W: Write>(
         Err((error, _, _)) => return Err(TestError::Plant(error)),
     };
     let watch = Watch::new(rt, alloc);
-    if task.is_again {
-        let ran = run_twice(rt, alloc, code, plant, task.sessions, task.offers, &watch)?;
-        return write_made(alloc, code, &ran, watch.into_calls()?.as_slice(), out);
-    }
     let offers = offers_of(alloc, task.offers)?;
     let (plant, runs) = run_all(rt, alloc, plant, offers, task.capacity, &watch)?;
     let calls = watch.into_calls()?;
@@ -137,11 +116,6 @@ fn run_words<R: Files + Threads + Wait + Sync, W: Write>(
 ) -> Result<(), TestError> {
     match words {
         [] | [_] => Ok(()),
-        [_, again, flow, numbers @ ..] if again.as_str() == "again" => {
-            let task = read_task(numbers)?;
-            let flow = open_flow(alloc, rt, flow.as_str())?;
-            play(rt, alloc, &assemble(alloc, &flow)?, task, out)
-        }
         [_, flow, numbers @ ..] => {
             let task = read_task(numbers)?;
             let flow = open_flow(alloc, rt, flow.as_str())?;

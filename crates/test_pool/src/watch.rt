@@ -60,8 +60,7 @@ impl<R: Wait> Gate for Watch<'_, R> {
             session,
             call: *call,
         };
-        // (once again, for tests that refuse one request for memory)
-        if calls.list.push(called).is_err() && calls.list.push(called).is_err() {
+        if calls.list.push(called).is_err() {
             calls.is_short = true;
         }
     }
