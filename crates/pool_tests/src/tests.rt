@@ -3,7 +3,6 @@ mod disks;
 mod faults;
 mod flags;
 mod gates;
-mod journals;
 mod meeting;
 mod participants;
 mod plants;
