@@ -5,7 +5,7 @@
 
 Each request has to be answered, in order, and each line of the trace has to come once, in order: the plain model says which lines a
 network test has, and what its response is. At most so much memory may be taken, 320 MB if not said otherwise: the contexts of
-transactions that ended are kept until the end of a run, about 1.6 KB each. The default, 125,000 requests, makes a history of a million
+transactions that ended are kept until the end of a run, about 1 KB each. The default, 125,000 requests, makes a history of a million
 entries; 1,000,000 by hand take some minutes. The last line counts; the status is 1 where something is wrong.
 """
 
