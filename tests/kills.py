@@ -91,7 +91,7 @@ def recovery_faults(program, tables, path):
     """What is wrong with a recovery of a copy."""
     with open(FLOW, "rb") as file:
         engine = Engine(flows.read_flow(file.read()), 1, Participants(0))
-    engine.written = journal.view(tables)
+    engine.written = journal.view(journal.turned(tables) if tables.layout == 1 else tables)
     # (what a recovery finds and leaves stands before and behind them)
     wanted = "".join(f"{line}\n" for line in [*stops.recovery_lines(engine)][1:-1]).encode()
     with copied(path) as copy:
@@ -116,14 +116,19 @@ def faults_of(program, tables, path, answered, silent):
         yield from recovery_faults(program, tables, path)
 
 
+def soundness_faults(path):
+    """Whether the file is no sound database."""
+    with copied(path) as copy, contextlib.closing(sqlite3.connect(copy)) as database:
+        if database.execute("PRAGMA integrity_check").fetchall() != [("ok",)]:
+            yield "the file is not sound"
+
+
 def end_faults(path):
     """What is wrong with the journal at the end."""
     tables = tables_of(path)
     if tables.tx or tables.advice:
         yield "at the end a row or an advice is left"
-    with copied(path) as copy, contextlib.closing(sqlite3.connect(copy)) as database:
-        if database.execute("PRAGMA integrity_check").fetchall() != [("ok",)]:
-            yield "the file is not sound"
+    yield from soundness_faults(path)
 
 
 def ran(chosen, given, path, made, seconds=None):

@@ -32,7 +32,7 @@ def arguments():
     parser.add_argument("word", nargs="?", default="", help="only cases whose name has this word")
     parser.add_argument("--seed", type=int, help="the seed of the random cases; else a new one")
     parser.add_argument("--count", type=int, default=4000, help="how many random cases; default 4000")
-    parser.add_argument("--many", action="store_true", help="a hundred times as many random cases, for a night")
+    parser.add_argument("--many", action="store_true", help="a hundred times as many random cases, and the files many.cases, for a night")
     parser.add_argument("--every", action="store_true", help="each byte of both spoilt images by every other")
     parser.add_argument("--program", default=BUILT, help="the program; default the one that rt ci built")
     parser.add_argument("--show", action="store_true", help="print what came of each case, judge nothing")
@@ -43,7 +43,7 @@ def arguments():
 
 def all_cases(seed, given):
     """The cases of the files, of the pages and of the seed, in this order."""
-    yield from case_files.cases_below(HERE)
+    yield from case_files.cases_below(HERE, given.many or "many" in given.word)
     yield from pages.cases_of(TOP)
     yield from generate.cases(random.Random(seed), given.count, given.every)
 

@@ -7,7 +7,7 @@ apart     Transactions that do not see one another. For 1, 2, 4 and 16 sessions,
           comes, the run writes the bytes that the model has for one request after the other, and so does `run` without threads.
 crowd     Transactions of all classes that meet. The model follows the trace line by line (model/threads.py), and has then the
           responses and the journal of the run.
-crush     The same with more messages than a batch has.
+crush     The same with more messages than a batch has. Two transactions at least are under way at once: `--threads` is not ignored.
 ends      A stream that ends within a frame, or with a bad length, and messages that cannot be read: what came before is
           answered, and text and status are those of `run` without threads.
 refusing  A journal's file that may not grow: responses and trace are those of whole batches, and no transaction of them is

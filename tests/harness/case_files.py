@@ -180,11 +180,12 @@ def cases_in(path, name):
             yield Case(title, "", fault=f"{path}, line {begin + 1}: {error}")
 
 
-def cases_below(folder):
-    """The cases of all files NAME.cases below a folder, by their paths."""
+def cases_below(folder, with_many):
+    """The cases of all files NAME.cases below a folder, by their paths. Those named many.cases take minutes, and are read only
+    where they are wanted."""
     for at, folders, files in sorted(os.walk(folder)):
         folders.sort()
         for file in sorted(files):
-            if file.endswith(".cases"):
+            if file.endswith(".cases") and (with_many or file != "many.cases"):
                 path = os.path.join(at, file)
                 yield from cases_in(path, os.path.relpath(path, folder).removesuffix(".cases"))

@@ -7,6 +7,7 @@ script      the lines of a script
 stops       runs of a script whose journal is cut, and their recoveries
 law         the outcome law, as the lines of a trace show it
 journal     the tables of a journal
+shown       what `journal` prints of these tables
 pool        what sessions that run as threads did
 messages    messages of ISO 8583:1987, their frames, and what `decode` prints
 switch      the participants of the switch, and what `run` answers

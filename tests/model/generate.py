@@ -2,7 +2,7 @@
 
 from harness import inputs
 from harness.case import Begins, Case, Exactly
-from model import flows, journal, messages, pictures, requests, script, texts
+from model import flows, journal, messages, pictures, requests, script, shown, texts
 from model.flows import Entry, Flow, Group, Kind
 from model.law import unlawful
 from model.stops import Runs
@@ -567,6 +567,11 @@ def spoil_message(random, text):
     return spoil_bytes(random, text, b"0123456789ABCDEFabcdefG \x00\x1f\x7f\xff")
 
 
+def any_message(random):
+    made = message(random)
+    return spoil_message(random, made) if random.random() < 0.2 else made
+
+
 def stream(random):
     """Frames, the last of them cut off now and then, or something behind it that is none."""
     made = []
@@ -708,6 +713,7 @@ def cases(random, count, is_every=False):
         yield stopped_case(random, f"random/stops {number}")
     for number in range(count // 10):
         yield journal.journal_case(random, f"random/journal {number}")
+        yield shown.shown_case(random, f"random/shown {number}", any_message)
     for number in range(count):
         word, made = kinds[number % len(kinds)]
         yield made(random, f"random/{word} {number}")

@@ -147,11 +147,19 @@ def view(tables):
     return View(tables.meta[2], rows, shelf, dict(tables.advice), [*tables.part.values()])
 
 
+# How many columns the key of each table has, by layout.
+KEYS = {
+    1: {"meta": 1, "tx": 1, "member": 2, "shelf": 1, "advice": 2},
+    2: {"meta": 1, "tx": 1, "part": 1, "joined": 2, "shelf": 1, "advice": 2},
+}
+
+
 def read(path):
-    """The tables of a journal's file of layout 2, as SQLite's own library reads them."""
-    made = Tables(2)
+    """The tables of a journal's file, as SQLite's own library reads them."""
     with contextlib.closing(sqlite3.connect(path)) as journal:
-        for name, count in (("meta", 1), ("tx", 1), ("part", 1), ("joined", 2), ("shelf", 1), ("advice", 2)):
+        there = {name for (name,) in journal.execute("SELECT name FROM sqlite_master")}
+        made = Tables(2 if "part" in there else 1)
+        for name, count in KEYS[made.layout].items():
             for row in journal.execute(f"SELECT * FROM {name} ORDER BY 1, 2"):
                 key, values = row[:count], row[count:]
                 getattr(made, name)[key if count > 1 else key[0]] = values if len(values) > 1 else values[0]

@@ -78,7 +78,13 @@ class Run:
         self.offered += 1
         return self.switch.offer(self.made[number - 1])
 
+    def is_alone(self):
+        """Whether the request that was offered last came alone, as far as that is known. Session 0 serves it then."""
+        its = self.begins is not None and self.batch_of(self.numbers[self.offered - 1])
+        return its and sum(self.batch_of(number) == its for number in self.numbers) == 1
+
     def take(self, session):
+        need(session == 0 or not self.is_alone(), "a request that came alone is taken by a thread")
         line = self.engine.take(session)
         self.most = max(self.most, sum(its is not None for its in self.engine.sessions))
         return line

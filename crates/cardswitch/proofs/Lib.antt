@@ -1,6 +1,7 @@
 mod Answering
 mod Doing
 mod Drawing
+mod Showing
 mod Openings
 mod Serving
 mod Stepping

@@ -1,26 +1,32 @@
 -- What `step` has done, by what became of its flow file.
 -- for: steps::step, steps::step_over
-use Rattle.std.proofs.Common.{◌≡◌, ℕ, List, Option, Some, None, Result, Ok, Err, IfErr, IfOk, IfSome, OnOk, Bor, ap, subst, sym, ◌∙◌}
+use Rattle.std.proofs.Common.{◌≡◌, ℕ, [], List, Option, Some, None, Result, Ok, Err, IfErr, IfOk, IfSome, OnOk, Bor, ap, subst, sym}
 use Rattle.flow_model.specs.declared.flow.Flow.{Flow}
-use Rattle.cli_step.specs.Runs.{IsRun}
+use Rattle.std.proofs.KnownBytes.{Appends-nil}
+use Rattle.cli_step.specs.Runs.{Grows, IsRun}
+use Rattle.cli_step.specs.declared.error.StepError.{StepError}
+use Rattle.cli_step.specs.declared.error.StepError.TheVariants as step
+use Rattle.cardswitch.specs.Errors.{error_of_step}
 use Rattle.cardswitch.specs.Steps.{IsFileFlow, IsFileFlowFault, IsScriptFault, IsStepFault, IsStepped, RunsScript}
 use Rattle.cardswitch.specs.declared.error.RunError.{RunError}
 use Rattle.cardswitch.specs.declared.error.RunError.TheVariants as error
 
--- the bytes that were read, where they are known, were run
-ran_known : (flow : Option Flow) (known : Option (List ℕ)) (items script : List ℕ) (before after : Option (List ℕ))
-    → IfSome known (λ xs. items ≡ xs) → script ≡ items → IsRun flow script before after → RunsScript flow known before after
-ran_known flow None items script before after read whole ran = tt
-ran_known flow (Some xs) items script before after read whole ran =
-    subst (λ (bytes : List ℕ). IsRun flow bytes before after) (whole ∙ read) ran
-
--- over the flow that was taken
-pub ran_over : (file : Result (Option Flow) RunError) (flow : Option Flow) (known unread : Option (List ℕ)) (items script : List ℕ) (before after : Option (List ℕ))
-    → file ≡ Ok flow → known ≡ unread → IfSome known (λ xs. items ≡ xs) → script ≡ items → IsRun flow script before after
+-- the lines that were to come, where they are known, were run over the flow that was taken
+pub ran_over : (file : Result (Option Flow) RunError) (flow : Option Flow) (known unread : Option (List ℕ)) (before after : Option (List ℕ))
+    → file ≡ Ok flow → known ≡ unread → IfSome known (λ script. IsRun flow script before after)
     → IfOk file (λ f. RunsScript f unread before after)
-ran_over file flow known unread items script before after took same read whole ran =
+ran_over file flow known unread before after took same ran =
     subst (λ (x : Result (Option Flow) RunError). IfOk x (λ f. RunsScript f unread before after)) (sym took)
-    (subst (λ (u : Option (List ℕ)). RunsScript flow u before after) same (ran_known flow known items script before after read whole ran))
+    (subst (λ (u : Option (List ℕ)). RunsScript flow u before after) same ran)
+
+-- the errors of a script's run
+pub script_error : (before after : Option (List ℕ)) (e : StepError) → Grows before after → IsScriptFault before after (error_of_step e)
+script_error before after (step.Script e) grown = (tt, grown)
+script_error before after (step.Plant n e) grown = (tt, grown)
+script_error before after (step.Journal n e) grown = (tt, grown)
+script_error before after (step.Read e) grown = grown
+script_error before after (step.Write e) grown = grown
+script_error before after step.OutOfMemory grown = grown
 
 pub stepped : (path : Option (Bor (List ℕ))) (file : Result (Option Flow) RunError) (unread before after : Option (List ℕ)) (r : Result (Unit {0}) RunError)
     → IfOk file (IsFileFlow path) → IfErr file (λ e. (r ≡ Err e) × (after ≡ before))
@@ -35,9 +41,9 @@ flow_fault : (path : Option (Bor (List ℕ))) (before after : Option (List ℕ))
     → IsStepFault path before after e
 flow_fault None before after e h same = absurd h
 flow_fault (Some path) before after (error.FlowFile p cause) h same = (ap Some (sym h), same)
-flow_fault (Some path) before after error.OutOfMemory h same = tt
+flow_fault (Some path) before after error.OutOfMemory h same = subst (Grows before) (sym same) ([], Appends-nil before)
 flow_fault (Some path) before after error.BadLimit h same = absurd h
-flow_fault (Some path) before after (error.JournalFile p) h same = absurd h
+flow_fault (Some path) before after (error.JournalFile p cause) h same = absurd h
 flow_fault (Some path) before after error.Refused h same = absurd h
 flow_fault (Some path) before after (error.Read e) h same = absurd h
 flow_fault (Some path) before after (error.Write e) h same = absurd h
@@ -55,7 +61,7 @@ script_fault path before after (error.Step e) h = h
 script_fault path before after error.OutOfMemory h = h
 script_fault path before after (error.FlowFile p cause) h = absurd h
 script_fault path before after error.BadLimit h = absurd h
-script_fault path before after (error.JournalFile p) h = absurd h
+script_fault path before after (error.JournalFile p cause) h = absurd h
 script_fault path before after error.Refused h = absurd h
 script_fault path before after (error.Serve e) h = absurd h
 script_fault path before after (error.Input e) h = absurd h

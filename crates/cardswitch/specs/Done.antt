@@ -15,11 +15,12 @@ use Rattle.cli_flows.specs.Errors.{IsUnwritten, RefusesFile, RefusesImage}
 use Rattle.cli_flows.specs.Subcommands.{IsAssembled, IsListed}
 use Rattle.cli_options.specs.Refusal.{status_of}
 use Rattle.cli_options.specs.declared.choice.Options.{Options}
-use Rattle.cli_options.specs.declared.choice.Options.TheVariants.{Asm, Decode, Encode, Graph, List as ListImage}
+use Rattle.cli_options.specs.declared.choice.Options.TheVariants.{Asm, Decode, Encode, Graph, Journal, List as ListImage}
 use Rattle.cli_options.specs.declared.choice.Options.TheVariants.{Recover, Run, Step}
 use Rattle.cli_options.specs.declared.error.OptionsError.{OptionsError}
 use Rattle.cardswitch.specs.Errors.{error_of_write, run_status}
 use Rattle.cardswitch.specs.Drawings.{IsDrawFault, IsDrawn}
+use Rattle.cardswitch.specs.Looking.{IsLookFault, IsLooked}
 use Rattle.cardswitch.specs.Runs.{Answered, IsRecoverFault, IsRunFault, Recovered}
 use Rattle.cardswitch.specs.Steps.{IsStepFault, IsStepped}
 use Rattle.cardswitch.specs.declared.error.RunError.{RunError}
@@ -41,6 +42,7 @@ IsDone files (Recover flow journal) unread written written_now =
     (f : Flow) × IsChecked f × Recovered files f journal.now written written_now
 IsDone files (Run o) unread written written_now =
     (f : Flow) × IsChecked f × Answered files f o unread written written_now
+IsDone files (Journal o) unread written written_now = IsLooked o written written_now
 IsDone files Asm unread written written_now = IsAssembled unread written written_now
 IsDone files ListImage unread written written_now = IsListed unread written written_now
 IsDone files (Graph flow dot) unread written written_now = IsDrawn dot written written_now
@@ -86,6 +88,7 @@ IsErrorOf (Step flow) unread written written_now e = IsStepFault flow written wr
 IsErrorOf (Recover flow journal) unread written written_now e =
     IsRecoverFault flow.now journal.now written written_now e
 IsErrorOf (Run o) unread written written_now e = IsRunFault o written written_now e
+IsErrorOf (Journal o) unread written written_now e = IsLookFault o written written_now e
 IsErrorOf Asm unread written written_now e = IsAsmError unread written written_now e
 IsErrorOf ListImage unread written written_now e = IsListError unread written written_now e
 IsErrorOf (Graph flow dot) unread written written_now e = IsDrawFault dot flow.now written written_now e

@@ -12,6 +12,7 @@ use Rattle.cli_io.specs.declared.error.WriteError.{WriteError}
 use Rattle.cli_io.specs.declared.error.WriteError.TheVariants as write
 use Rattle.cli_step.specs.declared.error.StepError.{StepError}
 use Rattle.cli_step.specs.declared.error.StepError.TheVariants as step
+use Rattle.cardswitch.specs.declared.error.JournalFault.TheVariants as fault
 use Rattle.cardswitch.specs.declared.error.RunError.{RunError}
 use Rattle.cardswitch.specs.declared.error.RunError.TheVariants.{Input, JournalFile, OutOfMemory}
 use Rattle.cardswitch.specs.declared.error.RunError.TheVariants.{Read, Serve, Step, Text, Write}
@@ -23,7 +24,8 @@ abbrev pub run_status : RunError → ℕ
 run_status OutOfMemory = 4
 run_status (Step (step.Journal line cause)) = 3
 run_status (Serve (serve.Journal cause)) = 3
-run_status (JournalFile path) = 3
+run_status (JournalFile path (fault.Read e)) = 1
+run_status (JournalFile path cause) = 3
 run_status _ = 1
 
 -- what the errors of the parts become: out of memory is told as such, and all else is carried
@@ -36,6 +38,7 @@ error_of_write write.OutOfMemory = OutOfMemory
 error_of_write e = Write e
 
 abbrev pub error_of_step : StepError → RunError
+error_of_step (step.Read e) = Read e
 error_of_step (step.Write e) = Write e
 error_of_step step.OutOfMemory = OutOfMemory
 error_of_step e = Step e

@@ -3,4 +3,5 @@ pub mod Journals
 pub mod Runs
 pub mod Steps
 pub mod Drawings
+pub mod Looking
 pub mod Done

@@ -75,12 +75,12 @@ IsServeFault _ = ⊥
 
 -- why there is no journal of the file at a path
 abbrev pub IsOpenFault : List ℕ → RunError → Type 0
-IsOpenFault path (error.JournalFile p) = p ≡ path
+IsOpenFault path (error.JournalFile p cause) = p ≡ path
 IsOpenFault path e = IsServeFault e
 
 -- the same, and of what is done with it; nothing is written where the file is not opened
 abbrev pub IsFileFault : List ℕ → Option (List ℕ) → Option (List ℕ) → RunError → Type 0
-IsFileFault path before after (error.JournalFile p) = (p ≡ path) × (after ≡ before)
+IsFileFault path before after (error.JournalFile p cause) = (p ≡ path) × (after ≡ before)
 IsFileFault path before after e = IsServeFault e
 
 -- The faults of `run`, the first of which it tells: its flow file, its limit, its journal's file, and what is done with the
@@ -88,7 +88,7 @@ IsFileFault path before after e = IsServeFault e
 abbrev pub IsRunFault : RunOptions → Option (List ℕ) → Option (List ℕ) → RunError → Type 0
 IsRunFault o before after (error.FlowFile path cause) = (path ≡ o.flow.now) × (after ≡ before)
 IsRunFault o before after error.BadLimit = (999999999999999 < o.limit) × (after ≡ before)
-IsRunFault o before after (error.JournalFile path) =
+IsRunFault o before after (error.JournalFile path cause) =
     (o.limit ≤ 999999999999999) × (text_of o.journal ≡ Some path) × (after ≡ before)
 IsRunFault o before after (error.Serve e) = (o.limit ≤ 999999999999999) × (e ≢ serve.OutOfMemory)
 IsRunFault o before after error.OutOfMemory = 999999999999999 < o.limit → after ≡ before

@@ -4,7 +4,7 @@ use Rattle.std.specs.Borrow.{Bor}
 use Rattle.flow_model.specs.Check.{IsChecked}
 use Rattle.flow_model.specs.declared.flow.Flow.{Flow}
 use Rattle.cli_options.specs.CommandLine.{text_of}
-use Rattle.cli_step.specs.Runs.{IsRun}
+use Rattle.cli_step.specs.Runs.{Grows, IsRun}
 use Rattle.cli_step.specs.declared.error.StepError.{StepError}
 use Rattle.cli_step.specs.declared.error.StepError.TheVariants as script
 use Rattle.cardswitch.specs.Runs.{IsFlowFault}
@@ -29,18 +29,19 @@ RunsScript file unread before after = IfSome unread (λ script. IsRun file scrip
 abbrev pub IsStepped : Option (Bor (List ℕ)) → Option (List ℕ) → Option (List ℕ) → Option (List ℕ) → Type 0
 IsStepped path unread before after = (file : Option Flow) × IsFileFlow path file × RunsScript file unread before after
 
--- a script, its plant or its journal is refused; failed writes and out of memory have errors of their own
+-- a script, its plant or its journal is refused; failed reads and writes and out of memory have errors of their own
 abbrev pub IsScriptCause : StepError → Type 0
+IsScriptCause (script.Read e) = ⊥
 IsScriptCause (script.Write e) = ⊥
 IsScriptCause script.OutOfMemory = ⊥
 IsScriptCause _ = ⊤
 
--- why a script was not run to its end; nothing is written where it could not be read
+-- why a script was not run to its end; what was written before stands, and after it what its lines printed till then
 abbrev pub IsScriptFault : Option (List ℕ) → Option (List ℕ) → RunError → Type 0
-IsScriptFault before after (error.Read e) = after ≡ before
-IsScriptFault before after (error.Step e) = IsScriptCause e
-IsScriptFault before after (error.Write e) = ⊤
-IsScriptFault before after error.OutOfMemory = ⊤
+IsScriptFault before after (error.Read e) = Grows before after
+IsScriptFault before after (error.Step e) = IsScriptCause e × Grows before after
+IsScriptFault before after (error.Write e) = Grows before after
+IsScriptFault before after error.OutOfMemory = Grows before after
 IsScriptFault before after _ = ⊥
 
 -- the faults of `step`, the first of which it tells: its flow file, before which nothing is written, then those of its script

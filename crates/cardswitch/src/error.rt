@@ -11,9 +11,39 @@ use cli_io::{ReadError, WriteError};
 use cli_run::ServeError;
 use cli_step::StepError;
 use std::alloc::{AllocError, AllocFailed};
-use std::fmt;
+use std::{fmt, io};
 use sw_participant::Text;
 use thiserror::Error;
+
+/// Why a file is not taken as a journal. The text does not name the file.
+#[derive(Drop, Error)]
+pub enum JournalFault {
+    /// There is no such file, or it may not be opened or made.
+    #[error("cannot open: {0}")]
+    Open(io::Error),
+    /// The library does not open it.
+    #[error("cannot open: {0}")]
+    Database(sqlite::Error),
+    /// Another program has it open.
+    #[error("in use by another program")]
+    InUse,
+    /// It is another file than a journal's.
+    #[error("not a journal of cardswitch")]
+    NotAJournal,
+    /// Its copy was not of one moment, each time that it was read.
+    #[error("changed while it was read; try again")]
+    Changed,
+    /// It could not be read to its end.
+    #[error("cannot read: {0}")]
+    Read(ReadError),
+}
+
+// By hand: a person is shown the same text, and a derived `fmt` is slow to prove.
+impl fmt::Debug for JournalFault {
+    fn fmt<W: fmt::Write>(&self, f: &mut fmt::Formatter<W>) -> fmt::Result {
+        fmt::Display::fmt(self, f)
+    }
+}
 
 /// Why a run of the program ends early. Its text goes to standard error.
 #[derive(Drop, Error)]
@@ -34,9 +64,9 @@ pub enum RunError {
     /// What a card may spend is above the greatest limit.
     #[error("the limit is too large; expected at most 999999999999999")]
     BadLimit,
-    /// The file at the path is not a journal, or cannot be opened.
-    #[error("{}: cannot open the journal; expected a journal's file, or no file", .path.as_str())]
-    JournalFile { path: Text },
+    /// The file at the path is not taken as a journal.
+    #[error("{}: {cause}", .path.as_str())]
+    JournalFile { path: Text, cause: JournalFault },
     /// The flow file at the path is not taken.
     #[error("{}: {cause}", .path.as_str())]
     FlowFile { path: Text, cause: FlowsError },
@@ -71,6 +101,10 @@ impl RunError {
             RunError::OutOfMemory => 4,
             RunError::Step(StepError::Journal { .. }) => 3,
             RunError::Serve(ServeError::Journal(_)) => 3,
+            RunError::JournalFile {
+                cause: JournalFault::Read(_),
+                ..
+            } => 1,
             RunError::JournalFile { .. } => 3,
             _ => 1,
         }
@@ -120,6 +154,7 @@ impl From<StepError> for RunError {
 
     fn from(error: StepError) -> RunError {
         match error {
+            StepError::Read(error) => RunError::Read(error),
             StepError::Write(error) => RunError::Write(error),
             StepError::OutOfMemory => RunError::OutOfMemory,
             other => RunError::Step(other),

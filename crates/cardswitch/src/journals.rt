@@ -4,14 +4,15 @@ ghost use Rattle.std.specs.Prelude.{IfErr, IfOk};
 ghost use Rattle.cardswitch.specs.Journals.{IsNewJournal, IsOfFile, IsOpenedOf};
 ghost use Rattle.cardswitch.specs.Runs.{IsOpenFault, IsServeFault};
 
-use crate::error::RunError;
+use crate::error::{JournalFault, RunError};
 use crate::journal_file::{is_foreign, lay};
 use cli_run::ServeError;
-use sqlite::{Alter, Connection, MemStore};
+use sqlite::{Alter, Connection, Error, ErrorCode, MemStore};
 use sqlite_std_file::File;
 use sqlite_store::FileStore;
 use sqlite_trees::store::Store;
 use std::alloc::Global;
+use std::io::{self, ErrorKind};
 use sw_participant::Text;
 use tx_journal::Journal;
 
@@ -26,6 +27,28 @@ fn open<S: Alter + Drop>(alloc: Global, conn: Connection<S>) -> Result<Journal<S
     }
 }
 
+// Why the library does not open a file: the system's own cause, where reading its beginning or laying it met one.
+fn fault_of(error: Error, read: io::Result<bool>, laid: io::Result<()>) -> JournalFault {
+    if let Error::SqliteFailure(ErrorCode::DatabaseBusy) = error {
+        return JournalFault::InUse;
+    }
+    match (read, laid) {
+        (Err(cause), _) if cause.kind() != ErrorKind::NotFound => JournalFault::Open(cause),
+        (_, Err(cause)) if cause.kind() != ErrorKind::AlreadyExists => JournalFault::Open(cause),
+        _ => JournalFault::Database(error),
+    }
+}
+
+/// The error of a file that is not taken as a journal.
+pub fn refusal(alloc: Global, path: &str, cause: JournalFault) -> RunError
+    ensures { IsOpenFault path.now result }
+{
+    match Text::from_str(alloc, path) {
+        Ok(path) => RunError::JournalFile { path, cause },
+        Err(_) => RunError::OutOfMemory,
+    }
+}
+
 /// Opens the journal of the file at a path. Where no file is, one is made.
 pub fn open_file(
     alloc: Global,
@@ -35,18 +58,15 @@ pub fn open_file(
     ensures journal { IfOk result (IsOfFile ⟦<FileStore<File> as Store>⟧ path.now) }
     ensures failed { IfErr result (IsOpenFault path.now) }
 {
-    if let Ok(true) = is_foreign(rt, alloc, path) {
-        return Err(RunError::JournalFile {
-            path: Text::from_str(alloc, path)?,
-        });
+    let read = is_foreign(rt, alloc, path);
+    if let Ok(true) = read {
+        return Err(refusal(alloc, path, JournalFault::NotAJournal));
     }
     // Where no file was laid, the journal is made as it is opened.
-    let _laid = lay(rt, alloc, path);
+    let laid = lay(rt, alloc, path);
     match Connection::open(rt, path) {
         Ok(conn) => open(alloc, conn),
-        Err(_) => Err(RunError::JournalFile {
-            path: Text::from_str(alloc, path)?,
-        }),
+        Err(error) => Err(refusal(alloc, path, fault_of(error, read, laid))),
     }
 }
 

@@ -9,6 +9,7 @@ mod error;
 mod flow_file;
 mod journal_file;
 mod journals;
+mod looking;
 mod program;
 mod requests;
 mod steps;

@@ -13,6 +13,7 @@ ghost use Rattle.cli_options.specs.Refusal.{status_of};
 
 use crate::error::RunError;
 use crate::flow_file::flow_at;
+use crate::looking::look_into;
 use crate::requests::{answer_requests, recover};
 use crate::steps::step;
 use cli_decode::{Masking, decode_stream};
@@ -160,6 +161,7 @@ fn run_subcommand<T: Threads + Wait + Sync, R: Read + Drop, O: Write, E: Write>(
         Options::Decode { mask } => decode(alloc, *mask, input, out),
         Options::Encode => encode(alloc, input, out),
         Options::Recover { flow, journal } => recover(threads, alloc, rt, flow, journal, out),
+        Options::Journal(options) => look_into(alloc, rt, options, out),
         Options::Run(options) => { answer_requests(threads, alloc, rt, options, input, out, err) }
     }
 }

@@ -6,8 +6,9 @@ ghost use Rattle.cardswitch.specs.Steps.{IsStepped, RunsScript};
 
 use crate::error::RunError;
 use crate::flow_file::flow_at;
-use cli_io::{Input, read_input};
-use cli_step::run_script;
+use cli_io::Input;
+use cli_lines::Lines;
+use cli_step::run_lines;
 use flow_model::Flow;
 use std::alloc::Global;
 use std::io::{Read, Write};
@@ -23,7 +24,7 @@ fn file_flow(alloc: Global, rt: &HostRuntime, path: Option<&str>) -> Result<Opti
     }
 }
 
-// Runs the script of an input. (The flow comes as what became of its file, so that contracts can say that its
+// Runs the script of an input, each line before the next one is read. (The flow comes as what became of its file, so that contracts can say that its
 // fault is the first.)
 fn step_over<R: Read + Drop, O: Write>(
     alloc: Global,
@@ -39,11 +40,12 @@ fn step_over<R: Read + Drop, O: Write>(
         (IsScriptFault (O.contents out.old) (O.contents out.new))) }
 {
     let flow = file?;
-    let script = read_input(alloc, &mut Input::new(input))?;
-    Ok(run_script(alloc, flow, script.as_slice(), out)?)
+    let mut lines = Lines::new(alloc, Input::new(input));
+    Ok(run_lines(alloc, flow, &mut lines, out)?)
 }
 
-/// Runs the script of an input over the flow of its own lines, or over that of the flow file at a path.
+/// Runs the script of an input over the flow of its own lines, or over that of the flow file at a path. What a
+/// line prints is written before the next one is read.
 pub fn step<R: Read + Drop, O: Write>(
     alloc: Global,
     rt: &HostRuntime,

@@ -5,6 +5,8 @@
 //! paragraph for each message, numbered from 1, or one line that says why it is refused, and a last
 //! line for a bad length or an unfinished frame. It answers whether anything was refused.
 //!
+//! [`push_frame`] adds the text of one frame, for what shows messages that come otherwise.
+//!
 //! With [`Masking::On`] sensitive fields are masked, and [`masked_texts_hide`] says what a masked text tells: frames
 //! whose messages differ in what is masked alone have the same text.
 #![tactic(auto)]
@@ -21,3 +23,4 @@ pub use error::StreamError;
 pub use laws::masked_texts_hide;
 pub use masking::Masking;
 pub use stream::decode_stream;
+pub use text::{push_frame, push_number};

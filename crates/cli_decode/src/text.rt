@@ -18,6 +18,7 @@ use iso_msg::{Form, form_at};
 use itoa::Buffer;
 use std::alloc::AllocError;
 
+/// Adds a number's decimal digits.
 pub fn push_number(text: &mut Vec<u8>, number: u64) -> Result<(), AllocError>
     ensures { OnOk result (text.new.items ≡ text.old.items ++ decimal number) }
 {

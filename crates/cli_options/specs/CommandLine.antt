@@ -8,7 +8,8 @@ use Rattle.clap.specs.Words.{App, Row, Rule, Text, app_of, first_of, new_app, ne
 use Rattle.clap.specs.declared.builder.Command.{Command}
 use Rattle.clap.specs.declared.builder.Command.TheViews.{out-Command}
 use Rattle.cli_options.specs.declared.choice.Options.{Options}
-use Rattle.cli_options.specs.declared.choice.Options.TheVariants.{Asm, Decode, Encode, Graph, List as ListImage, Recover, Run, Step}
+use Rattle.cli_options.specs.declared.choice.Options.TheVariants.{Asm, Decode, Encode, Graph, Journal, List as ListImage, Recover, Run, Step}
+use Rattle.cli_options.specs.declared.choice.JournalOptions.{JournalOptions}
 use Rattle.cli_options.specs.declared.choice.RunOptions.{RunOptions}
 use Rattle.clap.specs.declared.builder.action.ArgAction.TheVariants.{SetTrue}
 
@@ -27,6 +28,10 @@ option_rule name = record (new_rule name) { long = Some name; value_names = 1 }
 -- `--NAME VALUE`, which has to be given
 abbrev pub needed_rule : Text → Rule
 needed_rule name = record (option_rule name) { required = true }
+
+-- a word of its own, which has to be given
+abbrev pub word_rule : Text → Rule
+word_rule name = record (new_rule name) { value_names = 1; required = true }
 
 -- `--NAME`, without a value
 abbrev pub flag_rule : Text → Rule
@@ -60,6 +65,10 @@ encode_app = new_app (codes "encode")
 abbrev pub recover_app : App
 recover_app = with_rule (with_rule (new_app (codes "recover")) (needed_rule (codes "flow"))) (needed_rule (codes "journal"))
 
+-- `journal PATH [--json] [--clear]`
+abbrev pub journal_app : App
+journal_app = with_rule (with_rule (with_rule (new_app (codes "journal")) (word_rule (codes "path"))) (flag_rule (codes "json"))) (flag_rule (codes "clear"))
+
 -- `run --flow PATH [--journal PATH] [--sessions N] [--limit N] [--threads] [--trace]`
 abbrev pub run_app : App
 run_app = with_rule (with_rule (with_rule (with_rule (with_rule (with_rule (new_app (codes "run")) (needed_rule (codes "flow"))) (option_rule (codes "journal"))) (option_rule (codes "sessions"))) (option_rule (codes "limit"))) (flag_rule (codes "threads"))) (flag_rule (codes "trace"))
@@ -72,7 +81,7 @@ program_app = record (new_app (codes "cardswitch")) {
 
 -- the program with its subcommands
 abbrev pub switch_app : App
-switch_app = with_subcommand (with_subcommand (with_subcommand (with_subcommand (with_subcommand (with_subcommand (with_subcommand (with_subcommand program_app step_app.top) asm_app.top) list_app.top) graph_app.top) decode_app.top) encode_app.top) recover_app.top) run_app.top
+switch_app = with_subcommand (with_subcommand (with_subcommand (with_subcommand (with_subcommand (with_subcommand (with_subcommand (with_subcommand (with_subcommand program_app step_app.top) asm_app.top) list_app.top) graph_app.top) decode_app.top) encode_app.top) recover_app.top) journal_app.top) run_app.top
 
 -- the text that a borrow shows
 abbrev pub text_of : Option (Bor Text) → Option Text
@@ -100,6 +109,12 @@ pub record AreRunOptions (rows : List Row) (o : RunOptions) : Type 0 where
   pub threads : o.threads ≡ is_set (first_of (codes "threads") rows)
   pub trace : o.trace ≡ is_set (first_of (codes "trace") rows)
 
+-- the same of `journal`
+pub record AreJournalOptions (rows : List Row) (o : JournalOptions) : Type 0 where
+  pub path : Some o.path.now ≡ first_of (codes "path") rows
+  pub json : o.json ≡ is_set (first_of (codes "json") rows)
+  pub clear : o.clear ≡ is_set (first_of (codes "clear") rows)
+
 -- the options are those of the subcommand `name`, whose own options are in the rows
 abbrev pub AreOptionsAt : Text → List Row → Options → Type 0
 AreOptionsAt name rows (Step flow) = (name ≡ codes "step") × (text_of flow ≡ first_of (codes "flow") rows)
@@ -110,6 +125,7 @@ AreOptionsAt name rows (Graph flow dot) =
 AreOptionsAt name rows (Decode mask) = (name ≡ codes "decode") × (mask ≡ is_set (first_of (codes "mask") rows))
 AreOptionsAt name rows Encode = name ≡ codes "encode"
 AreOptionsAt name rows (Recover flow journal) = (name ≡ codes "recover") × (Some flow.now ≡ first_of (codes "flow") rows) × (Some journal.now ≡ first_of (codes "journal") rows)
+AreOptionsAt name rows (Journal o) = (name ≡ codes "journal") × AreJournalOptions rows o
 AreOptionsAt name rows (Run o) = (name ≡ codes "run") × AreRunOptions rows o
 
 -- no options are those of the subcommand `name`

@@ -1,18 +1,20 @@
 -- What a row of the table of subcommands says.
-use Rattle.std.specs.Prelude.{Bool, List, [], ◌∷◌, Option, Some, None}
-use Rattle.std.specs.Borrow.{Bor}
+use Rattle.std.specs.Prelude.{Bool, List, [], ◌∷◌, Some}
 use Rattle.clap.specs.Words.{App, Rule, Text, new_app, new_rule, with_rule, with_subcommand}
 use Rattle.clap.specs.declared.builder.action.ArgAction.TheVariants.{SetTrue}
 use Rattle.cli_options.specs.declared.table.CommandRow.{CommandRow}
+use Rattle.cli_options.specs.declared.table.Given.{Given}
+use Rattle.cli_options.specs.declared.table.Given.TheVariants.{Value, Flag, Word}
 use Rattle.cli_options.specs.declared.table.OptionRow.{OptionRow}
 
--- an option with a value, or a flag
-abbrev pub rule_with : Text → Option (Bor Text) → Bool → Rule
-rule_with name (Some value) required = record (new_rule name) { long = Some name; value_names = 1; required = required }
-rule_with name None required = record (new_rule name) { long = Some name; action = Some SetTrue; required = required }
+-- an option with a value, a flag, or a word of its own
+abbrev pub rule_with : Text → Given → Bool → Rule
+rule_with name (Value value) required = record (new_rule name) { long = Some name; value_names = 1; required = required }
+rule_with name Flag required = record (new_rule name) { long = Some name; action = Some SetTrue; required = required }
+rule_with name (Word value) required = record (new_rule name) { value_names = 1; required = required }
 
 abbrev pub rule_for : OptionRow → Rule
-rule_for row = rule_with row.name.now row.value row.is_required
+rule_for row = rule_with row.name.now row.given row.is_required
 
 abbrev pub with_options : App → List OptionRow → App
 with_options app [] = app

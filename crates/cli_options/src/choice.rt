@@ -32,8 +32,21 @@ pub enum Options<'a> {
         /// The path of the journal's file.
         journal: &'a str,
     },
+    /// `journal`: prints what a journal's file holds.
+    Journal(JournalOptions<'a>),
     /// `run`: answers the requests in frames from standard input, by the flow of the flow file at a path.
     Run(RunOptions<'a>),
+}
+
+/// What `journal` is given.
+#[derive(Clone, Copy)]
+pub struct JournalOptions<'a> {
+    /// The path of the journal's file.
+    pub path: &'a str,
+    /// Whether lines of JSON are printed.
+    pub json: bool,
+    /// Whether nothing is masked.
+    pub clear: bool,
 }
 
 /// What `run` is given.

@@ -5,7 +5,7 @@ ghost use Rattle.cli_options.specs.CommandLine.{AreOptionsAt, AreOptionsOf, AreR
 ghost use Rattle.cli_options.specs.CommandLine.{is_set, number_in, text_of};
 ghost use Rattle.cli_options.specs.Refusal.{IsAccepted, IsBadNumber, IsRefusalAt, IsRefusalOf, IsRunRefusal};
 
-use crate::choice::{Options, RunOptions};
+use crate::choice::{JournalOptions, Options, RunOptions};
 use crate::error::OptionsError;
 use crate::table::switch_command;
 use clap::ArgMatches;
@@ -111,6 +111,14 @@ fn options_at<'a>(name: &str, found: &ArgMatches<'a>) -> Result<Options<'a>, Opt
         "recover" => match (text_at(found, "flow"), text_at(found, "journal")) {
             (Some(flow), Some(journal)) => Ok(Options::Recover { flow, journal }),
             _ => Err(OptionsError::NoSubcommand),
+        },
+        "journal" => match text_at(found, "path") {
+            Some(path) => Ok(Options::Journal(JournalOptions {
+                path,
+                json: is_set(text_at(found, "json")),
+                clear: is_set(text_at(found, "clear")),
+            })),
+            None => Err(OptionsError::NoSubcommand),
         },
         "run" => Ok(Options::Run(run_options(found)?)),
         _ => Err(OptionsError::NoSubcommand),

@@ -7,12 +7,22 @@ ghost use Rattle.cli_options.specs.Rows.{app_for, rule_for, with_commands};
 use clap::{Arg, ArgAction, Command};
 use std::alloc::{AllocError, Global};
 
+/// How an option is given.
+#[derive(Clone, Copy)]
+enum Given<'a> {
+    /// `--NAME VALUE`, with what help calls the value.
+    Value(&'a str),
+    /// `--NAME`.
+    Flag,
+    /// A word of its own, with what help calls it.
+    Word(&'a str),
+}
+
 /// An option of a subcommand.
 #[derive(Clone, Copy)]
 struct OptionRow<'a> {
     name: &'a str,
-    /// What help calls its value. A flag takes none.
-    value: Option<&'a str>,
+    given: Given<'a>,
     help: &'a str,
     is_required: bool,
 }
@@ -25,13 +35,13 @@ struct CommandRow<'a> {
     options: &'a [OptionRow<'a>],
 }
 
-const COMMANDS: [CommandRow<'static>; 8] = [
+const COMMANDS: [CommandRow<'static>; 9] = [
     CommandRow {
         name: "step",
         about: "Runs a script of transactions from standard input and prints one line for each step",
         options: &[OptionRow {
             name: "flow",
-            value: Some("PATH"),
+            given: Given::Value("PATH"),
             help: "The flow file of the script, which then has no flow lines",
             is_required: false,
         }],
@@ -52,13 +62,13 @@ const COMMANDS: [CommandRow<'static>; 8] = [
         options: &[
             OptionRow {
                 name: "flow",
-                value: Some("PATH"),
+                given: Given::Value("PATH"),
                 help: "The flow file",
                 is_required: true,
             },
             OptionRow {
                 name: "dot",
-                value: None,
+                given: Given::Flag,
                 help: "Prints it in the DOT language of Graphviz",
                 is_required: false,
             },
@@ -69,7 +79,7 @@ const COMMANDS: [CommandRow<'static>; 8] = [
         about: "Prints the fields of each ISO 8583 message in frames from standard input",
         options: &[OptionRow {
             name: "mask",
-            value: None,
+            given: Given::Flag,
             help: "Masks card numbers and hides tracks, PIN, chip data and MAC",
             is_required: false,
         }],
@@ -85,15 +95,39 @@ const COMMANDS: [CommandRow<'static>; 8] = [
         options: &[
             OptionRow {
                 name: "flow",
-                value: Some("PATH"),
+                given: Given::Value("PATH"),
                 help: "The flow file",
                 is_required: true,
             },
             OptionRow {
                 name: "journal",
-                value: Some("PATH"),
+                given: Given::Value("PATH"),
                 help: "The journal's file",
                 is_required: true,
+            },
+        ],
+    },
+    CommandRow {
+        name: "journal",
+        about: "Prints what a journal's file holds, and changes nothing",
+        options: &[
+            OptionRow {
+                name: "path",
+                given: Given::Word("PATH"),
+                help: "The journal's file",
+                is_required: true,
+            },
+            OptionRow {
+                name: "json",
+                given: Given::Flag,
+                help: "Prints a line of JSON for each item",
+                is_required: false,
+            },
+            OptionRow {
+                name: "clear",
+                given: Given::Flag,
+                help: "Shows card numbers, tracks, PIN, chip data, MAC and other entries whole",
+                is_required: false,
             },
         ],
     },
@@ -103,37 +137,37 @@ const COMMANDS: [CommandRow<'static>; 8] = [
         options: &[
             OptionRow {
                 name: "flow",
-                value: Some("PATH"),
+                given: Given::Value("PATH"),
                 help: "The flow file",
                 is_required: true,
             },
             OptionRow {
                 name: "journal",
-                value: Some("PATH"),
+                given: Given::Value("PATH"),
                 help: "The journal's file [default: a journal in memory]",
                 is_required: false,
             },
             OptionRow {
                 name: "sessions",
-                value: Some("N"),
+                given: Given::Value("N"),
                 help: "The number of sessions, 1 to 16 [default: 1]",
                 is_required: false,
             },
             OptionRow {
                 name: "limit",
-                value: Some("N"),
+                given: Given::Value("N"),
                 help: "What a card may spend in one run, in minor units [default: 10000]",
                 is_required: false,
             },
             OptionRow {
                 name: "threads",
-                value: None,
+                given: Given::Flag,
                 help: "Runs the sessions as threads, many requests at once [default: session 0 runs each request]",
                 is_required: false,
             },
             OptionRow {
                 name: "trace",
-                value: None,
+                given: Given::Flag,
                 help: "Prints the trace on standard error, one line for each step",
                 is_required: false,
             },
@@ -146,12 +180,12 @@ fn option_of<'a>(alloc: Global, row: OptionRow<'a>) -> Arg<'a>
     ensures local { result.global ≡ false }
 {
     let arg = Arg::new(alloc, row.name)
-        .long(row.name)
         .help(row.help)
         .required(row.is_required);
-    match row.value {
-        Some(value) => arg.value_name(value),
-        None => arg.action(ArgAction::SetTrue),
+    match row.given {
+        Given::Value(value) => arg.long(row.name).value_name(value),
+        Given::Flag => arg.long(row.name).action(ArgAction::SetTrue),
+        Given::Word(value) => arg.value_name(value),
     }
 }
 

@@ -1,5 +1,5 @@
 -- A batch leaves a switch at rest, once its responses are given.
--- for: batches::Switch
+-- for: batches::Switch, switch::Switch::run_alone
 use Rattle.std.proofs.Common.{◌≡◌, ◌<◌, ◌≤◌, ◌⊎◌, ℕ, ◌+◌, Bool, true, false, cond, inl, inr, List, [], ◌∷◌, ◌++◌, ◌==◌, length, map, take, drop, take-append-drop, get_or, Option, Some, None, refl, sym, ap, subst, arith, ◌∙◌, append_assoc, append-nil}
 use Rattle.std.specs.Global.{Vec}
 use Rattle.std.specs.Prelude.{option_to_list, ◌&&◌}
@@ -27,23 +27,25 @@ use Rattle.tx_history.specs.History.{takes}
 use Rattle.tx_engine.specs.Calls.{held_id}
 use Rattle.tx_engine.specs.Cuts.{is_in_use}
 use Rattle.tx_plant.specs.Core.{Core}
+use Rattle.tx_plant.specs.declared.turn.Turn.TheVariants as turn
 use Rattle.plant_outcome.specs.Lives.{Done}
 use Rattle.plant_outcome.specs.Seated.{Seated, seat_id}
 use Rattle.plant_outcome.proofs.Cutting.{free_session}
 use Rattle.plant_outcome.proofs.SeatedTurns.{all_seated}
 use Rattle.cli_run.specs.Points.{IsAtRest, IsReady, Point, RestsGiven, above, all_answered, ended_at, last_id, next_at, responses, unanswered, world_at}
-use Rattle.cli_run.specs.Rounds.{Batched, Round, RoundsFor, Serves, ServesFor, Together, Trimmed, offered_in}
+use Rattle.cli_run.specs.Rounds.{Alone, Batched, Goes, IsOfBatches, Lone, Round, RoundsFor, Serves, ServesFor, Together, Trimmed, doing, offered_in}
 use Rattle.cli_run.specs.Requests.{if_read, request_of, requests}
 use Rattle.cli_run.specs.Stopped.{DrainsSome, HaltsToward, IsOfNext, ServesSome, Unfinished}
 use Rattle.cli_run.specs.Traces.{Cuts, DrainsAll, Finishes, Log, Reports, ReportsFor, Tells, passed_over}
 use Rattle.cli_run.proofs.Below.{EndedBelow, driven_below}
 use Rattle.cli_run.proofs.Recoveries.{AreBelow}
 use Rattle.cli_run.proofs.Doings.{acts_once}
-use Rattle.cli_run.proofs.Rounds.{reports_none, reports_passed, serves_batch, serves_none, serves_then, serves_trimmed}
+use Rattle.cli_run.proofs.Resting.{offered_rest}
+use Rattle.cli_run.proofs.Rounds.{gives_own, reports_none, reports_passed, rest_given, seated_given, serves_none, serves_then, serves_trimmed}
 use Rattle.cli_run.proofs.Tracing.{lines_then}
 use Rattle.cli_run.proofs.Reporting.{for_then}
 use Rattle.cli_run.proofs.Readings.{requests_append, requests_next}
-use Rattle.cli_run.proofs.Stops.{halts_then, of_batches_append, offered_append, retries_are_of_batches, retries_offer_none, toward_before, toward_then}
+use Rattle.cli_run.proofs.Stops.{halts_then, nothing_next, of_batches_append, offered_append, retries_are_of_batches, retries_offer_none, toward_before, toward_then}
 
 together_seated : (xs : List Pairs) (p q : Point) → Seated p.plant.core → Together xs p q → Seated q.plant.core
 together_seated xs p q seated t = all_seated (Done t.turns t.outcomes ∷ []) t.acts.moved p.plant q.plant seated t.acts.driven
@@ -112,15 +114,24 @@ driven_of xs p q seated t h =
     subst (λ z. EndedBelow z.core) (sym same) (driven_below t.turns t.outcomes first p.plant w seated driven h)
 
 pub together_rests : (xs : List Pairs) (p q : Point) → IsAtRest p → Together xs p q → RestsGiven q
-together_rests xs p q rest t = λ given. (let seated = together_seated xs p q rest.seated t in record {
-  seated = seated;
+together_rests xs p q rest t = let seated = together_seated xs p q rest.seated t in record {
+  seated = seated_given q.plant.core seated;
   idle = λ s. no_holder q.plant.core s seated t.settled.idle;
   written = t.settled.written;
-  given = given;
+  given = refl;
   below = last_below q.answered (next_at q) (unanswered q)
       (let le = next_more xs p q t in let same = t.acts.answered in let lt = rest.below in omega (arith, le, same, lt))
       (above_below q.answered (next_at q) (ended_at q) (driven_of xs p q rest.seated t (rest_below p rest)));
-})
+}
+
+-- a request that came alone
+
+lone_offered : (x : Pairs) (own : Option Pairs) (p e : Point) → IsAtRest p → (l : Lone x p own e) → IsAtRest l.offered
+lone_offered x own p e rest l =
+    offered_rest x l.outcome p l.offered rest l.offers (all_seated (doing (turn.Offer x) (l.outcome, l.offers.wrote) ∷ []) l.offers.acts.moved p.plant l.offered.plant rest.seated l.offers.acts.driven)
+
+pub lone_rests : (x : Pairs) (own : Option Pairs) (p e : Point) → IsAtRest p → Lone x p own e → Seated e.plant.core → RestsGiven e
+lone_rests x own p e rest l seated = rest_given l.offered e own (lone_offered x own p e rest l) l.transacts seated
 
 -- what the pool promises of a run over a list
 pub together_of : (xs : List Pairs) (rule : ℕ → Rule) (os ps : List (List ℕ)) (cs ds : List ℕ) (p q : Whole) (id : ℕ) (source : Listing) (after : List Pairs) (ended : Bool) → source ≡ listing xs 0 false → Drove rule os cs p ps ds q → Grown p.core.world q.core.world
@@ -139,9 +150,30 @@ together_of xs rule os ps cs ds p q id source after ended is drove grown offered
     }
 
 -- no request, no batch
-pub serves_nothing : (xs : List Pairs) (n : ℕ) (p : Point) (a : Option (List ℕ)) (l : Log) → true ≡ (n == 0) → n ≡ length xs → (rounds : List Round) × RoundsFor true xs rounds × Reports rounds 0 p a l p a l
-serves_nothing [] n p a l none len = ([], (refl, tt), reports_none p a l)
-serves_nothing (x ∷ xs) n p a l none len = (let zero : n ≡ 0 = grind (arith, nat_tests) in absurd (omega (arith, zero, len)))
+pub no_request : (xs : List Pairs) → length xs ≡ 0 → xs ≡ []
+no_request [] none = refl
+no_request (x ∷ xs) none = absurd (omega (arith, none))
+
+pub one_request : (xs rest : List Pairs) (o : Option Pairs) (x : Pairs) → xs ≡ rest ++ option_to_list o → o ≡ Some x → length xs ≤ 1 → xs ≡ x ∷ []
+one_request xs [] o x all is few = all ∙ ap (λ (z : Option Pairs). option_to_list z) is
+one_request xs (y ∷ rest) o x all is few =
+    let len : length xs ≡ length ((y ∷ rest) ++ option_to_list o) = ap length all in
+    let sum = length-append (y ∷ rest) (option_to_list o) in
+    let one : length (option_to_list o) ≡ 1 = ap (λ (z : Option Pairs). length (option_to_list z)) is in
+    absurd (omega (arith, len, sum, one, few))
+
+pub serves_nothing : (xs : List Pairs) (p : Point) (a : Option (List ℕ)) (l : Log) → xs ≡ [] → (rounds : List Round) × RoundsFor true xs rounds × Reports rounds 0 p a l p a l
+serves_nothing xs p a l none = ([], (sym none, tt), reports_none p a l)
+
+-- these requests were answered
+abbrev pub AnswersAll : List Pairs → Point → Option (List ℕ) → Log → Point → Option (List ℕ) → Log → Type 0
+AnswersAll xs p a k q b l = (rounds : List Round) × RoundsFor true xs rounds × Reports rounds 0 p a k q b l
+
+pub answers_same : (xs ys : List Pairs) (p q : Point) (a b : Option (List ℕ)) (k l : Log) → xs ≡ ys → AnswersAll ys p a k q b l → AnswersAll xs p a k q b l
+answers_same xs ys p q a b k l is h = subst (λ (zs : List Pairs). AnswersAll zs p a k q b l) (sym is) h
+
+pub halts_same : (xs ys : List Pairs) (p : Point) (a b : Option (List ℕ)) → xs ≡ ys → HaltsToward true ys p a b → HaltsToward true xs p a b
+halts_same xs ys p a b is h = subst (λ (zs : List Pairs). HaltsToward true zs p a b) (sym is) h
 
 -- what comes behind a batch
 
@@ -160,36 +192,68 @@ finished text p q r t a b c k l m framed gives same drains cuts = record {
   cuts = cuts;
 }
 
-abbrev batch_given : (xs : List Pairs) (p e : Point) (text : List ℕ) (a b : Option (List ℕ)) → IsReady p → Together xs p e → AreFramed text (responses (unanswered e)) → Appends a b text → Serves (Batched xs ∷ []) p a (all_answered e) b
-batch_given xs p e text a b ready together framed appends =
-    serves_batch xs p (all_answered e) text a b ready (record { ended = e; together = together; gives = framed; answered = refl }) appends
+-- what is run at once, a batch or a request that came alone, and its responses
+pub record Leads (xs : List Pairs) (r : Round) (p e : Point) : Type 0 where
+  offers : (rs : List Round) → offered_in (r ∷ rs) ≡ xs ++ offered_in rs
+  of : IsOfBatches r
+  goes : (text : List ℕ) → AreFramed text (responses (unanswered e)) → Goes (r ∷ []) p text [] (all_answered e)
+  next : (text : List ℕ) → AreFramed text (responses (unanswered e)) → IsOfNext (r ∷ []) p text
 
-pub serves_finished : (xs : List Pairs) (p e q : Point) (a b : Option (List ℕ)) (k l : Log) → length xs ≤ 256 → IsReady p → Together xs p e → Finishes e a k q b l → (rounds : List Round) × RoundsFor true xs rounds × Reports rounds 0 p a k q b l
-serves_finished xs p e q a b k l few ready together f =
+pub batch_leads : (xs : List Pairs) (p e : Point) → 2 ≤ length xs → length xs ≤ 256 → IsReady p → Together xs p e → Leads xs (Batched xs) p e
+batch_leads xs p e some few ready together = record {
+  offers = λ rs. refl;
+  of = (some, few);
+  goes = λ text framed. (ready, all_answered e, text, [], record { ended = e; together = together; gives = framed; answered = refl }, (refl, refl, refl), sym (append-nil text));
+  next = λ text framed. inr (record { ended = e; together = together; framed = framed });
+}
+
+pub lone_leads : (x : Pairs) (own : Option Pairs) (p e : Point) → IsReady p → Lone x p own e → Leads (x ∷ []) (Alone x) p e
+lone_leads x own p e ready l =
+    let rest = lone_offered x own p e ready.rest l in
+    record {
+      offers = λ rs. refl;
+      of = tt;
+      goes = λ text framed. (
+        ready,
+        all_answered e,
+        text,
+        [],
+        record { own = own; ended = e; lone = l; gives = gives_own l.offered e own text rest l.transacts framed; answered = refl },
+        (refl, refl, refl),
+        sym (append-nil text),
+      );
+      next = λ text framed. inr (record { own = own; ended = e; lone = l; framed = gives_own l.offered e own text rest l.transacts framed });
+    }
+
+abbrev round_given : (xs : List Pairs) (r : Round) (p e : Point) (text : List ℕ) (a b : Option (List ℕ)) → Leads xs r p e → AreFramed text (responses (unanswered e)) → Appends a b text → Serves (r ∷ []) p a (all_answered e) b
+round_given xs r p e text a b leads framed appends = record { bytes = text; lines = []; goes = leads.goes text framed; appends = appends }
+
+pub serves_finished : (xs : List Pairs) (r : Round) (p e q : Point) (a b : Option (List ℕ)) (k l : Log) → Leads xs r p e → Finishes e a k q b l → AnswersAll xs p a k q b l
+serves_finished xs r p e q a b k l leads f =
     let d = f.drains.drains in
     let rs = d.rounds in
     let none : offered_in (rs ++ Trimmed ∷ []) ≡ [] = offered_append rs (Trimmed ∷ []) ∙ ap (λ (l : List Pairs). l ++ []) (retries_offer_none rs d.retries) in (
-      Batched xs ∷ (rs ++ Trimmed ∷ []),
+      r ∷ (rs ++ Trimmed ∷ []),
       (
-        ap (λ (l : List Pairs). xs ++ l) none ∙ append-nil xs,
-        (few, of_batches_append rs (Trimmed ∷ []) (retries_are_of_batches rs d.retries) (tt, tt)),
+        leads.offers (rs ++ Trimmed ∷ []) ∙ (ap (λ (l : List Pairs). xs ++ l) none ∙ append-nil xs),
+        (leads.of, of_batches_append rs (Trimmed ∷ []) (retries_are_of_batches rs d.retries) (tt, tt)),
       ),
       record {
-        serves = serves_then (Batched xs ∷ []) (rs ++ Trimmed ∷ []) p (all_answered e) q a f.between b
-            (batch_given xs p e f.text a f.between ready together f.framed f.gives)
+        serves = serves_then (r ∷ []) (rs ++ Trimmed ∷ []) p (all_answered e) q a f.between b
+            (round_given xs r p e f.text a f.between leads f.framed f.gives)
             (serves_then rs (Trimmed ∷ []) (all_answered e) f.drained q f.between b b d.serves (serves_trimmed f.drained q f.cuts.lines b f.cuts.cuts));
         tells = lines_then d.serves.lines f.cuts.lines 0 k f.then l f.drains.tells f.cuts.tells;
       },
     )
 
--- a batch that was run, up to an error behind it
-pub halts_finished : (xs : List Pairs) (p e : Point) (a b : Option (List ℕ)) → length xs ≤ 256 → IsReady p → Together xs p e → Unfinished e a b → HaltsToward true xs p a b
-halts_finished xs p e a b few ready together (inl (text, is, written)) = (
-  Batched xs ∷ [],
-  ([], sym (append-nil (xs ++ []) ∙ append-nil xs), (few, tt)),
+-- they were run, up to an error behind them
+pub halts_finished : (xs : List Pairs) (r : Round) (p e : Point) (a b : Option (List ℕ)) → Leads xs r p e → Unfinished e a b → HaltsToward true xs p a b
+halts_finished xs r p e a b leads (inl (text, is, written)) = (
+  r ∷ [],
+  ([], sym (append-nil (offered_in (r ∷ [])) ∙ (leads.offers [] ∙ append-nil xs)), (leads.of, tt)),
   record {
     done = [];
-    rest = Batched xs ∷ [];
+    rest = r ∷ [];
     order = refl;
     at = p;
     between = a;
@@ -199,18 +263,18 @@ halts_finished xs p e a b few ready together (inl (text, is, written)) = (
     written = written;
   },
 ) where
-  by_text : (text ≡ []) ⊎ AreFramed text (responses (unanswered e)) → IsOfNext (Batched xs ∷ []) p text
-  by_text (inl none) = inl none
-  by_text (inr framed) = inr (record { ended = e; together = together; framed = framed })
-halts_finished xs p e a b few ready together (inr given) =
+  by_text : (text ≡ []) ⊎ AreFramed text (responses (unanswered e)) → IsOfNext (r ∷ []) p text
+  by_text (inl none) = subst (IsOfNext (r ∷ []) p) (sym none) (nothing_next (r ∷ []) p)
+  by_text (inr framed) = leads.next text framed
+halts_finished xs r p e a b leads (inr given) =
     let rs = given.drains.rounds in (
-      Batched xs ∷ rs,
+      r ∷ rs,
       (
         [],
-        sym (append-nil (xs ++ offered_in rs) ∙ (ap (λ (l : List Pairs). xs ++ l) (retries_offer_none rs given.drains.retries) ∙ append-nil xs)),
-        (few, retries_are_of_batches rs given.drains.retries),
+        sym (append-nil (offered_in (r ∷ rs)) ∙ (leads.offers rs ∙ (ap (λ (l : List Pairs). xs ++ l) (retries_offer_none rs given.drains.retries) ∙ append-nil xs))),
+        (leads.of, retries_are_of_batches rs given.drains.retries),
       ),
-      halts_then (Batched xs ∷ []) rs p (all_answered e) a given.between b (batch_given xs p e given.text a given.between ready together given.framed given.gives) given.drains.halts,
+      halts_then (r ∷ []) rs p (all_answered e) a given.between b (round_given xs r p e given.text a given.between leads given.framed given.gives) given.drains.halts,
     )
 
 -- batches of a list of messages

@@ -9,12 +9,12 @@ use Rattle.tx_plant.specs.declared.turn.Turn.{Turn}
 use Rattle.tx_plant.specs.declared.turn.Turn.TheVariants as turn
 use Rattle.tx_plant.specs.Plant.{Seen, Whole}
 use Rattle.tx_plant.specs.Steps.{Moved}
-use Rattle.plant_outcome.specs.Lives.{AllDriven, Drive}
+use Rattle.plant_outcome.specs.Lives.{AllDriven, Drive, TookEnded}
 use Rattle.cli_run.specs.Advices.{Acks, AdviceStep, SendsAll}
 use Rattle.cli_run.specs.Lines.{lines_in}
-use Rattle.cli_run.specs.Points.{Point, world_at}
+use Rattle.cli_run.specs.Points.{Point, all_answered, world_at}
 use Rattle.cli_run.specs.Ran.{Begins, Ran, ServesAll}
-use Rattle.cli_run.specs.Rounds.{Acts, Batched, Completed, Completes, Does, Goes, MayCut, Offered, Released, Round, Runs, Trimmed}
+use Rattle.cli_run.specs.Rounds.{Acts, Alone, Batched, Completed, Completes, Does, Goes, MayCut, Offered, Released, Round, Runs, RunsLone, Trimmed}
 use Rattle.cli_run.proofs.Doings.{all_driven_append}
 
 pub record Path (p q : Whole) : Type 0 where
@@ -45,11 +45,25 @@ cuts_by p q lines (inr (o, does, are)) = does_path turn.Cut o p q does
 cuts_path : (p q : Point) (lines : List ℕ) → MayCut p lines q → Path p.plant q.plant
 cuts_path p q lines cuts = cuts_by p q lines cuts.cuts
 
+-- the contexts of the transactions that ended are taken
+given_path : (p q : Point) → Path p.plant q.plant → Path p.plant (all_answered q).plant
+given_path p q path = path_then p.plant q.plant (all_answered q).plant path (record {
+  drives = TookEnded ∷ [];
+  moved = [];
+  driven = ((all_answered q).plant, [], [], (refl, refl), (refl, refl), refl);
+})
+
 completes_path : (p q : Point) (bytes lines : List ℕ) → Completes p bytes lines q → Path p.plant q.plant
-completes_path p q bytes lines c = path_then p.plant c.ended.plant q.plant (acts_path _ p c.ended c.transacts.acts) (cuts_path _ q lines c.cuts)
+completes_path p q bytes lines c = path_then p.plant (all_answered c.ended).plant q.plant (given_path p c.ended (acts_path _ p c.ended c.transacts.acts)) (cuts_path _ q lines c.cuts)
 
 runs_path : (xs : List Pairs) (p q : Point) (bytes : List ℕ) → Runs xs p bytes q → Path p.plant q.plant
-runs_path xs p q bytes runs = subst (λ (z : Point). Path p.plant z.plant) (sym runs.answered) (acts_path _ p runs.ended runs.together.acts)
+runs_path xs p q bytes runs = subst (λ (z : Point). Path p.plant z.plant) (sym runs.answered) (given_path p runs.ended (acts_path _ p runs.ended runs.together.acts))
+
+lone_path : (x : Pairs) (p q : Point) (bytes : List ℕ) → RunsLone x p bytes q → Path p.plant q.plant
+lone_path x p q bytes runs =
+    let l = runs.lone in
+    subst (λ (z : Point). Path p.plant z.plant) (sym runs.answered) (given_path p runs.ended
+    (path_then p.plant l.offered.plant runs.ended.plant (does_path (turn.Offer x) l.outcome p l.offered l.offers) (acts_path _ l.offered runs.ended l.transacts.acts)))
 
 goes_path : (rounds : List Round) (p q : Point) (bytes lines : List ℕ) → Goes rounds p bytes lines q → Path p.plant q.plant
 goes_path [] p q bytes lines (none, nothing, same) = path_none p.plant q.plant (ap (λ (z : Point). z.plant) same)
@@ -57,6 +71,7 @@ goes_path (Offered x ∷ rs) p q bytes lines (ready, o, w, does, more) = path_th
 goes_path (Completed ∷ rs) p q bytes lines (w, first, later, cut, others, completes, more, all, these) = path_then p.plant w.plant q.plant (completes_path p w first cut completes) (goes_path rs w q later others more)
 goes_path (Released ∷ rs) p q bytes lines (o, w, does, more) = path_then p.plant w.plant q.plant (does_path turn.Release o p w does) (goes_path rs w q bytes lines more)
 goes_path (Batched xs ∷ rs) p q bytes lines (ready, w, first, later, runs, more, all) = path_then p.plant w.plant q.plant (runs_path xs p w first runs) (goes_path rs w q later lines more)
+goes_path (Alone x ∷ rs) p q bytes lines (ready, w, first, later, runs, more, all) = path_then p.plant w.plant q.plant (lone_path x p w first runs) (goes_path rs w q later lines more)
 goes_path (Trimmed ∷ rs) p q bytes lines (w, cut, others, cuts, more, these) = path_then p.plant w.plant q.plant (cuts_path p w cut cuts) (goes_path rs w q bytes others more)
 
 acks_path : (b : Bool) (place : ℕ × ℕ) (p q : Point) → Acks b place p q → Path p.plant q.plant

@@ -15,11 +15,13 @@ use Rattle.std.proofs.lemmas.Map.Keys.{ge_from_not_lt}
 use Rattle.std.proofs.lemmas.Result.{err_from_is_err_and}
 use Rattle.sw_context.specs.Pairs.{Pairs}
 use Rattle.sw_frame.specs.Stream.{AreFramed}
+use Rattle.tx_plant.specs.Core.{Core, without_ended}
+use Rattle.tx_plant.specs.Plant.{Seen}
 use Rattle.tx_plant.specs.declared.turn.Outcome.{Outcome}
 use Rattle.tx_plant.specs.declared.turn.Turn.TheVariants as turn
 use Rattle.plant_outcome.specs.Seated.{Seated}
-use Rattle.cli_run.specs.Points.{IsAtRest, IsReady, Point, above, all_answered, ended_at, last_id, next_at, response_of, responses, unanswered, with_ended, world_at}
-use Rattle.cli_run.specs.Rounds.{Batched, Completed, Completes, Does, Goes, IsEmptied, IsRetry, MayCut, Offered, Released, Round, Runs, Serves, Transacts, Trimmed, answering}
+use Rattle.cli_run.specs.Points.{IsAtRest, IsReady, Point, RestsGiven, above, all_answered, ended_at, last_id, next_at, response_of, responses, unanswered, with_ended, world_at}
+use Rattle.cli_run.specs.Rounds.{Alone, Batched, Completed, Completes, Does, Goes, IsEmptied, IsRetry, MayCut, Offered, Released, Round, Serves, Transacts, Trimmed, answering}
 use Rattle.cli_run.specs.Traces.{Cuts, DrainsAll, Log, Reports, Tells}
 use Rattle.cli_run.proofs.Ended.{is_above}
 use Rattle.cli_run.proofs.Tracing.{passed_then, tells_none, tells_then}
@@ -45,6 +47,8 @@ goes_append (Completed ∷ ds) bs p q r xs ys ls ms (w, first, later, cut, other
 goes_append (Released ∷ ds) bs p q r xs ys ls ms (o, w, does, more) h =
     (o, w, does, goes_append ds bs w q r xs ys ls ms more h)
 goes_append (Batched rs ∷ ds) bs p q r xs ys ls ms (ready, w, first, later, runs, more, all) h =
+    (ready, w, first, later ++ ys, runs, goes_append ds bs w q r later ys ls ms more h, ap (λ (l : List ℕ). l ++ ys) all ∙ append_assoc first later ys)
+goes_append (Alone x ∷ ds) bs p q r xs ys ls ms (ready, w, first, later, runs, more, all) h =
     (ready, w, first, later ++ ys, runs, goes_append ds bs w q r later ys ls ms more h, ap (λ (l : List ℕ). l ++ ys) all ∙ append_assoc first later ys)
 goes_append (Trimmed ∷ ds) bs p q r xs ys ls ms (w, cut, others, cuts, more, these) h =
     (w, cut, others ++ ms, cuts, goes_append ds bs w q r xs ys others ms more h, ap (λ (l : List ℕ). l ++ ms) these ∙ append_assoc cut others ms)
@@ -74,16 +78,13 @@ serves_completed p q bytes lines a b completes appends = record {
   appends = appends;
 }
 
-abbrev pub serves_batch : (xs : List Pairs) (p q : Point) (bytes : List ℕ) (a b : Option (List ℕ)) → IsReady p → Runs xs p bytes q → Appends a b bytes → Serves (Batched xs ∷ []) p a q b
-serves_batch xs p q bytes a b ready runs appends = record {
-  bytes = bytes;
-  lines = [];
-  goes = (ready, q, bytes, [], runs, (refl, refl, refl), sym (append-nil bytes));
-  appends = appends;
-}
-
 abbrev pub serves_trimmed : (p q : Point) (lines : List ℕ) (a : Option (List ℕ)) → MayCut p lines q → Serves (Trimmed ∷ []) p a q a
 serves_trimmed p q lines a cuts = record { bytes = []; lines = lines; goes = (q, lines, [], cuts, (refl, refl, refl), sym (append-nil lines)); appends = Appends-nil a }
+
+-- the responses were given, and the contexts taken
+pub given_all : (c d : Core) (j k : Seen) (a n : ℕ) → d ≡ without_ended c → k ≡ j → n ≡ last_id a (above a c.ended)
+    → ◌≡◌ {A = Point} (record { plant = record { core = d; journal = k }; answered = n }) (all_answered (record { plant = record { core = c; journal = j }; answered = a }))
+given_all c d j k a n core journal last = rw (core, journal, last) refl
 
 -- the response of the transaction that ended is the only one that is not given
 
@@ -126,12 +127,15 @@ pub own_unanswered : (p q : Point) (own : Option Pairs) → IsAtRest p → Trans
 own_unanswered p q own rest t =
     ap (λ (n : ℕ). above n (ended_at q)) t.acts.answered ∙ (ap (above p.answered) t.ended ∙ own_above p.answered (next_at p) own (ended_at p) rest.below rest.given)
 
-pub rest_given : (p q : Point) (own : Option Pairs) → IsAtRest p → Transacts p own q → Seated q.plant.core → unanswered (all_answered q) ≡ [] → IsAtRest (all_answered q)
-rest_given p q own rest t seated given = record {
-  seated = seated;
+pub seated_given : (c : Core) → Seated c → Seated (without_ended c)
+seated_given c h = record { engine = h.engine; sessions = h.sessions; places = h.places; seats = h.seats; replies = h.replies; waits = h.waits }
+
+pub rest_given : (p q : Point) (own : Option Pairs) → IsAtRest p → Transacts p own q → Seated q.plant.core → RestsGiven q
+rest_given p q own rest t seated = record {
+  seated = seated_given q.plant.core seated;
   idle = t.idle;
   written = t.written;
-  given = given;
+  given = refl;
   below = (let at : last_id q.answered (unanswered q) ≡ last_id p.answered (own_list (next_at p) own) = ap (λ (n : ℕ). last_id n (unanswered q)) t.acts.answered ∙ ap (last_id p.answered) (own_unanswered p q own rest t) in
       let lt = own_last p.answered (next_at p) own rest.below in
       let next = t.next in

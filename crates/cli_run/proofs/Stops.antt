@@ -15,18 +15,19 @@ use Rattle.tx_plant.specs.declared.turn.Outcome.{Outcome}
 use Rattle.tx_plant.specs.declared.turn.Turn.TheVariants as turn
 use Rattle.cli_run.specs.Points.{IsAtRest, IsReady, Point, responses, unanswered}
 use Rattle.cli_run.specs.Requests.{Reads, ReadsOn, if_read, request_of, requests}
-use Rattle.cli_run.specs.Rounds.{Batched, Completed, Does, Drains, IsOfBatches, IsRetry, MayCut, Offered, Released, Round, RoundsFor, Serves, ServesFor, Transacts, Trimmed, answering, offered_in, untrimmed}
+use Rattle.cli_run.specs.Rounds.{Alone, Batched, Completed, Does, Drains, IsOfBatches, IsRetry, MayCut, Offered, Released, Round, RoundsFor, Serves, ServesFor, Transacts, Trimmed, answering, offered_in, untrimmed}
 use Rattle.cli_run.specs.Stopped.{DrainsSome, GivesSome, Halts, HaltsOn, HaltsToward, IsOfNext, StopsWithin}
 use Rattle.cli_run.proofs.Readings.{nothing_read, requests_append, requests_front, requests_next}
 use Rattle.cli_run.specs.Traces.{Log}
 use Rattle.cli_run.proofs.Rounds.{Empties, answering_append, gives_own, retries_append, serves_none, serves_offer, serves_then, serves_trimmed}
 
-nothing_next : (rounds : List Round) (p : Point) → IsOfNext rounds p []
+pub nothing_next : (rounds : List Round) (p : Point) → IsOfNext rounds p []
 nothing_next [] p = refl
 nothing_next (Offered x ∷ rounds) p = refl
 nothing_next (Completed ∷ rounds) p = inl refl
 nothing_next (Released ∷ rounds) p = refl
 nothing_next (Batched xs ∷ rounds) p = inl refl
+nothing_next (Alone x ∷ rounds) p = inl refl
 nothing_next (Trimmed ∷ rounds) p = refl
 
 -- none of them was done
@@ -77,6 +78,7 @@ more_next (Offered x ∷ rounds) others p text h = h
 more_next (Completed ∷ rounds) others p text h = h
 more_next (Released ∷ rounds) others p text h = h
 more_next (Batched xs ∷ rounds) others p text h = h
+more_next (Alone x ∷ rounds) others p text h = h
 more_next (Trimmed ∷ rounds) others p text h = h
 
 -- others were to come
@@ -148,6 +150,7 @@ offered_append (Offered x ∷ rs) ss = ap (λ (l : List Pairs). x ∷ l) (offere
 offered_append (Completed ∷ rs) ss = offered_append rs ss
 offered_append (Released ∷ rs) ss = offered_append rs ss
 offered_append (Batched xs ∷ rs) ss = ap (λ (l : List Pairs). xs ++ l) (offered_append rs ss) ∙ sym (append_assoc xs (offered_in rs) (offered_in ss))
+offered_append (Alone x ∷ rs) ss = ap (λ (l : List Pairs). x ∷ l) (offered_append rs ss)
 offered_append (Trimmed ∷ rs) ss = offered_append rs ss
 
 pub of_batches_append : (rs ss : List Round) → AllByRecursion IsOfBatches rs → AllByRecursion IsOfBatches ss → AllByRecursion IsOfBatches (rs ++ ss)
@@ -160,6 +163,7 @@ retries_are_of_batches (Offered x ∷ rs) h = absurd h.0
 retries_are_of_batches (Completed ∷ rs) h = (tt, retries_are_of_batches rs h.1)
 retries_are_of_batches (Released ∷ rs) h = (tt, retries_are_of_batches rs h.1)
 retries_are_of_batches (Batched xs ∷ rs) h = absurd h.0
+retries_are_of_batches (Alone x ∷ rs) h = absurd h.0
 retries_are_of_batches (Trimmed ∷ rs) h = absurd h.0
 
 pub retries_offer_none : (rs : List Round) → AllByRecursion IsRetry rs → offered_in rs ≡ []
@@ -168,6 +172,7 @@ retries_offer_none (Offered x ∷ rs) h = absurd h.0
 retries_offer_none (Completed ∷ rs) h = retries_offer_none rs h.1
 retries_offer_none (Released ∷ rs) h = retries_offer_none rs h.1
 retries_offer_none (Batched xs ∷ rs) h = absurd h.0
+retries_offer_none (Alone x ∷ rs) h = absurd h.0
 retries_offer_none (Trimmed ∷ rs) h = absurd h.0
 
 pub untrimmed_append : (rs ss : List Round) → untrimmed (rs ++ ss) ≡ untrimmed rs ++ untrimmed ss
@@ -176,6 +181,7 @@ untrimmed_append (Offered x ∷ rs) ss = ap (λ (l : List Round). Offered x ∷ 
 untrimmed_append (Completed ∷ rs) ss = ap (λ (l : List Round). Completed ∷ l) (untrimmed_append rs ss)
 untrimmed_append (Released ∷ rs) ss = ap (λ (l : List Round). Released ∷ l) (untrimmed_append rs ss)
 untrimmed_append (Batched xs ∷ rs) ss = ap (λ (l : List Round). Batched xs ∷ l) (untrimmed_append rs ss)
+untrimmed_append (Alone x ∷ rs) ss = ap (λ (l : List Round). Alone x ∷ l) (untrimmed_append rs ss)
 untrimmed_append (Trimmed ∷ rs) ss = untrimmed_append rs ss
 
 pub untrimmed_answering : (xs : List Pairs) → untrimmed (answering xs) ≡ answering xs

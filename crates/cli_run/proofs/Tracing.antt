@@ -9,12 +9,21 @@ use Rattle.iso_msg.specs.Messages.{PlainMessage}
 use Rattle.iso_codec.specs.declared.error.DecodeError.{DecodeError}
 use Rattle.iso_codec.specs.Reads.{read}
 use Rattle.sw_frame.specs.Feeds.{messages}
-use Rattle.cli_run.specs.Traces.{Adds, Log, Passed, Piece, Tells, Traced, if_passed, if_wanted, passed_in, passed_line, passed_over, text_of, traced_in}
+use Rattle.cli_io.specs.Written.{AppendsBeginning}
+use Rattle.cli_run.specs.Traces.{Adds, AddsSome, AreBegun, Log, Passed, Piece, Tells, Traced, if_passed, if_wanted, passed_in, passed_line, passed_over, piece_text, text_of, traced_in}
 
 text_append : (ps qs : List Piece) → text_of (ps ++ qs) ≡ text_of ps ++ text_of qs
 text_append [] qs = refl
-text_append (Traced ls ∷ ps) qs = ap (λ (l : List ℕ). ls ++ l) (text_append ps qs) ∙ sym (append_assoc ls (text_of ps) (text_of qs))
-text_append (Passed n c ∷ ps) qs = ap (λ (l : List ℕ). passed_line n c ++ l) (text_append ps qs) ∙ sym (append_assoc (passed_line n c) (text_of ps) (text_of qs))
+text_append (p ∷ ps) qs = ap (λ (l : List ℕ). piece_text p ++ l) (text_append ps qs) ∙ sym (append_assoc (piece_text p) (text_of ps) (text_of qs))
+
+begun_append : (ps qs : List Piece) (xs ys : List ℕ) → AreBegun ps xs → AreBegun qs ys → AreBegun (ps ++ qs) (xs ++ ys)
+begun_append [] qs xs ys none h = subst (λ (l : List ℕ). AreBegun qs (l ++ ys)) (sym none) h
+begun_append (p ∷ ps) qs xs ys (first, rest, more, is, begun, all) h =
+    (first, rest, more ++ ys, is, begun_append ps qs more ys begun h, ap (λ (l : List ℕ). l ++ ys) all ∙ append_assoc first more ys)
+
+all_begun : (ps : List Piece) → AreBegun ps (text_of ps)
+all_begun [] = refl
+all_begun (p ∷ ps) = (piece_text p, [], text_of ps, sym (append-nil (piece_text p)), all_begun ps, refl)
 
 traced_append : (ps qs : List Piece) → traced_in (ps ++ qs) ≡ traced_in ps ++ traced_in qs
 traced_append [] qs = refl
@@ -37,6 +46,30 @@ adds_then xs ys m n a b c s t = record {
   written = subst (Appends a c) (sym (text_append s.pieces t.pieces)) (Appends-trans a b c (text_of s.pieces) (text_of t.pieces) s.written t.written);
 }
 
+adds_some : (xs : List ℕ) (n : ℕ) (a b : Option (List ℕ)) → Adds xs n a b → AddsSome xs n a b
+adds_some xs n a b s = record { pieces = s.pieces; traced = s.traced; count = s.count; text = text_of s.pieces; begun = all_begun s.pieces; written = s.written }
+
+some_then : (xs ys : List ℕ) (m n : ℕ) (a b c : Option (List ℕ)) → AddsSome xs m a b → AddsSome ys n b c → AddsSome (xs ++ ys) (m + n) a c
+some_then xs ys m n a b c s t = record {
+  pieces = s.pieces ++ t.pieces;
+  traced = rw (traced_append s.pieces t.pieces, s.traced, t.traced) refl;
+  count = (let is = passed_append s.pieces t.pieces in let first = s.count in let second = t.count in omega (arith, is, first, second));
+  text = s.text ++ t.text;
+  begun = begun_append s.pieces t.pieces s.text t.text s.begun t.begun;
+  written = Appends-trans a b c s.text t.text s.written t.written;
+}
+
+-- a beginning of one piece
+some_of : (p : Piece) (a b : Option (List ℕ)) → AppendsBeginning a b (piece_text p) → AddsSome (traced_in (p ∷ [])) (passed_in (p ∷ [])) a b
+some_of p a b (first, rest, is, written) = record {
+  pieces = p ∷ [];
+  traced = refl;
+  count = refl;
+  text = first;
+  begun = (first, rest, [], is, refl, sym (append-nil first));
+  written = written;
+}
+
 none_wanted : (w : Bool) → if_wanted w [] ≡ []
 none_wanted true = refl
 none_wanted false = refl
@@ -50,6 +83,7 @@ tells_none a = record {
   wanted = refl;
   before = λ h. h;
   adds = λ h. subst (λ (l : List ℕ). Adds l 0 a.text a.text) (sym (none_wanted a.wanted)) (adds_none a.text);
+  some = subst (λ (l : List ℕ). AddsSome l 0 a.text a.text) (sym (none_wanted a.wanted)) (adds_some [] 0 a.text a.text (adds_none a.text));
 }
 
 pub tells_then : (xs ys : List ℕ) (m n : ℕ) (a b c : Log) → Tells xs m a b → Tells ys n b c → Tells (xs ++ ys) (m + n) a c
@@ -59,6 +93,9 @@ tells_then xs ys m n a b c s t = record {
   adds = λ h. (let more : Adds (if_wanted a.wanted ys) n b.text c.text = subst (λ (w : Bool). Adds (if_wanted w ys) n b.text c.text) s.wanted (t.adds h) in
       subst (λ (l : List ℕ). Adds l (m + n) a.text c.text) (sym (both_wanted a.wanted xs ys))
       (adds_then (if_wanted a.wanted xs) (if_wanted a.wanted ys) m n a.text b.text c.text (s.adds (t.before h)) more));
+  some = (let more : AddsSome (if_wanted a.wanted ys) n b.text c.text = subst (λ (w : Bool). AddsSome (if_wanted w ys) n b.text c.text) s.wanted t.some in
+      subst (λ (l : List ℕ). AddsSome l (m + n) a.text c.text) (sym (both_wanted a.wanted xs ys))
+      (some_then (if_wanted a.wanted xs) (if_wanted a.wanted ys) m n a.text b.text c.text s.some more));
 }
 
 -- messages that are passed over, and then lines
@@ -75,47 +112,51 @@ lines_before xs ys n a b c s t = subst (λ (k : ℕ). Tells (xs ++ ys) k a c) (z
 
 -- one write
 
+-- all is written
+told_whole : (lines : List ℕ) (n : ℕ) (w l : Bool) (t u : Option (List ℕ)) → Adds (if_wanted w lines) n t u → Tells lines n (record { wanted = w; lost = l; text = t }) (record { wanted = w; lost = l; text = u })
+told_whole lines n w l t u all = record { wanted = refl; before = λ h. h; adds = λ h. all; some = adds_some (if_wanted w lines) n t u all }
+
 pub unwanted : (lines : List ℕ) (w l : Bool) (t : Option (List ℕ)) → w ≡ false → Tells lines 0 (record { wanted = w; lost = l; text = t }) (record { wanted = w; lost = l; text = t })
-unwanted lines w l t not = record {
-  wanted = refl;
-  before = λ h. h;
-  adds = λ h. subst (λ (b : Bool). Adds (if_wanted b lines) 0 t t) (sym not) (adds_none t);
-}
+unwanted lines w l t not = told_whole lines 0 w l t t (subst (λ (b : Bool). Adds (if_wanted b lines) 0 t t) (sym not) (adds_none t))
 
 pub lines_told : (lines : List ℕ) (w l : Bool) (t u : Option (List ℕ)) → w ≡ true → Appends t u lines → Tells lines 0 (record { wanted = w; lost = l; text = t }) (record { wanted = w; lost = l; text = u })
-lines_told lines w l t u is written = record {
-  wanted = refl;
-  before = λ h. h;
-  adds = λ h. subst (λ (b : Bool). Adds (if_wanted b lines) 0 t u) (sym is) (record {
-    pieces = Traced lines ∷ [];
-    traced = append-nil lines;
-    count = refl;
-    written = subst (Appends t u) (sym (append-nil lines)) written;
-  });
-}
+lines_told lines w l t u is written = told_whole lines 0 w l t u (subst (λ (b : Bool). Adds (if_wanted b lines) 0 t u) (sym is) (record {
+  pieces = Traced lines ∷ [];
+  traced = append-nil lines;
+  count = refl;
+  written = subst (Appends t u) (sym (append-nil lines)) written;
+}))
 
 pub passed_told : (number : ℕ) (cause line : List ℕ) (w l : Bool) (t u : Option (List ℕ)) → line ≡ passed_line number cause → Appends t u line → Tells [] 1 (record { wanted = w; lost = l; text = t }) (record { wanted = w; lost = l; text = u })
-passed_told number cause line w l t u is written = record {
-  wanted = refl;
-  before = λ h. h;
-  adds = λ h. subst (λ (x : List ℕ). Adds x 1 t u) (sym (none_wanted w)) (record {
-    pieces = Passed number cause ∷ [];
-    traced = refl;
-    count = refl;
-    written = subst (Appends t u) (is ∙ sym (append-nil (passed_line number cause))) written;
-  });
-}
+passed_told number cause line w l t u is written = told_whole [] 1 w l t u (subst (λ (x : List ℕ). Adds x 1 t u) (sym (none_wanted w)) (record {
+  pieces = Passed number cause ∷ [];
+  traced = refl;
+  count = refl;
+  written = subst (Appends t u) (is ∙ sym (append-nil (passed_line number cause))) written;
+}))
+
+-- a write failed
 
 true_not_false : {A : Type 0} (b : Bool) → b ≡ true → b ≡ false → A
 true_not_false b is not = absurd (let both : true ≡ false = sym is ∙ not in cc)
 
--- a write failed
-pub lost_told : (lines : List ℕ) (n : ℕ) (w l m : Bool) (t u : Option (List ℕ)) → m ≡ true → Tells lines n (record { wanted = w; lost = l; text = t }) (record { wanted = w; lost = m; text = u })
-lost_told lines n w l m t u lost = record {
+told_some : (lines : List ℕ) (n : ℕ) (w l m : Bool) (t u : Option (List ℕ)) → m ≡ true → AddsSome (if_wanted w lines) n t u → Tells lines n (record { wanted = w; lost = l; text = t }) (record { wanted = w; lost = m; text = u })
+told_some lines n w l m t u lost some = record {
   wanted = refl;
   before = λ h. true_not_false m lost h;
   adds = λ h. true_not_false m lost h;
+  some = some;
 }
+
+pub lines_lost : (lines : List ℕ) (w l m : Bool) (t u : Option (List ℕ)) → w ≡ true → m ≡ true → AppendsBeginning t u lines → Tells lines 0 (record { wanted = w; lost = l; text = t }) (record { wanted = w; lost = m; text = u })
+lines_lost lines w l m t u is lost written =
+    let begun : AddsSome (lines ++ []) 0 t u = some_of (Traced lines) t u written in
+    told_some lines 0 w l m t u lost (subst (λ (b : Bool). AddsSome (if_wanted b lines) 0 t u) (sym is) (subst (λ (x : List ℕ). AddsSome x 0 t u) (append-nil lines) begun))
+
+pub passed_lost : (number : ℕ) (cause line : List ℕ) (w l m : Bool) (t u : Option (List ℕ)) → line ≡ passed_line number cause → m ≡ true → AppendsBeginning t u line → Tells [] 1 (record { wanted = w; lost = l; text = t }) (record { wanted = w; lost = m; text = u })
+passed_lost number cause line w l m t u is lost written =
+    let begun : AddsSome [] 1 t u = some_of (Passed number cause) t u (subst (AppendsBeginning t u) is written) in
+    told_some [] 1 w l m t u lost (subst (λ (x : List ℕ). AddsSome x 1 t u) (sym (none_wanted w)) begun)
 
 -- messages
 

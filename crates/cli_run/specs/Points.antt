@@ -11,6 +11,7 @@ use Rattle.tx_engine.specs.Calls.{held_id, waits}
 use Rattle.sqlite_trees.specs.declared.store.Store.{Ghosts}
 use Rattle.tx_journal.specs.Kept.{JournalState, kept}
 use Rattle.tx_plant.specs.declared.seat.Seats.{Seats}
+use Rattle.tx_plant.specs.Core.{without_ended}
 use Rattle.tx_plant.specs.Plant.{Whole, seen, whole}
 use Rattle.plant_outcome.specs.Seated.{Seated}
 use Rattle.cli_run.specs.declared.switch.Switch.{Switch}
@@ -72,8 +73,9 @@ abbrev pub last_id : ℕ → List (ℕ × Pairs) → ℕ
 last_id id [] = id
 last_id id (e ∷ es) = last_id e.0 es
 
+-- their responses are given, and all contexts of transactions that ended are taken: the plant keeps none of them
 abbrev pub all_answered : Point → Point
-all_answered p = record p { answered = last_id p.answered (unanswered p) }
+all_answered p = record { plant = record p.plant { core = without_ended p.plant.core }; answered = last_id p.answered (unanswered p) }
 
 -- the context that a transaction ended with, under its id; one that waits on the shelf has not ended
 abbrev pub with_ended : ℕ → Option Pairs → List (ℕ × Pairs) → List (ℕ × Pairs)
@@ -100,7 +102,7 @@ pub record IsAtRest (p : Point) : Type 0 where
 
 -- it is at rest once the responses are given
 abbrev pub RestsGiven : Point → Type 0
-RestsGiven p = unanswered (all_answered p) ≡ [] → IsAtRest (all_answered p)
+RestsGiven p = IsAtRest (all_answered p)
 
 -- Ready for a request: at rest, nothing is recovered, the queue is empty, and the history is not long.
 pub record IsReady (p : Point) : Type 0 where

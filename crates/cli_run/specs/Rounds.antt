@@ -86,12 +86,29 @@ pub record Runs (requests : List Pairs) (p : Point) (bytes : List ℕ) (q : Poin
   pub gives : AreFramed bytes (responses (unanswered ended))
   pub answered : q ≡ all_answered ended
 
+-- A request that came alone, in a run with threads: it is offered, and session 0 runs its transaction to its end. No thread is
+-- started for it.
+pub record Lone (request : Pairs) (p : Point) (own : Option Pairs) (q : Point) : Type 0 where
+  pub outcome : Outcome
+  pub offered : Point
+  pub offers : Does (turn.Offer request) outcome p offered
+  pub transacts : Transacts offered own q
+
+-- Then its response is given, and no other.
+pub record RunsLone (request : Pairs) (p : Point) (bytes : List ℕ) (q : Point) : Type 0 where
+  pub own : Option Pairs
+  pub ended : Point
+  pub lone : Lone request p own ended
+  pub gives : AreFramed bytes (response_of own)
+  pub answered : q ≡ all_answered ended
+
 -- what is done, from one response to the next
 pub data Round : Type 0 where
   Offered : (request : Pairs) → Round
   Completed : Round
   Released : Round
   Batched : (requests : List Pairs) → Round
+  Alone : (request : Pairs) → Round
   Trimmed : Round
 
 -- One after the other, with what they give, and the lines of the entries that are cut. A request is offered, or a batch, only
@@ -104,6 +121,7 @@ Goes (Completed ∷ rs) p bytes lines q =
     × Completes p first cut w × Goes rs w later others q × (bytes ≡ first ++ later) × (lines ≡ cut ++ others)
 Goes (Released ∷ rs) p bytes lines q = (o : Outcome) × (w : Point) × Does turn.Release o p w × Goes rs w bytes lines q
 Goes (Batched xs ∷ rs) p bytes lines q = IsReady p × (w : Point) × (first : List ℕ) × (later : List ℕ) × Runs xs p first w × Goes rs w later lines q × (bytes ≡ first ++ later)
+Goes (Alone x ∷ rs) p bytes lines q = IsReady p × (w : Point) × (first : List ℕ) × (later : List ℕ) × RunsLone x p first w × Goes rs w later lines q × (bytes ≡ first ++ later)
 Goes (Trimmed ∷ rs) p bytes lines q = (w : Point) × (cut : List ℕ) × (others : List ℕ) × MayCut p cut w × Goes rs w bytes others q × (lines ≡ cut ++ others)
 
 -- each request is offered, and the queue's first transaction runs to its end before the next is
@@ -123,10 +141,10 @@ IsRetry Completed = ⊤
 IsRetry Released = ⊤
 IsRetry _ = ⊥
 
--- no request is offered by itself, and a batch has at most 256
+-- with threads: a batch has 2 to 256 requests, and one that came alone is answered alone
 abbrev pub IsOfBatches : Round → Type 0
 IsOfBatches (Offered x) = ⊥
-IsOfBatches (Batched xs) = length xs ≤ 256
+IsOfBatches (Batched xs) = (2 ≤ length xs) × (length xs ≤ 256)
 IsOfBatches _ = ⊤
 
 -- the requests that are offered, in their order
@@ -134,6 +152,7 @@ abbrev pub offered_in : List Round → List Pairs
 offered_in [] = []
 offered_in (Offered x ∷ rs) = x ∷ offered_in rs
 offered_in (Batched xs ∷ rs) = xs ++ offered_in rs
+offered_in (Alone x ∷ rs) = x ∷ offered_in rs
 offered_in (_ ∷ rs) = offered_in rs
 
 -- rounds, with what an output holds before and after, where that is known, and the lines of the entries that are cut
@@ -143,7 +162,7 @@ pub record Serves (rounds : List Round) (p : Point) (before : Option (List ℕ))
   pub goes : Goes rounds p bytes lines q
   pub appends : Appends before after bytes
 
--- rounds that answer these requests: one after the other, or in batches. The history may be cut between them.
+-- rounds that answer these requests: without threads one after the other, with threads in batches. The history may be cut between them.
 abbrev pub RoundsFor : Bool → List Pairs → List Round → Type 0
 RoundsFor false requests rounds = untrimmed rounds ≡ answering requests
 RoundsFor true requests rounds = (offered_in rounds ≡ requests) × AllByRecursion IsOfBatches rounds

@@ -9,7 +9,7 @@ use Rattle.flow_model.specs.declared.flow.Flow.{Flow}
 use Rattle.tx_plant.specs.Plant.{Seen}
 use Rattle.cli_run.specs.declared.stream.StreamEnd.{StreamEnd}
 use Rattle.cli_run.specs.Points.{IsReady, Point, all_answered, response_of, responses, unanswered, world_at}
-use Rattle.cli_run.specs.Rounds.{Batched, Completed, IsRetry, MayCut, Round, RoundsToward, Serves, ServesFor, Together, Transacts}
+use Rattle.cli_run.specs.Rounds.{Alone, Batched, Completed, IsRetry, Lone, MayCut, Round, RoundsToward, Serves, ServesFor, Together, Transacts}
 use Rattle.cli_run.specs.Lines.{lines_in}
 use Rattle.cli_run.specs.Ran.{Begins}
 use Rattle.cli_run.specs.Requests.{ReadTo, Reads, requests}
@@ -27,10 +27,18 @@ pub record AnswersBatch (requests : List Pairs) (p : Point) (text : List ℕ) : 
   pub together : Together requests p ended
   pub framed : AreFramed text (responses (unanswered ended))
 
+-- a request that came alone was offered, its transaction ran to its end, and this is the frame of its response
+pub record AnswersLone (request : Pairs) (p : Point) (text : List ℕ) : Type 0 where
+  pub own : Option Pairs
+  pub ended : Point
+  pub lone : Lone request p own ended
+  pub framed : AreFramed text (response_of own)
+
 -- what the next round was to give: nothing, or the responses of a transaction or a batch that ran to its end
 abbrev pub IsOfNext : List Round → Point → List ℕ → Type 0
 IsOfNext (Completed ∷ rounds) p text = (text ≡ []) ⊎ Answers p text
 IsOfNext (Batched xs ∷ rounds) p text = (text ≡ []) ⊎ AnswersBatch xs p text
+IsOfNext (Alone x ∷ rounds) p text = (text ≡ []) ⊎ AnswersLone x p text
 IsOfNext rounds p text = text ≡ []
 
 -- of the responses that were to be given a beginning is written

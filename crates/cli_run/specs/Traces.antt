@@ -19,10 +19,18 @@ pub data Piece : Type 0 where
 abbrev pub passed_line : ℕ → List ℕ → List ℕ
 passed_line number cause = codes "cardswitch: message " ++ decimal number ++ codes " is passed over: " ++ cause ++ 10 ∷ []
 
+abbrev pub piece_text : Piece → List ℕ
+piece_text (Traced lines) = lines
+piece_text (Passed number cause) = passed_line number cause
+
 abbrev pub text_of : List Piece → List ℕ
 text_of [] = []
-text_of (Traced lines ∷ ps) = lines ++ text_of ps
-text_of (Passed number cause ∷ ps) = passed_line number cause ++ text_of ps
+text_of (p ∷ ps) = piece_text p ++ text_of ps
+
+-- a beginning of each piece, one after the other
+abbrev pub AreBegun : List Piece → List ℕ → Type 0
+AreBegun [] text = text ≡ []
+AreBegun (p ∷ ps) text = (first rest more : List ℕ) × (piece_text p ≡ first ++ rest) × AreBegun ps more × (text ≡ first ++ more)
 
 -- the lines of the trace among them
 abbrev pub traced_in : List Piece → List ℕ
@@ -43,6 +51,15 @@ pub record Adds (lines : List ℕ) (passed : ℕ) (before after : Option (List �
   pub count : passed_in pieces ≡ passed
   pub written : Appends before after (text_of pieces)
 
+-- of each of these a beginning was added, all of it, or none, and nothing else
+pub record AddsSome (lines : List ℕ) (passed : ℕ) (before after : Option (List ℕ)) : Type 0 where
+  pub pieces : List Piece
+  pub traced : traced_in pieces ≡ lines
+  pub count : passed_in pieces ≡ passed
+  pub text : List ℕ
+  pub begun : AreBegun pieces text
+  pub written : Appends before after text
+
 -- standard error as a run sees it: whether the trace is wanted, whether a write failed, and what is written, where that is
 -- known
 pub record Log : Type 0 where
@@ -57,12 +74,13 @@ abbrev pub if_wanted : Bool → List ℕ → List ℕ
 if_wanted true lines = lines
 if_wanted false lines = []
 
--- these lines of the trace were told, where it is wanted, and so many messages that are passed over; all is written, unless a
--- write failed
+-- these lines of the trace were told, where it is wanted, and so many messages that are passed over: all is written, or, where
+-- a write failed, beginnings of these pieces
 pub record Tells (lines : List ℕ) (passed : ℕ) (a b : Log) : Type 0 where
   pub wanted : b.wanted ≡ a.wanted
   pub before : b.lost ≡ false → a.lost ≡ false
   pub adds : b.lost ≡ false → Adds (if_wanted a.wanted lines) passed a.text b.text
+  pub some : AddsSome (if_wanted a.wanted lines) passed a.text b.text
 
 -- the messages that are passed over are those that cannot be read
 abbrev pub if_passed : Result PlainMessage DecodeError → ℕ

@@ -1,6 +1,6 @@
 //! Requests in batches, each run by all sessions at once.
 
-ghost use Rattle.std.specs.Prelude.{◌≡◌, ◌≤◌, ◌++◌, option_to_list, List, ℕ, [], IfOk, OnErr, OnOk, length, vec_len, true};
+ghost use Rattle.std.specs.Prelude.{◌≡◌, ◌≤◌, ◌∷◌, ◌++◌, option_to_list, List, ℕ, [], IfOk, OnErr, OnOk, length, vec_len, true};
 ghost use Rattle.sw_frame.specs.Feeds.{messages};
 ghost use Rattle.sw_frame.specs.Stream.{blank};
 ghost use Rattle.cli_run.specs.Points.{IsReady, RestsGiven, point_of};
@@ -42,8 +42,60 @@ impl<S: Alter + Drop> Switch<S> {
         self.cut_told(alloc, told)
     }
 
+    // Answers a request that came alone, in this thread: so it takes no longer than without threads.
+    fn answer_alone<O: Write, E: Write>(
+        &mut self,
+        alloc: Global,
+        request: Context,
+        out: &mut O,
+        told: &mut Told<'_, E>,
+    ) -> Result<(), ServeError>
+        requires ready { IsReady (point_of S.Store self.old) }
+        ensures serves { OnOk result ((rounds : List Round)
+            × RoundsFor true (request ∷ []) rounds × Reports rounds 0
+            (point_of S.Store self.old) (O.contents out.old) (log_of E.contents told.old)
+            (point_of S.Store self.new) (O.contents out.new) (log_of E.contents told.new)) }
+        ensures ready { OnOk result (IsReady (point_of S.Store self.new)) }
+        ensures halts { OnErr result (HaltsToward true (request ∷ [])
+            (point_of S.Store self.old) (O.contents out.old) (O.contents out.new)) }
+    {
+        self.run_alone(alloc, request)?;
+        self.finish(alloc, out, told)
+    }
+
     // Answers requests as one batch. Where it ends with an error, the lines of the batch are told all the
     // same, if it was run.
+    fn answer_together<T: Threads + Wait + Sync, O: Write, E: Write>(
+        self,
+        rt: &T,
+        alloc: Global,
+        requests: Vec<Context>,
+        out: &mut O,
+        told: &mut Told<'_, E>,
+    ) -> Result<Switch<S>, ServeError>
+        requires ready { IsReady (point_of S.Store self) }
+        requires some { 2 ≤ vec_len requests }
+        requires few { vec_len requests ≤ 256 }
+        ensures serves { IfOk result (λ switch. (rounds : List Round)
+            × RoundsFor true requests.items rounds × Reports rounds 0
+            (point_of S.Store self) (O.contents out.old) (log_of E.contents told.old)
+            (point_of S.Store switch) (O.contents out.new) (log_of E.contents told.new)) }
+        ensures ready { IfOk result (λ switch. IsReady (point_of S.Store switch)) }
+        ensures halts { OnErr result (HaltsToward true requests.items
+            (point_of S.Store self) (O.contents out.old) (O.contents out.new)) }
+    {
+        let mut switch = self.run_together(rt, alloc, requests)?;
+        match switch.finish(alloc, out, told) {
+            Ok(()) => Ok(switch),
+            Err(error) => {
+                let _lines = told.trace(alloc, switch.engine());
+                Err(error)
+            }
+        }
+    }
+
+    // Answers requests that came at once: two or more as one batch, and one alone. Where it ends with an
+    // error, the lines of the history are told all the same, unless a batch was given up.
     fn answer_batch<T: Threads + Wait + Sync, O: Write, E: Write>(
         self,
         rt: &T,
@@ -65,8 +117,15 @@ impl<S: Alter + Drop> Switch<S> {
         if requests.is_empty() {
             return Ok(self);
         }
-        let mut switch = self.run_together(rt, alloc, requests)?;
-        match switch.finish(alloc, out, told) {
+        if requests.len() > 1 {
+            return self.answer_together(rt, alloc, requests, out, told);
+        }
+        let mut requests = requests;
+        let Some(request) = requests.pop() else {
+            unreachable!()
+        };
+        let mut switch = self;
+        match switch.answer_alone(alloc, request, out, told) {
             Ok(()) => Ok(switch),
             Err(error) => {
                 let _lines = told.trace(alloc, switch.engine());
@@ -138,7 +197,7 @@ fn answer_batches<S: Alter + Drop, T: Threads + Wait + Sync, O: Write, E: Write>
 
 impl Requests {
     /// Answers all requests of an input, in batches of those that have come: at most 256 messages, and at
-    /// least one.
+    /// least one. A request that came alone is answered in this thread.
     pub(crate) fn serve_in_batches<
         S: Alter + Drop,
         T: Threads + Wait + Sync,

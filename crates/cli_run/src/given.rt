@@ -51,8 +51,7 @@ pub(crate) fn text_above(
 
 /// The greatest id, if it is above this one.
 pub(crate) fn last_above(ended: &BTreeMap<u64, Context>, id: u64) -> u64
-    ensures last { result ≡ last_id id (above id ended.now.entries) }
-    ensures none_left { above result ended.now.entries ≡ [] }
+    ensures { result ≡ last_id id (above id ended.now.entries) }
 {
     match ended.last_key_value() {
         Some((last, _)) if *last > id => *last,

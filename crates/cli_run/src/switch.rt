@@ -7,9 +7,9 @@ ghost use Rattle.sw_frame.specs.Stream.{AreFramed};
 ghost use Rattle.tx_engine.specs.Calls.{waits};
 ghost use Rattle.plant_outcome.specs.Seated.{Seated};
 ghost use Rattle.cli_run.specs.Errors.{IsCause, IsNoStation};
-ghost use Rattle.cli_run.specs.Points.{IsAtRest, IsReady, all_answered, point_of};
+ghost use Rattle.cli_run.specs.Points.{IsAtRest, IsReady, RestsGiven, all_answered, point_of};
 ghost use Rattle.cli_run.specs.Points.{responses, unanswered};
-ghost use Rattle.cli_run.specs.Rounds.{Completed, Does, IsDone, Together, Transacts};
+ghost use Rattle.cli_run.specs.Rounds.{Completed, Does, IsDone, Lone, Together, Transacts};
 ghost use Rattle.cli_run.specs.Rounds.{answering};
 ghost use Rattle.cli_run.specs.Stopped.{GivesSome, Halts};
 ghost use Rattle.cli_run.specs.Traces.{Cuts, Reports, log_of};
@@ -155,8 +155,21 @@ impl<S: Alter> Switch<S> {
         Err(ServeError::Endless)
     }
 
-    /// Writes the responses that were not given, those of transactions that ended since.
+    /// Runs the transaction of a request that came alone to its end.
+    pub(crate) fn run_alone(&mut self, alloc: Global, request: Context) -> Result<(), ServeError>
+        requires ready { IsReady (point_of S.Store self.old) }
+        ensures lone { OnOk result ((own : Option Pairs) × Lone request
+            (point_of S.Store self.old) own (point_of S.Store self.new)) }
+        ensures rests { OnOk result (RestsGiven (point_of S.Store self.new)) }
+    {
+        self.act(alloc, Turn::Offer(request))?;
+        self.serve_next(alloc)
+    }
+
+    /// Writes the responses that were not given, those of transactions that ended since. Then the contexts of
+    /// all that ended are let go, so that a long run keeps none of them.
     pub(crate) fn give<O: Write>(&mut self, alloc: Global, out: &mut O) -> Result<(), ServeError>
+        requires rests { RestsGiven (point_of S.Store self.old) }
         ensures gives { OnOk result ((text : List ℕ)
             × AreFramed text (responses (unanswered (point_of S.Store self.old)))
             × Appends (O.contents out.old) (O.contents out.new) text) }
@@ -164,11 +177,13 @@ impl<S: Alter> Switch<S> {
             ≡ all_answered (point_of S.Store self.old)) }
         ensures stopped { OnErr result (GivesSome (point_of S.Store self.old)
             (O.contents out.old) (O.contents out.new)) }
-        ensures given { OnOk result (unanswered (point_of S.Store self.new) ≡ []) }
+        ensures rest { OnOk result (IsAtRest (point_of S.Store self.new)) }
     {
         let text = text_above(alloc, self.plant.ended(), self.answered)?;
+        write_out(out, &text)?;
         self.answered = last_above(self.plant.ended(), self.answered);
-        Ok(write_out(out, &text)?)
+        let _given = self.plant.take_ended(alloc);
+        Ok(())
     }
 
     // Cuts a history of so many entries or more, its lines told before.

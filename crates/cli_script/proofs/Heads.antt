@@ -25,7 +25,7 @@ pub fewer : (rest : List ℕ) → rest ≢ [] → length (others_of rest) < leng
 fewer [] some = absurd (some refl)
 fewer (b ∷ bs) some = grind (arith, length-drop)
 
-one_more : (ss : List Setting) (s : Setting) (script rest : List ℕ) → IsBehind ss script rest → BeginsWith rest s
+pub one_more : (ss : List Setting) (s : Setting) (script rest : List ℕ) → IsBehind ss script rest → BeginsWith rest s
     → IsBehind (ss ++ s ∷ []) script (others_of rest)
 one_more [] s script rest behind begins = (rw behind at begins, ap others_of behind)
 one_more (t ∷ ts) s script rest behind begins = (behind.0, one_more ts s (others_of script) rest behind.1 begins)

@@ -1,6 +1,7 @@
 mod Causes
-mod Digits
-mod Heads
+mod HexDigits
+pub mod Continued
+pub mod Heads
 mod LineEnds
 mod Meant
 mod Spelled

@@ -9,3 +9,4 @@ pub mod Queues
 pub mod Replies
 pub mod Settings
 pub mod Scripts
+pub mod Heads

@@ -1,10 +1,8 @@
 -- The lines of a script.
-use Rattle.std.specs.Prelude.{◌≡◌, ◌≢◌, ◌==◌, ℕ, Bool, List, []}
+use Rattle.std.specs.Prelude.{◌≡◌, ◌≢◌, ℕ, List, []}
 use Rattle.std.specs.Borrow.{Bor}
 use Rattle.std.specs.List.{after_first, before_first}
-
-abbrev pub is_line_feed : ℕ → Bool
-is_line_feed b = b == 10
+use Rattle.cli_lines.specs.Feeds.{is_line_feed}
 
 -- a line, and what follows its line feed; an empty script has no line
 abbrev pub IsFirstLine : List ℕ → Bor (List ℕ) × Bor (List ℕ) → Type 0

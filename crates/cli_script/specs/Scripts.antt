@@ -6,7 +6,7 @@ use Rattle.flow_model.specs.Check.{IsChecked, first_fault}
 use Rattle.flow_model.specs.declared.flow.Flow.{Flow}
 use Rattle.cli_io.specs.Quoting.{quoted}
 use Rattle.cli_script.specs.Grammar.{meaning_of}
-use Rattle.cli_script.specs.Lines.{is_line_feed}
+use Rattle.cli_lines.specs.Feeds.{is_line_feed}
 use Rattle.sw_scripted.specs.Puts.{is_crowded}
 use Rattle.cli_script.specs.Settings.{IsKeptOf, IsRepliesOf, stated_flow, stated_sessions}
 use Rattle.cli_script.specs.declared.error.LineError.{LineError}

@@ -23,7 +23,7 @@ impl<'a> Actions<'a> {
     ghost use Rattle.cli_script.specs.Scripts.{IsNextAction, bytes_left};
 
     /// The lines of `rest`, after so many others.
-    pub(crate) fn new(rest: &'a [u8], lines: usize) -> Actions<'a>
+    pub fn new(rest: &'a [u8], lines: usize) -> Actions<'a>
         requires { lines + length rest.now < 2 ^ 64 }
         ensures rest { result.rest.now ≡ rest.entry.now }
         ensures lines { result.lines ≡ lines }

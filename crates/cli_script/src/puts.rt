@@ -8,7 +8,7 @@ ghost use Rattle.cli_script.specs.Words.{further_words, has_bad};
 ghost use Rattle.cli_script.specs.declared.error.LineError.TheVariants.{Entry};
 
 use crate::error::LineError;
-use crate::hex::{is_hex, read_hex};
+use crate::hexadecimal::{is_hex, read_hex};
 use crate::line::Action;
 use crate::words::{cut_at, further_words};
 use std::alloc::Global;

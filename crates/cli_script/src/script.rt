@@ -23,7 +23,7 @@ fn is_misplaced(has_file: bool, setting: &Setting) -> bool
 
 /// The next setting and what follows its line; `None` at the end of the script or where the line is
 /// an action. So many lines stand before it.
-fn next_setting(
+pub fn next_setting(
     alloc: Global,
     has_file: bool,
     lines: usize,

@@ -10,7 +10,7 @@ ghost use Rattle.cli_script.specs.declared.line.ScriptLine.TheVariants as line;
 ghost use Rattle.cli_script.specs.declared.line.Setting.TheVariants as setting;
 
 use crate::error::LineError;
-use crate::hex::{is_hex, read_byte, read_hex};
+use crate::hexadecimal::{is_hex, read_byte, read_hex};
 use crate::line::{ScriptLine, Setting};
 use crate::puts::read_puts;
 use crate::words::{cut_at, first_and_rest};

@@ -1,22 +1,11 @@
 //! The lines of a script, the words of a line, and what a word spells.
-ghost use Rattle.std.specs.Prelude.{◌≡◌, ◌<◌, ◌≤◌, [], IfOk, MatchOption, length, map};
-ghost use Rattle.std.specs.List.{position_or_len};
-ghost use Rattle.cli_script.specs.Lines.{IsFirstLine, is_line_feed};
+ghost use Rattle.std.specs.Prelude.{◌≡◌, ◌<◌, [], IfOk, MatchOption, map};
+ghost use Rattle.cli_script.specs.Lines.{IsFirstLine};
 ghost use Rattle.cli_script.specs.Words.{cut_at, first_word, further_words, has_control};
 ghost use Rattle.cli_script.specs.Words.{has_empty_word, parts_shown, rest_of, words_of};
 
+use cli_lines::line_end;
 use std::alloc::{AllocError, Global};
-
-/// Where the first line feed stands, or the length where there is none.
-fn line_end(script: &[u8]) -> usize
-    ensures place { result ≡ position_or_len is_line_feed script.now }
-    ensures within { result ≤ length script.now }
-{
-    script
-        .iter()
-        .position(|byte| *byte == b'\n')
-        .unwrap_or(script.len())
-}
 
 /// The first line of a script and what follows it, `None` where the script is empty. A line ends in
 /// a line feed, which is part of neither and which the last line may lack.

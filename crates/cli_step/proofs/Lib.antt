@@ -1,5 +1,7 @@
 mod Adding
 mod Counted
+mod Gathering
+mod Joining
 mod Playing
 mod Puts
 mod Turning

@@ -97,6 +97,7 @@ writing_cause : (e : StepError) (lines : ℕ) (rest : List ℕ) (before after : 
     → IsCause e lines rest before after text more
 writing_cause (error.Write e) lines rest before after text more w = tt
 writing_cause error.OutOfMemory lines rest before after text more w = tt
+writing_cause (error.Read e) lines rest before after text more w = absurd w
 writing_cause (error.Script e) lines rest before after text more w = absurd w
 writing_cause (error.Plant n e) lines rest before after text more w = absurd w
 writing_cause (error.Journal n e) lines rest before after text more w = absurd w
@@ -187,3 +188,7 @@ line_unwritten a p q before after old text r n e none acts failed (beginning, wh
 pub if_err : {A E : Type 0} {First Second : E → Type 0} (r : Result A E) → ((e : E) → First e → Second e) → IfErr r First → IfErr r Second
 if_err (Ok u) f holds = tt
 if_err (Err e) f holds = f e holds
+
+pub all_ok : {E : Type 0} {First : Type 0} (r : Result Unit E) → First → OnOk r First
+all_ok (Ok u) holds = holds
+all_ok (Err e) holds = tt

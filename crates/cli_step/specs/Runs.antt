@@ -76,6 +76,10 @@ abbrev pub IsUnwritten : Option (List ℕ) → Option (List ℕ) → Text → Re
 IsUnwritten before after text ran line e = ((count : ℕ) × Appends before after (take count text))
     × (IsWriting e ⊎ (Appends before after text × ((x : ActionError) × (ran ≡ Err x) × (e ≡ at_line line x))))
 
+-- something was written, and what was there before stands
+abbrev pub Grows : Option (List ℕ) → Option (List ℕ) → Type 0
+Grows before after = (text : Text) × Appends before after text
+
 -- a line was run, and its text written
 abbrev pub RunsLine : Action → Point → Option (List ℕ) → Point → Option (List ℕ) → Type 0
 RunsLine a p before q after = (more : Text) × Acts a p more q × Appends before after more
@@ -100,6 +104,7 @@ IsCause (error.Script e) lines rest before after text more =
     (rest ≢ []) × IsActionRefusal (lines + 1) (line_of rest) (meaning_of (line_of rest)) e × Appends before after text
 IsCause (error.Plant n e) lines rest before after text more = (n ≡ lines + 1) × IsFailed rest more × Appends before after (text ++ more)
 IsCause (error.Journal n e) lines rest before after text more = (n ≡ lines + 1) × IsFailed rest more × Appends before after (text ++ more)
+IsCause (error.Read e) lines rest before after text more = Appends before after text
 IsCause (error.Write e) lines rest before after text more = ⊤
 IsCause error.OutOfMemory lines rest before after text more = ⊤
 
@@ -125,6 +130,24 @@ pub record Begun (flow : Flow) (sessions : ℕ) (p : Point) : Type 0 where
   pub view : JournalView
   pub opened : Opened flow sessions view journal p.plant.core p.plant.journal
   pub seated : AreSeated p.names (parts_of flow)
+
+-- all of these lines were run, and their texts written
+pub record RanAll (lines : List ℕ) (p : Point) (before : Option (List ℕ)) (q : Point) (after : Option (List ℕ)) : Type 0 where
+  pub acts : List Action
+  pub means : AreLines acts lines []
+  pub text : Text
+  pub plays : Plays acts p text q
+  pub written : Appends before after text
+
+-- the lines of a script and then others were run over such a plant, and their texts written
+pub record PlayedOn (flow : Flow) (sessions : ℕ) (script : Actions) (others : List ℕ) (before after : Option (List ℕ)) : Type 0 where
+  pub start : Point
+  pub begun : Begun flow sessions start
+  pub between : Point
+  pub written : Option (List ℕ)
+  pub first : RanAll script.rest.now start before between written
+  pub end : Point
+  pub rest : RanAll others between written end after
 
 -- all lines of a script were run over such a plant, and their texts written
 pub record Played (flow : Flow) (sessions : ℕ) (script : Actions) (before after : Option (List ℕ)) : Type 0 where

@@ -1,11 +1,11 @@
 //! Why the run of a script ends early.
 
 ghost use Rattle.std.specs.Prelude.{◌≡◌};
-ghost use Rattle.cli_step.specs.Errors.{at_line, error_of_script, error_of_write};
+ghost use Rattle.cli_step.specs.Errors.{at_line, error_of_read, error_of_script, error_of_write};
 ghost use Rattle.cli_step.specs.declared.error.ActionError.TheVariants as act;
 ghost use Rattle.cli_step.specs.declared.error.StepError.TheVariants.{OutOfMemory};
 
-use cli_io::WriteError;
+use cli_io::{ReadError, WriteError};
 use cli_script::ScriptError;
 use std::alloc::{AllocError, AllocFailed};
 use sw_participant::NoMemory;
@@ -25,6 +25,9 @@ pub enum StepError {
     /// The journal refused.
     #[error("line {line}: the journal refused: {cause}")]
     Journal { line: usize, cause: JournalError },
+    /// The next line could not be read.
+    #[error("reading the input: {0}")]
+    Read(ReadError),
     /// The output could not be written.
     #[error("writing the output: {0}")]
     Write(WriteError),
@@ -101,6 +104,17 @@ impl From<ScriptError> for StepError {
         match error {
             ScriptError::OutOfMemory => StepError::OutOfMemory,
             other => StepError::Script(other),
+        }
+    }
+}
+
+impl From<ReadError> for StepError {
+    ghost from_gives = { λ e s. s ≡ error_of_read e };
+
+    fn from(error: ReadError) -> StepError {
+        match error {
+            ReadError::OutOfMemory => StepError::OutOfMemory,
+            other => StepError::Read(other),
         }
     }
 }

@@ -1,4 +1,4 @@
-//! The script of `step`, run over a plant.
+//! The script of `step`, run over a plant, each line before the next one is read.
 //!
 //! Promised here, by the definitions in `specs/`:
 //! - each line that is a turn does that turn of the plant (`Plant::drive`), and prints the line of what came
@@ -9,6 +9,7 @@
 mod actions;
 mod auto;
 mod error;
+mod head;
 mod places;
 mod said;
 mod script;
@@ -18,4 +19,4 @@ mod turns;
 pub use actions::turn_of;
 pub use error::StepError;
 pub use said::told;
-pub use script::{run_actions, run_script};
+pub use script::{run_actions, run_lines};

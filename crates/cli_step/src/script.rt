@@ -1,22 +1,26 @@
 //! The run of a script.
 
-ghost use Rattle.std.specs.Prelude.{◌≡◌, [], IfErr, IfOk, Ok, OnOk, false};
+ghost use Rattle.std.specs.Prelude.{◌≡◌, ◌≤◌, [], IfErr, IfOk, IfSome, Ok, OnErr, OnOk, false};
+ghost use Rattle.std.specs.Prelude.{length};
 ghost use Rattle.std.specs.Io.KnownBytes.{Appends, Keeps};
+ghost use Rattle.cli_lines.specs.Lines.{room, to_come};
 ghost use Rattle.flow_model.specs.Check.{IsChecked};
 ghost use Rattle.tx_trace.specs.Follow.{Follows};
 ghost use Rattle.cli_step.specs.Doing.{point_of};
-ghost use Rattle.cli_step.specs.Runs.{IsLineFailed, IsRun, IsUnwritten, IsWriting, Played, Ran};
-ghost use Rattle.cli_step.specs.Runs.{RunsLine, Stopped};
+ghost use Rattle.cli_step.specs.Runs.{Grows, IsLineFailed, IsRun, IsUnwritten, IsWriting, PlayedOn};
+ghost use Rattle.cli_step.specs.Runs.{Ran, RanAll, RunsLine, Stopped};
 
 use crate::actions::run_action;
 use crate::error::{ActionError, StepError};
+use crate::head::read_head;
 use cli_io::{WriteError, write_whole};
+use cli_lines::Lines;
 use cli_script::{Action, Actions, Script, open_script};
 use flow_asm::{Code, assemble};
 use flow_model::Flow;
 use sqlite::{Alter, Connection, MemStore};
 use std::alloc::Global;
-use std::io::Write;
+use std::io::{Read, Write};
 use sw_participant::Station;
 use sw_scripted::Scripted;
 use tx_journal::Journal;
@@ -86,6 +90,7 @@ pub fn run_actions<S: Alter, W: Write>(
         (point_of S.Store plant.old) (W.contents out.old)
         (point_of S.Store plant.new) (W.contents out.new)) }
     ensures all { OnOk result (actions.new.rest.now ≡ []) }
+    ensures follows { OnOk result (Follows plant.new.running.engine tracer.new) }
     ensures stopped { IfErr result (λ e. Stopped actions.old
         (point_of S.Store plant.old) (W.contents out.old) e (W.contents out.new)) }
 {
@@ -105,18 +110,45 @@ fn memory_journal(alloc: Global) -> Result<Journal<MemStore>, ActionError>
     }
 }
 
-// Runs the lines after the settings over a plant of these stations with a journal in memory (apart, so that its
-// proof does not carry their making).
-fn play_over<W: Write>(
+// Runs the lines that are still to come, each before the next one is read.
+fn run_rest<R: Read, S: Alter, W: Write>(
+    alloc: Global,
+    plant: &mut Plant<S>,
+    tracer: &mut Tracer,
+    lines: &mut Lines<R>,
+    out: &mut W,
+) -> Result<(), StepError>
+    requires { Follows plant.old.running.engine tracer.old }
+    ensures ran { OnOk result (IfSome (to_come R.remaining lines.old) (λ bytes. RanAll bytes
+        (point_of S.Store plant.old) (W.contents out.old)
+        (point_of S.Store plant.new) (W.contents out.new))) }
+    ensures few { OnOk result (IfSome (to_come R.remaining lines.old)
+        (λ bytes. length bytes ≤ room lines.old)) }
+    ensures grown { OnErr result (Grows (W.contents out.old) (W.contents out.new)) }
+{
+    while let Some(line) = lines.next(alloc)? {
+        let mut actions = Actions::new(line.as_slice(), lines.count() - 1);
+        run_actions(alloc, plant, tracer, &mut actions, out)?;
+    }
+    Ok(())
+}
+
+// Runs these lines, and then those that are still to come, over a plant of these stations with a journal in memory
+// (apart, so that its proof does not carry their making).
+fn play_over<R: Read, W: Write>(
     alloc: Global,
     code: &Code,
     stations: Vec<Station>,
     sessions: usize,
     actions: &mut Actions<'_>,
+    lines: &mut Lines<R>,
     out: &mut W,
 ) -> Result<(), StepError>
-    ensures { OnOk result (Played code.now sessions actions.old
-        (W.contents out.old) (W.contents out.new)) }
+    ensures played { OnOk result (IfSome (to_come R.remaining lines.old) (λ others. PlayedOn code.now
+        sessions actions.old others (W.contents out.old) (W.contents out.new))) }
+    ensures few { OnOk result (IfSome (to_come R.remaining lines.old)
+        (λ bytes. length bytes ≤ room lines.old)) }
+    ensures grown { OnErr result (Grows (W.contents out.old) (W.contents out.new)) }
 {
     let first = actions.lines().saturating_add(1);
     let journal = match memory_journal(alloc) {
@@ -128,15 +160,26 @@ fn play_over<W: Write>(
         Err((cause, _, _)) => return Err(ActionError::Plant(cause).at_line(first)),
     };
     let mut tracer = Tracer::new(alloc, plant.engine());
-    run_actions(alloc, &mut plant, &mut tracer, actions, out)
+    run_actions(alloc, &mut plant, &mut tracer, actions, out)?;
+    run_rest(alloc, &mut plant, &mut tracer, lines, out)
 }
 
-// Makes a participant by the script for each one of the flow, and runs the lines after the settings. (It hands
-// no station out, so that contracts know of every participant whose it is.)
-fn play<W: Write>(alloc: Global, script: Script<'_>, out: &mut W) -> Result<(), StepError>
+// Makes a participant by the script for each one of the flow, and runs the lines after the settings, those of the
+// script and those that are still to come. (It hands no station out, so that contracts know of every participant
+// whose it is.)
+fn play<R: Read, W: Write>(
+    alloc: Global,
+    script: Script<'_>,
+    lines: &mut Lines<R>,
+    out: &mut W,
+) -> Result<(), StepError>
     requires { IsChecked script.flow }
-    ensures { OnOk result (Played script.entry.flow script.entry.sessions script.entry.actions
-        (W.contents out.old) (W.contents out.new)) }
+    ensures played { OnOk result (IfSome (to_come R.remaining lines.old) (λ others.
+        PlayedOn script.entry.flow script.entry.sessions script.entry.actions others
+        (W.contents out.old) (W.contents out.new))) }
+    ensures few { OnOk result (IfSome (to_come R.remaining lines.old)
+        (λ bytes. length bytes ≤ room lines.old)) }
+    ensures grown { OnErr result (Grows (W.contents out.old) (W.contents out.new)) }
 {
     let code = assemble(alloc, &script.flow)?;
     let Script {
@@ -155,25 +198,36 @@ fn play<W: Write>(alloc: Global, script: Script<'_>, out: &mut W) -> Result<(), 
             Err(_) => return Err(StepError::OutOfMemory),
         }
     }
-    play_over(alloc, &code, stations, sessions as usize, &mut actions, out)
+    play_over(
+        alloc,
+        &code,
+        stations,
+        sessions as usize,
+        &mut actions,
+        lines,
+        out,
+    )
 }
 
-/// Runs the lines of a script in their order over a plant with a journal in memory, and writes what they
-/// print. The flow is the one that its settings state, over that of a flow file if there is one; its
-/// participants reply as the settings say.
+/// Runs the lines of a script in their order over a plant with a journal in memory, and writes what each
+/// prints before the next one is read. The flow is the one that its settings state, over that of a flow file if
+/// there is one; its participants reply as the settings say.
 ///
 /// A line that is refused ends the run: what the lines before it printed stands. What an engine refuses
 /// is printed, and the run goes on.
-pub fn run_script<W: Write>(
+pub fn run_lines<R: Read, W: Write>(
     alloc: Global,
     file: Option<Flow>,
-    script: &[u8],
+    lines: &mut Lines<R>,
     out: &mut W,
 ) -> Result<(), StepError>
-    ensures { OnOk result (IsRun file script.now (W.contents out.old) (W.contents out.new)) }
+    ensures ran { OnOk result (IfSome (to_come R.remaining lines.old) (λ script.
+        IsRun file script (W.contents out.old) (W.contents out.new))) }
+    ensures grown { OnErr result (Grows (W.contents out.old) (W.contents out.new)) }
 {
-    match open_script(alloc, file, script)? {
-        Some(script) => play(alloc, script, out),
+    let head = read_head(alloc, file.is_some(), lines)?;
+    match open_script(alloc, file, head.as_slice())? {
+        Some(script) => play(alloc, script, lines, out),
         None => flush(out),
     }
 }

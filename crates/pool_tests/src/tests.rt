@@ -3,6 +3,7 @@ mod disks;
 mod faults;
 mod flags;
 mod gates;
+mod journals;
 mod meeting;
 mod participants;
 mod plants;

@@ -10,7 +10,7 @@ use tx_pool::{Early, Fault};
 /// Why the program ends early.
 #[derive(Drop, Error)]
 pub enum TestError {
-    #[error("expected: FLOW SESSIONS OFFERS CAPACITY SEED, where the last four are numbers")]
+    #[error("expected: FLOW SESSIONS OFFERS CAPACITY SEED, or again FLOW SESSIONS OFFERS SEED")]
     Words,
     #[error("{0}")]
     Flow(#[from] FlowsError),

@@ -1,11 +1,12 @@
 //! What the program prints.
 
+use crate::again::TRIES;
 use crate::error::TestError;
 use crate::runs::Ran;
 use crate::watch::Called;
 use flow_asm::Code;
 use sqlite::MemStore;
-use std::alloc::Global;
+use std::alloc::{AllocError, Global};
 use std::io::{self, Write};
 use sw_context::Context;
 use sw_participant::Act;
@@ -78,6 +79,59 @@ fn write_ended<W: Write>(id: u64, context: &Context, out: &mut W) -> io::Result<
     writeln!(out)
 }
 
+// Writes the stations' counts, and the calls that were made.
+fn write_calls<W: Write>(
+    code: &Code,
+    plant: &Plant<MemStore>,
+    calls: &[Called],
+    out: &mut W,
+) -> io::Result<()> {
+    for part in code.participants() {
+        let name = part.name.as_str();
+        let count = plant.calls(name).unwrap_or(0);
+        writeln!(out, "calls {name} {count}")?;
+    }
+    for called in calls {
+        write_called(code, called, out)?;
+    }
+    Ok(())
+}
+
+// The trace of a plant's history, its stations' counts, and the calls that were made.
+fn all_lines(
+    alloc: Global,
+    code: &Code,
+    plant: &Plant<MemStore>,
+    calls: &[Called],
+) -> Result<Vec<u8>, TestError> {
+    let mut lines = Vec::new(alloc);
+    write_trace(alloc, plant.engine(), &mut lines)?;
+    write_calls(code, plant, calls, &mut lines)?;
+    Ok(lines)
+}
+
+/// Writes whether a run was given up, the trace of the last plant's history, its stations' counts, and the calls that were
+/// made. Where memory is refused the lines are made again.
+pub fn write_again<W: Write>(
+    alloc: Global,
+    code: &Code,
+    plant: &Plant<MemStore>,
+    was_given_up: bool,
+    calls: &[Called],
+    out: &mut W,
+) -> Result<(), TestError> {
+    for _ in 0..TRIES {
+        if let Ok(lines) = all_lines(alloc, code, plant, calls) {
+            if was_given_up {
+                writeln!(out, "given up")?;
+            }
+            out.write_all(lines.as_slice())?;
+            return Ok(out.flush()?);
+        }
+    }
+    Err(TestError::OutOfMemory(AllocError))
+}
+
 /// Writes the trace of the plant's history, its runs, its stations' counts, the calls that were
 /// made, and the contexts of the transactions that are done.
 pub fn write_all<W: Write>(
@@ -92,14 +146,7 @@ pub fn write_all<W: Write>(
     for ran in runs {
         write_run(ran, out)?;
     }
-    for part in code.participants() {
-        let name = part.name.as_str();
-        let count = plant.calls(name).unwrap_or(0);
-        writeln!(out, "calls {name} {count}")?;
-    }
-    for called in calls {
-        write_called(code, called, out)?;
-    }
+    write_calls(code, plant, calls, out)?;
     for (id, context) in plant.ended() {
         write_ended(*id, context, out)?;
     }

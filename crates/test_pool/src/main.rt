@@ -15,17 +15,24 @@
 //! - of each station `calls NAME COUNT`,
 //! - of each call, in the order in which they were made, `called S ID CALL NAME`,
 //! - of each transaction that is done `ended ID NAME=HEX ..`, the context that it ended with.
+//!
+//! `test_pool again FLOW SESSIONS OFFERS SEED` runs such a plant over so many offers, for tests that refuse it memory, and
+//! then over as many again. Where memory is refused before the first run it begins anew; where a run is given up, a new
+//! plant is made on what it left and recovers, and `given up` is printed. It prints the lines of the trace of the last plant,
+//! the stations' counts, and the calls that threads made, as above.
 #![tactic(auto)]
 
+mod again;
 mod error;
 mod lines;
 mod runs;
 mod watch;
 
+use again::{End, TRIES, run_again};
 use cli_flows::open_flow;
 use error::TestError;
 use flow_asm::{Code, assemble};
-use lines::write_all;
+use lines::{write_again, write_all};
 use runs::{new_journal, offers_of, run_all};
 use std::alloc::{AllocError, Global};
 use std::fs::Files;
@@ -45,6 +52,8 @@ struct Task {
     offers: usize,
     capacity: usize,
     seed: u64,
+    /// Whether it is run for tests that refuse it memory.
+    is_again: bool,
 }
 
 fn number(word: &str) -> Result<usize, TestError> {
@@ -58,6 +67,14 @@ fn read_task(words: &[String]) -> Result<Task, TestError> {
             offers: number(offers.as_str())?,
             capacity: number(capacity.as_str())?,
             seed: number(seed.as_str())? as u64,
+            is_again: false,
+        }),
+        [sessions, offers, seed] => Ok(Task {
+            sessions: number(sessions.as_str())?,
+            offers: number(offers.as_str())?,
+            capacity: 1,
+            seed: number(seed.as_str())? as u64,
+            is_again: true,
         }),
         _ => Err(TestError::Words),
     }
@@ -76,6 +93,43 @@ fn names_of(alloc: Global, code: &Code) -> Result<Vec<Text>, TestError> {
     Ok(names)
 }
 
+// Runs a plant of these stations over the offers, and then again, and writes what it did. `is_begun` is set before the
+// first run.
+fn play_again<R: Threads + Wait + Sync, W: Write>(
+    rt: &R,
+    alloc: Global,
+    code: &Code,
+    stations: Vec<Station>,
+    task: Task,
+    is_begun: &mut bool,
+    out: &mut W,
+) -> Result<(), TestError> {
+    let mut plant = match Plant::new(alloc, code, new_journal(alloc)?, stations, task.sessions) {
+        Ok(plant) => plant,
+        Err((error, _, _)) => return Err(TestError::Plant(error)),
+    };
+    *is_begun = true;
+    let watch = Watch::new(rt, alloc);
+    let mut was_given_up = false;
+    for _ in 0..2 {
+        plant.is_engine();
+        plant = match run_again(rt, alloc, plant, task.offers, &watch)? {
+            End::Done(plant) => plant,
+            End::GivenUp(journal, stations) => {
+                was_given_up = true;
+                let mut plant = match Plant::new(alloc, code, journal, stations, task.sessions) {
+                    Ok(plant) => plant,
+                    Err((error, _, _)) => return Err(TestError::Plant(error)),
+                };
+                plant.recover(alloc)?;
+                plant
+            }
+        };
+    }
+    let calls = watch.into_calls()?;
+    write_again(alloc, code, &plant, was_given_up, calls.as_slice(), out)
+}
+
 // Makes a station for each participant of the flow, runs a plant of them as the task says, and
 // writes what it did. (It hands no station out, so that contracts know of every participant whose
 // it is.)
@@ -84,6 +138,7 @@ fn play<R: Threads + Wait + Sync, W: Write>(
     alloc: Global,
     code: &Code,
     task: Task,
+    is_begun: &mut bool,
     out: &mut W,
 ) -> Result<(), TestError> {
     let mut stations = Vec::new(alloc);
@@ -96,6 +151,10 @@ fn play<R: Threads + Wait + Sync, W: Write>(
             Err(_) => return Err(TestError::OutOfMemory(AllocError)),
         }
     }
+    if task.is_again {
+        return play_again(rt, alloc, code, stations, task, is_begun, out);
+    }
+    *is_begun = true;
     let journal = new_journal(alloc)?;
     let plant = match Plant::new(alloc, code, journal, stations, task.sessions) {
         Ok(plant) => plant,
@@ -108,6 +167,36 @@ fn play<R: Threads + Wait + Sync, W: Write>(
     write_all(alloc, code, &plant, runs.as_slice(), calls.as_slice(), out)
 }
 
+fn play_flow<R: Files + Threads + Wait + Sync, W: Write>(
+    rt: &R,
+    alloc: Global,
+    flow: &str,
+    task: Task,
+    is_begun: &mut bool,
+    out: &mut W,
+) -> Result<(), TestError> {
+    let flow = open_flow(alloc, rt, flow)?;
+    play(rt, alloc, &assemble(alloc, &flow)?, task, is_begun, out)
+}
+
+// Does it anew where it is refused before the first run begins.
+fn play_anew<R: Files + Threads + Wait + Sync, W: Write>(
+    rt: &R,
+    alloc: Global,
+    flow: &str,
+    task: Task,
+    out: &mut W,
+) -> Result<(), TestError> {
+    let mut is_begun = false;
+    for _ in 0..TRIES {
+        match play_flow(rt, alloc, flow, task, &mut is_begun, out) {
+            Err(_) if !is_begun => {}
+            done => return done,
+        }
+    }
+    Err(TestError::OutOfMemory(AllocError))
+}
+
 fn run_words<R: Files + Threads + Wait + Sync, W: Write>(
     rt: &R,
     alloc: Global,
@@ -116,10 +205,13 @@ fn run_words<R: Files + Threads + Wait + Sync, W: Write>(
 ) -> Result<(), TestError> {
     match words {
         [] | [_] => Ok(()),
+        [_, again, flow, numbers @ ..] if again.as_str() == "again" => {
+            play_anew(rt, alloc, flow.as_str(), read_task(numbers)?, out)
+        }
         [_, flow, numbers @ ..] => {
             let task = read_task(numbers)?;
-            let flow = open_flow(alloc, rt, flow.as_str())?;
-            play(rt, alloc, &assemble(alloc, &flow)?, task, out)
+            let mut is_begun = false;
+            play_flow(rt, alloc, flow.as_str(), task, &mut is_begun, out)
         }
     }
 }

@@ -13,7 +13,7 @@ use tx_plant::PlantError;
 /// Why the program ends early. That the disks are cut is no such case.
 #[derive(Drop, Error)]
 pub enum TestError {
-    #[error("expected: silent FLOW JOURNAL, stopped power|kill [twice], stopped refusal, opened PATH, \
+    #[error("expected: silent FLOW JOURNAL, stopped power|kill [twice], stopped refusal, again, opened PATH, \
          or turned power|kill|refusal")]
     Words,
     #[error("the flow was refused")]
@@ -38,6 +38,8 @@ pub enum TestError {
     Journal(#[from] JournalError),
     #[error("the script has no line after its settings")]
     NoLine,
+    #[error("a line of the script is not a turn")]
+    NoTurn,
     #[error("the journal was not opened again")]
     Lost,
     #[error("a run was still cut after so many calls")]

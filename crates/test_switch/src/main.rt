@@ -13,6 +13,10 @@
 //! opened again, the lines of the recovery, `left` with the journal after it, and after the lines of
 //! each plant `calls NAME COUNT` for each of its stations.
 //!
+//! `test_switch again < SCRIPT` does the turns of a script over a journal in memory, and prints what comes of each; a
+//! turn that is refused for memory is done again. Where memory is refused to the journal's store, a new plant goes on over
+//! what the store has, and `restart UNFINISHED` is printed, as of a stop.
+//!
 //! `test_switch opened PATH` prints the layout of the journal in the file, opens it, and prints its view, or why it is
 //! refused: `layout N`, `next NEXTID`, and a line for each row, context on the shelf and advice.
 //!
@@ -21,6 +25,7 @@
 //! time what is left is opened again. It prints for each run `run CALLS`, the layout that was left, and the view.
 #![tactic(auto)]
 
+mod again;
 mod disks;
 mod error;
 mod lines;
@@ -29,6 +34,7 @@ mod openings;
 mod runs;
 mod silent;
 
+use again::run_again;
 use cli_io::{Input, read_input};
 use disks::Cut;
 use error::TestError;
@@ -60,6 +66,12 @@ fn run_stopped(rt: &HostRuntime, cut: Cut, is_twice: bool) -> Result<(), TestErr
     run_each(alloc, script.as_slice(), cut, is_twice, &mut rt.stdout())
 }
 
+fn run_refused(rt: &HostRuntime) -> Result<(), TestError> {
+    let alloc = rt.alloc();
+    let script = read_input(alloc, &mut Input::new(rt.stdin()))?;
+    run_again(alloc, script.as_slice(), &mut rt.stdout())
+}
+
 fn run_turned(rt: &HostRuntime, cut: Cut) -> Result<(), TestError> {
     let alloc = rt.alloc();
     let sql = read_input(alloc, &mut Input::new(rt.stdin()))?;
@@ -85,6 +97,7 @@ fn run_words<T: Threads + Wait + Sync>(
         [_, test, cut, twice] if test.as_str() == "stopped" && twice.as_str() == "twice" => {
             run_stopped(rt, cut_of(cut.as_str())?, true)
         }
+        [_, test] if test.as_str() == "again" => run_refused(rt),
         [_, test, path] if test.as_str() == "opened" => open_file(rt, path.as_str()),
         [_, test, cut] if test.as_str() == "turned" => run_turned(rt, cut_of(cut.as_str())?),
         _ => Err(TestError::Words),

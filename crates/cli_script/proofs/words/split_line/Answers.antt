@@ -1,6 +1,6 @@
 use Rattle.std.proofs.Common.{rules}
 use Rattle.cli_script.proofs.LineEnds.{after_end, before_end, nothing_after, whole_line}
-use Rattle.cli_script.specs.Lines.{is_line_feed}
+use Rattle.cli_lines.specs.Feeds.{is_line_feed}
 use Rattle.cli_script.proofs.words.split_line.Goals as goal
 
 pub returns-then-end-script : goal.returns-then-end-script

@@ -1,14 +1,23 @@
-use Rattle.cli_step.proofs.Adding.{both_ok}
+use Rattle.cli_step.proofs.Adding.{on_ok}
+use Rattle.cli_step.proofs.Joining.{grows_then, if_some, on_err, ran_grows, ran_whole}
+use Rattle.cli_lines.specs.Lines.{to_come}
+use Rattle.cli_step.specs.Doing.{point_of}
 use Rattle.cli_step.proofs.script.play_over.Goals as goal
 
-pub returns : goal.returns
-returns g c =
+pub returns-clause-played : goal.returns-clause-played
+returns-clause-played g c =
     let opened = c.in-Ok-new.ensures.opened in
-    both_ok c.run_actions.result (λ ran all. record {
+    let first = ran_whole c.args.actions.now c.run_actions.new.actions _ _ _ _ c.in_ok-run_actions.ensures.ran c.in_ok-run_actions.ensures.all in
+    on_ok c.run_rest.result (λ all. if_some (to_come g.R.Read.remaining c.args.lines.now) (λ others rest. record {
       start = _;
       begun = record { journal = _; fresh = c.in-Ok.ensures; view = opened.0; opened = opened.1; seated = c.in-Ok-new.ensures.seated };
-      left = c.run_actions.new.actions;
+      between = _;
+      written = _;
+      first = first;
       end = _;
-      ran = ran;
-      all = all;
-    }) c.run_actions.ensures.ran c.run_actions.ensures.all
+      rest = rest;
+    }) all) c.run_rest.ensures.ran
+
+pub returns-clause-grown : goal.returns-clause-grown
+returns-clause-grown g c =
+    on_err c.run_rest.result (λ grown. grows_then (g.W.Write.contents c.args.out.now) (g.W.Write.contents c.run_actions.new.out) (g.W.Write.contents c.run_rest.new.out) (ran_grows c.args.actions.now c.run_actions.new.actions _ _ _ _ c.in_ok-run_actions.ensures.ran) grown) c.run_rest.ensures.grown

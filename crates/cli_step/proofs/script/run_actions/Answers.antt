@@ -1,6 +1,6 @@
 use Rattle.std.proofs.Common.{◌∙◌}
 use Rattle.std.proofs.lemmas.Result.{err_from_is_err_and}
-use Rattle.cli_step.proofs.Playing.{flush_failed, if_err, line_failed, ran_more, refused_there}
+use Rattle.cli_step.proofs.Playing.{all_ok, flush_failed, if_err, line_failed, ran_more, refused_there}
 use Rattle.cli_step.specs.Doing.{point_of}
 use Rattle.cli_step.proofs.script.run_actions.Goals as goal
 
@@ -48,3 +48,6 @@ returns-clause-stopped g c =
     let after = g.W.Write.contents c.flush.new.out in
     if_err c.flush.result (λ e h. flush_failed c.args.actions.now c.loop-action.actions p w before mid after e c.loop-action.invariant.ran c.flush.ensures.kept h)
     c.flush.ensures.refused
+
+pub returns-clause-follows : goal.returns-clause-follows
+returns-clause-follows g c = all_ok c.flush.result c.loop-action.invariant.follows

@@ -1,5 +1,4 @@
-use Rattle.std.proofs.Common.{◌≡◌, [], ◌∷◌, sym, subst}
-use Rattle.cli_run.specs.Points.{IsAtRest, Point, unanswered}
+use Rattle.std.proofs.Common.{[], ◌∷◌}
 use Rattle.cli_run.specs.Rounds.{Completed}
 use Rattle.cli_run.proofs.Rounds.{completed, on_both, rest_given}
 use Rattle.cli_run.proofs.Stops.{halts_given, halts_gives, halts_none, on_err_of}
@@ -15,11 +14,10 @@ returns g c =
       rest = c.cut_from.ensures.rest;
     }
 
-pub cut_from-requires-clause-rest : goal.cut_from-requires-clause-rest
-cut_from-requires-clause-rest g c =
+pub give-requires : goal.give-requires
+give-requires g c =
     let (own, transacts) = c.in_ok-serve_next.ensures.transacts in
-    let same = c.in_ok-give.ensures.answered in
-    subst IsAtRest (sym same) (rest_given _ _ own c.requires.rest transacts c.in_ok-serve_next.ensures.seated (subst (λ (z : Point). unanswered z ≡ []) same c.in_ok-give.ensures.given))
+    record { rests = rest_given _ _ own c.requires.rest transacts c.in_ok-serve_next.ensures.seated }
 
 pub returns-in_err-serve_next-clause-halts : goal.returns-in_err-serve_next-clause-halts
 returns-in_err-serve_next-clause-halts g c = on_err_of c.from_residual.result (halts_none (Completed ∷ []) _ _)

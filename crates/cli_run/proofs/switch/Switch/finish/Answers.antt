@@ -1,4 +1,5 @@
 use Rattle.std.proofs.Common.{inr}
+use Rattle.cli_run.specs.Points.{point_of}
 use Rattle.cli_run.proofs.Batched.{finished, given_drains}
 use Rattle.cli_run.proofs.Rounds.{on_ok}
 use Rattle.cli_run.proofs.Stops.{drains_all, on_err_of}
@@ -17,5 +18,5 @@ returns-clause-unfinished g c =
       framed = framed;
       between = _;
       gives = gives;
-      drains = given_drains _ _ _ _ c.in_ok-give.ensures.answered (drains_all _ _ _ _ c.in_ok-drain.ensures.drains.drains);
+      drains = given_drains (point_of g.S.Store c.args.self.now) _ _ _ c.in_ok-give.ensures.answered (drains_all _ _ _ _ c.in_ok-drain.ensures.drains.drains);
     }))

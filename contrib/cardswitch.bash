@@ -1,0 +1,42 @@
+# Completions of cardswitch for bash. Source this file, or lay it as `cardswitch` into bash-completion's folder of completions.
+
+_cardswitch() {
+    local word=${COMP_WORDS[COMP_CWORD]} before=${COMP_WORDS[COMP_CWORD - 1]} words= files=()
+    COMPREPLY=()
+    # bash takes the = of --flow=PATH for a word of its own.
+    if [[ $word == = ]]; then
+        word=
+    elif [[ $before == = ]]; then
+        before=${COMP_WORDS[COMP_CWORD - 2]}
+    fi
+    case $before in
+        --flow | --journal)
+            mapfile -t COMPREPLY < <(compgen -f -- "$word")
+            return ;;
+        --sessions)
+            mapfile -t COMPREPLY < <(compgen -W "1 2 4 8 16" -- "$word")
+            return ;;
+        --limit)
+            return ;;
+    esac
+    if [[ $COMP_CWORD -eq 1 ]]; then
+        words="step asm list graph decode encode recover journal run help --help --version"
+    else
+        case ${COMP_WORDS[1]} in
+            step) words="--flow --help" ;;
+            asm | list | encode) words="--help" ;;
+            graph) words="--flow --dot --help" ;;
+            decode) words="--mask --help" ;;
+            recover) words="--flow --journal --help" ;;
+            run) words="--flow --journal --sessions --limit --threads --trace --help" ;;
+            journal)
+                words="--json --clear --help"
+                [[ $word == -* ]] || mapfile -t files < <(compgen -f -- "$word") ;;
+            help) words="step asm list graph decode encode recover journal run" ;;
+        esac
+    fi
+    mapfile -t COMPREPLY < <(compgen -W "$words" -- "$word")
+    COMPREPLY+=("${files[@]}")
+}
+
+complete -o filenames -F _cardswitch cardswitch

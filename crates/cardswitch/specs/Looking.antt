@@ -1,0 +1,69 @@
+-- What `journal` has done, and why it ends early. What a file holds no clause can say, nor that its bytes are of one moment.
+use Rattle.std.specs.Prelude.{◌≡◌, ◌⊎◌, ⊤, ℕ, Bool, true, false, List, Option, if◌then◌else◌}
+use Rattle.std.specs.Io.KnownBytes.{Appends}
+use Rattle.tx_history.specs.declared.journal.JournalView.{JournalView}
+use Rattle.tx_journal.specs.declared.error.JournalError.TheVariants as journal
+use Rattle.journal_rows.specs.declared.error.BadRow.{BadRow}
+use Rattle.journal_copy.specs.Copied.{HoldsFault, HoldsJournal, image_of}
+use Rattle.cli_io.specs.Written.{AppendsBeginning}
+use Rattle.cli_decode.specs.declared.masking.Masking.{Masking}
+use Rattle.cli_decode.specs.declared.masking.Masking.TheVariants.{Off, On}
+use Rattle.cli_journal.specs.Json.{journal_json}
+use Rattle.cli_journal.specs.Shown.{journal_text}
+use Rattle.cli_options.specs.declared.choice.JournalOptions.{JournalOptions}
+use Rattle.cli_run.specs.declared.error.ServeError.{ServeError}
+use Rattle.cli_run.specs.declared.error.ServeError.TheVariants as serve
+use Rattle.cardswitch.specs.declared.error.RunError.{RunError}
+use Rattle.cardswitch.specs.declared.error.RunError.TheVariants as error
+
+-- all is masked but with `--clear`
+abbrev pub masking_by : Bool → Masking
+masking_by true = Off
+masking_by false = On
+
+-- what is printed of a journal: lines of JSON with `--json`, else its text
+unfoldable pub shown_text : JournalOptions → ℕ → JournalView → List ℕ
+shown_text o layout view =
+    if o.json then journal_json (masking_by o.clear) layout view else journal_text (masking_by o.clear) layout view
+
+-- the layout and the view of the journal that the bytes of a file and of its log hold
+pub record IsCopied (layout : ℕ) (view : JournalView) : Type 0 where
+  pub db : List ℕ
+  pub log : List ℕ
+  pub holds : HoldsJournal (image_of db log) layout view
+
+-- the text of such a journal was written
+abbrev pub IsLooked : JournalOptions → Option (List ℕ) → Option (List ℕ) → Type 0
+IsLooked o before after =
+    (layout : ℕ) × (view : JournalView) × IsCopied layout view
+    × Appends before after (shown_text o layout view)
+
+-- a beginning of it was written
+abbrev pub IsLookedInPart : JournalOptions → Option (List ℕ) → Option (List ℕ) → Type 0
+IsLookedInPart o before after =
+    (layout : ℕ) × (view : JournalView) × IsCopied layout view
+    × AppendsBeginning before after (shown_text o layout view)
+
+-- the first row at fault of the journal that the bytes of a file and of its log hold
+abbrev pub IsCopyFault : BadRow → Type 0
+IsCopyFault bad = (db : List ℕ) × (log : List ℕ) × HoldsFault (image_of db log) bad
+
+-- a journal refuses for a row at fault alone
+abbrev pub IsRowFault : ServeError → Type 0
+IsRowFault (serve.Journal (journal.BadRow bad)) = IsCopyFault bad
+IsRowFault _ = ⊥
+
+-- why there is no journal of the file at a path to show
+abbrev pub IsFoundFault : List ℕ → RunError → Type 0
+IsFoundFault path (error.JournalFile p cause) = p ≡ path
+IsFoundFault path (error.Serve e) = IsRowFault e
+IsFoundFault path error.OutOfMemory = ⊤
+IsFoundFault path _ = ⊥
+
+-- why its text is not written: it is not found, and nothing is written; or writing failed
+abbrev pub IsLookFault : JournalOptions → Option (List ℕ) → Option (List ℕ) → RunError → Type 0
+IsLookFault o before after (error.JournalFile p cause) = (p ≡ o.path.now) × (after ≡ before)
+IsLookFault o before after (error.Serve e) = IsRowFault e × (after ≡ before)
+IsLookFault o before after (error.Write e) = IsLookedInPart o before after
+IsLookFault o before after error.OutOfMemory = (after ≡ before) ⊎ IsLookedInPart o before after
+IsLookFault o before after _ = ⊥

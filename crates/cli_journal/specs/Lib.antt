@@ -1,0 +1,4 @@
+pub mod Contexts
+pub mod Entries
+pub mod Shown
+pub mod Json

@@ -1,0 +1,3 @@
+pub mod FirstLines
+mod LineEnds
+mod NextLines

@@ -1,0 +1,2 @@
+mod Founding
+mod Copying

@@ -1,0 +1,22 @@
+-- What the errors of the parts become: out of memory is told as such.
+use Rattle.cli_io.specs.declared.error.ReadError.{ReadError}
+use Rattle.cli_io.specs.declared.error.ReadError.TheVariants as read
+use Rattle.tx_journal.specs.declared.error.Cause.TheVariants.{Memory}
+use Rattle.tx_journal.specs.declared.error.JournalError.{JournalError}
+use Rattle.tx_journal.specs.declared.error.JournalError.TheVariants as journal
+use Rattle.journal_copy.specs.declared.error.CopyError.{CopyError}
+use Rattle.journal_copy.specs.declared.error.CopyError.TheVariants as copy
+use Rattle.journal_copy.specs.declared.error.LookError.{LookError}
+use Rattle.journal_copy.specs.declared.error.LookError.TheVariants.{BadRow, NotAJournal, OutOfMemory}
+
+abbrev pub error_of_read : ReadError → CopyError
+error_of_read read.OutOfMemory = copy.OutOfMemory
+error_of_read e = copy.Read e
+
+-- a refusal of another database is that of a file that is no journal
+abbrev pub error_of_journal : JournalError → LookError
+error_of_journal (journal.BadRow bad) = BadRow bad
+error_of_journal journal.OutOfMemory = OutOfMemory
+error_of_journal (journal.Store Memory) = OutOfMemory
+error_of_journal (journal.Store _) = NotAJournal
+error_of_journal journal.Failed = NotAJournal

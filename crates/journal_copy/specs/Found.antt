@@ -1,0 +1,50 @@
+-- The journal that an opening of a connection finds.
+use Rattle.std.specs.Prelude.{◌≡◌, ◌==◌, ◌⊎◌, ⊤, ℕ, false, length, Option, Some, None, IsTrue, if◌then◌else◌}
+use Rattle.sqlite_trees.specs.declared.store.Store.{Ghosts}
+use Rattle.sqlite.specs.Held.{Held, state}
+use Rattle.sqlite.specs.State.{IsLive}
+use Rattle.journal_rows.specs.Tables.{Tables}
+use Rattle.journal_rows.specs.Faults.{IsFaultIn, IsViewIn}
+use Rattle.journal_rows.specs.declared.error.BadRow.{BadRow}
+use Rattle.tx_journal.specs.Kept.{IsCleanJournal, Kept, OpensAs, kept}
+use Rattle.tx_journal.specs.Left.{doubt_of}
+use Rattle.tx_journal.specs.Turned.{IsNaming}
+use Rattle.tx_journal.specs.declared.journal.Left.{Left}
+use Rattle.tx_journal.specs.declared.error.JournalError.TheVariants as journal
+use Rattle.journal_copy.specs.declared.found.Found.{Found}
+use Rattle.journal_copy.specs.declared.error.LookError.{LookError}
+use Rattle.journal_copy.specs.declared.error.LookError.TheVariants as error
+
+-- the layout of a journal with so many tables
+abbrev pub layout_by : ℕ → Option ℕ
+layout_by n = if n == 5 then Some 1 else if n == 7 then Some 2 else None
+
+module _ {S : Type 0} (g : Ghosts S) where
+  -- an opening has made this journal of the connection's tables
+  pub record IsOpenedBy (conn : Held S) (j : Kept S) : Type 0 where
+    pub fresh : j.failed ≡ false
+    pub opened : IsCleanJournal (kept g j) → IsTrue (state g conn).is_open × OpensAs (state g conn).committed.trees (kept g j).tables
+
+  -- Its layout is that of the connection's tables, and it has the view of the tables that an opening makes of them.
+  pub record IsFoundBy (conn : Held S) (f : Found) : Type 0 where
+    pub layout : layout_by (length (state g conn).now.schema.tables) ≡ Some f.layout
+    pub live : IsLive (state g conn)
+    pub last : Kept S
+    pub reads : IsCleanJournal (kept g last)
+        → IsTrue (state g conn).is_open × ((t : Tables) × OpensAs (state g conn).committed.trees t × IsViewIn t f.view)
+
+  -- The row is the first one at fault, of layout 1 as it stands, or of the tables that an opening makes of the connection's.
+  abbrev pub IsFaultBy : Held S → BadRow → Type 0
+  IsFaultBy conn bad =
+      ((left : Left S) × (doubt_of g left ≡ 0 → IsNaming (state g conn).committed.trees (journal.BadRow bad)))
+      ⊎ ((last : Kept S) × (IsCleanJournal (kept g last)
+      → (t : Tables) × OpensAs (state g conn).committed.trees t × IsFaultIn t (Some bad)))
+
+-- what is said of a bad row, where the error is one
+abbrev pub IfBadRow : (BadRow → Type 0) → LookError → Type 0
+IfBadRow P (error.BadRow bad) = P bad
+IfBadRow P _ = ⊤
+
+abbrev pub IsOtherFault : LookError → Type 0
+IsOtherFault (error.BadRow bad) = ⊥
+IsOtherFault _ = ⊤

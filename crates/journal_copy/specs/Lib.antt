@@ -1,0 +1,4 @@
+pub mod Errors
+pub mod Disks
+pub mod Found
+pub mod Copied

@@ -1,0 +1,110 @@
+//! Why there is no copy of a journal, or nothing in it to show.
+
+ghost use Rattle.std.specs.Prelude.{◌≡◌};
+ghost use Rattle.journal_copy.specs.Errors.{error_of_journal, error_of_read};
+ghost use Rattle.journal_copy.specs.declared.error.CopyError.TheVariants as copy;
+ghost use Rattle.journal_copy.specs.declared.error.LookError.TheVariants as look;
+
+use cli_io::ReadError;
+use journal_rows::BadRow;
+use std::alloc::{AllocError, AllocFailed};
+use std::{fmt, io};
+use thiserror::Error;
+use tx_journal::{Cause, JournalError};
+
+/// Why there is no copy of a journal's files. The text does not name them.
+#[derive(Drop, Error)]
+pub enum CopyError {
+    /// There is no such file, or it may not be opened.
+    #[error("cannot open: {0}")]
+    Open(io::Error),
+    /// It could not be read to its end.
+    #[error("cannot read: {0}")]
+    Read(ReadError),
+    /// Its log was begun anew each time that it was read.
+    #[error("changed while it was read; try again")]
+    Changed,
+    /// No memory was left.
+    #[error("out of memory")]
+    OutOfMemory,
+}
+
+// By hand: a person is shown the same text, and a derived `fmt` is slow to prove.
+impl fmt::Debug for CopyError {
+    fn fmt<W: fmt::Write>(&self, f: &mut fmt::Formatter<W>) -> fmt::Result {
+        fmt::Display::fmt(self, f)
+    }
+}
+
+impl From<ReadError> for CopyError {
+    ghost from_gives = { λ e f. f ≡ error_of_read e };
+
+    fn from(error: ReadError) -> CopyError {
+        match error {
+            ReadError::OutOfMemory => CopyError::OutOfMemory,
+            other => CopyError::Read(other),
+        }
+    }
+}
+
+impl<T: Drop> From<AllocFailed<T>> for CopyError {
+    ghost from_gives = { λ _ f. f ≡ copy.OutOfMemory };
+
+    fn from(_error: AllocFailed<T>) -> CopyError {
+        CopyError::OutOfMemory
+    }
+}
+
+impl From<AllocError> for CopyError {
+    ghost from_gives = { λ _ f. f ≡ copy.OutOfMemory };
+
+    fn from(_error: AllocError) -> CopyError {
+        CopyError::OutOfMemory
+    }
+}
+
+/// Why a copy holds no journal to show. The text does not name the file.
+#[derive(Drop, Error)]
+pub enum LookError {
+    /// It is another file than a journal's.
+    #[error("not a journal of cardswitch")]
+    NotAJournal,
+    /// It begins as a database, which cannot be opened.
+    #[error("cannot open: {0}")]
+    Database(sqlite::Error),
+    /// A row of its tables is at fault, the first one.
+    #[error("bad row of the journal: {:?} {}", .0.table, .0.id)]
+    BadRow(BadRow),
+    /// No memory was left.
+    #[error("out of memory")]
+    OutOfMemory,
+}
+
+// By hand, as above.
+impl fmt::Debug for LookError {
+    fn fmt<W: fmt::Write>(&self, f: &mut fmt::Formatter<W>) -> fmt::Result {
+        fmt::Display::fmt(self, f)
+    }
+}
+
+impl From<JournalError> for LookError {
+    ghost from_gives = { λ e f. f ≡ error_of_journal e };
+
+    fn from(error: JournalError) -> LookError {
+        match error {
+            JournalError::BadRow(bad) => LookError::BadRow(bad),
+            JournalError::OutOfMemory | JournalError::Store(Cause::Memory) => {
+                LookError::OutOfMemory
+            }
+            JournalError::Failed | JournalError::Store(Cause::Refused) => LookError::NotAJournal,
+        }
+    }
+}
+
+impl From<AllocError> for LookError {
+    ghost from_gives = { λ _ f. f ≡ look.OutOfMemory };
+
+    fn from(_error: AllocError) -> LookError {
+        LookError::OutOfMemory
+    }
+}

@@ -1,0 +1,18 @@
+//! A journal that is read from a copy of its files in memory, so that nothing on disk changes and no lock is taken.
+//!
+//! Promised here: [`look`] gives the layout and the view of the journal that the bytes of a database file and of its log
+//! hold, as an opening of these files would find it, or its first row at fault (`specs/Copied.antt`). That
+//! [`copy_files`] gives the bytes of one moment no contract can say: it reads again where the log was begun anew
+//! meanwhile.
+#![tactic(auto)]
+
+mod disks;
+mod error;
+mod files;
+mod found;
+mod looking;
+
+pub use error::{CopyError, LookError};
+pub use files::{Copy, copy_files};
+pub use found::Found;
+pub use looking::look;
