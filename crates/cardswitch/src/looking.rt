@@ -78,11 +78,11 @@ fn print<O: Write>(
         (shown_text options.now found.now.layout found.now.view) }
 {
     let masking = masking_by(options.clear);
-    if options.json {
-        show_json(alloc, masking, found.layout, &found.view, out)
-    } else {
-        show(alloc, masking, found.layout, &found.view, out)
+    let json = options.json;
+    if json {
+        return show_json(alloc, masking, found.layout, &found.view, out);
     }
+    show(alloc, masking, found.layout, &found.view, out)
 }
 
 /// Prints what the journal of the file at a path holds, and changes nothing.
