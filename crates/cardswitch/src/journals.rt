@@ -1,6 +1,6 @@
 //! The journal of a run, in a file or in memory.
 
-ghost use Rattle.std.specs.Prelude.{IfErr, IfOk};
+ghost use Rattle.std.specs.Prelude.{◌≡◌, ◌⊎◌, IfErr, IfOk};
 ghost use Rattle.cardswitch.specs.Journals.{IsNewJournal, IsOfFile, IsOpenedOf};
 ghost use Rattle.cardswitch.specs.Runs.{IsOpenFault, IsServeFault};
 
@@ -41,7 +41,7 @@ fn fault_of(error: Error, read: io::Result<bool>, laid: io::Result<()>) -> Journ
 
 /// The error of a file that is not taken as a journal.
 pub fn refusal(alloc: Global, path: &str, cause: JournalFault) -> RunError
-    ensures { IsOpenFault path.now result }
+    ensures { (result ≡ RunError.OutOfMemory) ⊎ (result ≡ RunError.JournalFile path.now cause) }
 {
     match Text::from_str(alloc, path) {
         Ok(path) => RunError::JournalFile { path, cause },
