@@ -13,7 +13,7 @@ use Rattle.tx_machine.specs.Row.{Row}
 use Rattle.tx_outcome.specs.Trail.{Deed, Stopped, listed, is_committing}
 use Rattle.tx_outcome.specs.One.{Undecided, DueCall, Preparation, Selection, Telling, Recovery, NoCall, FullReply, Answer, Chosen, Advice, Restored, Standing, Made, without, standing_row, IdFits, Reopens}
 use Rattle.tx_outcome.specs.States.{FullState, Head, StateFits, decision, seen, begin, after, due, standing, reopen, PhaseFits, answers}
-use Rattle.tx_outcome.specs.Core.{IdView, IdEvent, Took, Given, Acked, Closed, Other, PlantDeed, Called, trail_of, OutcomeLaw, ViewFits, takes, next_id, reopened, later, at, standing_of, advised_at, advice, given, closed, Once, first, Core, put, Closings, opened, written, CoreMove, Calls, Records, Takes, Acks, Others, Writes, Stops, CoreMoves, CoreRun, IsAwaited, Closable, Stuck, StateFitsAt, IsCore, CoreFits, Shuts}
+use Rattle.tx_outcome.specs.Core.{IdView, IdEvent, Took, Given, Acked, Closed, Other, PlantDeed, Called, trail_of, OutcomeLaw, ViewFits, takes, next_id, reopened, later, at, standing_of, advised_at, advice, given, closed, Once, first, AbstractCore, put, Closings, opened, written, CoreMove, Calls, Records, Takes, Acks, Others, Writes, Stops, CoreMoves, CoreRun, IsAwaited, Closable, Stuck, StateFitsAt, IsCore, CoreFits, Shuts}
 use Rattle.tx_outcome.specs.Plant.{is_idle, unfinished}
 use Rattle.tx_outcome.proofs.Trails.{law_holds, unborn_ok, born_holds, call_holds, settle_holds, close_holds, acked}
 use Rattle.tx_outcome.proofs.Trails.{opened as opens}
@@ -411,14 +411,14 @@ writes f v l gone kept calls Other k = writes_other f v l gone kept calls k
 
 -- the law and the view of a core
 
-pub law_of : (f : Flow) (c : Core) → CoreFits f c → OutcomeLaw c.calls (written f c)
+pub law_of : (f : Flow) (c : AbstractCore) → CoreFits f c → OutcomeLaw c.calls (written f c)
 law_of f c k id = law_holds (nat_lt id (next_id c.start c.gone)) (standing_of f (at f c.start c.gone id)) (first (c.kept id) (given c.late id)) (trail_of id c.calls) (advice f c.start c.gone id) (k.ones id)
 
 pub row_ok_at : (f : Flow) (o : Option FullState) (r : Row) → StateFitsAt o → standing_row (standing_of f o) ≡ Some r → PhaseFits r
 row_ok_at f None r h is = absurd (grind (arith, is))
 row_ok_at f (Some st) r h is = row_ok f st r h is
 
-pub ok_of : (f : Flow) (c : Core) → CoreFits f c → ViewFits (written f c)
+pub ok_of : (f : Flow) (c : AbstractCore) → CoreFits f c → ViewFits (written f c)
 ok_of f c k = record {
   rows = λ id h. (unborn_ok (nat_lt id (next_id c.start c.gone)) (standing_of f (at f c.start c.gone id)) (first (c.kept id) (given c.late id)) (trail_of id c.calls) (advice f c.start c.gone id) (k.ones id) h).0;
   advices = λ id n h. (unborn_ok (nat_lt id (next_id c.start c.gone)) (standing_of f (at f c.start c.gone id)) (first (c.kept id) (given c.late id)) (trail_of id c.calls) (advice f c.start c.gone id) (k.ones id) h).1 n;
@@ -497,21 +497,21 @@ kept_opens f j cs calls law ok shuts = let closes = shuts.0 in record {
 
 -- turns
 
-pub turned : (f : Flow) (t : CoreMove) (c d : Core) → CoreFits f c → CoreMoves f t c d → CoreFits f d
-turned f (Calls id x m) c d k h = subst (λ (d : Core). CoreFits f d) (sym h.5) (kept_calls f c.start c.late c.gone c.kept c.calls id x m h.0 k h.1 h.2 h.3 h.4)
-turned f (Records id) c d k h = subst (λ (d : Core). CoreFits f d) (sym h.2) (kept_records f c.start c.late c.gone c.kept c.calls id h.0 k h.1)
-turned f (Takes hd) c d k h = subst (λ (d : Core). CoreFits f d) (sym h) (kept_takes f hd c.start c.late c.gone c.kept c.calls k)
-turned f (Acks id n) c d k h = subst (λ (d : Core). CoreFits f d) (sym h) (kept_acks f c.start c.late c.gone c.kept c.calls id n k)
-turned f Others c d k h = subst (λ (d : Core). CoreFits f d) (sym h) (kept_others f c.start c.late c.gone c.kept c.calls k)
-turned f Writes c d k h = subst (λ (d : Core). CoreFits f d) (sym h.3) (writes f c.start h.0 c.gone c.kept c.calls h.1 (subst (λ (late : List IdEvent). IsCore f c.start late c.gone c.kept c.calls) h.2 k))
-turned f (Stops cs) c d k h = subst (λ (d : Core). CoreFits f d) (sym h.1) (kept_opens f (written f c) cs c.calls (law_of f c k) (ok_of f c k) h.0)
+pub turned : (f : Flow) (t : CoreMove) (c d : AbstractCore) → CoreFits f c → CoreMoves f t c d → CoreFits f d
+turned f (Calls id x m) c d k h = subst (λ (d : AbstractCore). CoreFits f d) (sym h.5) (kept_calls f c.start c.late c.gone c.kept c.calls id x m h.0 k h.1 h.2 h.3 h.4)
+turned f (Records id) c d k h = subst (λ (d : AbstractCore). CoreFits f d) (sym h.2) (kept_records f c.start c.late c.gone c.kept c.calls id h.0 k h.1)
+turned f (Takes hd) c d k h = subst (λ (d : AbstractCore). CoreFits f d) (sym h) (kept_takes f hd c.start c.late c.gone c.kept c.calls k)
+turned f (Acks id n) c d k h = subst (λ (d : AbstractCore). CoreFits f d) (sym h) (kept_acks f c.start c.late c.gone c.kept c.calls id n k)
+turned f Others c d k h = subst (λ (d : AbstractCore). CoreFits f d) (sym h) (kept_others f c.start c.late c.gone c.kept c.calls k)
+turned f Writes c d k h = subst (λ (d : AbstractCore). CoreFits f d) (sym h.3) (writes f c.start h.0 c.gone c.kept c.calls h.1 (subst (λ (late : List IdEvent). IsCore f c.start late c.gone c.kept c.calls) h.2 k))
+turned f (Stops cs) c d k h = subst (λ (d : AbstractCore). CoreFits f d) (sym h.1) (kept_opens f (written f c) cs c.calls (law_of f c k) (ok_of f c k) h.0)
 
-pub ran : (f : Flow) (ts : List CoreMove) (c d : Core) → CoreFits f c → CoreRun f ts c d → CoreFits f d
-ran f [] c d k h = subst (λ (d : Core). CoreFits f d) (sym h) k
+pub ran : (f : Flow) (ts : List CoreMove) (c d : AbstractCore) → CoreFits f c → CoreRun f ts c d → CoreFits f d
+ran f [] c d k h = subst (λ (d : AbstractCore). CoreFits f d) (sym h) k
 ran f (t ∷ ts) c d k h = ran f ts h.0 d (turned f t c h.0 k h.1) h.2
 
 -- The law holds after every list of turns, where it holds of the calls made before and the view that was opened.
-pub law_kept : (f : Flow) (j : IdView) (cs : List IdEvent) (calls : List PlantDeed) (ts : List CoreMove) (d : Core) → OutcomeLaw calls j → ViewFits j → Shuts j cs → CoreRun f ts (opened j cs calls) d
+pub law_kept : (f : Flow) (j : IdView) (cs : List IdEvent) (calls : List PlantDeed) (ts : List CoreMove) (d : AbstractCore) → OutcomeLaw calls j → ViewFits j → Shuts j cs → CoreRun f ts (opened j cs calls) d
     → OutcomeLaw d.calls (written f d) × ViewFits (written f d)
 law_kept f j cs calls ts d law ok closes run =
     let k = ran f ts (opened j cs calls) d (kept_opens f j cs calls law ok closes) run in (law_of f d k, ok_of f d k)
@@ -551,6 +551,6 @@ no_row_left None h = refl
 no_row_left (Some r) h = absurd (h r refl)
 
 -- all is written and nothing unfinished: no row is left
-pub clean_rows : (f : Flow) (c : Core) → CoreFits f c → c.late ≡ [] → (id : ℕ) → unfinished f (at f c.start c.gone id) ≡ false → standing_row (standing_of f (at f c.start c.gone id)) ≡ None
+pub clean_rows : (f : Flow) (c : AbstractCore) → CoreFits f c → c.late ≡ [] → (id : ℕ) → unfinished f (at f c.start c.gone id) ≡ false → standing_row (standing_of f (at f c.start c.gone id)) ≡ None
 clean_rows f c k none id u = no_row_left (standing_row (standing_of f (at f c.start c.gone id)))
     (λ r is. grind (arith, ap (λ (l : List IdEvent). closed l id) none, k.shut id (row_at_end f (at f c.start c.gone id) r (k.proper id) u is)))

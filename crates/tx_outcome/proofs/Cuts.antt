@@ -6,7 +6,7 @@ use Rattle.flow_model.specs.declared.flow.Flow.{Flow}
 use Rattle.tx_outcome.specs.Trail.{Deed}
 use Rattle.tx_outcome.specs.One.{FullReply, Standing, IsLive, IsOver, IdFits, standing_row}
 use Rattle.tx_outcome.specs.States.{FullState}
-use Rattle.tx_outcome.specs.Core.{Core, at, reopened, standing_of, next_id, first, given, trail_of, advice, written, Stuck, StateFitsAt, CoreFits}
+use Rattle.tx_outcome.specs.Core.{AbstractCore, at, reopened, standing_of, next_id, first, given, trail_of, advice, written, Stuck, StateFitsAt, CoreFits}
 use Rattle.tx_outcome.specs.Plant.{unfinished}
 use Rattle.tx_outcome.specs.Words.{cut_of}
 use Rattle.tx_outcome.proofs.Trails.{way_one, good_told}
@@ -29,7 +29,7 @@ cut_holds true (Some st) None t adv h none is = good_ended t st adv h none
 cut_holds known s (Some x) t adv h none is = absurd (grind (arith, is))
 cut_holds false (Some st) x t adv h none is = absurd h
 
-pub cut_good : (f : Flow) (c : Core) → CoreFits f c → c.late ≡ [] → ((id : ℕ) → (standing_row (standing_of f (at f c.start c.gone id)) ≡ None) × (unfinished f (at f c.start c.gone id) ≡ false)) → CoreFits f (cut_of f c)
+pub cut_good : (f : Flow) (c : AbstractCore) → CoreFits f c → c.late ≡ [] → ((id : ℕ) → (standing_row (standing_of f (at f c.start c.gone id)) ≡ None) × (unfinished f (at f c.start c.gone id) ≡ false)) → CoreFits f (cut_of f c)
 cut_good f c k none idle =
     let may_tell : (id : ℕ) → first (c.kept id) (given c.late id) ≡ None = λ id. none_of (first (c.kept id) (given c.late id)) (λ y h. grind (arith, waits_unfinished f (at f c.start c.gone id) y (k.alive id y h), (idle id).1)) in
     let gone : (id : ℕ) → reopened ((written f c).row id) ≡ None = λ id. ap reopened (idle id).0 in

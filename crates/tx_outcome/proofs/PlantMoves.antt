@@ -8,8 +8,8 @@ use Rattle.tx_outcome.specs.Trail.{Deed}
 use Rattle.tx_outcome.specs.One.{FullReply, Made, IdFits}
 use Rattle.flow_model.specs.declared.flow.Flow.{Flow}
 use Rattle.tx_outcome.specs.States.{FullState, Head, begin, standing}
-use Rattle.tx_outcome.specs.Core.{IdView, IdEvent, Took, Given, Acked, Closed, Other, PlantDeed, Called, Halted, trail_of, advice, OutcomeLaw, ViewFits, takes, next_id, later, at, reopened, standing_of, Core, given, closed, first, put, none_kept, Shuts, Calls, Records, Takes, Acks, Others, Writes, IsAwaited, IsCore, CoreFits}
-use Rattle.tx_outcome.specs.Plant.{AreHeld, SessionEvent, Taken, Replied, Ack, Closing, Plain, taken_count, taken, unfinished, seek, recovering, serves_in, given_to, event_of, by_ids, serves, last_own, Plant, past, whole, view, shut, shut_ids, made_on, PlantMove, Take, Call, Record, Acking, Quiet, Put, Note, Stop, Cut, PlantMoves, PlantRun, over, lower, SeatsAgree, PlantFits}
+use Rattle.tx_outcome.specs.Core.{IdView, IdEvent, Took, Given, Acked, Closed, Other, PlantDeed, Called, Halted, trail_of, advice, OutcomeLaw, ViewFits, takes, next_id, later, at, reopened, standing_of, AbstractCore, given, closed, first, put, none_kept, Shuts, Calls, Records, Takes, Acks, Others, Writes, IsAwaited, IsCore, CoreFits}
+use Rattle.tx_outcome.specs.Plant.{AreHeld, SessionEvent, Taken, Replied, Ack, Closing, Plain, taken_count, taken, unfinished, seek, recovering, serves_in, given_to, event_of, by_ids, serves, last_own, AbstractPlant, past, whole, view, shut, shut_ids, made_on, PlantMove, Take, Call, Record, Acking, Quiet, Put, Note, Stop, Cut, PlantMoves, PlantRun, over, lower, SeatsAgree, PlantFits}
 use Rattle.tx_outcome.proofs.CoreMoves.{clean_rows, waits_unfinished, turned as turned_ids, kept_opens, law_of, ok_of, closable_waits, same_id, none_of, staged_none}
 use Rattle.tx_outcome.proofs.Cuts.{cut_good}
 
@@ -313,12 +313,12 @@ pub no_entries : (xs : List SessionEvent) → length xs ≤ 0 → xs ≡ []
 no_entries [] h = refl
 no_entries (x ∷ xs) h = absurd (omega (arith, h))
 
-pub all_written : (p : Plant) → p.mark ≤ length p.gone → p.mark ≡ length (past p) → p.late ≡ []
+pub all_written : (p : AbstractPlant) → p.mark ≤ length p.gone → p.mark ≡ length (past p) → p.late ≡ []
 all_written p room h = no_entries p.late (omega (arith, room, h, length-append p.late p.gone))
 
 -- turns
 
-pub sane_call : (f : Flow) (p : Plant) (kb : ℕ → Option FullReply) (s id : ℕ) (x : FullReply) (m : Deed) (st : FullState) → CoreFits f (lower f p kb) → SeatsAgree f p.start (past p) p.kept kb → p.mark ≤ length p.gone → AreHeld f p.start (past p)
+pub sane_call : (f : Flow) (p : AbstractPlant) (kb : ℕ → Option FullReply) (s id : ℕ) (x : FullReply) (m : Deed) (st : FullState) → CoreFits f (lower f p kb) → SeatsAgree f p.start (past p) p.kept kb → p.mark ≤ length p.gone → AreHeld f p.start (past p)
     → serves f p.start (past p) s ≡ Some id → at f p.start (whole f p) id ≡ Some st → last_own p.start (whole f p) id ≤ p.mark → p.kept s ≡ None → Made (standing f st).due x (standing f st) m
     → PlantFits f (record p { kept = put s (Some x) p.kept; calls = Called id m ∷ p.calls })
 sane_call f p kb s id x m st k matched room holders sub is low may_tell made =
@@ -342,7 +342,7 @@ pub below : (i n : ℕ) → nat_lt i n ≡ true → i < n
 below i n h = grind (arith, nat_tests, h)
 
 -- where a reply is kept, the session is not idle
-pub kept_busy : (f : Flow) (p : Plant) (kb : ℕ → Option FullReply) (s id : ℕ) (y : FullReply) → CoreFits f (lower f p kb) → kb id ≡ Some y → unfinished f (at f p.start (whole f p) id) ≡ true
+pub kept_busy : (f : Flow) (p : AbstractPlant) (kb : ℕ → Option FullReply) (s id : ℕ) (y : FullReply) → CoreFits f (lower f p kb) → kb id ≡ Some y → unfinished f (at f p.start (whole f p) id) ≡ true
 kept_busy f p kb s id y k is =
     let v = p.start in
     let late = over f p.start p.gone p.late in
@@ -353,7 +353,7 @@ kept_busy f p kb s id y k is =
     let all : at f p.start (late ++ gone) id ≡ at f p.start gone id = whole_state f p.start late gone id (k.apart id y is) standing (below id (next_id p.start gone) known) in
     ap (λ (l : List IdEvent). unfinished f (at f p.start l id)) (ids_over f p.start p.gone p.late) ∙ ap (unfinished f) all ∙ waits_unfinished f (at f p.start gone id) y waits
 
-pub sane_record : (f : Flow) (p : Plant) (kb : ℕ → Option FullReply) (s : ℕ) (x : FullReply) → CoreFits f (lower f p kb) → SeatsAgree f p.start (past p) p.kept kb → p.mark ≤ length p.gone → AreHeld f p.start (past p)
+pub sane_record : (f : Flow) (p : AbstractPlant) (kb : ℕ → Option FullReply) (s : ℕ) (x : FullReply) → CoreFits f (lower f p kb) → SeatsAgree f p.start (past p) p.kept kb → p.mark ≤ length p.gone → AreHeld f p.start (past p)
     → p.kept s ≡ Some x → PlantFits f (record p { kept = put s None p.kept; late = Replied s x ∷ p.late })
 sane_record f p kb s x k matched room holders is =
     let u = matched.up s x is in (
@@ -365,7 +365,7 @@ sane_record f p kb s x k matched room holders is =
       holds_replied f p.start (past p) s u.0 x holders u.1 (kept_busy f p kb s u.0 x k u.2),
     )
 
-pub sane_take : (f : Flow) (hd : Head) (p : Plant) (kb : ℕ → Option FullReply) (s : ℕ) → CoreFits f (lower f p kb) → SeatsAgree f p.start (past p) p.kept kb → p.mark ≤ length p.gone → AreHeld f p.start (past p)
+pub sane_take : (f : Flow) (hd : Head) (p : AbstractPlant) (kb : ℕ → Option FullReply) (s : ℕ) → CoreFits f (lower f p kb) → SeatsAgree f p.start (past p) p.kept kb → p.mark ≤ length p.gone → AreHeld f p.start (past p)
     → ((id : ℕ) → serves f p.start (past p) s ≡ Some id → unfinished f (at f p.start (whole f p) id) ≡ false) → PlantFits f (record p { late = Taken s hd ∷ p.late })
 sane_take f hd p kb s k matched room holders idle =
     let none : p.kept s ≡ None = none_of (p.kept s) (λ y h. let u = matched.up s y h in grind (arith, idle u.0 u.1, kept_busy f p kb s u.0 y k u.2)) in (
@@ -401,21 +401,21 @@ sane_opens f j cs calls law ok closes = (
   subst (λ (es : List SessionEvent). AreHeld f j es) (sym (append_nothing (shut cs))) (holds_opened f j cs ok),
 )
 
-pub sane_law : (f : Flow) (p : Plant) → PlantFits f p → OutcomeLaw p.calls (view f p) × ViewFits (view f p)
+pub sane_law : (f : Flow) (p : AbstractPlant) → PlantFits f p → OutcomeLaw p.calls (view f p) × ViewFits (view f p)
 sane_law f p h = (law_of f (lower f p h.0) h.1, ok_of f (lower f p h.0) h.1)
 
-pub turned : (f : Flow) (t : PlantMove) (p q : Plant) → PlantFits f p → PlantMoves f t p q → PlantFits f q
-turned f (Take s hd) p q h m = subst (λ (q : Plant). PlantFits f q) (sym m.2) (sane_take f hd p h.0 s h.1 h.2 h.3 h.4 m.1)
-turned f (Call s x k) p q h m = subst (λ (q : Plant). PlantFits f q) (sym m.7) (sane_call f p h.0 s m.0 x k m.1 h.1 h.2 h.3 h.4 m.2 m.3 m.4 m.5 m.6)
-turned f (Record s) p q h m = subst (λ (q : Plant). PlantFits f q) (sym m.2) (sane_record f p h.0 s m.0 h.1 h.2 h.3 h.4 m.1)
-turned f (Acking i n) p q h m = subst (λ (q : Plant). PlantFits f q) (sym m) (
+pub turned : (f : Flow) (t : PlantMove) (p q : AbstractPlant) → PlantFits f p → PlantMoves f t p q → PlantFits f q
+turned f (Take s hd) p q h m = subst (λ (q : AbstractPlant). PlantFits f q) (sym m.2) (sane_take f hd p h.0 s h.1 h.2 h.3 h.4 m.1)
+turned f (Call s x k) p q h m = subst (λ (q : AbstractPlant). PlantFits f q) (sym m.7) (sane_call f p h.0 s m.0 x k m.1 h.1 h.2 h.3 h.4 m.2 m.3 m.4 m.5 m.6)
+turned f (Record s) p q h m = subst (λ (q : AbstractPlant). PlantFits f q) (sym m.2) (sane_record f p h.0 s m.0 h.1 h.2 h.3 h.4 m.1)
+turned f (Acking i n) p q h m = subst (λ (q : AbstractPlant). PlantFits f q) (sym m) (
   h.0,
   turned_ids f (Acks i n) (lower f p h.0) (lower f (record p { late = Ack i n ∷ p.late }) h.0) h.1 refl,
   match_same f p.start (past p) (Ack i n ∷ past p) p.kept h.0 h.2 (λ t. in_acked f p.start (taken p.start (past p) t) t i n (whole f p)),
   h.3,
   h.4,
 )
-turned f Quiet p q h m = subst (λ (q : Plant). PlantFits f q) (sym m) (
+turned f Quiet p q h m = subst (λ (q : AbstractPlant). PlantFits f q) (sym m) (
   h.0,
   turned_ids f Others (lower f p h.0) (lower f (record p { late = Plain ∷ p.late }) h.0) h.1 refl,
   match_same f p.start (past p) (Plain ∷ past p) p.kept h.0 h.2 (λ t. in_other f p.start (taken p.start (past p) t) t (whole f p)),
@@ -424,29 +424,29 @@ turned f Quiet p q h m = subst (λ (q : Plant). PlantFits f q) (sym m) (
 )
 turned f Put p q h m =
     let old : PlantFits f (record p { late = m.0 ++ m.1 ∷ [] }) = subst (λ (late : List SessionEvent). PlantFits f (record p { late = late })) m.2 h in
-    subst (λ (q : Plant). PlantFits f q) (sym m.3) (sane_put f p.start m.0 p.gone m.1 p.mark p.kept old.0 p.calls old.1 old.2 old.3 old.4)
-turned f (Note n) p q h m = subst (λ (q : Plant). PlantFits f q) (sym m.2) (h.0, h.1, h.2, m.1, h.4)
+    subst (λ (q : AbstractPlant). PlantFits f q) (sym m.3) (sane_put f p.start m.0 p.gone m.1 p.mark p.kept old.0 p.calls old.1 old.2 old.3 old.4)
+turned f (Note n) p q h m = subst (λ (q : AbstractPlant). PlantFits f q) (sym m.2) (h.0, h.1, h.2, m.1, h.4)
 turned f Cut p q h m =
     let none : p.late ≡ [] = all_written p h.3 m.0 in
     let idle : (id : ℕ) → unfinished f (at f p.start (by_ids f p.start p.gone) id) ≡ false =
     λ id. ap (λ (l : List SessionEvent). unfinished f (at f p.start (by_ids f p.start (l ++ p.gone)) id)) (sym none) ∙ none_busy f p.start (past p) h.4 m.1 m.2 id in
-    let c : Core = lower f p h.0 in
+    let c : AbstractCore = lower f p h.0 in
     let nothing : c.late ≡ [] = ap (over f p.start p.gone) none in
     let l = sane_law f p h in
-    subst (λ (q : Plant). PlantFits f q) (sym m.3) (
+    subst (λ (q : AbstractPlant). PlantFits f q) (sym m.3) (
       none_kept,
       cut_good f c h.1 nothing (λ id. (clean_rows f c h.1 nothing id (idle id), idle id)),
       record { up = λ s x h. absurd (grind (arith, h)); down = λ id x h. absurd (grind (arith, h)) },
       omega arith,
       λ id low u. absurd (grind (arith, u, ap (λ (o : Option Row). unfinished f (reopened o)) (high_row (view f p) l.1 id low))),
     )
-turned f (Stop cs) p q h m = let l = sane_law f p h in subst (λ (q : Plant). PlantFits f q) (sym m.1) (sane_opens f (view f p) cs p.calls l.0 l.1 m.0)
+turned f (Stop cs) p q h m = let l = sane_law f p h in subst (λ (q : AbstractPlant). PlantFits f q) (sym m.1) (sane_opens f (view f p) cs p.calls l.0 l.1 m.0)
 
-pub ran : (f : Flow) (ts : List PlantMove) (p q : Plant) → PlantFits f p → PlantRun f ts p q → PlantFits f q
-ran f [] p q h r = subst (λ (q : Plant). PlantFits f q) (sym r) h
+pub ran : (f : Flow) (ts : List PlantMove) (p q : AbstractPlant) → PlantFits f p → PlantRun f ts p q → PlantFits f q
+ran f [] p q h r = subst (λ (q : AbstractPlant). PlantFits f q) (sym r) h
 ran f (t ∷ ts) p q h r = ran f ts r.0 q (turned f t p r.0 h r.1) r.2
 
 -- The outcome law of a plant.
-pub plant_kept : (f : Flow) (j : IdView) (cs : List ℕ) (calls : List PlantDeed) (ts : List PlantMove) (q : Plant) → OutcomeLaw calls j → ViewFits j → Shuts j (shut_ids cs) → PlantRun f ts (made_on j cs calls) q
+pub plant_kept : (f : Flow) (j : IdView) (cs : List ℕ) (calls : List PlantDeed) (ts : List PlantMove) (q : AbstractPlant) → OutcomeLaw calls j → ViewFits j → Shuts j (shut_ids cs) → PlantRun f ts (made_on j cs calls) q
     → OutcomeLaw q.calls (view f q) × ViewFits (view f q)
 plant_kept f j cs calls ts q law ok closes run = sane_law f q (ran f ts (made_on j cs calls) q (sane_opens f j cs calls law ok closes) run)

@@ -6,7 +6,7 @@ use Rattle.tx_machine.specs.Row.{Row}
 use Rattle.tx_outcome.specs.Trail.{Deed, Answered, Chose, Told, Recovered, Stopped, has_open_call, may_tell, may_recover, is_unstopped, InOrder, is_committing, last_row, FollowsRows, IsOutcomeOf}
 use Rattle.flow_model.specs.declared.flow.Flow.{Flow}
 use Rattle.tx_outcome.specs.Core.{Called, Halted}
-use Rattle.tx_outcome.specs.Plant.{Plant, PlantMove, Take, Call, Record, Acking, Quiet, Put, Note, Stop, Cut, PlantMoves, view}
+use Rattle.tx_outcome.specs.Plant.{AbstractPlant, PlantMove, Take, Call, Record, Acking, Quiet, Put, Note, Stop, Cut, PlantMoves, view}
 use Rattle.tx_outcome.specs.Words.{has_untold, has_stop, is_open_call, with_calls, Adds}
 
 pub ordered_after : (a t : List Deed) → InOrder (a ++ t) → InOrder t
@@ -67,16 +67,16 @@ no_stop_in a b d (Recovered p n) k h is o = absurd (grind (arith, h))
 no_stop_in a b d (Stopped r) k h is o = absurd (grind (arith, h))
 
 -- calls added to any calls
-pub adds : (f : Flow) (t : PlantMove) (p q : Plant) → PlantMoves f t p q → Adds f t p q
-adds f (Take s hd) p q h = ([], ap (λ (z : Plant). z.calls) h.2, λ ms. (h.0, h.1, ap (λ (z : Plant). with_calls z ms) h.2))
-adds f (Call s x m) p q h = (Called h.0 m ∷ [], ap (λ (z : Plant). z.calls) h.7, λ ms. (h.0, h.1, h.2, h.3, h.4, h.5, h.6, ap (λ (z : Plant). with_calls z (Called h.0 m ∷ ms)) h.7))
-adds f (Record s) p q h = ([], ap (λ (z : Plant). z.calls) h.2, λ ms. (h.0, h.1, ap (λ (z : Plant). with_calls z ms) h.2))
-adds f (Acking i n) p q h = ([], ap (λ (z : Plant). z.calls) h, λ ms. ap (λ (z : Plant). with_calls z ms) h)
-adds f Quiet p q h = ([], ap (λ (z : Plant). z.calls) h, λ ms. ap (λ (z : Plant). with_calls z ms) h)
-adds f Put p q h = ([], ap (λ (z : Plant). z.calls) h.3, λ ms. (h.0, h.1, h.2, ap (λ (z : Plant). with_calls z ms) h.3))
-adds f (Note n) p q h = ([], ap (λ (z : Plant). z.calls) h.2, λ ms. (h.0, h.1, ap (λ (z : Plant). with_calls z ms) h.2))
-adds f Cut p q h = ([], ap (λ (z : Plant). z.calls) h.3, λ ms. (h.0, h.1, h.2, ap (λ (z : Plant). with_calls z ms) h.3))
-adds f (Stop cs) p q h = (Halted (view f p) ∷ [], ap (λ (z : Plant). z.calls) h.1, λ ms. (h.0, ap (λ (z : Plant). with_calls z (Halted (view f p) ∷ ms)) h.1))
+pub adds : (f : Flow) (t : PlantMove) (p q : AbstractPlant) → PlantMoves f t p q → Adds f t p q
+adds f (Take s hd) p q h = ([], ap (λ (z : AbstractPlant). z.calls) h.2, λ ms. (h.0, h.1, ap (λ (z : AbstractPlant). with_calls z ms) h.2))
+adds f (Call s x m) p q h = (Called h.0 m ∷ [], ap (λ (z : AbstractPlant). z.calls) h.7, λ ms. (h.0, h.1, h.2, h.3, h.4, h.5, h.6, ap (λ (z : AbstractPlant). with_calls z (Called h.0 m ∷ ms)) h.7))
+adds f (Record s) p q h = ([], ap (λ (z : AbstractPlant). z.calls) h.2, λ ms. (h.0, h.1, ap (λ (z : AbstractPlant). with_calls z ms) h.2))
+adds f (Acking i n) p q h = ([], ap (λ (z : AbstractPlant). z.calls) h, λ ms. ap (λ (z : AbstractPlant). with_calls z ms) h)
+adds f Quiet p q h = ([], ap (λ (z : AbstractPlant). z.calls) h, λ ms. ap (λ (z : AbstractPlant). with_calls z ms) h)
+adds f Put p q h = ([], ap (λ (z : AbstractPlant). z.calls) h.3, λ ms. (h.0, h.1, h.2, ap (λ (z : AbstractPlant). with_calls z ms) h.3))
+adds f (Note n) p q h = ([], ap (λ (z : AbstractPlant). z.calls) h.2, λ ms. (h.0, h.1, ap (λ (z : AbstractPlant). with_calls z ms) h.2))
+adds f Cut p q h = ([], ap (λ (z : AbstractPlant). z.calls) h.3, λ ms. (h.0, h.1, h.2, ap (λ (z : AbstractPlant). with_calls z ms) h.3))
+adds f (Stop cs) p q h = (Halted (view f p) ∷ [], ap (λ (z : AbstractPlant). z.calls) h.1, λ ms. (h.0, ap (λ (z : AbstractPlant). with_calls z (Halted (view f p) ∷ ms)) h.1))
 
 -- who is notified after a stop is notified of the outcome that the row had
 

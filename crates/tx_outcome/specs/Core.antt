@@ -110,7 +110,7 @@ first None g = g
 
 -- The core: the view that this life began with, the history as unwritten and written entries (each newest first),
 -- the kept replies, and all calls with the stops.
-pub record Core : Type 0 where
+pub record AbstractCore : Type 0 where
   pub start : IdView
   pub late : List IdEvent
   pub gone : List IdEvent
@@ -136,10 +136,10 @@ Covers j cs = (id : ℕ) (r : Row) → j.row id ≡ Some r → listed r ≡ [] �
 abbrev pub Shuts : IdView → List IdEvent → Type 0
 Shuts j cs = Closings j cs × Covers j cs
 
-abbrev pub opened : IdView → List IdEvent → List PlantDeed → Core
+abbrev pub opened : IdView → List IdEvent → List PlantDeed → AbstractCore
 opened j cs ms = record { start = j; late = cs; gone = []; kept = none_kept; calls = Halted j ∷ ms }
 
-abbrev pub written : Flow → Core → IdView
+abbrev pub written : Flow → AbstractCore → IdView
 written f c = journal f c.start c.gone
 
 pub data CoreMove : Type 0 where
@@ -151,7 +151,7 @@ pub data CoreMove : Type 0 where
   Writes : CoreMove
   Stops : (closings : List IdEvent) → CoreMove
 
-abbrev pub CoreMoves : Flow → CoreMove → Core → Core → Type 0
+abbrev pub CoreMoves : Flow → CoreMove → AbstractCore → AbstractCore → Type 0
 CoreMoves f (Calls id x m) c d = (st : FullState) × (at f c.start c.gone id ≡ Some st) × (given c.late id ≡ None) × (c.kept id ≡ None)
     × Made (standing f st).due x (standing f st) m × (d ≡ record c { kept = put id (Some x) c.kept; calls = Called id m ∷ c.calls })
 CoreMoves f (Records id) c d = (x : FullReply) × (c.kept id ≡ Some x) × (d ≡ record c { kept = put id None c.kept; late = Given id x ∷ c.late })
@@ -161,9 +161,9 @@ CoreMoves f Others c d = d ≡ record c { late = Other ∷ c.late }
 CoreMoves f Writes c d = (l : List IdEvent) × (e : IdEvent) × (c.late ≡ l ++ e ∷ []) × (d ≡ record c { late = l; gone = e ∷ c.gone })
 CoreMoves f (Stops cs) c d = Shuts (written f c) cs × (d ≡ opened (written f c) cs c.calls)
 
-abbrev pub CoreRun : Flow → List CoreMove → Core → Core → Type 0
+abbrev pub CoreRun : Flow → List CoreMove → AbstractCore → AbstractCore → Type 0
 CoreRun f [] c d = d ≡ c
-CoreRun f (t ∷ ts) c d = (m : Core) × CoreMoves f t c m × CoreRun f ts m d
+CoreRun f (t ∷ ts) c d = (m : AbstractCore) × CoreMoves f t c m × CoreRun f ts m d
 
 -- the invariant of the core
 
@@ -193,5 +193,5 @@ pub record IsCore (f : Flow) (v : IdView) (late gone : List IdEvent) (kept : ℕ
   pub proper : (id : ℕ) → StateFitsAt (at f v gone id)
   pub shut : (id : ℕ) → Stuck (at f v gone id) → closed late id ≡ true
 
-abbrev pub CoreFits : Flow → Core → Type 0
+abbrev pub CoreFits : Flow → AbstractCore → Type 0
 CoreFits f c = IsCore f c.start c.late c.gone c.kept c.calls

@@ -6,7 +6,7 @@ use Rattle.tx_machine.specs.Row.{Row}
 use Rattle.tx_outcome.specs.Trail.{Answered, Chose, Told, Recovered, Stopped}
 use Rattle.tx_outcome.specs.One.{Answer, Chosen, Advice, Restored}
 use Rattle.tx_outcome.specs.Core.{IdView, trail_of}
-use Rattle.tx_outcome.specs.Plant.{Plant, made_on, view, PlantMove, Take, Call, Record, Put, Note, Stop, PlantRun}
+use Rattle.tx_outcome.specs.Plant.{AbstractPlant, made_on, view, PlantMove, Take, Call, Record, Put, Note, Stop, PlantRun}
 
 abbrev pub two : Flow
 two = record {
@@ -30,7 +30,7 @@ moves = Take 0 (3, 5 ∷ []) ∷ Put ∷ Note 1 ∷ Call 0 (Answer 1 (9 ∷ []))
     ∷ Call 0 Restored (Recovered 0 0) ∷ Record 0 ∷ Put ∷ Note 1 ∷ Call 0 (Advice None) (Told false 0 0 None) ∷ Record 0 ∷ Stop [] ∷ Call 0 Restored (Recovered 0 0) ∷ []
 
 abbrev pub SomeRun : Type 0
-SomeRun = (q : Plant) × PlantRun two moves (made_on blank [] []) q
+SomeRun = (q : AbstractPlant) × PlantRun two moves (made_on blank [] []) q
     × (trail_of 1 q.calls ≡ Recovered 0 0 ∷ Stopped (Some left) ∷ Told false 0 0 None ∷ Recovered 0 0 ∷ Stopped (Some left) ∷ Answered 0 1 ∷ Stopped None ∷ [])
 
 abbrev pub chooser : Flow
@@ -47,5 +47,5 @@ shelving = Take 0 (1, []) ∷ Put ∷ Note 1 ∷ Call 0 (Answer 65 []) (Answered
     ∷ Call 0 (Answer 2 []) (Answered 1 2) ∷ Record 0 ∷ Put ∷ Note 4 ∷ Call 0 (Advice (Some (7 ∷ []))) (Told false 1 0 (Some (7 ∷ []))) ∷ Record 0 ∷ Put ∷ Note 5 ∷ []
 
 abbrev pub ShelvingRun : Type 0
-ShelvingRun = (q : Plant) × PlantRun chooser shelving (made_on blank [] []) q
+ShelvingRun = (q : AbstractPlant) × PlantRun chooser shelving (made_on blank [] []) q
     × (trail_of 1 q.calls ≡ Told false 1 0 (Some (7 ∷ [])) ∷ Answered 1 2 ∷ Chose 0 ∷ Answered 0 65 ∷ Stopped None ∷ []) × ((view chooser q).row 1 ≡ None) × ((view chooser q).advice 1 0 ≡ Some (7 ∷ []))

@@ -6,7 +6,7 @@ use Rattle.tx_outcome.specs.Trail.{Deed}
 use Rattle.tx_outcome.specs.One.{DueCall, NoCall, FullReply, Made}
 use Rattle.flow_model.specs.declared.flow.Flow.{Flow}
 use Rattle.tx_outcome.specs.States.{FullState, Head, due, standing}
-use Rattle.tx_outcome.specs.Core.{IdView, IdEvent, Took, Given, Acked, Closed, Other, PlantDeed, Called, Halted, next_id, at, journal, put, none_kept, Shuts, Core, CoreFits}
+use Rattle.tx_outcome.specs.Core.{IdView, IdEvent, Took, Given, Acked, Closed, Other, PlantDeed, Called, Halted, next_id, at, journal, put, none_kept, Shuts, AbstractCore, CoreFits}
 
 -- A session takes, or was given a reply; an advice is acknowledged; a transaction is closed. Plain are the others: offers,
 -- releases, breakpoints set and cleared, sessions let go.
@@ -79,7 +79,7 @@ last_own v (_ ∷ l) id = last_own v l id
 -- The view that was opened, the entries that are not in the journal and those that are (newest first), the number of
 -- entries known to be written, a kept reply per session, the calls. After a fault in a write the journal may be ahead of
 -- what is known.
-pub record Plant : Type 0 where
+pub record AbstractPlant : Type 0 where
   pub start : IdView
   pub late : List SessionEvent
   pub gone : List SessionEvent
@@ -87,13 +87,13 @@ pub record Plant : Type 0 where
   pub kept : ℕ → Option FullReply
   pub calls : List PlantDeed
 
-abbrev pub past : Plant → List SessionEvent
+abbrev pub past : AbstractPlant → List SessionEvent
 past p = p.late ++ p.gone
 
-abbrev pub whole : Flow → Plant → List IdEvent
+abbrev pub whole : Flow → AbstractPlant → List IdEvent
 whole f p = by_ids f p.start (past p)
 
-abbrev pub view : Flow → Plant → IdView
+abbrev pub view : Flow → AbstractPlant → IdView
 view f p = journal f p.start (by_ids f p.start p.gone)
 
 abbrev pub shut : List ℕ → List SessionEvent
@@ -104,7 +104,7 @@ abbrev pub shut_ids : List ℕ → List IdEvent
 shut_ids [] = []
 shut_ids (i ∷ is) = Closed i ∷ shut_ids is
 
-abbrev pub made_on : IdView → List ℕ → List PlantDeed → Plant
+abbrev pub made_on : IdView → List ℕ → List PlantDeed → AbstractPlant
 made_on j cs ms = record { start = j; late = shut cs; gone = []; mark = 0; kept = none_kept; calls = Halted j ∷ ms }
 
 -- Small steps, of which the turns of a plant are made: a call keeps its reply, which is then recorded as an entry; the oldest
@@ -120,10 +120,10 @@ pub data PlantMove : Type 0 where
   Stop : (closings : List ℕ) → PlantMove
   Cut : PlantMove
 
-abbrev pub cut_plant : Flow → Plant → Plant
+abbrev pub cut_plant : Flow → AbstractPlant → AbstractPlant
 cut_plant f p = record { start = view f p; late = []; gone = []; mark = 0; kept = none_kept; calls = p.calls }
 
-abbrev pub PlantMoves : Flow → PlantMove → Plant → Plant → Type 0
+abbrev pub PlantMoves : Flow → PlantMove → AbstractPlant → AbstractPlant → Type 0
 PlantMoves f (Take s h) p q = (recovering f p.start (whole f p) ≡ None)
     × ((id : ℕ) → serves f p.start (past p) s ≡ Some id → unfinished f (at f p.start (whole f p) id) ≡ false)
     × (q ≡ record p { late = Taken s h ∷ p.late })
@@ -139,9 +139,9 @@ PlantMoves f (Stop cs) p q = Shuts (view f p) (shut_ids cs) × (q ≡ made_on (v
 PlantMoves f Cut p q = (p.mark ≡ length (past p)) × (recovering f p.start (whole f p) ≡ None)
     × ((s id : ℕ) → serves f p.start (past p) s ≡ Some id → unfinished f (at f p.start (whole f p) id) ≡ false) × (q ≡ cut_plant f p)
 
-abbrev pub PlantRun : Flow → List PlantMove → Plant → Plant → Type 0
+abbrev pub PlantRun : Flow → List PlantMove → AbstractPlant → AbstractPlant → Type 0
 PlantRun f [] p q = q ≡ p
-PlantRun f (t ∷ ts) p q = (m : Plant) × PlantMoves f t p m × PlantRun f ts m q
+PlantRun f (t ∷ ts) p q = (m : AbstractPlant) × PlantMoves f t p m × PlantRun f ts m q
 
 -- the core by ids below it
 
@@ -149,7 +149,7 @@ abbrev pub over : Flow → IdView → List SessionEvent → List SessionEvent �
 over f v gone [] = []
 over f v gone (e ∷ l) = event_of f v (taken v (l ++ gone)) (by_ids f v (l ++ gone)) e ∷ over f v gone l
 
-abbrev pub lower : Flow → Plant → (ℕ → Option FullReply) → Core
+abbrev pub lower : Flow → AbstractPlant → (ℕ → Option FullReply) → AbstractCore
 lower f p kb = record { start = p.start; late = over f p.start p.gone p.late; gone = by_ids f p.start p.gone; kept = kb; calls = p.calls }
 
 -- a kept reply of a session is that of the id that it holds
@@ -161,5 +161,5 @@ pub record SeatsAgree (f : Flow) (v : IdView) (es : List SessionEvent) (kept kb 
 abbrev pub AreHeld : Flow → IdView → List SessionEvent → Type 0
 AreHeld f v es = (id : ℕ) → v.next_id ≤ id → unfinished f (at f v (by_ids f v es) id) ≡ true → (s : ℕ) × (taken v es s ≡ Some id)
 
-abbrev pub PlantFits : Flow → Plant → Type 0
+abbrev pub PlantFits : Flow → AbstractPlant → Type 0
 PlantFits f p = (kb : ℕ → Option FullReply) × CoreFits f (lower f p kb) × SeatsAgree f p.start (past p) p.kept kb × (p.mark ≤ length p.gone) × AreHeld f p.start (past p)

@@ -5,18 +5,18 @@ use Rattle.tx_outcome.specs.Trail.{Deed}
 use Rattle.tx_outcome.specs.One.{FullReply, Made}
 use Rattle.tx_outcome.specs.States.{FullState, standing}
 use Rattle.tx_outcome.specs.Core.{PlantDeed, at}
-use Rattle.tx_outcome.specs.Plant.{SessionEvent, Plant, past, whole, serves, last_own}
+use Rattle.tx_outcome.specs.Plant.{SessionEvent, AbstractPlant, past, whole, serves, last_own}
 
 -- nothing was done
-abbrev pub Stays : List PlantDeed → Plant → Plant → Type 0
+abbrev pub Stays : List PlantDeed → AbstractPlant → AbstractPlant → Type 0
 Stays new p q = (new ≡ []) × (q ≡ p)
 
 -- the session's due call may be made: what was due is written, and no reply is kept
-abbrev pub Callable : Flow → Plant → ℕ → ℕ → FullReply → Deed → Type 0
+abbrev pub Callable : Flow → AbstractPlant → ℕ → ℕ → FullReply → Deed → Type 0
 Callable f p s id x m = (st : FullState) × (serves f p.start (past p) s ≡ Some id) × (at f p.start (whole f p) id ≡ Some st)
     × (last_own p.start (whole f p) id ≤ p.mark) × (p.kept s ≡ None) × Made (standing f st).due x (standing f st) m
 
 -- the oldest entries w are written, and the mark is moved within them
-abbrev pub Wrote : ℕ → List PlantDeed → Plant → Plant → Type 0
+abbrev pub Wrote : ℕ → List PlantDeed → AbstractPlant → AbstractPlant → Type 0
 Wrote n new p q = (l : List SessionEvent) × (w : List SessionEvent) × (p.late ≡ l ++ w) × (p.mark ≤ n) × (n ≤ length (w ++ p.gone)) × (new ≡ [])
     × (q ≡ record p { late = l; gone = w ++ p.gone; mark = n })

@@ -2,8 +2,8 @@
 use Rattle.std.specs.Prelude.{◌≡◌, ℕ, Bool, true, false, List, [], ◌∷◌, ◌++◌, ◌||◌}
 use Rattle.tx_outcome.specs.Trail.{Deed, Answered, Chose, Stopped, untold}
 use Rattle.flow_model.specs.declared.flow.Flow.{Flow}
-use Rattle.tx_outcome.specs.Core.{PlantDeed, Core, written, none_kept}
-use Rattle.tx_outcome.specs.Plant.{Plant, PlantMove, PlantMoves}
+use Rattle.tx_outcome.specs.Core.{PlantDeed, AbstractCore, written, none_kept}
+use Rattle.tx_outcome.specs.Plant.{AbstractPlant, PlantMove, PlantMoves}
 
 -- whether a stop stands here at which the Told entry of the place was not in the journal
 abbrev pub has_untold : ℕ → List Deed → Bool
@@ -22,12 +22,12 @@ is_open_call (Chose p) = true
 is_open_call _ = false
 
 -- a history begins anew from what is written, with nothing unfinished
-abbrev pub cut_of : Flow → Core → Core
+abbrev pub cut_of : Flow → AbstractCore → AbstractCore
 cut_of f c = record { start = written f c; late = []; gone = []; kept = none_kept; calls = c.calls }
 
-abbrev pub with_calls : Plant → List PlantDeed → Plant
+abbrev pub with_calls : AbstractPlant → List PlantDeed → AbstractPlant
 with_calls p ms = record p { calls = ms }
 
 -- the turn adds calls, whatever stands before them
-abbrev pub Adds : Flow → PlantMove → Plant → Plant → Type 0
+abbrev pub Adds : Flow → PlantMove → AbstractPlant → AbstractPlant → Type 0
 Adds f t p q = (new : List PlantDeed) × (q.calls ≡ new ++ p.calls) × ((ms : List PlantDeed) → PlantMoves f t (with_calls p ms) (with_calls q (new ++ ms)))

@@ -22,9 +22,9 @@ ghost use Rattle.tx_outcome.specs.States.{after, answers};
 ghost use Rattle.tx_outcome.specs.States.{reopen, PhaseFits, standing, StateFits};
 ghost use Rattle.tx_outcome.specs.Core.{IdView, IdEvent, PlantDeed, Halted, CoreFits, at};
 ghost use Rattle.tx_outcome.specs.Core.{standing_of, CoreMove};
-ghost use Rattle.tx_outcome.specs.Core.{Core, CoreRun, OutcomeLaw, ViewFits, Shuts, opened};
+ghost use Rattle.tx_outcome.specs.Core.{AbstractCore, CoreRun, OutcomeLaw, ViewFits, Shuts, opened};
 ghost use Rattle.tx_outcome.specs.Core.{written};
-ghost use Rattle.tx_outcome.specs.Plant.{Plant, PlantMove, PlantMoves, PlantRun, unfinished};
+ghost use Rattle.tx_outcome.specs.Plant.{AbstractPlant, PlantMove, PlantMoves, PlantRun, unfinished};
 ghost use Rattle.tx_outcome.specs.Plant.{made_on, view, shut_ids};
 ghost use Rattle.tx_outcome.specs.Owning.{reply_of, replies, afters, told_row};
 ghost use Rattle.tx_outcome.specs.Stations.{station_call, deed_of, with_context};
@@ -62,7 +62,7 @@ pub fn table_is_sound()
 /// it holds after every list of moves of the core. It holds of a blank journal and no calls.
 pub fn outcome_law()
     ensures kept { (f : Flow) (j : IdView) (cs : List IdEvent) (calls : List PlantDeed)
-        (ts : List CoreMove) (d : Core)
+        (ts : List CoreMove) (d : AbstractCore)
         → OutcomeLaw calls j → ViewFits j → Shuts j cs → CoreRun f ts (opened j cs calls) d
         → OutcomeLaw d.calls (written f d) × ViewFits (written f d) }
     ensures blank { (j : IdView) → ((id : ℕ) → j.row id ≡ None)
@@ -74,7 +74,7 @@ pub fn outcome_law()
 /// stops among them.
 pub fn plant_law()
     ensures { (f : Flow) (j : IdView) (cs : List ℕ) (calls : List PlantDeed) (ts : List PlantMove)
-        (q : Plant)
+        (q : AbstractPlant)
         → OutcomeLaw calls j → ViewFits j → Shuts j (shut_ids cs)
         → PlantRun f ts (made_on j cs calls) q
         → OutcomeLaw q.calls (view f q) × ViewFits (view f q) }
@@ -101,11 +101,11 @@ pub fn clauses()
     ensures told_way { (r : Row) (c : Bool) (p n : ℕ) (x : Option (List ℕ)) (a b d : List Deed)
         → FollowsRows (a ++ (Told c p n x ∷ (b ++ (Stopped (Some r) ∷ d))))
         → has_stop b ≡ false → c ≡ is_committing r.phase }
-    ensures cut { (f : Flow) (c : Core) → CoreFits f c → c.late ≡ []
+    ensures cut { (f : Flow) (c : AbstractCore) → CoreFits f c → c.late ≡ []
         → ((id : ℕ) → (standing_row (standing_of f (at f c.start c.gone id)) ≡ None)
         × (unfinished f (at f c.start c.gone id) ≡ false))
         → CoreFits f (cut_of f c) }
-    ensures adds { (f : Flow) (t : PlantMove) (p q : Plant) → PlantMoves f t p q → Adds f t p q }
+    ensures adds { (f : Flow) (t : PlantMove) (p q : AbstractPlant) → PlantMoves f t p q → Adds f t p q }
 {}
 
 /// What a state is in the machine's words: of a transaction of this life its table state after its
