@@ -5,7 +5,7 @@ ghost use Rattle.std.specs.List.{position_or_len};
 ghost use Rattle.cli_encode.specs.Lines.{has_byte, IsCut, IsAfter, IsNotBefore};
 
 // Where the first of these bytes is, or the length where there is none.
-fn place_of(bytes: &[u8], mark: u8) -> usize
+fn mark_index(bytes: &[u8], mark: u8) -> usize
     ensures place { result ≡ position_or_len (λ b. b == mark) bytes.now }
     ensures within { result ≤ length bytes.now }
 {
@@ -20,7 +20,7 @@ pub fn cut_at(bytes: &[u8], mark: u8) -> Option<(&[u8], &[u8])>
     ensures { MatchOption result (has_byte mark bytes.entry.now ≡ false)
         (IsCut mark bytes.entry.now) }
 {
-    let place = place_of(bytes, mark);
+    let place = mark_index(bytes, mark);
     if place == bytes.len() {
         return None;
     }

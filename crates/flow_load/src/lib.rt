@@ -20,7 +20,7 @@
 //! Promised here:
 //! - [`image`] writes exactly the image of its steps.
 //! - [`load`] answers a flow's steps exactly where the bytes are the image of a checked flow, and else
-//!   the first fault in one written order. It is out of memory only where no line has a fault by
+//!   the first fault in one specified order. It is out of memory only where no line has a fault by
 //!   itself, nor the version.
 #![tactic(auto)]
 

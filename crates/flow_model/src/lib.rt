@@ -2,7 +2,7 @@
 //!
 //! Promised here:
 //! - [`Flow::check`] accepts exactly the flows without a fault, and answers the first fault in one
-//!   written order.
+//!   specified order.
 //! - [`number_of`] finds the number of a participant in a list of them, so a participant has one
 //!   number in whatever form a flow is kept.
 //! - A checked flow has at most 16,384 participants, and each placed entry's number is one of theirs.

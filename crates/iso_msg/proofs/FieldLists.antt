@@ -13,7 +13,7 @@ use Rattle.iso_msg.specs.declared.field.Field.{Field}
 use Rattle.iso_msg.specs.Messages.{Fields, with_value, without, value_at, AreFields}
 use Rattle.iso_msg.proofs.FieldMaps.{absent_value, absent_stays}
 use Rattle.iso_msg.specs.Values.{refusal, refusal_by}
-use Rattle.iso_msg.specs.Storage.{pair, pairs, place_of, shift}
+use Rattle.iso_msg.specs.Storage.{pair, pairs, field_index, shift}
 
 pub shift_zero : (r : Result ℕ ℕ) → shift 0 r ≡ r
 shift_zero (Ok k) = ap Ok (zero-add k)
@@ -26,17 +26,17 @@ shift_more i (Err k) = ap Err (omega arith)
 pub pairs_at : (fs : List Field) (i : ℕ) (f : Field) → i < length fs → f ≡ get_or fs i f → drop i (pairs fs) ≡ pair f ∷ drop (i + 1) (pairs fs)
 pairs_at fs i f h e = drop-map pair i fs ∙ ap (λ (x : List Field). map pair x) (drop_more fs i f h ∙ ap (λ (g : Field). g ∷ drop (i + 1) fs) (sym e)) ∙ ap (λ (x : Fields). pair f ∷ x) (sym (drop-map pair (i + 1) fs))
 
-pub place_step : (fs : List Field) (i n : ℕ) (f : Field) (r : Result ℕ ℕ) → i < length fs → f ≡ get_or fs i f → f.number < n → shift i (place_of n (drop i (pairs fs))) ≡ r → shift (i + 1) (place_of n (drop (i + 1) (pairs fs))) ≡ r
+pub place_step : (fs : List Field) (i n : ℕ) (f : Field) (r : Result ℕ ℕ) → i < length fs → f ≡ get_or fs i f → f.number < n → shift i (field_index n (drop i (pairs fs))) ≡ r → shift (i + 1) (field_index n (drop (i + 1) (pairs fs))) ≡ r
 place_step fs i n f r h e lt so_far =
-    sym (shift_more i (place_of n (drop (i + 1) (pairs fs)))) ∙ sym (ap (λ (b : Bool). shift i (cond b (shift 1 (place_of n (drop (i + 1) (pairs fs)))) (cond (eqb f.number n) (Ok 0) (Err 0)))) (lt-ltb _ _ lt)) ∙ sym (ap (λ (x : Fields). shift i (place_of n x)) (pairs_at fs i f h e)) ∙ so_far
+    sym (shift_more i (field_index n (drop (i + 1) (pairs fs)))) ∙ sym (ap (λ (b : Bool). shift i (cond b (shift 1 (field_index n (drop (i + 1) (pairs fs)))) (cond (eqb f.number n) (Ok 0) (Err 0)))) (lt-ltb _ _ lt)) ∙ sym (ap (λ (x : Fields). shift i (field_index n x)) (pairs_at fs i f h e)) ∙ so_far
 
 -- what a place says of a list that begins with a field
-here : (f : ℕ × List ℕ) (fs : Fields) (n : ℕ) → n ≤ f.0 → place_of n (f ∷ fs) ≡ (cond (eqb f.0 n) (Ok 0) (Err 0))
+here : (f : ℕ × List ℕ) (fs : Fields) (n : ℕ) → n ≤ f.0 → field_index n (f ∷ fs) ≡ (cond (eqb f.0 n) (Ok 0) (Err 0))
 here f fs n h = rw (le-ltb f.0 n h) refl
 
-pub place_here : (fs : List Field) (i n : ℕ) (f : Field) (r : Result ℕ ℕ) → i < length fs → f ≡ get_or fs i f → n ≤ f.number → shift i (place_of n (drop i (pairs fs))) ≡ r → shift i (cond (eqb f.number n) (Ok 0) (Err 0)) ≡ r
+pub place_here : (fs : List Field) (i n : ℕ) (f : Field) (r : Result ℕ ℕ) → i < length fs → f ≡ get_or fs i f → n ≤ f.number → shift i (field_index n (drop i (pairs fs))) ≡ r → shift i (cond (eqb f.number n) (Ok 0) (Err 0)) ≡ r
 place_here fs i n f r h e le so_far =
-    sym (ap (shift i) (here (pair f) (drop (i + 1) (pairs fs)) n le)) ∙ sym (ap (λ (x : Fields). shift i (place_of n x)) (pairs_at fs i f h e)) ∙ so_far
+    sym (ap (shift i) (here (pair f) (drop (i + 1) (pairs fs)) n le)) ∙ sym (ap (λ (x : Fields). shift i (field_index n x)) (pairs_at fs i f h e)) ∙ so_far
 
 pub place_found : (i a n : ℕ) (r : Result ℕ ℕ) → a ≡ n → shift i (cond (eqb a n) (Ok 0) (Err 0)) ≡ r → Ok i ≡ r
 place_found i a n r e so_far = ap Ok (sym (add-zero i)) ∙ sym (ap (λ (b : Bool). shift i (cond b (Ok 0) (Err 0))) (equal-eqb a n e)) ∙ so_far
@@ -69,12 +69,12 @@ unshift_err : (r : Result ℕ ℕ) (i : ℕ) → shift 1 r ≡ Err i → (k : �
 unshift_err (Err k) i e = (k, refl, omega (arith, err_is (1 + k) i e))
 unshift_err (Ok k) i e = absurd cc
 
-pub found : (ps : Fields) (n : ℕ) (v : List ℕ) (i : ℕ) → place_of n ps ≡ Ok i → Found ps n v i
+pub found : (ps : Fields) (n : ℕ) (v : List ℕ) (i : ℕ) → field_index n ps ≡ Ok i → Found ps n v i
 found [] n v i e = absurd cc
 found (f ∷ fs) n v i e =
-    elim (chosen (ltb f.0 n) (shift 1 (place_of n fs)) (cond (eqb f.0 n) (Ok 0) (Err 0)) (Ok i) e) [
+    elim (chosen (ltb f.0 n) (shift 1 (field_index n fs)) (cond (eqb f.0 n) (Ok 0) (Err 0)) (Ok i) e) [
       | inl w ↦
-          let u = unshift_ok (place_of n fs) i w.1 in
+          let u = unshift_ok (field_index n fs) i w.1 in
           let r = found fs n v u.0 u.1 in
           subst (λ j. Found (f ∷ fs) n v j) (sym u.2) (record { below = omega (arith, r.below); put = rw w.0 (ap (λ (x : Fields). f ∷ x) r.put) })
       | inr w ↦
@@ -84,12 +84,12 @@ found (f ∷ fs) n v i e =
           ]
     ]
 
-pub missing : (ps : Fields) (n : ℕ) (v : List ℕ) (i : ℕ) → place_of n ps ≡ Err i → Missing ps n v i
+pub missing : (ps : Fields) (n : ℕ) (v : List ℕ) (i : ℕ) → field_index n ps ≡ Err i → Missing ps n v i
 missing [] n v i e = subst (λ j. Missing [] n v j) (err_is 0 i e) (record { below = omega arith; put = refl })
 missing (f ∷ fs) n v i e =
-    elim (chosen (ltb f.0 n) (shift 1 (place_of n fs)) (cond (eqb f.0 n) (Ok 0) (Err 0)) (Err i) e) [
+    elim (chosen (ltb f.0 n) (shift 1 (field_index n fs)) (cond (eqb f.0 n) (Ok 0) (Err 0)) (Err i) e) [
       | inl w ↦
-          let u = unshift_err (place_of n fs) i w.1 in
+          let u = unshift_err (field_index n fs) i w.1 in
           let r = missing fs n v u.0 u.1 in
           subst (λ j. Missing (f ∷ fs) n v j) (sym u.2) (record { below = omega (arith, r.below); put = rw w.0 (ap (λ (x : Fields). f ∷ x) r.put) })
       | inr w ↦
@@ -152,12 +152,12 @@ pub record RemovesAt (ps : Fields) (n i : ℕ) : Type 0 where
   pub value : (d : ℕ × List ℕ) → value_at n ps ≡ Some (get_or ps i d).1
   pub others : without n ps ≡ remove ps i
 
-pub removes_at : (ps : Fields) (n i : ℕ) → place_of n ps ≡ Ok i → RemovesAt ps n i
+pub removes_at : (ps : Fields) (n i : ℕ) → field_index n ps ≡ Ok i → RemovesAt ps n i
 removes_at [] n i e = absurd cc
 removes_at (f ∷ fs) n i e =
-    elim (chosen (ltb f.0 n) (shift 1 (place_of n fs)) (cond (eqb f.0 n) (Ok 0) (Err 0)) (Ok i) e) [
+    elim (chosen (ltb f.0 n) (shift 1 (field_index n fs)) (cond (eqb f.0 n) (Ok 0) (Err 0)) (Ok i) e) [
       | inl w ↦
-          let u = unshift_ok (place_of n fs) i w.1 in
+          let u = unshift_ok (field_index n fs) i w.1 in
           let r = removes_at fs n u.0 u.1 in
           let low : f.0 < n = ltb-true _ _ w.0 in
           let other : eqb f.0 n ≡ false = eqb-false_from f.0 n (λ e. omega (arith, low, e)) in
@@ -170,12 +170,12 @@ removes_at (f ∷ fs) n i e =
     ]
 
 -- where a number has no place, it has no value
-pub missing_value : (low : ℕ) (ps : Fields) (n i : ℕ) → AreFields low ps → place_of n ps ≡ Err i → (value_at n ps ≡ None) × (without n ps ≡ ps)
+pub missing_value : (low : ℕ) (ps : Fields) (n i : ℕ) → AreFields low ps → field_index n ps ≡ Err i → (value_at n ps ≡ None) × (without n ps ≡ ps)
 missing_value low [] n i a e = (refl, refl)
 missing_value low (f ∷ fs) n i a e =
-    elim (chosen (ltb f.0 n) (shift 1 (place_of n fs)) (cond (eqb f.0 n) (Ok 0) (Err 0)) (Err i) e) [
+    elim (chosen (ltb f.0 n) (shift 1 (field_index n fs)) (cond (eqb f.0 n) (Ok 0) (Err 0)) (Err i) e) [
       | inl w ↦
-          let u = unshift_err (place_of n fs) i w.1 in
+          let u = unshift_err (field_index n fs) i w.1 in
           let r = missing_value f.0 fs n u.0 a.2 u.1 in
           let low : f.0 < n = ltb-true _ _ w.0 in
           let other : eqb f.0 n ≡ false = eqb-false_from f.0 n (λ e. omega (arith, low, e)) in

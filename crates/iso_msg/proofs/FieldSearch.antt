@@ -9,7 +9,7 @@ use Rattle.std.proofs.lemmas.Bool.Decides.{nat_tests}
 use Rattle.iso_msg.specs.declared.field.Field.{Field}
 use Rattle.iso_msg.specs.Messages.{Fields, AreFields, value_at, with_value}
 use Rattle.iso_msg.specs.Values.{refusal}
-use Rattle.iso_msg.specs.Storage.{pair, pairs, place_of, shift}
+use Rattle.iso_msg.specs.Storage.{pair, pairs, field_index, shift}
 use Rattle.std.proofs.lemmas.List.{get_or-map, length-map}
 use Rattle.std.proofs.lemmas.Option.{get_or_from_slice_get}
 use Rattle.iso_msg.proofs.FieldLists.{removes_at}
@@ -27,7 +27,7 @@ rises low (f ∷ fs) i zero d a h k = absurd (omega arith)
 rises low (f ∷ fs) zero (suc j) d a h k = above f.number fs j d a.2 (omega arith)
 rises low (f ∷ fs) (suc i) (suc j) d a h k = rises f.number fs i j d a.2 (omega arith) (omega arith)
 
-place_at : (low : ℕ) (fs : List Field) (n i : ℕ) → AreFields low (pairs fs) → i < length fs → ((d : Field) → (get_or fs i d).number ≡ n) → place_of n (pairs fs) ≡ Ok i
+place_at : (low : ℕ) (fs : List Field) (n i : ℕ) → AreFields low (pairs fs) → i < length fs → ((d : Field) → (get_or fs i d).number ≡ n) → field_index n (pairs fs) ≡ Ok i
 place_at low [] n i a h e = absurd (omega arith)
 place_at low (f ∷ fs) n zero a h e = rw (le-ltb f.number n (omega (arith, e f)), equal-eqb f.number n (e f)) refl
 place_at low (f ∷ fs) n (suc i) a h e =
@@ -35,7 +35,7 @@ place_at low (f ∷ fs) n (suc i) a h e =
     rw (lt-ltb f.number n under) (ap (shift 1) (place_at f.number fs n i a.2 (omega arith) e) ∙ ap Ok (omega arith))
 
 place_between : (fs : List Field) (n i : ℕ) → i ≤ length fs → ((j : ℕ) (d : Field) → j < i → (get_or fs j d).number < n) → ((j : ℕ) (d : Field) → i ≤ j → j < length fs → n < (get_or fs j d).number)
-    → place_of n (pairs fs) ≡ Err i
+    → field_index n (pairs fs) ≡ Err i
 place_between [] n i h under over = ap Err (omega arith)
 place_between (f ∷ fs) n zero h under over =
     let more : n < f.number = over 0 f (omega arith) (omega arith) in
@@ -54,7 +54,7 @@ module _ (fs : List Field) (n : ℕ) (a : AreFields 1 (pairs fs)) where
       ]
 
   -- a binary search by number finds the place
-  pub searched : (r : Result ℕ ℕ) → IsSearchInRange r (length fs) → IsBinarySearchResult (λ (f : Field). nat_cmp f.number n) fs r → r ≡ place_of n (pairs fs)
+  pub searched : (r : Result ℕ ℕ) → IsSearchInRange r (length fs) → IsBinarySearchResult (λ (f : Field). nat_cmp f.number n) fs r → r ≡ field_index n (pairs fs)
   searched (Ok i) within equal = sym (place_at 1 fs n i a within (λ d. ranked _ n _ (sym (equal d))))
   searched (Err i) within parted =
       let q = parted comparisons_rise in
@@ -85,7 +85,7 @@ value_fits low n v (f ∷ fs) a e =
     ]
 
 -- the field at the place that was found has the value
-pub value_found : (fs : List Field) (n i : ℕ) (f : Field) → place_of n (pairs fs) ≡ Ok i → Some (get_or fs i f).value.items ≡ value_at n (pairs fs)
+pub value_found : (fs : List Field) (n i : ℕ) (f : Field) → field_index n (pairs fs) ≡ Ok i → Some (get_or fs i f).value.items ≡ value_at n (pairs fs)
 value_found fs n i f e =
     let r = removes_at (pairs fs) n i e in
     let within : i < length fs = omega (arith, r.below, length-map fs pair) in

@@ -15,6 +15,6 @@ shift i (Ok k) = Ok (i + k)
 shift i (Err k) = Err (i + k)
 
 -- the place of a number, or else the place where it belongs
-abbrev pub place_of : ℕ → Fields → Result ℕ ℕ
-place_of n [] = Err 0
-place_of n (f ∷ fs) = if nat_lt f.0 n then shift 1 (place_of n fs) else (if f.0 == n then Ok 0 else Err 0)
+abbrev pub field_index : ℕ → Fields → Result ℕ ℕ
+field_index n [] = Err 0
+field_index n (f ∷ fs) = if nat_lt f.0 n then shift 1 (field_index n fs) else (if f.0 == n then Ok 0 else Err 0)

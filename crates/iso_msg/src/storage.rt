@@ -3,7 +3,7 @@
 ghost use Rattle.std.specs.Prelude.{◌≡◌, ◌++◌, ◌∷◌, [], List, ℕ, IsTrue, OnOk, OnErr, IfOk, IfErr, IfSome, None, option_map};
 ghost use Rattle.iso_msg.specs.Messages.{AreFields, value_at, with_value, without};
 ghost use Rattle.iso_msg.specs.Values.{refusal};
-ghost use Rattle.iso_msg.specs.Storage.{pairs, place_of};
+ghost use Rattle.iso_msg.specs.Storage.{pairs, field_index};
 ghost use Rattle.iso_msg.specs.declared.error.MessageError.TheVariants.{OutOfMemory};
 
 use crate::error::MessageError;
@@ -13,7 +13,7 @@ use std::alloc::{AllocError, Global};
 /// Where a number is, or else where it has to go.
 fn place(fields: &[Field], number: u8) -> Result<usize, usize>
     requires { AreFields 1 (pairs fields.now) }
-    ensures { result ≡ place_of number (pairs fields.now) }
+    ensures { result ≡ field_index number (pairs fields.now) }
 {
     fields.binary_search_by_key(&number, |field| field.number)
 }

@@ -23,7 +23,7 @@ use Rattle.tx_outcome.specs.Plant.{given_to}
 use Rattle.tx_history.specs.declared.event.Event.{Event}
 use Rattle.tx_history.specs.declared.event.Event.TheVariants.{Offered, Taken, Answered, Chose, Told, Recovered, Released, Acked, Broke, Cleared, LetGo, Closed}
 use Rattle.tx_history.specs.Keys.{put_place}
-use Rattle.tx_history.specs.History.{Start, next_id, place_of, place_in, put_advice, serves, state_of}
+use Rattle.tx_history.specs.History.{Start, next_id, advice_place, place_in, put_advice, serves, state_of}
 use Rattle.tx_history.specs.History as history
 use Rattle.tx_history.specs.Journal.{IsLawful, advices}
 use Rattle.tx_history.specs.Views.{IsOrdered}
@@ -127,7 +127,7 @@ told_if f v l i id n m a xs st p there told due ih true e =
     ∙ ap (λ (o : Option (List ℕ)). if m == n then Some a else o) ih)
 
 told_same : (f : Flow) (v : Start) (past : List Event) (s i id n : ℕ) (a : Option (List ℕ)) → IsOrdered v.view → IsLawful f v past → serves f v past s ≡ Some i → ToTell f v past i → core.advice f (id_view f v.view) (id_events f v past) id n ≡ advice_at (id, n) (advices f v past)
-    → core.advice f (id_view f v.view) (given_to (plant.serves f (id_view f v.view) (session_events f v past) s) (Advice a) ∷ id_events f v past) id n ≡ advice_at (id, n) (put_place (put_advice (place_of f v past s) a) (advices f v past))
+    → core.advice f (id_view f v.view) (given_to (plant.serves f (id_view f v.view) (session_events f v past) s) (Advice a) ∷ id_events f v past) id n ≡ advice_at (id, n) (put_place (put_advice (advice_place f v past s) a) (advices f v past))
 told_same f v past s i id n None o law h w ih =
     quiet_given f (id_view f v.view) (plant.serves f (id_view f v.view) (session_events f v past) s) (Advice None) (id_events f v past) id n tt
     ∙ (ih ∙ ap (λ (t : Option ℕ). advice_at (id, n) (put_place (put_advice (place_in f v past t) None) (advices f v past))) (sym h))

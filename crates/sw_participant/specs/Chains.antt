@@ -52,13 +52,13 @@ pub data ChainItem (V : Type 0) : Type 0 where
 
 -- the place of a call: where a member is notified of the outcome, and as it recovers before that, the number of members that
 -- were told before
-abbrev pub place_of : Act → ℕ → Option ℕ
-place_of Prepare told = None
-place_of PrepareForAbort told = None
-place_of Select told = None
-place_of (Commit recovering) told = Some told
-place_of (Abort recovering) told = Some told
-place_of (Recover commit) told = Some told
+abbrev pub outcome_place : Act → ℕ → Option ℕ
+outcome_place Prepare told = None
+outcome_place PrepareForAbort told = None
+outcome_place Select told = None
+outcome_place (Commit recovering) told = Some told
+outcome_place (Abort recovering) told = Some told
+outcome_place (Recover commit) told = Some told
 
 -- From these objects and contexts to those: each call is one by its participant's rule, with the object that its
 -- station's last call left and the context that its transaction's last call left. A transaction begins where it has no

@@ -10,7 +10,7 @@ use Rattle.tx_history.specs.declared.event.Event.{Event}
 use Rattle.tx_history.specs.declared.event.Event.TheVariants.{Offered, Taken, Answered, Chose, Told, Recovered, Released, Acked, Broke, Cleared, LetGo, Closed}
 use Rattle.tx_history.specs.Keys.{keyed, put_by, place_lt, put_place}
 use Rattle.tx_machine.specs.Bounds.{after_newest}
-use Rattle.tx_history.specs.History.{Start, to_tell, reopened, next_id, serves, own_items, state_of, place_of, place_in, put_advice}
+use Rattle.tx_history.specs.History.{Start, to_tell, reopened, next_id, serves, own_items, state_of, advice_place, place_in, put_advice}
 use Rattle.tx_history.specs.Journal.{IsLawful, advices}
 use Rattle.tx_history.specs.Views.{PlacesRise, FlowFits, StartFits, AreSpelled}
 use Rattle.tx_history.proofs.OwnItems.{old_stays, serves_below, serves_old, holds_serves}
@@ -149,7 +149,7 @@ place_is f v past (Some k) id key h e =
     let i : (k, (state_of f v past k).told) ≡ key = grind (arith) in
     sym i ∙ ap (λ (k : ℕ). (k, (state_of f v past k).told)) same
 
-told_fits : (f : Flow) (v : Start) (past : List Event) (s : ℕ) (a : Option (List ℕ)) (key : ℕ × ℕ) → StartFits f v → Good f v past → IsLawful f v (Told s a ∷ past) → place_of f v past s ≡ Some key → KeyFits (next_id v past) key
+told_fits : (f : Flow) (v : Start) (past : List Event) (s : ℕ) (a : Option (List ℕ)) (key : ℕ × ℕ) → StartFits f v → Good f v past → IsLawful f v (Told s a ∷ past) → advice_place f v past s ≡ Some key → KeyFits (next_id v past) key
 told_fits f v past s a key st g law h =
     let id : ℕ = law.0.0 in
     let w = holds_serves f v past s id law.0.1 in
@@ -161,7 +161,7 @@ told_fits f v past s a key st g law h =
 pub advices_rise : (f : Flow) (v : Start) (past : List Event) → FlowFits f → StartFits f v → AreSpelled past → IsLawful f v past → PlacesRise (next_id v past) (advices f v past)
 advices_rise f v [] fits st sp law = more_rise v.view.next_id (v.view.next_id + 0) v.view.advices (omega arith) st.view.advices
 advices_rise f v (Taken t ∷ past) fits st sp law = more_rise (next_id v past) (next_id v (Taken t ∷ past)) (advices f v past) (omega arith) (advices_rise f v past fits st sp law.2)
-advices_rise f v (Told t x ∷ past) fits st sp law = put_place_rise (next_id v past) (place_of f v past t) x (advices f v past) (advices_rise f v past fits st sp law.2) (λ key h. told_fits f v past t x key st (good f v past fits st sp law.2) law h)
+advices_rise f v (Told t x ∷ past) fits st sp law = put_place_rise (next_id v past) (advice_place f v past t) x (advices f v past) (advices_rise f v past fits st sp law.2) (λ key h. told_fits f v past t x key st (good f v past fits st sp law.2) law h)
 advices_rise f v (Acked k n ∷ past) fits st sp law = put_rise (next_id v past) (k, n) None (advices f v past) (advices_rise f v past fits st sp law.2) (λ x e. absurd (cc))
 advices_rise f v (Offered x ∷ past) fits st sp law = advices_rise f v past fits st sp.1 law.2
 advices_rise f v (Answered t b x ∷ past) fits st sp law = advices_rise f v past fits st sp.1 law.2

@@ -17,7 +17,7 @@ use Rattle.tx_history.specs.declared.journal.Row.{Row}
 use Rattle.tx_history.specs.declared.journal.JournalView.{JournalView}
 use Rattle.tx_history.specs.Keys.{Rising, look, gather, put_at, put_new}
 use Rattle.tx_machine.specs.Bounds.{after_newest}
-use Rattle.tx_history.specs.History.{Start, reopened, is_ended, takes, ids, is_id, serves, own_items, is_fresh, is_released, arrivals, shelved, shelved_in, shelved_at, shelf, state_of, place_of, put_advice}
+use Rattle.tx_history.specs.History.{Start, reopened, is_ended, takes, ids, is_id, serves, own_items, is_fresh, is_released, arrivals, shelved, shelved_in, shelved_at, shelf, state_of, advice_place, put_advice}
 use Rattle.tx_history.specs.Journal.{IsLawful, to_close, row, row_at, is_closed, journal, applied, Leads, touched, shelved_change}
 use Rattle.tx_history.specs.Views.{IsOrdered}
 use Rattle.tx_history.proofs.RisingKeys.{put_gather, put_none, look_within}
@@ -277,8 +277,8 @@ leads_told f v past s a o law =
     let id : ℕ = law.0.0 in
     let session_state = holds_serves f v past s id law.0.1 in
     let g = gave_told f v past s a id session_state.0 in
-    ap (λ (o : Option ℕ). applied (touched f v (Told s a ∷ past) (put_advice (place_of f v past s) a) o) (journal f v past)) session_state.0
-    ∙ same_journal (applied (touched f v (Told s a ∷ past) (put_advice (place_of f v past s) a) (Some id)) (journal f v past)) (journal f v (Told s a ∷ past)) refl
+    ap (λ (o : Option ℕ). applied (touched f v (Told s a ∷ past) (put_advice (advice_place f v past s) a) o) (journal f v past)) session_state.0
+    ∙ same_journal (applied (touched f v (Told s a ∷ past) (put_advice (advice_place f v past s) a) (Some id)) (journal f v past)) (journal f v (Told s a ∷ past)) refl
     (rows_gave f v past (Told s a) id s (ToldOne a) o law.2 g session_state.0)
     (shelf_gave f v past (Told s a) id s (ToldOne a) o g session_state.0 session_state.1)
     refl

@@ -179,7 +179,7 @@ arrivals f v (_ ∷ past) = arrivals f v past
 abbrev pub queue : Flow → Start → List Event → List Waiting
 queue f v past = drop (takes past) (arrivals f v past)
 
--- where the transaction stands in the written table, by its own items
+-- where the transaction stands in the specified table, by its own items
 abbrev pub state_of : Flow → Start → List Event → ℕ → TxState
 state_of f v past id = state_with f v (arrivals f v past) past id
 
@@ -273,8 +273,8 @@ place_in f v past None = None
 place_in f v past (Some id) = Some (id, (state_of f v past id).told)
 
 -- the transaction and the place of the member that the session tells
-abbrev pub place_of : Flow → Start → List Event → ℕ → Option (ℕ × ℕ)
-place_of f v past s = place_in f v past (serves f v past s)
+abbrev pub advice_place : Flow → Start → List Event → ℕ → Option (ℕ × ℕ)
+advice_place f v past s = place_in f v past (serves f v past s)
 
 abbrev pub put_advice : Option (ℕ × ℕ) → Option (List ℕ) → Option ((ℕ × ℕ) × Option (List ℕ))
 put_advice None a = None

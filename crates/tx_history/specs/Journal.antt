@@ -15,7 +15,7 @@ use Rattle.tx_history.specs.declared.event.Change.{Change}
 use Rattle.tx_history.specs.declared.event.Entry.{Entry}
 use Rattle.tx_history.specs.Keys.{gather, look, put_by, put_some, put_new, put_place, place_lt}
 use Rattle.tx_machine.specs.Bounds.{after_newest}
-use Rattle.tx_history.specs.History.{Start, name_of, is_ended, reopened, next_id, ids, takes, own_items, serves, state_of, shelf, shelved, recovering, restores, holds, is_held, arrivals, place_of, put_advice}
+use Rattle.tx_history.specs.History.{Start, name_of, is_ended, reopened, next_id, ids, takes, own_items, serves, state_of, shelf, shelved, recovering, restores, holds, is_held, arrivals, advice_place, put_advice}
 
 -- a transaction's row as the journal has it: participants by name
 abbrev pub named_row : Flow → TxRow → Row
@@ -47,7 +47,7 @@ row_at f v past id =
 
 abbrev pub advices : Flow → Start → List Event → List ((ℕ × ℕ) × List ℕ)
 advices f v [] = v.view.advices
-advices f v (Told s a ∷ past) = put_place (put_advice (place_of f v past s) a) (advices f v past)
+advices f v (Told s a ∷ past) = put_place (put_advice (advice_place f v past s) a) (advices f v past)
 advices f v (Acked id place ∷ past) = put_by place_lt (id, place) None (advices f v past)
 advices f v (_ ∷ past) = advices f v past
 
@@ -97,7 +97,7 @@ change f v (Taken s ∷ past) =
     record { next_id = Some (next_id v past + 1); row = Some (next_id v past, row f (state_of f v (Taken s ∷ past) (next_id v past))); shelved = None; emptied = false; advice = None }
 change f v (Answered s b c ∷ past) = touched f v (Answered s b c ∷ past) None (serves f v past s)
 change f v (Chose s t ∷ past) = touched f v (Chose s t ∷ past) None (serves f v past s)
-change f v (Told s a ∷ past) = touched f v (Told s a ∷ past) (put_advice (place_of f v past s) a) (serves f v past s)
+change f v (Told s a ∷ past) = touched f v (Told s a ∷ past) (put_advice (advice_place f v past s) a) (serves f v past s)
 change f v (Released ∷ past) = record { next_id = None; row = None; shelved = None; emptied = true; advice = None }
 change f v (Acked id place ∷ past) = record { next_id = None; row = None; shelved = None; emptied = false; advice = Some ((id, place), None) }
 change f v (Closed id ∷ past) = record { next_id = None; row = Some (id, None); shelved = None; emptied = false; advice = None }

@@ -1,4 +1,4 @@
--- The written table: what one transaction's own items lead to (jPOS: `TransactionManager`, its
+-- The specified table: what one transaction's own items lead to (jPOS: `TransactionManager`, its
 -- prepare, prepareForAbort, commit and abort). It knows no steps, addresses or stacks.
 use Rattle.std.specs.Prelude.{ℕ, ◌+◌, ◌==◌, Bool, true, false, not, ◌&&◌, List, [], ◌∷◌, ◌++◌, length, map, take, nat_lt, if◌then◌else◌, codes}
 use Rattle.std.specs.List.{flat_map}

@@ -1,4 +1,4 @@
-//! What holds of every lawful list of one transaction's items, proved of the written table.
+//! What holds of every lawful list of one transaction's items, proved of the specified table.
 
 ghost use Rattle.std.specs.Prelude.{◌≡◌, ◌<◌, ◌≤◌, ◌++◌, ◌∷◌, [], ◌&&◌, ℕ, Bool, List, Some, length, reverse, true};
 ghost use Rattle.std.specs.List.{All};

@@ -2,7 +2,7 @@
 //!
 //! Promised here, for every list of items (answers, choices, tolds) each of which was due:
 //! - [`Machine`]'s due call, phase, members, number told, saved context, tries, bound and rest are
-//!   those of the written table (`specs/Table.antt`, `specs/Due.antt`), although it keeps a step and
+//!   those of the specified table (`specs/Table.antt`, `specs/Due.antt`), although it keeps a step and
 //!   a stack of selections and no list of what is to come;
 //! - an item that is not due is refused, and so is one for which memory runs out: then nothing has
 //!   changed (`specs/Contract.antt`, `TakesItem`);

@@ -1,4 +1,4 @@
--- Where a transaction stands, journalled ones among them: its state in the written table, the row that it was opened from,
+-- Where a transaction stands, journalled ones among them: its state in the specified table, the row that it was opened from,
 -- and its recover calls; and what of that the outcome law needs.
 use Rattle.std.specs.Prelude.{◌≡◌, ℕ, ◌<◌, ◌≤◌, Bool, true, false, not, ◌&&◌, List, [], length, Option, Some, None, slice_get, nat_lt}
 use Rattle.flow_model.specs.declared.flow.Flow.{Flow}

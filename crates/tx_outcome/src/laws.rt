@@ -43,7 +43,7 @@ pub fn one_keeps()
     ensures lawful { (a : One) → OneFits a → LawOfOne a }
 {}
 
-/// The written table gives what the law needs: of a taken transaction, of one that is reopened, and
+/// The specified table gives what the law needs: of a taken transaction, of one that is reopened, and
 /// after each reply to the call that is due; and the row is one that can be reopened.
 pub fn table_is_sound()
     ensures begins { (f : Flow) (head : Head) → StateFits (begin f head) }

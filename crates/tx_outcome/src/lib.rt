@@ -13,7 +13,7 @@
 //! - who is notified after a restart is notified of the commit where the journal's row was committing, and else
 //!   to abort.
 //!
-//! It is proved for one transaction first ([`one_keeps`]) of what the written table gives it
+//! It is proved for one transaction first ([`one_keeps`]) of what the specified table gives it
 //! ([`table_is_sound`]), then of a core whose events name transactions ([`outcome_law`]), and of a
 //! plant whose events name sessions ([`plant_law`]). There is no code here: the engine, the journal
 //! and the stations keep what the small steps of `specs/Plant.antt` ask of them.

@@ -5,7 +5,7 @@ use Rattle.std.specs.Prelude.{is_none, is_some, not}
 use Rattle.sw_context.specs.Pairs.{Pairs}
 use Rattle.sw_participant.specs.declared.call.Call.{Call}
 use Rattle.sw_participant.specs.declared.call.Reply.{Reply}
-use Rattle.sw_participant.specs.Chains.{Called, place_of}
+use Rattle.sw_participant.specs.Chains.{Called, outcome_place}
 use Rattle.tx_slots.specs.declared.next.Next.TheVariants as next
 use Rattle.tx_slots.specs.DueCalls.{asks_for}
 use Rattle.tx_engine.specs.World.{World, Recorded}
@@ -21,7 +21,7 @@ use Rattle.tx_plant.proofs.Driving.{stepped_frame, stepped_next}
 use Rattle.tx_history.specs.History.{next_id}
 use Rattle.tx_engine.specs.declared.error.EngineError.{EngineError}
 
-pub entered_stepped : (p q : Core) (s n : ℕ) (call : Call) (reply : Reply) (x y : Pairs) → Entered p s call reply x y n q → Stepped p s (Called call (place_of call.act (told_of p.world call.id)) reply ∷ []) (Ok (outcome.Accepted n)) q
+pub entered_stepped : (p q : Core) (s n : ℕ) (call : Call) (reply : Reply) (x y : Pairs) → Entered p s call reply x y n q → Stepped p s (Called call (outcome_place call.act (told_of p.world call.id)) reply ∷ []) (Ok (outcome.Accepted n)) q
 entered_stepped p q s n call reply x y e = inr (record {
   before = seat_with call.id x;
   after = seat_with call.id y;
@@ -71,7 +71,7 @@ seated_is seats s id o l b h e f i n t = (l.context, taken_seat seats s o l h e 
 pub entered_running : (p q : Core) (s a b : ℕ) (call : Call) (reply : Reply) (y : Pairs) (r : Result (ℕ × Pairs) EngineError) → length p.seats ≡ p.world.sessions → a ≡ next_id p.world.start p.world.past → b ≡ a → IfOk r (λ z. Entered p s call reply z.1 y z.0 q) → OnErr r (q ≡ p) → (length q.seats ≡ q.world.sessions) × (b ≡ next_id q.world.start q.world.past)
 entered_running p q s a b call reply y (Ok z) h i j e k =
     let t = entered_stepped p q s z.0 call reply z.1 y e in
-    let m = Called call (place_of call.act (told_of p.world call.id)) reply ∷ [] in
+    let m = Called call (outcome_place call.act (told_of p.world call.id)) reply ∷ [] in
     let frame = stepped_frame p q s m (Ok (outcome.Accepted z.0)) t in
     (frame.seats ∙ (h ∙ sym frame.sessions), j ∙ (i ∙ sym (stepped_next p q s m (Ok (outcome.Accepted z.0)) t)))
 entered_running p q s a b call reply y (Err z) h i j e k = (ap (λ (c : Core). length c.seats) k ∙ (h ∙ ap (λ (c : Core). c.world.sessions) (sym k)), j ∙ (i ∙ ap (λ (c : Core). next_id c.world.start c.world.past) (sym k)))

@@ -3,7 +3,7 @@
 use Rattle.std.proofs.Common.{◌≡◌, ◌≤◌, ◌<◌, ◌+◌, zero, suc, min, ℕ, List, [], ◌∷◌, ◌++◌, length, take, get_or, Option, Some, None, Ok, refl, sym, ap, subst, arith, ◌∙◌, inr, append_assoc, false}
 use Rattle.sqlite_trees.specs.View.{doubt}
 use Rattle.sw_context.specs.Spelling.{IsSpelled, bytes_of}
-use Rattle.sw_participant.specs.Chains.{Rule, Called, Began, Makes, counted, counts_after, place_of}
+use Rattle.sw_participant.specs.Chains.{Rule, Called, Began, Makes, counted, counts_after, outcome_place}
 use Rattle.sw_participant.proofs.Chains.{chain_append, chain_called, counts_append}
 use Rattle.journal_rows.specs.Tables.{all_made}
 use Rattle.journal_rows.specs.Law.{changes_of}
@@ -79,7 +79,7 @@ still_goes t p q j e = record { engine = e; clean = omega arith; journal = recor
 
 -- a reply is a step
 
-entered_serves : (p q : Core) (s n : ℕ) (m : MadeCall) → Entered p s m.call m.reply m.before m.after n q → Serves p.world s (seat_with m.call.id m.before) (seat_with m.call.id m.after) (Called m.call (place_of m.call.act (told_of p.world m.call.id)) m.reply ∷ []) (Ok (outcome.Accepted n)) q.world
+entered_serves : (p q : Core) (s n : ℕ) (m : MadeCall) → Entered p s m.call m.reply m.before m.after n q → Serves p.world s (seat_with m.call.id m.before) (seat_with m.call.id m.after) (Called m.call (outcome_place m.call.act (told_of p.world m.call.id)) m.reply ∷ []) (Ok (outcome.Accepted n)) q.world
 entered_serves p q s n m e = (record { id = m.call.id; context = m.after; kept = Some m.reply }, m.reply, (refl, inr (record { call = m.call; reply = m.reply; due = e.due; own = refl; suits = e.suits; unkept = refl; seat = refl; is = refl })), refl, e.recorded)
 
 seated_there : (seats : List (Option Seat)) (s : ℕ) (l : Seat) → get_or seats s None ≡ Some l → s < length seats
@@ -90,7 +90,7 @@ seated_there (x ∷ xs) (suc s) l h = let i = seated_there xs s l h in omega (ar
 entered_turns : (rule : ℕ → Rule) (os : List (List ℕ)) (cs : List ℕ) (p q : Core) (j : Seen) (s n : ℕ) (m : MadeCall) (ps : List (List ℕ)) (ds : List ℕ) → Entered p s m.call m.reply m.before m.after n q → Makes rule os m.before m.call m.reply ps m.after → ds ≡ counted cs m.call.participant
     → Turns rule os cs (turn.Step s) (Ok (outcome.Accepted n)) (record { core = p; journal = j }) ps ds (record { core = q; journal = j })
 entered_turns rule os cs p q j s n m ps ds e makes count =
-    let place = place_of m.call.act (told_of p.world m.call.id) in
+    let place = outcome_place m.call.act (told_of p.world m.call.id) in
     let moved : List Moved = Called m.call place m.reply ∷ [] in
     let l = seat_with m.call.id m.before in
     let t = seat_with m.call.id m.after in

@@ -1,13 +1,13 @@
 use Rattle.std.proofs.Common.{◌≡◌, ◌∙◌, sym, ap, Some, Result, ℕ, List, get_or, length, ◌<◌, arith}
 use Rattle.std.proofs.lemmas.List.{get_or-map, length-map}
 use Rattle.iso_msg.specs.declared.field.Field.{Field}
-use Rattle.iso_msg.specs.Storage.{pair, pairs, place_of}
+use Rattle.iso_msg.specs.Storage.{pair, pairs, field_index}
 use Rattle.iso_msg.proofs.FieldLists.{removes_at, missing_value, map-remove}
 use Rattle.iso_msg.proofs.storage.take.Goals as goal
 
 -- the place that was found in the slice is that in the fields
-place_is : (n : ℕ) (fs slice : List Field) (r s : Result ℕ ℕ) → slice ≡ fs → r ≡ place_of n (pairs slice) → r ≡ s → place_of n (pairs fs) ≡ s
-place_is n fs slice r s e f g = ap (λ (x : List Field). place_of n (pairs x)) (sym e) ∙ sym f ∙ g
+place_is : (n : ℕ) (fs slice : List Field) (r s : Result ℕ ℕ) → slice ≡ fs → r ≡ field_index n (pairs slice) → r ≡ s → field_index n (pairs fs) ≡ s
+place_is n fs slice r s e f g = ap (λ (x : List Field). field_index n (pairs x)) (sym e) ∙ sym f ∙ g
 
 pub remove-field-requires : goal.remove-field-requires
 remove-field-requires c = omega (arith, (removes_at (pairs c.args.fields.now.items) c.args.number c.in-Ok.i (place_is c.args.number c.args.fields.now.items _ _ _ c.deref.ensures.value c.place.ensures c.in-Ok.is)).below, length-map c.args.fields.now.items pair, c.args.fields.now.ok.0)
