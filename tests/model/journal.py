@@ -1,6 +1,7 @@
 """A journal's tables in both layouts, their first row at fault, and the view that they hold. docs/FORMATS.md has them."""
 
 import contextlib
+import copy
 import re
 import sqlite3
 from dataclasses import dataclass, field
@@ -121,6 +122,25 @@ def fault(tables):
         if not (1 <= number < next_id and 0 <= place <= 1000):
             return "Advice", number
     return None
+
+
+TABLES = {"Part": "part", "Tx": "tx", "Shelf": "shelf", "Advice": "advice"}
+
+
+def rest(tables):
+    """The rows at fault that are left out, each once those before it are, and the tables without them; None where meta is at fault."""
+    left, names, out = copy.deepcopy(tables), tables.names(), []
+    # Members have the names that their parts had.
+    left.names = lambda: names
+    while bad := fault(left):
+        table, number = bad
+        if table == "Meta":
+            return None
+        out.append(bad)
+        rows = names if table in ("Member", "Joined") else getattr(left, TABLES[table])
+        for key in [it for it in rows if (it[0] if isinstance(it, tuple) else it) == number]:
+            del rows[key]
+    return out, left
 
 
 def turned(tables):

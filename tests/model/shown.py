@@ -38,9 +38,10 @@ def context_lines(number, context, is_clear):
     return "".join(entry_lines(number, name, value, is_clear) for name, value in entries.items())
 
 
-def text(tables, is_clear):
-    """The text of tables without a fault."""
+def text(tables, out, is_clear):
+    """The text of tables without a fault, once these rows were left out."""
     yield f"layout {tables.layout}\nnext id {tables.meta[2]}\n"
+    yield from (f"left out {table} {number}\n" for table, number in out)
     for number, row in sorted(tables.tx.items()):
         phase, told, doing, tries, context = row
         members = list(tables.members(number).values())
@@ -70,9 +71,10 @@ def entry_objects(owner, number, context, is_clear):
         yield entry_object(owner, number, name, value, is_clear)
 
 
-def objects(tables, is_clear):
-    """The objects of tables without a fault, in the order of their lines."""
+def objects(tables, out, is_clear):
+    """The objects of tables without a fault, once these rows were left out, in the order of their lines."""
     yield {"layout": tables.layout, "next_id": tables.meta[2]}
+    yield from ({"left_out": table, "id": number} for table, number in out)
     for number, row in sorted(tables.tx.items()):
         phase, told, doing, tries, context = row
         members = list(tables.members(number).values())
@@ -87,10 +89,15 @@ def objects(tables, is_clear):
 
 
 def printed(tables, is_json, is_clear):
+    """What is printed of tables: without their rows at fault, and nothing where meta is at fault."""
+    left = journal.rest(tables)
+    if left is None:
+        return b""
+    out, tables = left
     if is_json:
-        lines = (json.dumps(it, separators=(",", ":")) + "\n" for it in objects(tables, is_clear))
+        lines = (json.dumps(it, separators=(",", ":")) + "\n" for it in objects(tables, out, is_clear))
         return "".join(lines).encode()
-    return "".join(text(tables, is_clear)).encode()
+    return "".join(text(tables, out, is_clear)).encode()
 
 
 # Random journals
@@ -139,6 +146,7 @@ def shown_case(random, name, any_message):
     case.stdout, case.stderr = Exactly(b""), Begins(b"cardswitch: journal.db: cannot open: ")
     case.status = 3
     if bad:
+        case.stdout = Exactly(printed(tables, is_json, is_clear))
         case.stderr = Exactly(f"cardswitch: bad row of the journal: {bad[0]} {bad[1]}\n".encode())
     elif journal.is_database(tables):
         case.stdout, case.stderr, case.status = Exactly(printed(tables, is_json, is_clear)), Exactly(b""), 0

@@ -1,6 +1,6 @@
 -- Journals that were not shown whole.
 -- for: looking::look_into, looking::print
-use Rattle.std.proofs.Common.{◌≡◌, ◌∙◌, ℕ, Bool, true, false, cond, List, Option, Result, OnOk, ap, inl, inr, refl, subst, sym}
+use Rattle.std.proofs.Common.{◌≡◌, ◌∙◌, ℕ, Bool, true, false, cond, List, Option, None, Some, Result, OnOk, ap, inl, inr, refl, subst, sym}
 use Rattle.std.specs.Io.KnownBytes.{Appends}
 use Rattle.cli_decode.specs.declared.masking.Masking.{Masking}
 use Rattle.cli_journal.specs.Json.{journal_json}
@@ -9,16 +9,40 @@ use Rattle.cli_io.specs.Written.{AppendsBeginning}
 use Rattle.cli_io.specs.declared.error.WriteError.{WriteError}
 use Rattle.cli_io.specs.declared.error.WriteError.TheVariants as write
 use Rattle.cli_options.specs.declared.choice.JournalOptions.{JournalOptions}
+use Rattle.journal_rows.specs.declared.error.BadRow.{BadRow}
 use Rattle.tx_history.specs.declared.journal.JournalView.{JournalView}
+use Rattle.tx_journal.specs.declared.error.JournalError.TheVariants as journal
+use Rattle.cli_run.specs.declared.error.ServeError.{ServeError}
+use Rattle.cli_run.specs.declared.error.ServeError.TheVariants as serve
 use Rattle.cardswitch.specs.Errors.{error_of_write}
-use Rattle.cardswitch.specs.Looking.{IsCopied, IsFoundFault, IsLookFault, masking_by, shown_text}
+use Rattle.cardswitch.specs.Looking.{IsFoundFault, IsLookFault, IsLooked, IsRowFault, IsRowTold, IsSeenAs, IsSight}
+use Rattle.cardswitch.specs.Looking.{error_of_row, masking_by, seen_text, shown_text}
+use Rattle.cardswitch.specs.declared.looking.Sight.{Sight}
 use Rattle.cardswitch.specs.declared.error.RunError.{RunError}
 use Rattle.cardswitch.specs.declared.error.RunError.TheVariants as error
+
+-- a journal refused for a row at fault, and nothing is written
+row_untold : (o : JournalOptions) (before : Option (List ℕ)) (e : ServeError) → IsRowFault e → IsRowTold o before before e
+row_untold o before (serve.Journal (journal.BadRow bad)) h = (h, inl refl)
+row_untold o before (serve.Journal journal.OutOfMemory) h = absurd h
+row_untold o before (serve.Journal journal.Failed) h = absurd h
+row_untold o before (serve.Journal (journal.Store c)) h = absurd h
+row_untold o before (serve.NoStation t) h = absurd h
+row_untold o before (serve.Engine e) h = absurd h
+row_untold o before (serve.Read e) h = absurd h
+row_untold o before (serve.Write e) h = absurd h
+row_untold o before serve.BadLength h = absurd h
+row_untold o before (serve.Truncated n) h = absurd h
+row_untold o before (serve.LongResponse n) h = absurd h
+row_untold o before (serve.Pool e) h = absurd h
+row_untold o before (serve.Mismatch n) h = absurd h
+row_untold o before serve.Endless h = absurd h
+row_untold o before serve.OutOfMemory h = absurd h
 
 -- no journal was found
 pub not_found : (o : JournalOptions) (before : Option (List ℕ)) (e : RunError) → IsFoundFault o.path.now e → IsLookFault o before before e
 not_found o before (error.JournalFile p cause) h = (h, refl)
-not_found o before (error.Serve e) h = (h, refl)
+not_found o before (error.Serve e) h = row_untold o before e h
 not_found o before error.OutOfMemory h = inl refl
 not_found o before (error.FlowFile p cause) h = absurd h
 not_found o before error.BadLimit h = absurd h
@@ -30,10 +54,27 @@ not_found o before (error.Input e) h = absurd h
 not_found o before (error.Text e) h = absurd h
 
 -- writing failed
-pub unwritten : (o : JournalOptions) (before after : Option (List ℕ)) (layout : ℕ) (view : JournalView) (e : WriteError) → IsCopied layout view
-    → AppendsBeginning before after (shown_text o layout view) → IsLookFault o before after (error_of_write e)
-unwritten o before after layout view write.OutOfMemory copied beginning = inr (layout, view, copied, beginning)
-unwritten o before after layout view (write.Failed f) copied beginning = (layout, view, copied, beginning)
+pub unwritten : (o : JournalOptions) (before after : Option (List ℕ)) (s : Sight) (e : WriteError) → IsSight s
+    → AppendsBeginning before after (seen_text o s) → IsLookFault o before after (error_of_write e)
+unwritten o before after s write.OutOfMemory sight beginning = inr (s, sight, beginning)
+unwritten o before after s (write.Failed f) sight beginning = (s, sight, beginning)
+
+-- all was written, of a journal without a row at fault
+whole_by : (o : JournalOptions) (before after : Option (List ℕ)) (layout : ℕ) (out : List BadRow) (view : JournalView) → IsSeenAs None layout out view
+    → Appends before after (shown_text o layout out view) → IsLooked o before after
+whole_by o before after layout out view sight written =
+    (layout, view, sight.1, subst (λ (rows : List BadRow). Appends before after (shown_text o layout rows view)) sight.0 written)
+
+pub whole : (o : JournalOptions) (before after : Option (List ℕ)) (s : Sight) → s.fault ≡ None → IsSight s → Appends before after (seen_text o s) → IsLooked o before after
+whole o before after s none sight written =
+    whole_by o before after s.layout s.left_out.items s.view (subst (λ (f : Option BadRow). IsSeenAs f s.layout s.left_out.items s.view) none sight) written
+
+-- all was written beside rows at fault
+pub beside : (o : JournalOptions) (before after : Option (List ℕ)) (s : Sight) (bad : BadRow) → s.fault ≡ Some bad → IsSight s → Appends before after (seen_text o s)
+    → IsLookFault o before after (error_of_row bad)
+beside o before after s bad some sight written =
+    let seen : IsSeenAs (Some bad) s.layout s.left_out.items s.view = subst (λ (f : Option BadRow). IsSeenAs f s.layout s.left_out.items s.view) some sight in
+    (seen.0, inr (s.layout, s.left_out.items, s.view, seen, written))
 
 -- ---- what is printed, by the options
 
@@ -45,34 +86,34 @@ when_false : (b : Bool) (x y : List ℕ) → b ≡ false → cond b x y ≡ y
 when_false true x y h = cc
 when_false false x y h = refl
 
-json_shown : (o : JournalOptions) (layout : ℕ) (view : JournalView) (k : Masking) → o.json ≡ true → k ≡ masking_by o.clear → journal_json k layout view ≡ shown_text o layout view
+json_shown : (o : JournalOptions) (layout : ℕ) (out : List BadRow) (view : JournalView) (k : Masking) → o.json ≡ true → k ≡ masking_by o.clear → journal_json k layout out view ≡ shown_text o layout out view
 unfolding shown_text
-json_shown o layout view k json masking =
-    ap (λ (m : Masking). journal_json m layout view) masking
-    ∙ sym (when_true o.json (journal_json (masking_by o.clear) layout view) (journal_text (masking_by o.clear) layout view) json)
+json_shown o layout out view k json masking =
+    ap (λ (m : Masking). journal_json m layout out view) masking
+    ∙ sym (when_true o.json (journal_json (masking_by o.clear) layout out view) (journal_text (masking_by o.clear) layout out view) json)
 
-text_shown : (o : JournalOptions) (layout : ℕ) (view : JournalView) (k : Masking) → o.json ≡ false → k ≡ masking_by o.clear → journal_text k layout view ≡ shown_text o layout view
+text_shown : (o : JournalOptions) (layout : ℕ) (out : List BadRow) (view : JournalView) (k : Masking) → o.json ≡ false → k ≡ masking_by o.clear → journal_text k layout out view ≡ shown_text o layout out view
 unfolding shown_text
-text_shown o layout view k json masking =
-    ap (λ (m : Masking). journal_text m layout view) masking
-    ∙ sym (when_false o.json (journal_json (masking_by o.clear) layout view) (journal_text (masking_by o.clear) layout view) json)
+text_shown o layout out view k json masking =
+    ap (λ (m : Masking). journal_text m layout out view) masking
+    ∙ sym (when_false o.json (journal_json (masking_by o.clear) layout out view) (journal_text (masking_by o.clear) layout out view) json)
 
-pub json_written : {E : Type 0} (o : JournalOptions) (layout : ℕ) (view : JournalView) (k : Masking) (before after : Option (List ℕ)) (r : Result (Unit {0}) E) → o.json ≡ true → k ≡ masking_by o.clear
-    → OnOk r (Appends before after (journal_json k layout view)) → OnOk r (Appends before after (shown_text o layout view))
-json_written o layout view k before after r json masking h =
-    subst (λ (t : List ℕ). OnOk r (Appends before after t)) (json_shown o layout view k json masking) h
+pub json_written : {E : Type 0} (o : JournalOptions) (layout : ℕ) (out : List BadRow) (view : JournalView) (k : Masking) (before after : Option (List ℕ)) (r : Result (Unit {0}) E) → o.json ≡ true → k ≡ masking_by o.clear
+    → OnOk r (Appends before after (journal_json k layout out view)) → OnOk r (Appends before after (shown_text o layout out view))
+json_written o layout out view k before after r json masking h =
+    subst (λ (t : List ℕ). OnOk r (Appends before after t)) (json_shown o layout out view k json masking) h
 
-pub json_beginning : (o : JournalOptions) (layout : ℕ) (view : JournalView) (k : Masking) (before after : Option (List ℕ)) → o.json ≡ true → k ≡ masking_by o.clear
-    → AppendsBeginning before after (journal_json k layout view) → AppendsBeginning before after (shown_text o layout view)
-json_beginning o layout view k before after json masking h =
-    subst (λ (t : List ℕ). AppendsBeginning before after t) (json_shown o layout view k json masking) h
+pub json_beginning : (o : JournalOptions) (layout : ℕ) (out : List BadRow) (view : JournalView) (k : Masking) (before after : Option (List ℕ)) → o.json ≡ true → k ≡ masking_by o.clear
+    → AppendsBeginning before after (journal_json k layout out view) → AppendsBeginning before after (shown_text o layout out view)
+json_beginning o layout out view k before after json masking h =
+    subst (λ (t : List ℕ). AppendsBeginning before after t) (json_shown o layout out view k json masking) h
 
-pub text_written : {E : Type 0} (o : JournalOptions) (layout : ℕ) (view : JournalView) (k : Masking) (before after : Option (List ℕ)) (r : Result (Unit {0}) E) → o.json ≡ false → k ≡ masking_by o.clear
-    → OnOk r (Appends before after (journal_text k layout view)) → OnOk r (Appends before after (shown_text o layout view))
-text_written o layout view k before after r json masking h =
-    subst (λ (t : List ℕ). OnOk r (Appends before after t)) (text_shown o layout view k json masking) h
+pub text_written : {E : Type 0} (o : JournalOptions) (layout : ℕ) (out : List BadRow) (view : JournalView) (k : Masking) (before after : Option (List ℕ)) (r : Result (Unit {0}) E) → o.json ≡ false → k ≡ masking_by o.clear
+    → OnOk r (Appends before after (journal_text k layout out view)) → OnOk r (Appends before after (shown_text o layout out view))
+text_written o layout out view k before after r json masking h =
+    subst (λ (t : List ℕ). OnOk r (Appends before after t)) (text_shown o layout out view k json masking) h
 
-pub text_beginning : (o : JournalOptions) (layout : ℕ) (view : JournalView) (k : Masking) (before after : Option (List ℕ)) → o.json ≡ false → k ≡ masking_by o.clear
-    → AppendsBeginning before after (journal_text k layout view) → AppendsBeginning before after (shown_text o layout view)
-text_beginning o layout view k before after json masking h =
-    subst (λ (t : List ℕ). AppendsBeginning before after t) (text_shown o layout view k json masking) h
+pub text_beginning : (o : JournalOptions) (layout : ℕ) (out : List BadRow) (view : JournalView) (k : Masking) (before after : Option (List ℕ)) → o.json ≡ false → k ≡ masking_by o.clear
+    → AppendsBeginning before after (journal_text k layout out view) → AppendsBeginning before after (shown_text o layout out view)
+text_beginning o layout out view k before after json masking h =
+    subst (λ (t : List ℕ). AppendsBeginning before after t) (text_shown o layout out view k json masking) h

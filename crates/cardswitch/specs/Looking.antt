@@ -1,10 +1,12 @@
 -- What `journal` has done, and why it ends early. What a file holds no clause can say, nor that its bytes are of one moment.
-use Rattle.std.specs.Prelude.{◌≡◌, ◌⊎◌, ⊤, ℕ, Bool, true, false, List, Option, if◌then◌else◌}
+use Rattle.std.specs.Prelude.{◌≡◌, ◌⊎◌, ⊤, ℕ, Bool, true, false, List, [], Option, Some, None, if◌then◌else◌}
 use Rattle.std.specs.Io.KnownBytes.{Appends}
 use Rattle.tx_history.specs.declared.journal.JournalView.{JournalView}
 use Rattle.tx_journal.specs.declared.error.JournalError.TheVariants as journal
 use Rattle.journal_rows.specs.declared.error.BadRow.{BadRow}
 use Rattle.journal_copy.specs.Copied.{HoldsFault, HoldsJournal, image_of}
+use Rattle.journal_copy.specs.Rest.{IsSomeRest}
+use Rattle.journal_copy.specs.declared.rest.Rest.{Rest}
 use Rattle.cli_io.specs.Written.{AppendsBeginning}
 use Rattle.cli_decode.specs.declared.masking.Masking.{Masking}
 use Rattle.cli_decode.specs.declared.masking.Masking.TheVariants.{Off, On}
@@ -14,6 +16,7 @@ use Rattle.cli_options.specs.declared.choice.JournalOptions.{JournalOptions}
 use Rattle.cli_run.specs.declared.error.ServeError.{ServeError}
 use Rattle.cli_run.specs.declared.error.ServeError.TheVariants as serve
 use Rattle.cardswitch.specs.declared.error.RunError.{RunError}
+use Rattle.cardswitch.specs.declared.looking.Sight.{Sight}
 use Rattle.cardswitch.specs.declared.error.RunError.TheVariants as error
 
 -- all is masked but with `--clear`
@@ -21,10 +24,10 @@ abbrev pub masking_by : Bool → Masking
 masking_by true = Off
 masking_by false = On
 
--- what is printed of a journal: lines of JSON with `--json`, else its text
-unfoldable pub shown_text : JournalOptions → ℕ → JournalView → List ℕ
-shown_text o layout view =
-    if o.json then journal_json (masking_by o.clear) layout view else journal_text (masking_by o.clear) layout view
+-- what is printed of a journal without these rows at fault: lines of JSON with `--json`, else its text
+unfoldable pub shown_text : JournalOptions → ℕ → List BadRow → JournalView → List ℕ
+shown_text o layout out view =
+    if o.json then journal_json (masking_by o.clear) layout out view else journal_text (masking_by o.clear) layout out view
 
 -- the layout and the view of the journal that the bytes of a file and of its log hold
 pub record IsCopied (layout : ℕ) (view : JournalView) : Type 0 where
@@ -32,21 +35,42 @@ pub record IsCopied (layout : ℕ) (view : JournalView) : Type 0 where
   pub log : List ℕ
   pub holds : HoldsJournal (image_of db log) layout view
 
--- the text of such a journal was written
-abbrev pub IsLooked : JournalOptions → Option (List ℕ) → Option (List ℕ) → Type 0
-IsLooked o before after =
-    (layout : ℕ) × (view : JournalView) × IsCopied layout view
-    × Appends before after (shown_text o layout view)
-
--- a beginning of it was written
-abbrev pub IsLookedInPart : JournalOptions → Option (List ℕ) → Option (List ℕ) → Type 0
-IsLookedInPart o before after =
-    (layout : ℕ) × (view : JournalView) × IsCopied layout view
-    × AppendsBeginning before after (shown_text o layout view)
-
 -- the first row at fault of the journal that the bytes of a file and of its log hold
 abbrev pub IsCopyFault : BadRow → Type 0
 IsCopyFault bad = (db : List ℕ) × (log : List ℕ) × HoldsFault (image_of db log) bad
+
+-- a copy of a journal is shown whole where no row is at fault; else the first one is known, and the journal without such
+-- rows is shown
+abbrev pub IsSeenAs : Option BadRow → ℕ → List BadRow → JournalView → Type 0
+IsSeenAs None layout out view = (out ≡ []) × IsCopied layout view
+IsSeenAs (Some bad) layout out view = IsCopyFault bad × ((rest : Rest) × IsSomeRest rest
+    × (rest.layout ≡ layout) × (rest.left_out.items ≡ out) × (rest.view ≡ view))
+
+abbrev pub IsSight : Sight → Type 0
+IsSight s = IsSeenAs s.fault s.layout s.left_out.items s.view
+
+abbrev pub seen_text : JournalOptions → Sight → List ℕ
+seen_text o s = shown_text o s.layout s.left_out.items s.view
+
+abbrev pub error_of_row : BadRow → RunError
+error_of_row bad = error.Serve (serve.Journal (journal.BadRow bad))
+
+-- the text of a journal without a row at fault was written
+abbrev pub IsLooked : JournalOptions → Option (List ℕ) → Option (List ℕ) → Type 0
+IsLooked o before after =
+    (layout : ℕ) × (view : JournalView) × IsCopied layout view
+    × Appends before after (shown_text o layout [] view)
+
+-- the text of one with rows at fault was written
+abbrev pub IsLookedBeside : JournalOptions → BadRow → Option (List ℕ) → Option (List ℕ) → Type 0
+IsLookedBeside o bad before after =
+    (layout : ℕ) × (out : List BadRow) × (view : JournalView) × IsSeenAs (Some bad) layout out view
+    × Appends before after (shown_text o layout out view)
+
+-- a beginning of either was written
+abbrev pub IsLookedInPart : JournalOptions → Option (List ℕ) → Option (List ℕ) → Type 0
+IsLookedInPart o before after =
+    (s : Sight) × IsSight s × AppendsBeginning before after (seen_text o s)
 
 -- a journal refuses for a row at fault alone
 abbrev pub IsRowFault : ServeError → Type 0
@@ -60,10 +84,17 @@ IsFoundFault path (error.Serve e) = IsRowFault e
 IsFoundFault path error.OutOfMemory = ⊤
 IsFoundFault path _ = ⊥
 
--- why its text is not written: it is not found, and nothing is written; or writing failed
+-- what is written where a row is at fault: nothing, or the text of all else
+abbrev pub IsRowTold : JournalOptions → Option (List ℕ) → Option (List ℕ) → ServeError → Type 0
+IsRowTold o before after (serve.Journal (journal.BadRow bad)) =
+    IsCopyFault bad × ((after ≡ before) ⊎ IsLookedBeside o bad before after)
+IsRowTold o before after _ = ⊥
+
+-- why its text is not written, or not that of a whole journal: it is not found, and nothing is written; a row is at fault; or
+-- writing failed
 abbrev pub IsLookFault : JournalOptions → Option (List ℕ) → Option (List ℕ) → RunError → Type 0
 IsLookFault o before after (error.JournalFile p cause) = (p ≡ o.path.now) × (after ≡ before)
-IsLookFault o before after (error.Serve e) = IsRowFault e × (after ≡ before)
+IsLookFault o before after (error.Serve e) = IsRowTold o before after e
 IsLookFault o before after (error.Write e) = IsLookedInPart o before after
 IsLookFault o before after error.OutOfMemory = (after ≡ before) ⊎ IsLookedInPart o before after
 IsLookFault o before after _ = ⊥

@@ -3,9 +3,9 @@
 ghost use Rattle.std.specs.Prelude.{◌≡◌, IfErr, IfOk, OnOk};
 ghost use Rattle.std.specs.Io.KnownBytes.{Appends};
 ghost use Rattle.cli_io.specs.Written.{AppendsBeginning};
-ghost use Rattle.journal_copy.specs.Found.{IfBadRow};
-ghost use Rattle.cardswitch.specs.Looking.{IsCopied, IsCopyFault, IsFoundFault, IsLookFault};
-ghost use Rattle.cardswitch.specs.Looking.{IsLooked, masking_by, shown_text};
+ghost use Rattle.journal_copy.specs.Found.{IfBadRow, IfRest};
+ghost use Rattle.cardswitch.specs.Looking.{IsCopyFault, IsFoundFault, IsLookFault, IsLooked, IsSight};
+ghost use Rattle.cardswitch.specs.Looking.{error_of_row, masking_by, seen_text};
 
 use crate::error::{JournalFault, RunError};
 use crate::journals::refusal;
@@ -14,10 +14,12 @@ use cli_io::WriteError;
 use cli_journal::{show, show_json};
 use cli_options::choice::JournalOptions;
 use cli_run::ServeError;
-use journal_copy::{CopyError, Found, LookError, copy_files, look};
+use journal_copy::{CopyError, Found, LookError, Rest, copy_files, look};
+use journal_rows::BadRow;
 use std::alloc::Global;
 use std::fs::Files;
 use std::io::Write;
+use tx_history::JournalView;
 use tx_journal::JournalError;
 
 fn masking_by(clear: bool) -> Masking
@@ -38,21 +40,67 @@ fn uncopied(alloc: Global, path: &str, error: CopyError) -> RunError
     }
 }
 
-// The error of a copy that is not shown. A bad row is told as `run` tells it.
-fn unseen(alloc: Global, path: &str, error: LookError) -> RunError
-    ensures { IfBadRow IsCopyFault error → IsFoundFault path.now result }
-{
-    match error {
-        LookError::NotAJournal => refusal(alloc, path, JournalFault::NotAJournal),
-        LookError::Database(error) => refusal(alloc, path, JournalFault::Database(error)),
-        LookError::BadRow(bad) => RunError::Serve(ServeError::Journal(JournalError::BadRow(bad))),
-        LookError::OutOfMemory => RunError::OutOfMemory,
+/// What is shown of a journal, and the first row at fault, if one is.
+struct Sight {
+    layout: u64,
+    left_out: Vec<BadRow>,
+    view: JournalView,
+    fault: Option<BadRow>,
+}
+
+// Written out, so that no caller proves again how its parts are dropped.
+impl Drop for Sight {
+    fn drop(self) {
+        let Sight {
+            layout: _,
+            left_out: _,
+            view: _,
+            fault: _,
+        } = self;
     }
 }
 
-// The journal of the file at a path.
-fn found_at<F: Files>(alloc: Global, files: &F, path: &str) -> Result<Found, RunError>
-    ensures found { IfOk result (λ f. IsCopied f.layout f.view) }
+// The error of a row at fault, as `run` tells it.
+fn bad_row(bad: BadRow) -> RunError
+    ensures { result ≡ error_of_row bad }
+{
+    RunError::Serve(ServeError::Journal(JournalError::BadRow(bad)))
+}
+
+// What is shown of a copy that holds no sound journal: of one with rows at fault all else.
+fn in_part(alloc: Global, path: &str, error: LookError) -> Result<Sight, RunError>
+    requires bad { IfBadRow IsCopyFault error }
+    requires rest { IfRest error }
+    ensures sight { IfOk result IsSight }
+    ensures failed { IfErr result (IsFoundFault path.now) }
+{
+    match error {
+        LookError::NotAJournal => Err(refusal(alloc, path, JournalFault::NotAJournal)),
+        LookError::Database(error) => Err(refusal(alloc, path, JournalFault::Database(error))),
+        LookError::OutOfMemory => Err(RunError::OutOfMemory),
+        LookError::BadRow { bad, rest: None } => Err(bad_row(bad)),
+        LookError::BadRow {
+            bad,
+            rest: Some(rest),
+        } => {
+            let Rest {
+                layout,
+                left_out,
+                view,
+            } = rest;
+            Ok(Sight {
+                layout,
+                left_out,
+                view,
+                fault: Some(bad),
+            })
+        }
+    }
+}
+
+// What is shown of the journal of the file at a path.
+fn sight_of<F: Files>(alloc: Global, files: &F, path: &str) -> Result<Sight, RunError>
+    ensures sight { IfOk result IsSight }
     ensures failed { IfErr result (IsFoundFault path.now) }
 {
     let copy = match copy_files(alloc, files, path) {
@@ -60,8 +108,13 @@ fn found_at<F: Files>(alloc: Global, files: &F, path: &str) -> Result<Found, Run
         Err(error) => return Err(uncopied(alloc, path, error)),
     };
     match look(alloc, copy.db.as_slice(), copy.log.as_slice()) {
-        Ok(found) => Ok(found),
-        Err(error) => Err(unseen(alloc, path, error)),
+        Ok(Found { layout, view }) => Ok(Sight {
+            layout,
+            left_out: Vec::new(alloc),
+            view,
+            fault: None,
+        }),
+        Err(error) => in_part(alloc, path, error),
     }
 }
 
@@ -69,23 +122,25 @@ fn found_at<F: Files>(alloc: Global, files: &F, path: &str) -> Result<Found, Run
 fn print<O: Write>(
     alloc: Global,
     options: &JournalOptions<'_>,
-    found: &Found,
+    sight: &Sight,
     out: &mut O,
 ) -> Result<(), WriteError>
     ensures written { OnOk result (Appends (O.contents out.old) (O.contents out.new)
-        (shown_text options.now found.now.layout found.now.view)) }
+        (seen_text options.now sight.now)) }
     ensures beginning { AppendsBeginning (O.contents out.old) (O.contents out.new)
-        (shown_text options.now found.now.layout found.now.view) }
+        (seen_text options.now sight.now) }
 {
     let masking = masking_by(options.clear);
+    let left_out = sight.left_out.as_slice();
     let json = options.json;
     if json {
-        return show_json(alloc, masking, found.layout, &found.view, out);
+        return show_json(alloc, masking, sight.layout, left_out, &sight.view, out);
     }
-    show(alloc, masking, found.layout, &found.view, out)
+    show(alloc, masking, sight.layout, left_out, &sight.view, out)
 }
 
-/// Prints what the journal of the file at a path holds, and changes nothing.
+/// Prints what the journal of the file at a path holds, and changes nothing. Of a journal with rows at fault it prints all
+/// else, and refuses the first of them.
 pub fn look_into<F: Files, O: Write>(
     alloc: Global,
     files: &F,
@@ -96,6 +151,10 @@ pub fn look_into<F: Files, O: Write>(
     ensures failed { IfErr result
         (IsLookFault options.now (O.contents out.old) (O.contents out.new)) }
 {
-    let found = found_at(alloc, files, options.path)?;
-    Ok(print(alloc, options, &found, out)?)
+    let sight = sight_of(alloc, files, options.path)?;
+    print(alloc, options, &sight, out)?;
+    match sight.fault {
+        Some(bad) => Err(bad_row(bad)),
+        None => Ok(()),
+    }
 }

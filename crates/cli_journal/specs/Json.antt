@@ -14,6 +14,8 @@ use Rattle.cli_journal.specs.declared.json_entries.Owner.{Owner}
 use Rattle.cli_journal.specs.declared.json_entries.Owner.TheVariants.{Transaction, Shelf}
 use Rattle.cli_journal.specs.Contexts.{context_at}
 use Rattle.cli_journal.specs.Entries.{Text, is_masked, is_message, is_printable}
+use Rattle.journal_rows.specs.declared.error.BadRow.{BadRow}
+use Rattle.cli_journal.specs.LeftOut.{left_out_json}
 use Rattle.cli_journal.specs.Shown.{age_of, phase_name}
 
 -- a byte within a string: a quotation mark, a backslash and a line feed are escaped, and what is not printable ASCII
@@ -130,5 +132,5 @@ abbrev pub items_json : Masking → JournalView → Text
 items_json k v =
     flat_map (row_lines k) v.rows ++ (flat_map (shelf_lines k) v.shelf ++ flat_map (advice_json k v.next_id) v.advices)
 
-abbrev pub journal_json : Masking → ℕ → JournalView → Text
-journal_json k layout v = head_json layout v.next_id ++ items_json k v
+abbrev pub journal_json : Masking → ℕ → List BadRow → JournalView → Text
+journal_json k layout out v = head_json layout v.next_id ++ (flat_map left_out_json out ++ items_json k v)

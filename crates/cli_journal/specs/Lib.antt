@@ -1,4 +1,5 @@
 pub mod Contexts
 pub mod Entries
+pub mod LeftOut
 pub mod Shown
 pub mod Json

@@ -10,7 +10,9 @@ use Rattle.tx_history.specs.declared.journal.Waiting.{Waiting}
 use Rattle.tx_history.specs.History.{is_committing, to_tell}
 use Rattle.cli_decode.specs.declared.masking.Masking.{Masking}
 use Rattle.cli_decode.specs.Decoded.{frame_text}
+use Rattle.journal_rows.specs.declared.error.BadRow.{BadRow}
 use Rattle.cli_journal.specs.Entries.{Text, context_text}
+use Rattle.cli_journal.specs.LeftOut.{left_out_line}
 
 -- `WORD N`
 abbrev pub number_line : Text → ℕ → Text
@@ -86,6 +88,6 @@ abbrev pub items_text : Masking → JournalView → Text
 items_text k v =
     flat_map (row_text k) v.rows ++ (flat_map (shelf_text k) v.shelf ++ flat_map (advice_text k v.next_id) v.advices)
 
--- the layout, the next id, and then transactions, shelf and advices, each in the order of the view
-abbrev pub journal_text : Masking → ℕ → JournalView → Text
-journal_text k layout v = head_text layout v.next_id ++ items_text k v
+-- the layout, the next id, the rows that are left out, and then transactions, shelf and advices, each in the order of the view
+abbrev pub journal_text : Masking → ℕ → List BadRow → JournalView → Text
+journal_text k layout out v = head_text layout v.next_id ++ (flat_map left_out_line out ++ items_text k v)

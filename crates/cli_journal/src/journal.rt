@@ -5,11 +5,13 @@ ghost use Rattle.std.specs.Io.KnownBytes.{Appends};
 ghost use Rattle.cli_io.specs.Written.{AppendsBeginning};
 ghost use Rattle.cli_journal.specs.Shown as spec;
 
+use crate::left_out::push_lines;
 use crate::rows::push_rows;
 use crate::waiting::{push_advices, push_shelf};
 use crate::words::push_number_line;
 use cli_decode::Masking;
 use cli_io::{WriteError, write_out};
+use journal_rows::BadRow;
 use std::alloc::{AllocError, Global};
 use std::io::Write;
 use tx_history::JournalView;
@@ -34,34 +36,37 @@ fn push_items(
     push_advices(alloc, text, masking, view.next_id, view.advices.as_slice())
 }
 
-/// The text of a journal of this layout. The only refusal is out of memory.
+/// The text of a journal of this layout, without these rows at fault. The only refusal is out of memory.
 pub fn journal_text(
     alloc: Global,
     masking: Masking,
     layout: u64,
+    left_out: &[BadRow],
     view: &JournalView,
 ) -> Result<Vec<u8>, AllocError>
-    ensures { IfOk result (λ text. text.items ≡ spec.journal_text masking layout view.now) }
+    ensures { IfOk result (λ text. text.items ≡ spec.journal_text masking layout left_out.now view.now) }
 {
     let mut text = Vec::new(alloc);
     push_head(&mut text, layout, view.next_id)?;
+    push_lines(alloc, &mut text, left_out)?;
     push_items(alloc, &mut text, masking, view)?;
     Ok(text)
 }
 
-/// Writes the text of a journal of this layout to an output. After an error a beginning of it is written.
+/// Writes the text of a journal of this layout, without these rows at fault, to an output. After an error a beginning of it is written.
 pub fn show<W: Write>(
     alloc: Global,
     masking: Masking,
     layout: u64,
+    left_out: &[BadRow],
     view: &JournalView,
     out: &mut W,
 ) -> Result<(), WriteError>
     ensures written { OnOk result (Appends (W.contents out.old) (W.contents out.new)
-        (spec.journal_text masking layout view.now)) }
+        (spec.journal_text masking layout left_out.now view.now)) }
     ensures beginning { AppendsBeginning (W.contents out.old) (W.contents out.new)
-        (spec.journal_text masking layout view.now) }
+        (spec.journal_text masking layout left_out.now view.now) }
 {
-    let text = journal_text(alloc, masking, layout, view)?;
+    let text = journal_text(alloc, masking, layout, left_out, view)?;
     write_out(out, text.as_slice())
 }

@@ -9,9 +9,11 @@ ghost use Rattle.cli_journal.specs.Json as spec;
 
 use crate::json::{push_number_member, push_opening, push_strings, push_text_member};
 use crate::json_entries::{Owner, push_context_lines, push_message_member};
+use crate::left_out::push_objects;
 use crate::rows::phase_name;
 use cli_decode::Masking;
 use cli_io::{WriteError, write_out};
+use journal_rows::BadRow;
 use std::alloc::{AllocError, Global};
 use std::io::Write;
 use sw_participant::{Bytes, Text};
@@ -186,34 +188,37 @@ fn push_items(
     push_advices(alloc, text, masking, view.next_id, view.advices.as_slice())
 }
 
-/// The lines of JSON of a journal of this layout. The only refusal is out of memory.
+/// The lines of JSON of a journal of this layout, without these rows at fault. The only refusal is out of memory.
 pub fn journal_json(
     alloc: Global,
     masking: Masking,
     layout: u64,
+    left_out: &[BadRow],
     view: &JournalView,
 ) -> Result<Vec<u8>, AllocError>
-    ensures { IfOk result (λ text. text.items ≡ spec.journal_json masking layout view.now) }
+    ensures { IfOk result (λ text. text.items ≡ spec.journal_json masking layout left_out.now view.now) }
 {
     let mut text = Vec::new(alloc);
     push_head(&mut text, layout, view.next_id)?;
+    push_objects(alloc, &mut text, left_out)?;
     push_items(alloc, &mut text, masking, view)?;
     Ok(text)
 }
 
-/// Writes the lines of JSON of a journal of this layout to an output. After an error a beginning of them is written.
+/// Writes the lines of JSON of a journal of this layout, without these rows at fault, to an output. After an error a beginning of them is written.
 pub fn show_json<W: Write>(
     alloc: Global,
     masking: Masking,
     layout: u64,
+    left_out: &[BadRow],
     view: &JournalView,
     out: &mut W,
 ) -> Result<(), WriteError>
     ensures written { OnOk result (Appends (W.contents out.old) (W.contents out.new)
-        (spec.journal_json masking layout view.now)) }
+        (spec.journal_json masking layout left_out.now view.now)) }
     ensures beginning { AppendsBeginning (W.contents out.old) (W.contents out.new)
-        (spec.journal_json masking layout view.now) }
+        (spec.journal_json masking layout left_out.now view.now) }
 {
-    let text = journal_json(alloc, masking, layout, view)?;
+    let text = journal_json(alloc, masking, layout, left_out, view)?;
     write_out(out, text.as_slice())
 }

@@ -2,7 +2,8 @@
 //!
 //! Promised here: [`show`] writes the text that `specs/Shown.antt` writes down for a view of a journal, one fact a
 //! line: the layout, the next id, each transaction that is not finished with what a recovery will do, the shelf, and
-//! the advices. The messages among them are shown as `decode` prints them.
+//! the advices. Of a journal with rows at fault the rows that are left out are named first. The messages among them
+//! are shown as `decode` prints them.
 //!
 //! [`show_json`] writes the lines of JSON that `specs/Json.antt` writes down for the view: an object for each item, and
 //! one for each entry of its context.
@@ -16,6 +17,7 @@ mod journal;
 mod json;
 mod json_entries;
 mod json_items;
+mod left_out;
 mod rows;
 mod waiting;
 mod words;

@@ -94,10 +94,10 @@ module _ {D : Type 0} {g : disk.Ghosts D} (honest : (d : D) → g.is_clean d ≡
 
   holds_fault_by : (db log : List ℕ) (files : Files D) (conn : Held (FileStore D g)) (e : LookError) → g.seen files.log ≡ log → g.seen files.db ≡ db
       → (HasCleanDisk (file_state conn) → Finds files conn) → IfBadRow (IsFaultBy over_files conn) e → IfBadRow (HoldsFault (image_of db log)) e
-  holds_fault_by db log files conn (error.BadRow bad) log_is db_is finds (inl h) =
+  holds_fault_by db log files conn (error.BadRow bad rest) log_is db_is finds (inl h) =
       let is_clean = no_doubt (view conn.store).is_clean (clean conn.store) in
       ((file_state conn).committed.trees, found_in (g.seen files.log) (g.seen files.db) db log _ log_is db_is (finds is_clean).reads, inl (h.1 (no_doubt_of h.0)))
-  holds_fault_by db log files conn (error.BadRow bad) log_is db_is finds (inr h) =
+  holds_fault_by db log files conn (error.BadRow bad rest) log_is db_is finds (inr h) =
       let is_clean = no_doubt (view conn.store).is_clean (clean conn.store) in
       ((file_state conn).committed.trees, found_in (g.seen files.log) (g.seen files.db) db log _ log_is db_is (finds is_clean).reads, inr (h.1 (no_doubt (view h.0.held.store).is_clean (clean h.0.held.store))))
   holds_fault_by db log files conn error.NotAJournal log_is db_is finds h = tt

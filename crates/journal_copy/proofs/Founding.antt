@@ -18,7 +18,25 @@ use Rattle.tx_journal.specs.declared.error.JournalError.TheVariants as journal
 use Rattle.journal_copy.specs.declared.error.LookError.{LookError}
 use Rattle.journal_copy.specs.declared.found.Found.{Found}
 use Rattle.journal_copy.specs.Errors.{error_of_journal}
-use Rattle.journal_copy.specs.Found.{IfBadRow, IsFaultBy, IsFoundBy, IsOpenedBy, layout_by}
+use Rattle.journal_rows.specs.declared.error.BadRow.{BadRow}
+use Rattle.journal_copy.specs.Found.{IfBadRow, IfRest, IsFaultBy, IsFoundBy, IsOpenedBy, IsSpoilt, layout_by}
+
+-- what is said of a bad row holds of it with what else the journal holds
+bad_spoilt : (P : BadRow → Type 0) (e : JournalError) (r : LookError) → IsSpoilt e r → IfBadRow P (error_of_journal e) → IfBadRow P r
+bad_spoilt P (journal.BadRow bad) r (inl is) h = subst (IfBadRow P) (sym is) tt
+bad_spoilt P (journal.BadRow bad) r (inr is) h = subst (IfBadRow P) (sym is.1.0) h
+bad_spoilt P journal.OutOfMemory r is h = subst (IfBadRow P) (sym is) h
+bad_spoilt P journal.Failed r is h = subst (IfBadRow P) (sym is) h
+bad_spoilt P (journal.Store c) r is h = subst (IfBadRow P) (sym is) h
+
+-- what else the journal holds
+pub rest_spoilt : (e : JournalError) (r : LookError) → IsSpoilt e r → IfRest r
+rest_spoilt (journal.BadRow bad) r (inl is) = subst IfRest (sym is) tt
+rest_spoilt (journal.BadRow bad) r (inr is) = subst IfRest (sym is.1.0) is.1.1
+rest_spoilt journal.OutOfMemory r is = subst IfRest (sym is) tt
+rest_spoilt journal.Failed r is = subst IfRest (sym is) tt
+rest_spoilt (journal.Store Memory) r is = subst IfRest (sym is) tt
+rest_spoilt (journal.Store Refused) r is = subst IfRest (sym is) tt
 
 module _ {S : Type 0} (g : Ghosts S) where
   bad_left : (conn : Held S) (left : Left S) (e : JournalError) → (doubt_of g left ≡ 0 → IsNaming (state g conn).committed.trees e) → IfBadRow (IsFaultBy g conn) (error_of_journal e)
@@ -29,23 +47,27 @@ module _ {S : Type 0} (g : Ghosts S) where
   bad_left conn left (journal.Store Refused) h = tt
 
   -- an opening that was refused
-  pub bad_opened : (conn : Held S) (left : Left S) (e : JournalError) (r : LookError) → r ≡ error_of_journal e
+  pub bad_opened : (conn : Held S) (left : Left S) (e : JournalError) (r : LookError) → IsSpoilt e r
       → (doubt_of g left ≡ 0 → IsNaming (state g conn).committed.trees e) → IfBadRow (IsFaultBy g conn) r
-  bad_opened conn left e r is h = subst (IfBadRow (IsFaultBy g conn)) (sym is) (bad_left conn left e h)
+  bad_opened conn left e r is h = bad_spoilt (IsFaultBy g conn) e r is (bad_left conn left e h)
 
   -- what is clean was clean
   before : (m n : ℕ) → m ≤ n → n ≡ 0 → m ≡ 0
   before m n le none = omega arith
 
   -- a view that was refused
-  pub bad_viewed : (conn : Held S) (was last : Kept S) (e : JournalError) → IsOpenedBy g conn was → doubt (kept g was).is_clean ≤ doubt (kept g last).is_clean
+  bad_view : (conn : Held S) (was last : Kept S) (e : JournalError) → IsOpenedBy g conn was → doubt (kept g was).is_clean ≤ doubt (kept g last).is_clean
       → (IsCleanJournal (kept g last) → Means (kept g was).tables last.failed (Err e)) → IfBadRow (IsFaultBy g conn) (error_of_journal e)
-  bad_viewed conn was last (journal.BadRow bad) opened clean means =
+  bad_view conn was last (journal.BadRow bad) opened clean means =
       inr (last, λ now. ((kept g was).tables, (opened.opened (before _ _ clean now)).1, (means now).0))
-  bad_viewed conn was last journal.OutOfMemory opened clean means = tt
-  bad_viewed conn was last journal.Failed opened clean means = tt
-  bad_viewed conn was last (journal.Store Memory) opened clean means = tt
-  bad_viewed conn was last (journal.Store Refused) opened clean means = tt
+  bad_view conn was last journal.OutOfMemory opened clean means = tt
+  bad_view conn was last journal.Failed opened clean means = tt
+  bad_view conn was last (journal.Store Memory) opened clean means = tt
+  bad_view conn was last (journal.Store Refused) opened clean means = tt
+
+  pub bad_viewed : (conn : Held S) (was last : Kept S) (e : JournalError) (r : LookError) → IsSpoilt e r → IsOpenedBy g conn was → doubt (kept g was).is_clean ≤ doubt (kept g last).is_clean
+      → (IsCleanJournal (kept g last) → Means (kept g was).tables last.failed (Err e)) → IfBadRow (IsFaultBy g conn) r
+  bad_viewed conn was last e r is opened clean means = bad_spoilt (IsFaultBy g conn) e r is (bad_view conn was last e opened clean means)
 
   -- a view that was read
   pub found_view : (conn : Held S) (was last : Kept S) (layout : ℕ) (view : JournalView) → layout_by (length (state g conn).now.schema.tables) ≡ Some layout → IsLive (state g conn)

@@ -1,2 +1,3 @@
+mod Resting
 mod Founding
 mod Copying

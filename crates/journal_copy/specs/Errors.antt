@@ -1,4 +1,5 @@
 -- What the errors of the parts become: out of memory is told as such.
+use Rattle.std.specs.Prelude.{None}
 use Rattle.cli_io.specs.declared.error.ReadError.{ReadError}
 use Rattle.cli_io.specs.declared.error.ReadError.TheVariants as read
 use Rattle.tx_journal.specs.declared.error.Cause.TheVariants.{Memory}
@@ -15,7 +16,7 @@ error_of_read e = copy.Read e
 
 -- a refusal of another database is that of a file that is no journal
 abbrev pub error_of_journal : JournalError → LookError
-error_of_journal (journal.BadRow bad) = BadRow bad
+error_of_journal (journal.BadRow bad) = BadRow bad None
 error_of_journal journal.OutOfMemory = OutOfMemory
 error_of_journal (journal.Store Memory) = OutOfMemory
 error_of_journal (journal.Store _) = NotAJournal

@@ -1,5 +1,5 @@
 -- The journal that an opening of a connection finds.
-use Rattle.std.specs.Prelude.{◌≡◌, ◌==◌, ◌⊎◌, ⊤, ℕ, false, length, Option, Some, None, IsTrue, if◌then◌else◌}
+use Rattle.std.specs.Prelude.{◌≡◌, ◌==◌, ◌⊎◌, ⊤, ℕ, false, length, Option, Some, None, IfSome, IsTrue, if◌then◌else◌}
 use Rattle.sqlite_trees.specs.declared.store.Store.{Ghosts}
 use Rattle.sqlite.specs.Held.{Held, state}
 use Rattle.sqlite.specs.State.{IsLive}
@@ -12,6 +12,10 @@ use Rattle.tx_journal.specs.Turned.{IsNaming}
 use Rattle.tx_journal.specs.declared.journal.Left.{Left}
 use Rattle.tx_journal.specs.declared.error.JournalError.TheVariants as journal
 use Rattle.journal_copy.specs.declared.found.Found.{Found}
+use Rattle.tx_journal.specs.declared.error.JournalError.{JournalError}
+use Rattle.journal_copy.specs.Errors.{error_of_journal}
+use Rattle.journal_copy.specs.Rest.{IsSomeRest}
+use Rattle.journal_copy.specs.declared.rest.Rest.{Rest}
 use Rattle.journal_copy.specs.declared.error.LookError.{LookError}
 use Rattle.journal_copy.specs.declared.error.LookError.TheVariants as error
 
@@ -42,9 +46,19 @@ module _ {S : Type 0} (g : Ghosts S) where
 
 -- what is said of a bad row, where the error is one
 abbrev pub IfBadRow : (BadRow → Type 0) → LookError → Type 0
-IfBadRow P (error.BadRow bad) = P bad
+IfBadRow P (error.BadRow bad rest) = P bad
 IfBadRow P _ = ⊤
 
 abbrev pub IsOtherFault : LookError → Type 0
-IsOtherFault (error.BadRow bad) = ⊥
+IsOtherFault (error.BadRow bad rest) = ⊥
 IsOtherFault _ = ⊤
+
+-- what is left of a journal beside its bad rows is a journal, where the error has it
+abbrev pub IfRest : LookError → Type 0
+IfRest (error.BadRow bad rest) = IfSome rest IsSomeRest
+IfRest _ = ⊤
+
+-- the error of a journal's refusal; of a bad row with what else the journal holds, unless memory is refused
+abbrev pub IsSpoilt : JournalError → LookError → Type 0
+IsSpoilt (journal.BadRow bad) e = (e ≡ error.OutOfMemory) ⊎ ((rest : Option Rest) × (e ≡ error.BadRow bad rest) × IfSome rest IsSomeRest)
+IsSpoilt cause e = e ≡ error_of_journal cause

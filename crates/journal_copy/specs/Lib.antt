@@ -1,3 +1,4 @@
+pub mod Rest
 pub mod Errors
 pub mod Disks
 pub mod Found

@@ -5,6 +5,7 @@ ghost use Rattle.journal_copy.specs.Errors.{error_of_journal, error_of_read};
 ghost use Rattle.journal_copy.specs.declared.error.CopyError.TheVariants as copy;
 ghost use Rattle.journal_copy.specs.declared.error.LookError.TheVariants as look;
 
+use crate::rest::Rest;
 use cli_io::ReadError;
 use journal_rows::BadRow;
 use std::alloc::{AllocError, AllocFailed};
@@ -72,9 +73,14 @@ pub enum LookError {
     /// It begins as a database, which cannot be opened.
     #[error("cannot open: {0}")]
     Database(sqlite::Error),
-    /// A row of its tables is at fault, the first one.
-    #[error("bad row of the journal: {:?} {}", .0.table, .0.id)]
-    BadRow(BadRow),
+    /// A row of its tables is at fault.
+    #[error("bad row of the journal: {:?} {}", .bad.table, .bad.id)]
+    BadRow {
+        /// The first one.
+        bad: BadRow,
+        /// The journal without its rows at fault, if there is one.
+        rest: Option<Rest>,
+    },
     /// No memory was left.
     #[error("out of memory")]
     OutOfMemory,
@@ -92,7 +98,7 @@ impl From<JournalError> for LookError {
 
     fn from(error: JournalError) -> LookError {
         match error {
-            JournalError::BadRow(bad) => LookError::BadRow(bad),
+            JournalError::BadRow(bad) => LookError::BadRow { bad, rest: None },
             JournalError::OutOfMemory | JournalError::Store(Cause::Memory) => {
                 LookError::OutOfMemory
             }

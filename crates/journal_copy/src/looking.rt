@@ -2,7 +2,7 @@
 
 ghost use Rattle.std.specs.Prelude.{IfErr, IfOk};
 ghost use Rattle.journal_copy.specs.Copied.{HoldsFault, HoldsJournal, image_of};
-ghost use Rattle.journal_copy.specs.Found.{IfBadRow, IsOtherFault};
+ghost use Rattle.journal_copy.specs.Found.{IfBadRow, IfRest, IsOtherFault};
 
 use crate::disks::disks_of;
 use crate::error::LookError;
@@ -19,7 +19,8 @@ fn is_foreign(db: &[u8], log: &[u8]) -> bool {
 }
 
 fn refusal(error: Error) -> LookError
-    ensures { IsOtherFault result }
+    ensures other { IsOtherFault result }
+    ensures rest { IfRest result }
 {
     match error {
         Error::SqliteFailure(ErrorCode::OutOfMemory) => LookError::OutOfMemory,
@@ -28,11 +29,13 @@ fn refusal(error: Error) -> LookError
 }
 
 /// The journal that the bytes of a database file and of its log hold, as an opening of these files would find it. The
-/// first row at fault is refused, and so is what is no journal; out of memory is told as such.
+/// first row at fault is refused, with the journal that is left without such rows; so is what is no journal. Out of memory
+/// is told as such.
 pub fn look(alloc: Global, db: &[u8], log: &[u8]) -> Result<Found, LookError>
     ensures found { IfOk result (λ f.
         HoldsJournal (image_of db.now log.now) f.layout f.view) }
     ensures bad { IfErr result (IfBadRow (HoldsFault (image_of db.now log.now))) }
+    ensures rest { IfErr result IfRest }
 {
     if is_foreign(db, log) {
         return Err(LookError::NotAJournal);

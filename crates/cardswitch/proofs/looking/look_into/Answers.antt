@@ -1,13 +1,13 @@
 use Rattle.std.proofs.lemmas.Result.{err_from_is_err_and}
-use Rattle.cardswitch.proofs.Showing.{not_found, unwritten}
+use Rattle.cardswitch.proofs.Showing.{beside, not_found, unwritten, whole}
 use Rattle.cardswitch.proofs.looking.look_into.Goals as goal
 
-pub returns-in_err-found-clause-failed : goal.returns-in_err-found-clause-failed
-returns-in_err-found-clause-failed g c =
+pub returns-in_err-sight-clause-failed : goal.returns-in_err-sight-clause-failed
+returns-in_err-sight-clause-failed g c =
     let error = err_from_is_err_and c.from_residual.result c.from_residual.ensures.1 in
-    rw (error.1, error.2) (not_found c.args.options.now _ c.in_err-found.field-0.0 c.in_err-found.ensures.failed)
+    rw (error.1, error.2) (not_found c.args.options.now _ c.in_err-sight.field-0.0 c.in_err-sight.ensures.failed)
 
 pub returns-in_err-print-clause-failed : goal.returns-in_err-print-clause-failed
 returns-in_err-print-clause-failed g c =
     let error = err_from_is_err_and c.from_residual-in_err-print.result c.from_residual-in_err-print.ensures.1 in
-    rw (error.1, error.2) (unwritten c.args.options.now _ _ c.in_ok-found.found.layout c.in_ok-found.found.view c.in_err-print.field-0.0 c.in_ok-found.ensures.found c.print.ensures.beginning)
+    rw (error.1, error.2) (unwritten c.args.options.now _ _ c.in_ok-sight.sight c.in_err-print.field-0.0 c.in_ok-sight.ensures.sight c.print.ensures.beginning)

@@ -1,5 +1,8 @@
-use Rattle.journal_copy.proofs.Founding.{bad_opened}
+use Rattle.journal_copy.proofs.Founding.{bad_opened, rest_spoilt}
 use Rattle.journal_copy.proofs.found.open.Goals as goal
 
 pub returns-clause-bad : goal.returns-clause-bad
-returns-clause-bad g c = bad_opened g.S.Store c.args.conn c.in-Err.field-0-1 c.in-Err.error c.from.result c.from.ensures c.in-Err.ensures.names
+returns-clause-bad g c = bad_opened g.S.Store c.args.conn c.in-Err.left c.in-Err.error c.unopened.result c.unopened.ensures c.in-Err.ensures.names
+
+pub returns-clause-rest : goal.returns-clause-rest
+returns-clause-rest g c = rest_spoilt c.in-Err.error c.unopened.result c.unopened.ensures

@@ -1,0 +1,88 @@
+//! What a journal holds besides its rows at fault.
+
+ghost use Rattle.std.specs.Prelude.{◌≡◌, IfOk, IfSome};
+ghost use Rattle.journal_copy.specs.Rest.{IsRest, rows_of, without, without_id};
+
+use crate::error::LookError;
+use journal_rows::{BadRow, JournalTable, Layout, RowsError, int_at, view_of};
+use sqlite::Row;
+use std::alloc::Global;
+use tx_history::JournalView;
+use tx_journal::Stored;
+
+/// The most rows at fault that are left out: each costs a look at all rows.
+const MOST_LEFT_OUT: u32 = 1_000;
+
+/// A journal without its rows at fault.
+pub struct Rest {
+    /// How the journal has its tables: 1 or 2.
+    pub layout: u64,
+    /// The rows that are left out, the first one at fault first: of its table all rows with that id.
+    pub left_out: Vec<BadRow>,
+    /// The journal that the other rows are.
+    pub view: JournalView,
+}
+
+// Written out, so that no caller proves again how its parts are dropped.
+impl Drop for Rest {
+    fn drop(self) {
+        let Rest {
+            layout: _,
+            left_out: _,
+            view: _,
+        } = self;
+    }
+}
+
+// Lets the rows with this id go.
+fn leave_out_id(rows: &mut Vec<Row>, id: i64)
+    ensures { rows.new.items ≡ without_id id rows.old.items }
+{
+    rows.retain(|row| int_at(row, 0) != id);
+}
+
+// Lets a row at fault go. Of meta no row can be left out.
+fn leave_out(stored: &mut Stored, bad: BadRow)
+    ensures { rows_of stored.new ≡ without bad (rows_of stored.old) }
+{
+    let rows = match bad.table {
+        JournalTable::Meta => return,
+        JournalTable::Part => &mut stored.parts,
+        JournalTable::Tx => &mut stored.tx,
+        JournalTable::Member | JournalTable::Joined => &mut stored.members,
+        JournalTable::Shelf => &mut stored.shelf,
+        JournalTable::Advice => &mut stored.advices,
+    };
+    leave_out_id(rows, bad.id)
+}
+
+/// The journal that the rows are without those at fault. There is none where meta is at fault, or more rows than
+/// a thousand. The only refusal is out of memory.
+pub fn rest_of(alloc: Global, layout: Layout, stored: Stored) -> Result<Option<Rest>, LookError>
+    ensures { IfOk result (λ rest. IfSome rest (IsRest layout (rows_of stored))) }
+{
+    let number = match layout {
+        Layout::First => 1,
+        Layout::Second => 2,
+    };
+    let mut stored = stored;
+    let mut left_out = Vec::new(alloc);
+    for _ in 0..MOST_LEFT_OUT {
+        match view_of(alloc, layout, stored.rows()) {
+            Ok(view) => return Ok(Some(Rest {
+                layout: number,
+                left_out,
+                view,
+            })),
+            Err(RowsError::OutOfMemory) => return Err(LookError::OutOfMemory),
+            Err(RowsError::BadRow(bad)) => {
+                if bad.table == JournalTable::Meta {
+                    return Ok(None);
+                }
+                leave_out(&mut stored, bad);
+                left_out.push(bad)?;
+            }
+        }
+    }
+    Ok(None)
+}
