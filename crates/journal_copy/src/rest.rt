@@ -45,15 +45,14 @@ fn leave_out_id(rows: &mut Vec<Row>, id: i64)
 fn leave_out(stored: &mut Stored, bad: BadRow)
     ensures { rows_of stored.new ≡ without bad (rows_of stored.old) }
 {
-    let rows = match bad.table {
-        JournalTable::Meta => return,
-        JournalTable::Part => &mut stored.parts,
-        JournalTable::Tx => &mut stored.tx,
-        JournalTable::Member | JournalTable::Joined => &mut stored.members,
-        JournalTable::Shelf => &mut stored.shelf,
-        JournalTable::Advice => &mut stored.advices,
-    };
-    leave_out_id(rows, bad.id)
+    match bad.table {
+        JournalTable::Meta => {}
+        JournalTable::Part => leave_out_id(&mut stored.parts, bad.id),
+        JournalTable::Tx => leave_out_id(&mut stored.tx, bad.id),
+        JournalTable::Member | JournalTable::Joined => leave_out_id(&mut stored.members, bad.id),
+        JournalTable::Shelf => leave_out_id(&mut stored.shelf, bad.id),
+        JournalTable::Advice => leave_out_id(&mut stored.advices, bad.id),
+    }
 }
 
 /// The journal that the rows are without those at fault. There is none where meta is at fault, or more rows than
@@ -80,7 +79,9 @@ pub fn rest_of(alloc: Global, layout: Layout, stored: Stored) -> Result<Option<R
                     return Ok(None);
                 }
                 leave_out(&mut stored, bad);
-                left_out.push(bad)?;
+                let Ok(()) = left_out.push(bad) else {
+                    return Err(LookError::OutOfMemory);
+                };
             }
         }
     }
