@@ -139,8 +139,8 @@ fn print<O: Write>(
     show(alloc, masking, sight.layout, left_out, &sight.view, out)
 }
 
-/// Prints what the journal of the file at a path holds, and changes nothing. Of a journal with rows at fault it prints all
-/// else, and refuses the first of them.
+/// Prints what the journal of the file at a path holds, and changes nothing. Of a journal with rows
+/// at fault it prints all else, and refuses the first of them.
 pub fn look_into<F: Files, O: Write>(
     alloc: Global,
     files: &F,

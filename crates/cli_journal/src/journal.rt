@@ -36,7 +36,8 @@ fn push_items(
     push_advices(alloc, text, masking, view.next_id, view.advices.as_slice())
 }
 
-/// The text of a journal of this layout, without these rows at fault. The only refusal is out of memory.
+/// The text of a journal of this layout, without these rows at fault. The only refusal is out of
+/// memory.
 pub fn journal_text(
     alloc: Global,
     masking: Masking,
@@ -53,7 +54,8 @@ pub fn journal_text(
     Ok(text)
 }
 
-/// Writes the text of a journal of this layout, without these rows at fault, to an output. After an error a beginning of it is written.
+/// Writes the text of a journal of this layout, without these rows at fault, to an output. After an
+/// error a beginning of it is written.
 pub fn show<W: Write>(
     alloc: Global,
     masking: Masking,

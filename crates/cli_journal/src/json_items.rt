@@ -188,7 +188,8 @@ fn push_items(
     push_advices(alloc, text, masking, view.next_id, view.advices.as_slice())
 }
 
-/// The lines of JSON of a journal of this layout, without these rows at fault. The only refusal is out of memory.
+/// The lines of JSON of a journal of this layout, without these rows at fault. The only refusal is
+/// out of memory.
 pub fn journal_json(
     alloc: Global,
     masking: Masking,
@@ -205,7 +206,8 @@ pub fn journal_json(
     Ok(text)
 }
 
-/// Writes the lines of JSON of a journal of this layout, without these rows at fault, to an output. After an error a beginning of them is written.
+/// Writes the lines of JSON of a journal of this layout, without these rows at fault, to an output.
+/// After an error a beginning of them is written.
 pub fn show_json<W: Write>(
     alloc: Global,
     masking: Masking,

@@ -28,9 +28,9 @@ fn refusal(error: Error) -> LookError
     }
 }
 
-/// The journal that the bytes of a database file and of its log hold, as an opening of these files would find it. The
-/// first row at fault is refused, with the journal that is left without such rows; so is what is no journal. Out of memory
-/// is told as such.
+/// The journal that the bytes of a database file and of its log hold, as an opening of these files
+/// would find it. The first row at fault is refused, with the journal that is left without such
+/// rows; so is what is no journal. Out of memory is told as such.
 pub fn look(alloc: Global, db: &[u8], log: &[u8]) -> Result<Found, LookError>
     ensures found { IfOk result (λ f.
         HoldsJournal (image_of db.now log.now) f.layout f.view) }
