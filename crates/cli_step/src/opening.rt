@@ -6,7 +6,7 @@ ghost use Rattle.cli_lines.specs.Lines.{lines_given, to_come};
 ghost use Rattle.flow_model.specs.Check.{IsChecked};
 ghost use Rattle.cli_step.specs.Prompts.{AreSame, HasBadSessions, HeadAnswers, IsFaultOf, IsHeadLine};
 ghost use Rattle.cli_step.specs.Prompts.{IsScriptHeadLine, is_of_sessions};
-ghost use Rattle.cli_step.specs.Prompts.{IsMade, IsPrompted, IsUnopened, OpenedAt, OpenedOver};
+ghost use Rattle.cli_step.specs.Prompts.{IsMade, IsPrompted, IsTold, IsUnopened, OpenedAt, OpenedOver};
 ghost use Rattle.cli_step.specs.Prompts.{SomeIsMade, TalkedOver, heading};
 ghost use Rattle.cli_step.specs.Runs.{Grows};
 
@@ -239,6 +239,41 @@ fn open_at<R: Read, W: Write, E: Write>(
     }
 }
 
+// The same, with the refusal told; whether it is opened.
+fn open_or_tell<R: Read, W: Write, E: Write>(
+    alloc: Global,
+    file: &Option<Code>,
+    settings: &[u8],
+    line: &[u8],
+    lines: &mut Lines<R>,
+    out: &mut W,
+    err: &mut E,
+) -> Result<bool, StepError>
+    requires some { line.now ≢ [] }
+    requires few { lines_given lines.old + length line.now < 2 ^ 64 }
+    requires given { lines_given lines.old ≢ 0 }
+    ensures opened { IfOk result (λ opened. opened ≡ true →
+        IfSome (to_come R.remaining lines.old) (λ others.
+        OpenedOver file.now settings.now line.now others (W.contents out.old) (E.contents err.old)
+        (W.contents out.new) (E.contents err.new))) }
+    ensures refused { IfOk result (λ opened. opened ≡ false → IsUnopened file.now settings.now) }
+    ensures told { IfOk result (λ opened. opened ≡ false →
+        IsTold (E.contents err.old) (E.contents err.new)) }
+    ensures stays { IfOk result (λ opened. opened ≡ false →
+        (lines.new ≡ lines.old) × (out.new ≡ out.old)) }
+    ensures grows_out { Grows (W.contents out.old) (W.contents out.new) }
+    ensures grows_err { Grows (E.contents err.old) (E.contents err.new) }
+    ensures fault { IfErr result (IsFaultOf SomeIsMade) }
+{
+    match open_at(alloc, file, settings, line, lines, out, err)? {
+        Ok(()) => Ok(true),
+        Err(cause) => {
+            tell(alloc, &cause, err)?;
+            Ok(false)
+        }
+    }
+}
+
 // Answers a line where no flow is opened yet; whether it opened one, over which all lines were answered that were still to
 // come.
 fn answer_head<R: Read, W: Write, E: Write>(
@@ -266,17 +301,20 @@ fn answer_head<R: Read, W: Write, E: Write>(
     ensures fault { IfErr result (IsFaultOf SomeIsMade) }
 {
     match head_line(alloc, file.is_some(), lines.count() - 1, line)? {
-        HeadLine::Help => write_out(out, HELP.as_bytes())?,
-        HeadLine::Setting => settings.extend_from_slice(line)?,
-        HeadLine::Opens => {
-            match open_at(alloc, file, settings.as_slice(), line, lines, out, err)? {
-                Ok(()) => return Ok(true),
-                Err(refusal) => tell(alloc, &refusal, err)?,
-            }
+        HeadLine::Help => {
+            write_out(out, HELP.as_bytes())?;
+            Ok(false)
         }
-        HeadLine::Refused(refusal) => tell(alloc, &StepError::Script(refusal), err)?,
+        HeadLine::Setting => {
+            settings.extend_from_slice(line)?;
+            Ok(false)
+        }
+        HeadLine::Opens => open_or_tell(alloc, file, settings.as_slice(), line, lines, out, err),
+        HeadLine::Refused(cause) => {
+            tell(alloc, &StepError::Script(cause), err)?;
+            Ok(false)
+        }
     }
-    Ok(false)
 }
 
 /// Runs a session at a prompt: writes the prompt, reads a line, and answers it before the next prompt, up to the end of the

@@ -7,8 +7,8 @@ returns-in-Err-clause-refused c =
     let head = rw c.is_some.ensures at c.in_ok-settings.ensures.head in
     stated_refused c.args.file c.args.settings.now c.in_ok-settings.field-0.rest.now c.in_ok-settings.field-0.settings c.in_ok-settings.field-0.lines c.args.line _ c.in-Err.cause head c.in_ok-settings.ensures.all c.into_parts-flow.ensures.flow (search rules)
 
-pub returns-clause-stated : goal.returns-clause-stated
-returns-clause-stated c =
+pub returns-in-Ok-clause-stated : goal.returns-in-Ok-clause-stated
+returns-in-Ok-clause-stated c =
     let head = rw c.is_some.ensures at c.in_ok-settings.ensures.head in
     let ss = head.stated in
     let kept = head.states in

@@ -29,3 +29,25 @@ returns-clause-talked g c =
     talked_over c.args.code.now c.args.sessions c.args.line.now (to_come g.R.Read.remaining c.args.lines.now) _ _ _ _ _
     (record { journal = _; fresh = c.in-Ok.ensures.whole; view = opened.0; opened = opened.1; seated = c.in-Ok-new.ensures.seated })
     c.in_ok-answer.ensures.answers c.in_ok-talk.ensures.talked
+
+pub returns-in-Err-new-clause-refused : goal.returns-in-Err-new-clause-refused
+returns-in-Err-new-clause-refused g c =
+    bad_sessions c.args.code.now c.args.sessions _ _ _ c.in-Err-new.cause c.in_ok-plant_refused-in-Err-new.ensures.refused c.in-Err-new.ensures.refused
+
+pub returns-in-Err-new-clause-grows_out : goal.returns-in-Err-new-clause-grows_out
+returns-in-Err-new-clause-grows_out g c = grows_none _
+
+pub returns-in-Err-new-clause-grows_err : goal.returns-in-Err-new-clause-grows_err
+returns-in-Err-new-clause-grows_err g c = grows_none _
+
+pub returns-in_err-answer-clause-fault : goal.returns-in_err-answer-clause-fault
+returns-in_err-answer-clause-fault g c =
+    let opened = c.in-Ok-new.ensures.opened in
+    let error = err_from_is_err_and c.from_residual-in_err-answer.result c.from_residual-in_err-answer.ensures.1 in
+    rw (error.1, error.2) (fault_more (λ _. (_, record { journal = _; fresh = c.in-Ok.ensures.whole; view = opened.0; opened = opened.1; seated = c.in-Ok-new.ensures.seated })) c.in_err-answer.field-0.0 c.in_err-answer.ensures.fault)
+
+pub returns-in_err-talk-clause-fault : goal.returns-in_err-talk-clause-fault
+returns-in_err-talk-clause-fault g c =
+    let opened = c.in-Ok-new.ensures.opened in
+    let error = err_from_is_err_and c.from_residual-in_err-talk.result c.from_residual-in_err-talk.ensures.1 in
+    rw (error.1, error.2) (fault_more (λ _. (_, record { journal = _; fresh = c.in-Ok.ensures.whole; view = opened.0; opened = opened.1; seated = c.in-Ok-new.ensures.seated })) c.in_err-talk.field-0.0 c.in_err-talk.ensures.fault)
