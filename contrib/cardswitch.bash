@@ -23,7 +23,7 @@ _cardswitch() {
         words="step asm list graph decode encode recover journal run help --help --version"
     else
         case ${COMP_WORDS[1]} in
-            step) words="--flow --help" ;;
+            step) words="--flow --prompt --help" ;;
             asm | list | encode) words="--help" ;;
             graph) words="--flow --dot --help" ;;
             decode) words="--mask --help" ;;

@@ -181,8 +181,12 @@ SETTINGS = {
 
 def offered(words):
     context = dict(pairs(words))
-    need(len(context) <= 64)
-    return lambda engine: engine.offer(context)
+
+    def offer(engine):
+        need(len(context) <= 64)
+        return engine.offer(context)
+
+    return offer
 
 
 def by_number(act):
@@ -211,6 +215,39 @@ def written(words):
     return lambda engine: engine.write(*counts)
 
 
+# What `help` shows.
+HELP = """\
+Settings stand first; the flow is opened at the first other line but help.
+retries N                  how often a transaction that aborts with RETRY is tried again
+sessions N                 the number of sessions, 1 to 16
+flow GROUP [ENTRY ..]      adds a group to the flow; an entry is NAME or NAME:MARKS
+answer NAME HH [N=HEX ..]  queues the answer of the participant's next preparation
+choose NAME TEXT           queues the text of its next selection
+advice NAME HEX            queues the advice of its next commit or abort
+restore NAME [N=HEX ..]    queues what its next recover puts into the context
+
+offer [N=HEX ..]           puts a context at the end of the queue
+take S                     session S takes the first context of the queue
+call S                     makes the due call of session S
+go S                       lets the held call of session S go
+break NAME                 holds the calls of the participant from now on
+clear NAME                 holds them no more
+where S                    shows where the transaction of session S stands
+rest S                     shows its entries that are to come
+saved S                    shows the context that a stop would leave it
+calls NAME                 shows how many calls the participant was made
+write [K]                  writes all entries, or the oldest K
+release                    puts the shelf at the end of the queue
+ack ID PLACE               says that the advice of this place was forwarded
+stop                       gives up all but the journal and the participants
+cut                        begins the history anew, without a stop
+auto                       runs one transaction with an empty context to its end
+
+list                       shows the steps of the flow, and where the sessions stand
+info                       shows each session, the queue, the shelf and what is written
+help                       shows these lines
+""".splitlines()
+
 # How many words follow, and what the line then does.
 ACTIONS = {
     "auto": ((0,), lambda words: None),
@@ -237,6 +274,36 @@ def refused(fault):
     if fault.name == "BadSessions":
         return "the engine refused: bad number of sessions"
     return f"the flow is refused: {texts.told(fault)}"
+
+
+class Prompt(Script):
+    """A session at a prompt. DEBUGGER.md has its lines."""
+
+    TEXT = "cardswitch> "
+
+    def answer(self, number, line):
+        """What the line of this number prints, and how the message about it begins (None: there is none)."""
+        try:
+            return "".join(f"{it}\n" for it in self.shown(line)), None
+        except Malformed:
+            return "", f"cardswitch: line {number}: "
+        except flows.Fault as fault:
+            return "", f"cardswitch: line {number}: {refused(fault)}"
+
+    def shown(self, line):
+        if line == b"help":
+            return HELP
+        if line not in (b"list", b"info"):
+            return self.line(line)
+        self.begin()
+        places = [self.engine.where(number) for number in range(len(self.engine.sessions))]
+        if line == b"list":
+            steps = [re.search(" step ([0-9]+) ", place) for place in places]
+            at = [f"session {number} at step {step[1]}" for number, step in enumerate(steps) if step]
+            return [*flows.image(self.engine.flow).decode().splitlines(), *at]
+        totals = f"queue {len(self.engine.queue)}, shelf {len(self.engine.now.shelf)}"
+        totals += f", written {self.engine.mark} of {len(self.engine.history)}"
+        return [*(f"session {number}: {place}" for number, place in enumerate(places)), totals]
 
 
 def step(script, file=None):

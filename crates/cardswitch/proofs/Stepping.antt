@@ -1,13 +1,15 @@
 -- What `step` has done, by what became of its flow file.
--- for: steps::step, steps::step_over
+-- for: steps::step_script, steps::step_over, steps::step_prompted, steps::prompt_over
 use Rattle.std.proofs.Common.{◌≡◌, ℕ, [], List, Option, Some, None, Result, Ok, Err, IfErr, IfOk, IfSome, OnOk, Bor, ap, subst, sym}
+use Rattle.flow_model.specs.Check.{IsChecked}
 use Rattle.flow_model.specs.declared.flow.Flow.{Flow}
 use Rattle.std.proofs.KnownBytes.{Appends-nil}
+use Rattle.cli_step.specs.Prompts.{IsFaultOf, IsPrompted, SomeIsMade}
 use Rattle.cli_step.specs.Runs.{Grows, IsRun}
 use Rattle.cli_step.specs.declared.error.StepError.{StepError}
 use Rattle.cli_step.specs.declared.error.StepError.TheVariants as step
 use Rattle.cardswitch.specs.Errors.{error_of_step}
-use Rattle.cardswitch.specs.Steps.{IsFileFlow, IsFileFlowFault, IsScriptFault, IsStepFault, IsStepped, RunsScript}
+use Rattle.cardswitch.specs.Steps.{IsFileFlow, IsFileFlowFault, IsScriptFault, IsPromptFault, IsPromptedStep, IsSessionFault, IsStepFault, IsStepped, PromptsOver, RunsScript}
 use Rattle.cardswitch.specs.declared.error.RunError.{RunError}
 use Rattle.cardswitch.specs.declared.error.RunError.TheVariants as error
 
@@ -78,3 +80,61 @@ step_failed path (Ok flow) before after (Err e) refused no_flow failed = script_
 step_failed path (Err f) before after (Ok done) refused no_flow failed = tt
 step_failed path (Err f) before after (Err e) refused no_flow failed =
     subst (IsStepFault path before after) (sym (same_error e f no_flow.0)) (flow_fault path before after f refused no_flow.1)
+
+-- a session at a prompt
+
+pub checked_file : (path : Option (Bor (List ℕ))) (file : Result (Option Flow) RunError) → IfOk file (IsFileFlow path)
+    → IfOk file (λ flow. IfSome flow IsChecked)
+checked_file path (Err e) is = tt
+checked_file None (Ok file) is = subst (λ (f : Option Flow). IfSome f IsChecked) (sym is) tt
+checked_file (Some path) (Ok file) is = subst (λ (f : Option Flow). IfSome f IsChecked) (sym is.2) is.1
+
+pub prompted_over : (file : Result (Option Flow) RunError) (flow : Option Flow) (known unread : Option (List ℕ)) (out err out_after err_after : Option (List ℕ))
+    → file ≡ Ok flow → known ≡ unread → IfSome known (λ input. IsPrompted flow input out err out_after err_after)
+    → IfOk file (λ f. PromptsOver f unread out err out_after err_after)
+prompted_over file flow known unread out err out_after err_after took same ran =
+    subst (λ (x : Result (Option Flow) RunError). IfOk x (λ f. PromptsOver f unread out err out_after err_after)) (sym took)
+    (subst (λ (u : Option (List ℕ)). PromptsOver flow u out err out_after err_after) same ran)
+
+-- the errors of a session
+pub session_error : (e : StepError) → IsFaultOf SomeIsMade e → IsSessionFault (error_of_step e)
+session_error (step.Script e) fault = absurd fault
+session_error (step.Plant n e) fault = fault
+session_error (step.Journal n e) fault = tt
+session_error (step.Read e) fault = tt
+session_error (step.Write e) fault = tt
+session_error step.OutOfMemory fault = tt
+
+pub prompted : (path : Option (Bor (List ℕ))) (file : Result (Option Flow) RunError) (unread out err out_after err_after : Option (List ℕ)) (r : Result (Unit {0}) RunError)
+    → IfOk file (IsFileFlow path) → IfErr file (λ e. (r ≡ Err e) × (out_after ≡ out))
+    → IfOk file (λ flow. OnOk r (PromptsOver flow unread out err out_after err_after))
+    → OnOk r (IsPromptedStep path unread out err out_after err_after)
+prompted path (Ok flow) unread out err out_after err_after (Ok done) is_flow no_flow ran = (flow, is_flow, ran)
+prompted path (Ok flow) unread out err out_after err_after (Err e) is_flow no_flow ran = tt
+prompted path (Err f) unread out err out_after err_after (Ok done) is_flow no_flow ran = let differ : Ok done ≡ Err f = no_flow.0 in cc
+prompted path (Err f) unread out err out_after err_after (Err e) is_flow no_flow ran = tt
+
+-- a fault of the flow file is none of the session
+file_session : (path : Option (Bor (List ℕ))) (e : RunError) → IsFileFlowFault path e → IsSessionFault e
+file_session None e h = absurd h
+file_session (Some path) (error.FlowFile p cause) h = tt
+file_session (Some path) error.OutOfMemory h = tt
+file_session (Some path) error.BadLimit h = tt
+file_session (Some path) (error.JournalFile p cause) h = tt
+file_session (Some path) error.Refused h = tt
+file_session (Some path) (error.Read e) h = tt
+file_session (Some path) (error.Write e) h = tt
+file_session (Some path) (error.Step e) h = absurd h
+file_session (Some path) (error.Serve e) h = tt
+file_session (Some path) (error.Input e) h = tt
+file_session (Some path) (error.Text e) h = tt
+
+pub prompt_failed : (path : Option (Bor (List ℕ))) (file : Result (Option Flow) RunError) (before after : Option (List ℕ)) (r : Result (Unit {0}) RunError)
+    → IfErr file (IsFileFlowFault path) → IfErr file (λ e. (r ≡ Err e) × (after ≡ before))
+    → IfOk file (λ flow. IfErr r (IsScriptFault before after)) → IfOk file (λ flow. IfErr r IsSessionFault)
+    → IfErr r (IsPromptFault path before after)
+prompt_failed path (Ok flow) before after (Ok done) refused no_flow failed session = tt
+prompt_failed path (Ok flow) before after (Err e) refused no_flow failed session = (script_fault path before after e failed, session)
+prompt_failed path (Err f) before after (Ok done) refused no_flow failed session = tt
+prompt_failed path (Err f) before after (Err e) refused no_flow failed session =
+    subst (IsPromptFault path before after) (sym (same_error e f no_flow.0)) (flow_fault path before after f refused no_flow.1, file_session path f refused)

@@ -22,7 +22,7 @@ use Rattle.cardswitch.specs.Errors.{error_of_write, run_status}
 use Rattle.cardswitch.specs.Drawings.{IsDrawFault, IsDrawn}
 use Rattle.cardswitch.specs.Looking.{IsLookFault, IsLooked}
 use Rattle.cardswitch.specs.Runs.{Answered, IsRecoverFault, IsRunFault, Recovered}
-use Rattle.cardswitch.specs.Steps.{IsStepFault, IsStepped}
+use Rattle.cardswitch.specs.Steps.{IsStepFaultBy, IsSteppedBy}
 use Rattle.cardswitch.specs.declared.error.RunError.{RunError}
 use Rattle.cardswitch.specs.declared.error.RunError.TheVariants as error
 
@@ -37,7 +37,7 @@ IsEncodedText unread written written_now = IfSome unread (λ bytes. IsEncoded by
 
 -- what is said of the bytes that were to be read and those that are written, `files` being the store over files
 abbrev pub IsDone : {S : Type 0} → Ghosts S → Options → Option (List ℕ) → Option (List ℕ) → Option (List ℕ) → Type 0
-IsDone files (Step flow) unread written written_now = IsStepped flow unread written written_now
+IsDone files (Step flow prompt) unread written written_now = IsSteppedBy prompt flow unread written written_now
 IsDone files (Recover flow journal) unread written written_now =
     (f : Flow) × IsChecked f × Recovered files f journal.now written written_now
 IsDone files (Run o) unread written written_now =
@@ -84,7 +84,7 @@ IsEncodeFault unread written written_now _ = ⊥
 
 -- what an error says of the bytes that were to be read and those that are written
 abbrev pub IsErrorOf : Options → Option (List ℕ) → Option (List ℕ) → Option (List ℕ) → RunError → Type 0
-IsErrorOf (Step flow) unread written written_now e = IsStepFault flow written written_now e
+IsErrorOf (Step flow prompt) unread written written_now e = IsStepFaultBy prompt flow written written_now e
 IsErrorOf (Recover flow journal) unread written written_now e =
     IsRecoverFault flow.now journal.now written written_now e
 IsErrorOf (Run o) unread written written_now e = IsRunFault o written written_now e
@@ -95,9 +95,11 @@ IsErrorOf (Graph flow dot) unread written written_now e = IsDrawFault dot flow.n
 IsErrorOf (Decode mask) unread written written_now e = IsDecodeError mask unread written written_now e
 IsErrorOf Encode unread written written_now e = IsEncodeFault unread written written_now e
 
--- a run tells messages that it passes over, and its trace, and is done all the same
+-- a run tells messages that it passes over, and its trace, and is done all the same; so is a session at a prompt, which tells
+-- lines that it refuses
 abbrev pub IsQuiet : Options → Type 0
 IsQuiet (Run o) = ⊥
+IsQuiet (Step flow prompt) = prompt ≡ false
 IsQuiet _ = ⊤
 
 -- a status that is not 0 is that of an error, and the error holds

@@ -1,9 +1,10 @@
 -- What `step` has done, and why it ends early. What a flow file holds no clause can say; the flow of one is checked.
-use Rattle.std.specs.Prelude.{◌≡◌, ⊤, ℕ, List, Option, Some, None, IfSome}
+use Rattle.std.specs.Prelude.{◌≡◌, ⊤, ℕ, Bool, true, false, List, Option, Some, None, IfSome}
 use Rattle.std.specs.Borrow.{Bor}
 use Rattle.flow_model.specs.Check.{IsChecked}
 use Rattle.flow_model.specs.declared.flow.Flow.{Flow}
 use Rattle.cli_options.specs.CommandLine.{text_of}
+use Rattle.cli_step.specs.Prompts.{IsFaultOf, IsPrompted, SomeIsMade}
 use Rattle.cli_step.specs.Runs.{Grows, IsRun}
 use Rattle.cli_step.specs.declared.error.StepError.{StepError}
 use Rattle.cli_step.specs.declared.error.StepError.TheVariants as script
@@ -48,3 +49,30 @@ IsScriptFault before after _ = ⊥
 abbrev pub IsStepFault : Option (Bor (List ℕ)) → Option (List ℕ) → Option (List ℕ) → RunError → Type 0
 IsStepFault path before after (error.FlowFile p cause) = (text_of path ≡ Some p) × (after ≡ before)
 IsStepFault path before after e = IsScriptFault before after e
+
+-- the lines that were to be read, where their bytes are known, were asked for and answered over this flow
+abbrev pub PromptsOver : Option Flow → Option (List ℕ) → Option (List ℕ) → Option (List ℕ) → Option (List ℕ) → Option (List ℕ) → Type 0
+PromptsOver file unread out err out_after err_after = IfSome unread (λ input. IsPrompted file input out err out_after err_after)
+
+-- `step` has answered the lines of its input at a prompt, over the flow of its flow file where it was given one
+abbrev pub IsPromptedStep : Option (Bor (List ℕ)) → Option (List ℕ) → Option (List ℕ) → Option (List ℕ) → Option (List ℕ) → Option (List ℕ) → Type 0
+IsPromptedStep path unread out err out_after err_after =
+    (file : Option Flow) × IsFileFlow path file × PromptsOver file unread out err out_after err_after
+
+-- a refused line does not end a session at a prompt
+abbrev pub IsSessionFault : RunError → Type 0
+IsSessionFault (error.Step e) = IsFaultOf SomeIsMade e
+IsSessionFault _ = ⊤
+
+abbrev pub IsPromptFault : Option (Bor (List ℕ)) → Option (List ℕ) → Option (List ℕ) → RunError → Type 0
+IsPromptFault path before after e = IsStepFault path before after e × IsSessionFault e
+
+-- with a prompt or without one; of what is told at a prompt this says nothing
+abbrev pub IsSteppedBy : Bool → Option (Bor (List ℕ)) → Option (List ℕ) → Option (List ℕ) → Option (List ℕ) → Type 0
+IsSteppedBy false path unread before after = IsStepped path unread before after
+IsSteppedBy true path unread before after =
+    (err : Option (List ℕ)) × (err_after : Option (List ℕ)) × IsPromptedStep path unread before err after err_after
+
+abbrev pub IsStepFaultBy : Bool → Option (Bor (List ℕ)) → Option (List ℕ) → Option (List ℕ) → RunError → Type 0
+IsStepFaultBy false path before after e = IsStepFault path before after e
+IsStepFaultBy true path before after e = IsPromptFault path before after e

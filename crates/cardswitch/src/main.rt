@@ -18,7 +18,7 @@ use cli_io::WriteError;
 use cli_options::OptionsError;
 use cli_options::command_line::options;
 use std::alloc::Global;
-use std::io::{self, Write};
+use std::io::{self, IsTerminal, Write};
 use std::process::ExitCode;
 
 /// The words of the command line, the program's name first.
@@ -44,7 +44,11 @@ fn main(rt: HostRuntime) -> ExitCode {
         Err(error) => return ExitCode::from(program::refuse_words(error, &mut err)),
     };
     ExitCode::from(match options(alloc, words.as_slice()) {
-        Ok(options) => program::run(&rt, alloc, &rt, &options, rt.stdin(), &mut out, &mut err),
+        Ok(options) => {
+            let input = rt.stdin();
+            let options = options.at_terminal(input.is_terminal());
+            program::run(&rt, alloc, &rt, &options, input, &mut out, &mut err)
+        }
         Err(error) => refuse(alloc, &error, &mut out, &mut err),
     })
 }

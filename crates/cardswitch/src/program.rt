@@ -154,7 +154,7 @@ fn run_subcommand<T: Threads + Wait + Sync, R: Read + Drop, O: Write, E: Write>(
         (R.remaining input) (O.contents out.old) (O.contents out.new)) }
 {
     match options {
-        Options::Step { flow } => step(alloc, rt, *flow, input, out),
+        Options::Step { flow, prompt } => step(alloc, rt, *flow, *prompt, input, out, err),
         Options::Asm => asm(alloc, input, out),
         Options::List => list(alloc, input, out),
         Options::Graph { flow, dot } => graph(alloc, rt, flow, *dot, out),

@@ -1,14 +1,17 @@
 //! The subcommand `step`: a script, over the flow of its own lines or of a flow file.
 
-ghost use Rattle.std.specs.Prelude.{◌≡◌, IfErr, IfOk, OnOk};
-ghost use Rattle.cardswitch.specs.Steps.{IsFileFlow, IsFileFlowFault, IsScriptFault, IsStepFault};
-ghost use Rattle.cardswitch.specs.Steps.{IsStepped, RunsScript};
+ghost use Rattle.std.specs.Prelude.{◌≡◌, IfErr, IfOk, IfSome, OnOk, false};
+ghost use Rattle.std.specs.Io.KnownBytes.{Keeps};
+ghost use Rattle.flow_model.specs.Check.{IsChecked};
+ghost use Rattle.cardswitch.specs.Steps.{IsFileFlow, IsFileFlowFault, IsPromptFault, IsPromptedStep};
+ghost use Rattle.cardswitch.specs.Steps.{IsScriptFault, IsSessionFault, IsStepFault, IsStepFaultBy};
+ghost use Rattle.cardswitch.specs.Steps.{IsStepped, IsSteppedBy, PromptsOver, RunsScript};
 
 use crate::error::RunError;
 use crate::flow_file::flow_at;
 use cli_io::Input;
 use cli_lines::Lines;
-use cli_step::run_lines;
+use cli_step::{run_lines, run_prompted};
 use flow_model::Flow;
 use std::alloc::Global;
 use std::io::{Read, Write};
@@ -44,9 +47,8 @@ fn step_over<R: Read + Drop, O: Write>(
     Ok(run_lines(alloc, flow, &mut lines, out)?)
 }
 
-/// Runs the script of an input over the flow of its own lines, or over that of the flow file at a path. What a
-/// line prints is written before the next one is read.
-pub fn step<R: Read + Drop, O: Write>(
+// Runs the script of an input over the flow of its own lines, or over that of the flow file at a path.
+fn step_script<R: Read + Drop, O: Write>(
     alloc: Global,
     rt: &HostRuntime,
     path: Option<&str>,
@@ -60,4 +62,68 @@ pub fn step<R: Read + Drop, O: Write>(
 {
     let file = file_flow(alloc, rt, path);
     step_over(alloc, file, input, out)
+}
+
+// Answers the lines of an input at a prompt. (The flow comes as what became of its file, as in `step_over`.)
+fn prompt_over<R: Read + Drop, O: Write, E: Write>(
+    alloc: Global,
+    file: Result<Option<Flow>, RunError>,
+    input: R,
+    out: &mut O,
+    err: &mut E,
+) -> Result<(), RunError>
+    requires { IfOk file (λ flow. IfSome flow IsChecked) }
+    ensures no_flow { IfErr file (λ e. (result ≡ Err e)
+        × (O.contents out.new ≡ O.contents out.old)) }
+    ensures prompted { IfOk file (λ flow. OnOk result (PromptsOver flow (R.remaining input)
+        (O.contents out.old) (E.contents err.old) (O.contents out.new) (E.contents err.new))) }
+    ensures failed { IfOk file (λ _. IfErr result
+        (IsScriptFault (O.contents out.old) (O.contents out.new))) }
+    ensures session { IfOk file (λ _. IfErr result IsSessionFault) }
+{
+    let taken = file?;
+    let mut lines = Lines::new(alloc, Input::new(input));
+    Ok(run_prompted(alloc, taken, &mut lines, out, err)?)
+}
+
+// Answers the lines of an input at a prompt, over the flow of its own lines, or over that of the flow file at a path.
+fn step_prompted<R: Read + Drop, O: Write, E: Write>(
+    alloc: Global,
+    rt: &HostRuntime,
+    path: Option<&str>,
+    input: R,
+    out: &mut O,
+    err: &mut E,
+) -> Result<(), RunError>
+    ensures prompted { OnOk result (IsPromptedStep path.entry (R.remaining input)
+        (O.contents out.old) (E.contents err.old) (O.contents out.new) (E.contents err.new)) }
+    ensures failed { IfErr result
+        (IsPromptFault path.entry (O.contents out.old) (O.contents out.new)) }
+{
+    let file = file_flow(alloc, rt, path);
+    prompt_over(alloc, file, input, out, err)
+}
+
+/// Runs the script of an input over the flow of its own lines, or over that of the flow file at a path. What a
+/// line prints is written before the next one is read. With a prompt each line is asked for, and one that is refused is
+/// told on `err` and passed over.
+pub fn step<R: Read + Drop, O: Write, E: Write>(
+    alloc: Global,
+    rt: &HostRuntime,
+    path: Option<&str>,
+    prompt: bool,
+    input: R,
+    out: &mut O,
+    err: &mut E,
+) -> Result<(), RunError>
+    ensures stepped { OnOk result (IsSteppedBy prompt path.entry
+        (R.remaining input) (O.contents out.old) (O.contents out.new)) }
+    ensures failed { IfErr result
+        (IsStepFaultBy prompt path.entry (O.contents out.old) (O.contents out.new)) }
+    ensures quiet { prompt ≡ false → Keeps (E.contents err.old) (E.contents err.new) }
+{
+    if prompt {
+        return step_prompted(alloc, rt, path, input, out, err);
+    }
+    step_script(alloc, rt, path, input, out)
 }

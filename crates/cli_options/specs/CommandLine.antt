@@ -1,6 +1,6 @@
 -- The command line of `cardswitch`: its subcommands as a table, and what words mean by it. clap's
 -- contracts say what a parse by such a table gives.
-use Rattle.std.specs.Prelude.{◌≡◌, ◌^◌, ℕ, Bool, true, false, List, Option, Some, None, bytes_eq, codes, option_and_then, option_map, nat_lt, if◌then◌else◌}
+use Rattle.std.specs.Prelude.{◌≡◌, ◌^◌, ℕ, Bool, true, false, List, Option, Some, None, bytes_eq, codes, option_and_then, option_map, nat_lt, ◌||◌, if◌then◌else◌}
 use Rattle.std.specs.Option.{option_map_or}
 use Rattle.sw_base.specs.Spelling.{number_spelled}
 use Rattle.std.specs.Borrow.{Bor}
@@ -37,9 +37,9 @@ word_rule name = record (new_rule name) { value_names = 1; required = true }
 abbrev pub flag_rule : Text → Rule
 flag_rule name = record (new_rule name) { long = Some name; action = Some SetTrue }
 
--- `step [--flow PATH]`
+-- `step [--flow PATH] [--prompt]`
 abbrev pub step_app : App
-step_app = with_rule (new_app (codes "step")) (option_rule (codes "flow"))
+step_app = with_rule (with_rule (new_app (codes "step")) (option_rule (codes "flow"))) (flag_rule (codes "prompt"))
 
 -- `asm`, without options
 abbrev pub asm_app : App
@@ -117,7 +117,8 @@ pub record AreJournalOptions (rows : List Row) (o : JournalOptions) : Type 0 whe
 
 -- the options are those of the subcommand `name`, whose own options are in the rows
 abbrev pub AreOptionsAt : Text → List Row → Options → Type 0
-AreOptionsAt name rows (Step flow) = (name ≡ codes "step") × (text_of flow ≡ first_of (codes "flow") rows)
+AreOptionsAt name rows (Step flow prompt) =
+    (name ≡ codes "step") × (text_of flow ≡ first_of (codes "flow") rows) × (prompt ≡ is_set (first_of (codes "prompt") rows))
 AreOptionsAt name rows Asm = name ≡ codes "asm"
 AreOptionsAt name rows ListImage = name ≡ codes "list"
 AreOptionsAt name rows (Graph flow dot) =
@@ -127,6 +128,11 @@ AreOptionsAt name rows Encode = name ≡ codes "encode"
 AreOptionsAt name rows (Recover flow journal) = (name ≡ codes "recover") × (Some flow.now ≡ first_of (codes "flow") rows) × (Some journal.now ≡ first_of (codes "journal") rows)
 AreOptionsAt name rows (Journal o) = (name ≡ codes "journal") × AreJournalOptions rows o
 AreOptionsAt name rows (Run o) = (name ≡ codes "run") × AreRunOptions rows o
+
+-- the same options where standard input is a terminal or not
+abbrev pub at_terminal : Bool → Options → Options
+at_terminal is_terminal (Step flow prompt) = Step flow (prompt || is_terminal)
+at_terminal is_terminal o = o
 
 -- no options are those of the subcommand `name`
 abbrev pub IsNoSubcommand : Text → List Row → Type 0

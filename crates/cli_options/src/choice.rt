@@ -1,12 +1,16 @@
 //! What a command line asks for.
 
+ghost use Rattle.std.specs.Prelude.{◌≡◌};
+ghost use Rattle.cli_options.specs.CommandLine.{at_terminal};
+
 /// A subcommand with what it was given.
 #[derive(Clone, Copy)]
 pub enum Options<'a> {
     /// `step`: a script of transactions comes from standard input. With `--flow` its flow is that of
-    /// the flow file at this path.
+    /// the flow file at this path. With `--prompt` each line is asked for by a prompt.
     Step {
         flow: Option<&'a str>,
+        prompt: bool,
     },
     /// `asm`: a flow file from standard input is printed as the image of its steps.
     Asm,
@@ -36,6 +40,21 @@ pub enum Options<'a> {
     Journal(JournalOptions<'a>),
     /// `run`: answers the requests in frames from standard input, by the flow of the flow file at a path.
     Run(RunOptions<'a>),
+}
+
+impl<'a> Options<'a> {
+    /// The same options where standard input is a terminal or not: on a terminal `step` prompts without its flag too.
+    pub fn at_terminal(self, is_terminal: bool) -> Options<'a>
+        ensures { result ≡ at_terminal is_terminal self.entry }
+    {
+        match self {
+            Options::Step { flow, prompt } => Options::Step {
+                flow,
+                prompt: prompt || is_terminal,
+            },
+            other => other,
+        }
+    }
 }
 
 /// What `journal` is given.

@@ -94,6 +94,7 @@ fn options_at<'a>(name: &str, found: &ArgMatches<'a>) -> Result<Options<'a>, Opt
     match name {
         "step" => Ok(Options::Step {
             flow: text_at(found, "flow"),
+            prompt: is_set(text_at(found, "prompt")),
         }),
         "asm" => Ok(Options::Asm),
         "list" => Ok(Options::List),

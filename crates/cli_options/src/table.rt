@@ -39,12 +39,20 @@ const COMMANDS: [CommandRow<'static>; 9] = [
     CommandRow {
         name: "step",
         about: "Runs a script of transactions from standard input and prints one line for each step",
-        options: &[OptionRow {
-            name: "flow",
-            given: Given::Value("PATH"),
-            help: "The flow file of the script, which then has no flow lines",
-            is_required: false,
-        }],
+        options: &[
+            OptionRow {
+                name: "flow",
+                given: Given::Value("PATH"),
+                help: "The flow file of the script, which then has no flow lines",
+                is_required: false,
+            },
+            OptionRow {
+                name: "prompt",
+                given: Given::Flag,
+                help: "Prompts for each line and goes on after a refused one [default: on a terminal]",
+                is_required: false,
+            },
+        ],
     },
     CommandRow {
         name: "asm",

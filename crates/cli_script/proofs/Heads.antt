@@ -1,5 +1,5 @@
 -- The settings at the head of a script, one line after the other.
--- for: script::read_head, script::next_setting, script::open_script, actions::Actions::next
+-- for: script::read_head, script::next_setting, script::open_script, script::open_settings, actions::Actions::next
 use Rattle.std.proofs.Common.{◌≡◌, ◌≢◌, ◌∙◌, ◌+◌, ◌<◌, ◌++◌, ◌∷◌, [], ℕ, Bool, false, List, length, Option, None, Some, Result, Ok, Err, inl, inr, is_some, refl, sym, ap, arith, length-append, length-drop, append-nil}
 use Rattle.std.proofs.lemmas.List.Concat.{flat_map-append}
 use Rattle.std.proofs.lemmas.List.Folds.{list_any-append}
@@ -10,7 +10,7 @@ use Rattle.flow_model.specs.declared.error.FlowError.{FlowError}
 use Rattle.flow_model.specs.declared.flow.Flow.{Flow}
 use Rattle.cli_script.proofs.Causes.{memory_meant}
 use Rattle.cli_script.specs.Grammar.{Answers, meaning_of}
-use Rattle.cli_script.specs.Scripts.{BeginsWith, BeginsWithAction, HasNoSetting, IsBehind, IsHeadRead, IsActionRefusal, IsHeadRefused, IsLineRefusal, IsMeant, IsRefusedAt, IsRefusalBehind, IsScriptRefused, error_at, is_misplaced, others_of}
+use Rattle.cli_script.specs.Scripts.{BeginsWith, BeginsWithAction, HasNoSetting, IsBehind, IsHeadRead, IsActionRefusal, IsHeadRefused, IsLineRefusal, IsMeant, IsRefusedAt, IsRefusalBehind, IsScriptRefused, IsUnstated, error_at, is_misplaced, others_of}
 use Rattle.cli_script.specs.Settings.{AddsSetting, IsKeptOf, advices_in, answers_in, choices_in, groups_in, last_in, restores_in, retries_in, sessions_in, stated_flow}
 use Rattle.cli_script.specs.declared.error.LineError.{LineError}
 use Rattle.cli_script.specs.declared.error.LineError.TheVariants.{OutOfMemory}
@@ -156,3 +156,30 @@ head_refused file script e head = record {
   as_script (error.Crowded n found) refused = refused
   as_script (error.Flow n cause) refused = absurd refused
   as_script error.OutOfMemory refused = refused
+
+-- and the flow that the settings of a prompt state
+pub stated_refused : (file : Option Flow) (settings rest : List ℕ) (kept : Settings) (lines line : ℕ) (f : Flow) (cause : FlowError)
+    → IsHeadRead (is_some file) settings kept rest lines → HasNoSetting rest
+    → ((ss : List Setting) → IsKeptOf ss kept → f ≡ stated_flow file ss) → first_fault f ≡ Some cause
+    → IsUnstated file settings line (error.Flow line cause)
+stated_refused file settings rest kept lines line f cause head ends states fault = (
+  refl,
+  record {
+    stated = head.stated;
+    rest = rest;
+    behind = head.behind;
+    ends = ends;
+    placed = head.placed;
+    fault = ap first_fault (sym (states head.stated head.states)) ∙ fault;
+  },
+)
+
+-- a refusal at their head
+pub head_unstated : (file : Option Flow) (settings : List ℕ) (line : ℕ) (e : ScriptError) → IsHeadRefused (is_some file) settings e
+    → IsUnstated file settings line e
+head_unstated file settings line (error.Line n cause found) head = head
+head_unstated file settings line (error.FlowBesideFile n found) head = head
+head_unstated file settings line (error.LateSetting n found) head = head
+head_unstated file settings line (error.Crowded n found) head = head
+head_unstated file settings line (error.Flow n cause) head = absurd head.refused
+head_unstated file settings line error.OutOfMemory head = tt

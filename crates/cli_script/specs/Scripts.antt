@@ -1,8 +1,9 @@
 -- A script: the settings at its head, and the lines after them.
-use Rattle.std.specs.Prelude.{◌≡◌, ◌≢◌, ◌⊎◌, ℕ, ◌+◌, ◌&&◌, Bool, true, false, List, [], ◌∷◌, length, Option, Some, None, Result, Ok, Err, is_some}
+use Rattle.std.specs.Prelude.{◌≡◌, ◌≢◌, ◌⊎◌, ⊤, ℕ, ◌+◌, ◌&&◌, Bool, true, false, List, [], ◌∷◌, length, Option, Some, None, Result, Ok, Err, is_some}
 use Rattle.std.specs.Borrow.{Bor}
 use Rattle.std.specs.List.{after_first, before_first, list_any}
 use Rattle.flow_model.specs.Check.{IsChecked, first_fault}
+use Rattle.flow_model.specs.declared.error.FlowError.{FlowError}
 use Rattle.flow_model.specs.declared.flow.Flow.{Flow}
 use Rattle.cli_io.specs.Quoting.{quoted}
 use Rattle.cli_script.specs.Grammar.{meaning_of}
@@ -20,6 +21,7 @@ use Rattle.cli_script.specs.declared.line.ScriptLine.{ScriptLine}
 use Rattle.cli_script.specs.declared.line.ScriptLine.TheVariants as line
 use Rattle.cli_script.specs.declared.line.Setting.{Setting}
 use Rattle.cli_script.specs.declared.line.Setting.TheVariants as setting
+use Rattle.cli_script.specs.declared.script.Opening.{Opening}
 use Rattle.cli_script.specs.declared.script.Script.{Script}
 use Rattle.cli_script.specs.declared.settings.Settings.{Settings}
 
@@ -140,6 +142,33 @@ pub record IsOpened (file : Option Flow) (script : List ℕ) (s : Script) : Type
 abbrev pub IsOpenedAs : Option Flow → List ℕ → Option Script → Type 0
 IsOpenedAs file script None = (ss : List Setting) × IsBehind ss script [] × (list_any (is_misplaced (is_some file)) ss ≡ false)
 IsOpenedAs file script (Some s) = IsOpened file script s
+
+-- the settings at the head of these bytes state the flow, which is checked, the number of sessions and the replies
+pub record IsStated (file : Option Flow) (settings : List ℕ) (o : Opening) : Type 0 where
+  pub stated : List Setting
+  pub rest : List ℕ
+  pub behind : IsBehind stated settings rest
+  pub ends : HasNoSetting rest
+  pub placed : list_any (is_misplaced (is_some file)) stated ≡ false
+  pub flow : o.flow ≡ stated_flow file stated
+  pub checked : IsChecked o.flow
+  pub sessions : o.sessions ≡ stated_sessions stated
+  pub replies : IsRepliesOf stated o.replies
+
+-- the flow that they state is refused
+pub record HasFlowFault (file : Option Flow) (settings : List ℕ) (cause : FlowError) : Type 0 where
+  pub stated : List Setting
+  pub rest : List ℕ
+  pub behind : IsBehind stated settings rest
+  pub ends : HasNoSetting rest
+  pub placed : list_any (is_misplaced (is_some file)) stated ≡ false
+  pub fault : first_fault (stated_flow file stated) ≡ Some cause
+
+-- why they are not opened at the line of this number: a line of them is refused, or their flow
+abbrev pub IsUnstated : Option Flow → List ℕ → ℕ → ScriptError → Type 0
+IsUnstated file settings line (error.Flow n cause) = (n ≡ line) × HasFlowFault file settings cause
+IsUnstated file settings line error.OutOfMemory = ⊤
+IsUnstated file settings line e = IsHeadRefused (is_some file) settings e
 
 -- the context that the line offers has too many names
 abbrev pub crowds : Action → Bool

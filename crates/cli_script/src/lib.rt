@@ -21,4 +21,4 @@ pub use error::{LineError, ScriptError};
 pub use line::{Action, ScriptLine, Setting};
 pub use read::read_line;
 pub use replies::Replies;
-pub use script::{Script, next_setting, open_script};
+pub use script::{Opening, Script, next_setting, open_script, open_settings};

@@ -1,7 +1,7 @@
 //! A script: the settings at its head, and the lines after them.
 ghost use Rattle.std.specs.Prelude.{◌≡◌, ◌+◌, ◌<◌, ◌≤◌, ◌^◌, IfErr, IfOk, length};
 ghost use Rattle.cli_script.specs.Scripts.{HasNoSetting, IsHeadRead, IsHeadRefused, IsNextSetting};
-ghost use Rattle.cli_script.specs.Scripts.{IsOpenedAs, IsScriptRefused, is_misplaced};
+ghost use Rattle.cli_script.specs.Scripts.{IsOpenedAs, IsScriptRefused, IsStated, IsUnstated, is_misplaced};
 
 use crate::actions::Actions;
 use crate::error::{ScriptError, error_at};
@@ -132,4 +132,43 @@ pub fn open_script(
         replies,
         actions,
     }))
+}
+
+/// What settings state.
+#[derive(Drop)]
+pub struct Opening {
+    /// The flow. It is checked.
+    pub flow: Flow,
+    /// The number of sessions.
+    pub sessions: u64,
+    /// The replies that are queued.
+    pub replies: Replies,
+}
+
+/// Opens the settings of a prompt over the flow of a flow file, if there is one: checks the flow that they state. `line`
+/// is the number of the line at which this is done, which a refused flow names.
+pub fn open_settings(
+    alloc: Global,
+    file: Option<Flow>,
+    settings: &[u8],
+    line: usize,
+) -> Result<Opening, ScriptError>
+    ensures stated { IfOk result (IsStated file settings.entry.now) }
+    ensures refused { IfErr result (IsUnstated file settings.entry.now line) }
+{
+    let Head {
+        settings,
+        rest: _,
+        lines: _,
+    } = read_head(alloc, file.is_some(), settings)?;
+    let sessions = settings.sessions();
+    let (flow, replies) = settings.into_parts(file);
+    match flow.check_by_map(alloc)? {
+        Ok(()) => Ok(Opening {
+            flow,
+            sessions,
+            replies,
+        }),
+        Err(cause) => Err(ScriptError::Flow { line, cause }),
+    }
 }

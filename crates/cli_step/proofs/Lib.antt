@@ -3,6 +3,8 @@ mod Counted
 mod Gathering
 mod Joining
 mod Playing
+mod Prompting
 mod Puts
+mod Sessions
 mod Turning
 mod Writing

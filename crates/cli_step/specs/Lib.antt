@@ -5,3 +5,5 @@ pub mod Shown
 pub mod Auto
 pub mod Runs
 pub mod Errors
+pub mod PromptWords
+pub mod Prompts

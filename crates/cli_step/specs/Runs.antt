@@ -20,6 +20,8 @@ use Rattle.cli_step.specs.Errors.{at_line}
 use Rattle.cli_step.specs.Doing.{Point, Says, session_of, turn_of}
 use Rattle.cli_step.specs.Shown.{Shows}
 use Rattle.cli_step.specs.declared.error.ActionError.{ActionError}
+use Rattle.cli_step.specs.declared.error.ActionError.TheVariants as act
+use Rattle.tx_plant.specs.declared.turn.PlantError.TheVariants as plant
 use Rattle.cli_step.specs.declared.error.StepError.{StepError}
 use Rattle.cli_step.specs.declared.error.StepError.TheVariants as error
 
@@ -75,6 +77,13 @@ IsWriting e = ⊥
 abbrev pub IsUnwritten : Option (List ℕ) → Option (List ℕ) → Text → Result Unit ActionError → ℕ → StepError → Type 0
 IsUnwritten before after text ran line e = ((count : ℕ) × Appends before after (take count text))
     × (IsWriting e ⊎ (Appends before after text × ((x : ActionError) × (ran ≡ Err x) × (e ≡ at_line line x))))
+
+-- the journal refused, or memory ran out
+abbrev pub IsOfJournal : ActionError → Type 0
+IsOfJournal act.OutOfMemory = ⊤
+IsOfJournal (act.Plant plant.OutOfMemory) = ⊤
+IsOfJournal (act.Plant (plant.Journal cause)) = ⊤
+IsOfJournal _ = ⊥
 
 -- something was written, and what was there before stands
 abbrev pub Grows : Option (List ℕ) → Option (List ℕ) → Type 0

@@ -3,14 +3,18 @@
 //! Promised here, by the definitions in `specs/`:
 //! - each line that is a turn does that turn of the plant (`Plant::drive`), and prints the line of what came
 //!   of it: of an accepted event the line of its entry, by a tracer that goes along (`Says`);
-//! - `where` prints the place that `tx_trace::whereis` gives.
+//! - `where` prints the place that `tx_trace::whereis` gives;
+//! - at a prompt a line that is refused is told and changes nothing, and the session goes on (`IsPrompted`).
 #![tactic(auto)]
 
 mod actions;
 mod auto;
 mod error;
 mod head;
+mod opening;
 mod places;
+mod prompt;
+mod prompt_words;
 mod said;
 mod script;
 mod shown;
@@ -18,5 +22,6 @@ mod turns;
 
 pub use actions::turn_of;
 pub use error::StepError;
+pub use opening::run_prompted;
 pub use said::told;
 pub use script::{run_actions, run_lines};

@@ -7,7 +7,7 @@ ghost use Rattle.cli_lines.specs.Lines.{room, to_come};
 ghost use Rattle.flow_model.specs.Check.{IsChecked};
 ghost use Rattle.tx_trace.specs.Follow.{Follows};
 ghost use Rattle.cli_step.specs.Doing.{point_of};
-ghost use Rattle.cli_step.specs.Runs.{Grows, IsLineFailed, IsRun, IsUnwritten, IsWriting, PlayedOn};
+ghost use Rattle.cli_step.specs.Runs.{Grows, IsLineFailed, IsOfJournal, IsRun, IsUnwritten, IsWriting, PlayedOn};
 ghost use Rattle.cli_step.specs.Runs.{Ran, RanAll, RunsLine, Stopped};
 
 use crate::actions::run_action;
@@ -54,8 +54,8 @@ fn put_out<W: Write>(
     }
 }
 
-// Runs the line of this number, and writes what it prints.
-fn run_line<S: Alter, W: Write>(
+/// Runs the line of this number, and writes what it prints.
+pub fn run_line<S: Alter, W: Write>(
     alloc: Global,
     plant: &mut Plant<S>,
     tracer: &mut Tracer,
@@ -100,9 +100,10 @@ pub fn run_actions<S: Alter, W: Write>(
     flush(out)
 }
 
-// A journal in memory.
-fn memory_journal(alloc: Global) -> Result<Journal<MemStore>, ActionError>
-    ensures { IfOk result (λ journal. journal.failed ≡ false) }
+/// A journal in memory.
+pub fn memory_journal(alloc: Global) -> Result<Journal<MemStore>, ActionError>
+    ensures whole { IfOk result (λ journal. journal.failed ≡ false) }
+    ensures refused { IfErr result IsOfJournal }
 {
     match Journal::open(alloc, Connection::open_in_memory(alloc)?) {
         Ok(journal) => Ok(journal),

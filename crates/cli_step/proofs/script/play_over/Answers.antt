@@ -10,7 +10,7 @@ returns-clause-played g c =
     let first = ran_whole c.args.actions.now c.run_actions.new.actions _ _ _ _ c.in_ok-run_actions.ensures.ran c.in_ok-run_actions.ensures.all in
     on_ok c.run_rest.result (λ all. if_some (to_come g.R.Read.remaining c.args.lines.now) (λ others rest. record {
       start = _;
-      begun = record { journal = _; fresh = c.in-Ok.ensures; view = opened.0; opened = opened.1; seated = c.in-Ok-new.ensures.seated };
+      begun = record { journal = _; fresh = c.in-Ok.ensures.whole; view = opened.0; opened = opened.1; seated = c.in-Ok-new.ensures.seated };
       between = _;
       written = _;
       first = first;

@@ -1,5 +1,5 @@
 use Rattle.cardswitch.proofs.Stepping.{step_failed, stepped}
-use Rattle.cardswitch.proofs.steps.step.Goals as goal
+use Rattle.cardswitch.proofs.steps.step_script.Goals as goal
 
 pub returns-clause-stepped : goal.returns-clause-stepped
 returns-clause-stepped g c = stepped c.args.path c.file_flow-file.result _ _ _ c.step_over.result c.file_flow-file.ensures.flow c.step_over.ensures.no_flow c.step_over.ensures.ran

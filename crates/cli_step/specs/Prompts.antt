@@ -1,0 +1,243 @@
+-- A session at a prompt: what each of its lines does to a plant, and what it writes.
+use Rattle.std.specs.Prelude.{◌≡◌, ◌≢◌, ◌⊎◌, ⊤, ℕ, Bool, true, false, List, [], ◌∷◌, ◌++◌, codes, Option, Some, None, is_some}
+use Rattle.std.specs.Io.KnownBytes.{Appends}
+use Rattle.cli_lines.specs.Feeds.{first_line}
+use Rattle.cli_script.specs.Grammar.{meaning_of}
+use Rattle.cli_script.specs.Heads.{IsPlacedSetting}
+use Rattle.cli_script.specs.Scripts.{HasNoSetting, IsActionRefusal, IsRefusedAt, IsStated, IsUnstated, line_of, others_of}
+use Rattle.cli_script.specs.declared.error.ScriptError.{ScriptError}
+use Rattle.cli_script.specs.declared.error.ScriptError.TheVariants as script
+use Rattle.cli_script.specs.declared.line.Action.{Action}
+use Rattle.cli_script.specs.declared.script.Opening.{Opening}
+use Rattle.flow_model.specs.declared.flow.Flow.{Flow}
+use Rattle.tx_history.specs.declared.journal.JournalView.{JournalView}
+use Rattle.tx_engine.specs.Opening.{open_refusal}
+use Rattle.tx_engine.specs.declared.error.EngineError.TheVariants as engine
+use Rattle.tx_plant.specs.declared.turn.PlantError.{PlantError}
+use Rattle.tx_plant.specs.declared.turn.PlantError.TheVariants as plant
+use Rattle.tx_trace.specs.Trace.{Text}
+use Rattle.cli_step.specs.Doing.{Point, world_of}
+use Rattle.cli_step.specs.PromptWords.{prompt_word_of, prompt_word_text}
+use Rattle.cli_step.specs.Runs.{Acts, Begun, Means}
+use Rattle.cli_step.specs.declared.error.StepError.{StepError}
+use Rattle.cli_step.specs.declared.error.StepError.TheVariants as error
+use Rattle.cli_step.specs.declared.prompt_words.TheConstants.{HELP}
+use Rattle.cli_step.specs.declared.prompt_words.PromptWord.{PromptWord}
+use Rattle.cli_step.specs.declared.prompt_words.PromptWord.TheVariants as word
+use Rattle.cli_step.specs.declared.opening.HeadLine.{HeadLine}
+use Rattle.cli_step.specs.declared.opening.HeadLine.TheVariants as head
+
+abbrev pub prompt : Text
+prompt = codes "cardswitch> "
+
+-- a plant between two lines, and what is written on standard output and standard error, where that is known
+pub record Scene : Type 0 where
+  pub at : Point
+  pub out : Option (List ℕ)
+  pub err : Option (List ℕ)
+
+abbrev pub scene : Point → Option (List ℕ) → Option (List ℕ) → Scene
+scene p out err = record { at = p; out = out; err = err }
+
+-- a refusal was told
+abbrev pub IsTold : Option (List ℕ) → Option (List ℕ) → Type 0
+IsTold before after = (text : Text) × Appends before after (codes "cardswitch: " ++ text)
+
+-- the prompt was written, and nothing else changed
+pub record Prompted (a b : Scene) : Type 0 where
+  pub at : b.at ≡ a.at
+  pub out : Appends a.out b.out prompt
+  pub err : b.err ≡ a.err
+
+-- the line is refused after the settings; memory did not run out
+pub record IsRefusedLine (line : List ℕ) : Type 0 where
+  pub number : ℕ
+  pub cause : ScriptError
+  pub is_refusal : cause ≢ script.OutOfMemory
+  pub refused : IsActionRefusal number (line_of line) (meaning_of (line_of line)) cause
+
+-- a word of the prompt shows its text, and changes nothing
+pub record Shows (w : PromptWord) (a b : Scene) : Type 0 where
+  pub at : b.at ≡ a.at
+  pub out : Appends a.out b.out (prompt_word_text w (world_of a.at))
+  pub err : b.err ≡ a.err
+
+-- an action is done, and its text is written
+pub record Does (line : List ℕ) (a b : Scene) : Type 0 where
+  pub action : Action
+  pub means : Means line action
+  pub text : Text
+  pub acts : Acts action a.at text b.at
+  pub out : Appends a.out b.out text
+  pub err : b.err ≡ a.err
+
+-- a line is refused, which is told; nothing else changes
+pub record Refuses (line : List ℕ) (a b : Scene) : Type 0 where
+  pub refused : IsRefusedLine line
+  pub at : b.at ≡ a.at
+  pub out : b.out ≡ a.out
+  pub err : IsTold a.err b.err
+
+abbrev pub IsRunOrTold : List ℕ → Scene → Scene → Type 0
+IsRunOrTold line a b = Does line a b ⊎ Refuses line a b
+
+abbrev pub AnswersBy : Option PromptWord → List ℕ → Scene → Scene → Type 0
+AnswersBy (Some w) line a b = Shows w a b
+AnswersBy None line a b = IsRunOrTold line a b
+
+-- a line was answered
+abbrev pub Answers : List ℕ → Scene → Scene → Type 0
+Answers line a b = AnswersBy (prompt_word_of (line_of line)) line a b
+
+-- lines were asked for and answered, one after the other
+abbrev pub Talks : List (List ℕ) → Scene → Scene → Type 0
+Talks [] a b = b ≡ a
+Talks (line ∷ lines) a b = (asked : Scene) × (answered : Scene) × Prompted a asked × Answers line asked answered × Talks lines answered b
+
+-- these are the first lines, and this follows
+abbrev pub AreFirst : List (List ℕ) → List ℕ → List ℕ → Type 0
+AreFirst [] bytes rest = rest ≡ bytes
+AreFirst (line ∷ lines) bytes rest = (bytes ≢ []) × (line ≡ first_line bytes) × AreFirst lines (others_of bytes) rest
+
+-- at the end of the input the prompt is written, and a line feed
+abbrev pub IsLeft : Option (List ℕ) → Option (List ℕ) → Type 0
+IsLeft before after = (asked : Option (List ℕ)) × Appends before asked prompt × Appends asked after (10 ∷ [])
+
+-- all lines of the input were answered, up to its end
+pub record Talked (input : List ℕ) (a b : Scene) : Type 0 where
+  pub lines : List (List ℕ)
+  pub are : AreFirst lines input []
+  pub last : Scene
+  pub talks : Talks lines a last
+  pub left : IsLeft last.out b.out
+  pub err : b.err ≡ last.err
+  pub at : b.at ≡ last.at
+
+-- what a line of a script is where no flow is opened yet
+abbrev pub IsScriptHeadLine : Bool → List ℕ → HeadLine → Type 0
+IsScriptHeadLine has_file line head.Help = ⊥
+IsScriptHeadLine has_file line head.Setting = IsPlacedSetting has_file line
+IsScriptHeadLine has_file line head.Opens = HasNoSetting line
+IsScriptHeadLine has_file line (head.Refused cause) =
+    (cause ≢ script.OutOfMemory) × ((before : ℕ) × IsRefusedAt has_file before line cause)
+
+-- the same of any line, by the word of the prompt that it is
+abbrev pub IsHeadLineBy : Option PromptWord → Bool → List ℕ → HeadLine → Type 0
+IsHeadLineBy (Some word.Help) has_file line kind = kind ≡ head.Help
+IsHeadLineBy (Some word.List) has_file line kind = kind ≡ head.Opens
+IsHeadLineBy (Some word.Info) has_file line kind = kind ≡ head.Opens
+IsHeadLineBy None has_file line kind = IsScriptHeadLine has_file line kind
+
+abbrev pub IsHeadLine : Bool → List ℕ → HeadLine → Type 0
+IsHeadLine has_file line kind = IsHeadLineBy (prompt_word_of (line_of line)) has_file line kind
+
+-- the settings that were taken so far, line after line, and what is written
+pub record Heading : Type 0 where
+  pub settings : List ℕ
+  pub out : Option (List ℕ)
+  pub err : Option (List ℕ)
+
+abbrev pub heading : List ℕ → Option (List ℕ) → Option (List ℕ) → Heading
+heading settings out err = record { settings = settings; out = out; err = err }
+
+-- the number of sessions is refused
+abbrev pub HasBadSessions : Flow → ℕ → Type 0
+HasBadSessions flow sessions = (view : JournalView) × (open_refusal flow view sessions ≡ Some engine.BadSessions)
+
+-- the settings are refused: one of them, the flow that they state, or the number of sessions
+abbrev pub IsUnopened : Option Flow → List ℕ → Type 0
+IsUnopened file settings =
+    ((line : ℕ) × (cause : ScriptError) × (cause ≢ script.OutOfMemory) × IsUnstated file settings line cause)
+    ⊎ ((o : Opening) × IsStated file settings o × HasBadSessions o.flow o.sessions)
+
+-- a refusal is told; settings and output stay
+pub record StaysHead (a b : Heading) : Type 0 where
+  pub settings : b.settings ≡ a.settings
+  pub out : b.out ≡ a.out
+  pub err : IsTold a.err b.err
+
+-- what a line does that opens no flow
+abbrev pub HeadActs : Option Flow → HeadLine → List ℕ → Heading → Heading → Type 0
+HeadActs file head.Help line a b =
+    (b.settings ≡ a.settings) × Appends a.out b.out HELP.now × (b.err ≡ a.err)
+HeadActs file head.Setting line a b = (b.settings ≡ a.settings ++ line) × (b.out ≡ a.out) × (b.err ≡ a.err)
+HeadActs file head.Opens line a b = IsUnopened file a.settings × StaysHead a b
+HeadActs file (head.Refused cause) line a b = StaysHead a b
+
+-- a line was answered that opens no flow
+abbrev pub HeadAnswers : Option Flow → List ℕ → Heading → Heading → Type 0
+HeadAnswers file line a b = (kind : HeadLine) × IsHeadLine (is_some file) line kind × HeadActs file kind line a b
+
+-- the prompt was written, and nothing else changed
+pub record HeadPrompted (a b : Heading) : Type 0 where
+  pub settings : b.settings ≡ a.settings
+  pub out : Appends a.out b.out prompt
+  pub err : b.err ≡ a.err
+
+-- lines were asked for and answered that open no flow, one after the other
+abbrev pub HeadTalks : Option Flow → List (List ℕ) → Heading → Heading → Type 0
+HeadTalks file [] a b = b ≡ a
+HeadTalks file (line ∷ lines) a b =
+    (asked : Heading) × (answered : Heading) × HeadPrompted a asked × HeadAnswers file line asked answered × HeadTalks file lines answered b
+
+-- a plant was made of the flow, the line was answered over it, and then all others of the input
+pub record TalkedOver (flow : Flow) (sessions : ℕ) (line others : List ℕ) (out err out_after err_after : Option (List ℕ)) : Type 0 where
+  pub start : Point
+  pub begun : Begun flow sessions start
+  pub answered : Scene
+  pub first : Answers line (scene start out err) answered
+  pub end : Scene
+  pub rest : Talked others answered end
+  pub out_is : out_after ≡ end.out
+  pub err_is : err_after ≡ end.err
+
+-- the settings opened a flow, over whose plant the line and the others of the input were answered
+pub record OpenedOver (file : Option Flow) (settings line others : List ℕ) (out err out_after err_after : Option (List ℕ)) : Type 0 where
+  pub opening : Opening
+  pub stated : IsStated file settings opening
+  pub over : TalkedOver opening.flow opening.sessions line others out err out_after err_after
+
+-- the line is one that opens it
+abbrev pub OpenedAt : Option Flow → List ℕ → List ℕ → List ℕ → Option (List ℕ) → Option (List ℕ) → Option (List ℕ) → Option (List ℕ) → Type 0
+OpenedAt file settings line others out err out_after err_after =
+    IsHeadLine (is_some file) line head.Opens × OpenedOver file settings line others out err out_after err_after
+
+-- the input, the output and the error output are as they were
+abbrev pub AreSame : {L W E : Type 0} → L → L → W → W → E → E → Type 0
+AreSame lines lines_now out out_now err err_now = (lines_now ≡ lines) × (out_now ≡ out) × (err_now ≡ err)
+
+-- the input ended, or a flow was opened at its first line
+abbrev pub EndsHead : Option Flow → List ℕ → Heading → Option (List ℕ) → Option (List ℕ) → Type 0
+EndsHead file rest asked out_after err_after =
+    ((rest ≡ []) × Appends asked.out out_after (10 ∷ []) × (err_after ≡ asked.err))
+    ⊎ ((rest ≢ []) × OpenedAt file asked.settings (first_line rest) (others_of rest) asked.out asked.err out_after err_after)
+
+-- all lines of the input were asked for and answered, over the flow of a flow file where there is one
+pub record IsPrompted (file : Option Flow) (input : List ℕ) (out err out_after err_after : Option (List ℕ)) : Type 0 where
+  pub lines : List (List ℕ)
+  pub rest : List ℕ
+  pub are : AreFirst lines input rest
+  pub last : Heading
+  pub talks : HeadTalks file lines (heading [] out err) last
+  pub asked : Heading
+  pub prompted : HeadPrompted last asked
+  pub ends : EndsHead file rest asked out_after err_after
+
+-- the number of sessions is refused
+abbrev pub is_of_sessions : PlantError → Bool
+is_of_sessions (plant.Engine engine.BadSessions) = true
+is_of_sessions _ = false
+
+-- why a session ends early: a fault that is not of a line. A refused number of sessions is one only of a plant that was made
+abbrev pub IsFaultOf : Type 0 → StepError → Type 0
+IsFaultOf Made (error.Script e) = ⊥
+IsFaultOf Made (error.Plant n cause) = is_of_sessions cause ≡ true → Made
+IsFaultOf Made e = ⊤
+
+-- a plant was made of this flow
+abbrev pub IsMade : Flow → ℕ → Type 0
+IsMade flow sessions = (start : Point) × Begun flow sessions start
+
+-- a plant was made
+abbrev pub SomeIsMade : Type 0
+SomeIsMade = (flow : Flow) × (sessions : ℕ) × IsMade flow sessions

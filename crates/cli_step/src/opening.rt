@@ -1,0 +1,357 @@
+//! A session at a prompt: its settings, and the line at which a plant is made of them.
+
+ghost use Rattle.std.specs.Prelude.{◌≡◌, ◌≢◌, ◌+◌, ◌<◌, ◌^◌, ⊤, [], false, true, IfErr, IfOk, IfSome};
+ghost use Rattle.std.specs.Prelude.{OnErr, OnOk, length};
+ghost use Rattle.cli_lines.specs.Lines.{lines_given, to_come};
+ghost use Rattle.flow_model.specs.Check.{IsChecked};
+ghost use Rattle.cli_step.specs.Prompts.{AreSame, HasBadSessions, HeadAnswers, IsFaultOf, IsHeadLine};
+ghost use Rattle.cli_step.specs.Prompts.{IsScriptHeadLine, is_of_sessions};
+ghost use Rattle.cli_step.specs.Prompts.{IsMade, IsPrompted, IsTold, IsUnopened, OpenedAt, OpenedOver};
+ghost use Rattle.cli_step.specs.Prompts.{SomeIsMade, TalkedOver, heading};
+ghost use Rattle.cli_step.specs.Runs.{Grows};
+
+use crate::error::{ActionError, StepError};
+use crate::prompt::{answer, ask, leave, refusal, talk, tell};
+use crate::prompt_words::{HELP, PromptWord, prompt_word_at};
+use crate::script::memory_journal;
+use cli_io::write_out;
+use cli_lines::Lines;
+use cli_script::{Opening, ScriptError, next_setting, open_settings};
+use flow_asm::{Code, assemble, list};
+use flow_model::Flow;
+use std::alloc::{AllocError, Global};
+use std::io::{Read, Write};
+use sw_participant::Station;
+use sw_scripted::Scripted;
+use tx_engine::EngineError;
+use tx_plant::{Plant, PlantError};
+use tx_trace::Tracer;
+
+/// What a line is where no flow is opened yet.
+#[derive(Drop)]
+enum HeadLine {
+    /// `help`.
+    Help,
+    /// A setting that may stand there.
+    Setting,
+    /// An action, `list` or `info`: the flow is opened for it.
+    Opens,
+    /// It is refused.
+    Refused(ScriptError),
+}
+
+// What a line of a script is where no flow is opened yet. So many lines came before it.
+fn script_head_line(
+    alloc: Global,
+    has_file: bool,
+    before: usize,
+    line: &[u8],
+) -> Result<HeadLine, StepError>
+    requires { before + length line.now < 2 ^ 64 }
+    ensures is { IfOk result (IsScriptHeadLine has_file line.now) }
+    ensures fault { IfErr result (IsFaultOf ⊤) }
+{
+    match next_setting(alloc, has_file, before, line) {
+        Ok(Some(_)) => Ok(HeadLine::Setting),
+        Ok(None) => Ok(HeadLine::Opens),
+        Err(error) => Ok(HeadLine::Refused(refusal(error)?)),
+    }
+}
+
+// The same of any line.
+fn head_line(
+    alloc: Global,
+    has_file: bool,
+    before: usize,
+    line: &[u8],
+) -> Result<HeadLine, StepError>
+    requires { before + length line.now < 2 ^ 64 }
+    ensures is { IfOk result (IsHeadLine has_file line.now) }
+    ensures fault { IfErr result (IsFaultOf ⊤) }
+{
+    match prompt_word_at(line) {
+        Some(PromptWord::Help) => Ok(HeadLine::Help),
+        Some(PromptWord::List) => Ok(HeadLine::Opens),
+        Some(PromptWord::Info) => Ok(HeadLine::Opens),
+        None => script_head_line(alloc, has_file, before, line),
+    }
+}
+
+// The steps of the flow of a flow file, if there is one.
+fn code_of(alloc: Global, file: Option<Flow>) -> Result<Option<Code>, AllocError>
+    requires { IfSome file IsChecked }
+    ensures { IfOk result (λ code. code ≡ file) }
+{
+    match file {
+        Some(flow) => Ok(Some(assemble(alloc, &flow)?)),
+        None => Ok(None),
+    }
+}
+
+// Their flow.
+fn flow_of(alloc: Global, file: &Option<Code>) -> Result<Option<Flow>, AllocError>
+    ensures { IfOk result (λ flow. flow ≡ file.now) }
+{
+    match file {
+        Some(code) => Ok(Some(list(alloc, code)?)),
+        None => Ok(None),
+    }
+}
+
+// Whether the number of sessions is refused.
+fn is_of_sessions(cause: &PlantError) -> bool
+    ensures { result ≡ is_of_sessions cause.now }
+{
+    matches!(cause, PlantError::Engine(EngineError::BadSessions))
+}
+
+// The refusal of a number of sessions, at the line of this number; any other error ends the session.
+fn plant_refused(cause: PlantError, line: usize) -> Result<StepError, StepError>
+    ensures refused { IfOk result (λ _. is_of_sessions cause ≡ true) }
+    ensures fault { IfErr result (IsFaultOf ⊥) }
+{
+    if is_of_sessions(&cause) {
+        return Ok(StepError::Plant { line, cause });
+    }
+    Err(ActionError::Plant(cause).at_line(line))
+}
+
+// Answers a line over a plant of these stations with a journal in memory, and then all that are still to come; or gives
+// why no plant is made. (Apart, so that its proof does not carry their making.)
+fn talk_over<R: Read, W: Write, E: Write>(
+    alloc: Global,
+    code: &Code,
+    stations: Vec<Station>,
+    sessions: usize,
+    line: &[u8],
+    lines: &mut Lines<R>,
+    out: &mut W,
+    err: &mut E,
+) -> Result<Result<(), StepError>, StepError>
+    requires some { line.now ≢ [] }
+    requires few { lines_given lines.old + length line.now < 2 ^ 64 }
+    requires given { lines_given lines.old ≢ 0 }
+    ensures talked { IfOk result (λ r. OnOk r (IfSome (to_come R.remaining lines.old) (λ others.
+        TalkedOver code.now sessions line.now others (W.contents out.old) (E.contents err.old)
+        (W.contents out.new) (E.contents err.new)))) }
+    ensures refused { IfOk result (λ r. OnErr r (HasBadSessions code.now sessions)) }
+    ensures stays { IfOk result (λ r. OnErr r
+        (AreSame lines.old lines.new out.old out.new err.old err.new)) }
+    ensures grows_out { Grows (W.contents out.old) (W.contents out.new) }
+    ensures grows_err { Grows (E.contents err.old) (E.contents err.new) }
+    ensures fault { IfErr result (IsFaultOf (IsMade code.now sessions)) }
+{
+    let before = lines.count() - 1;
+    let journal = match memory_journal(alloc) {
+        Ok(journal) => journal,
+        Err(error) => return Err(error.at_line(before + 1)),
+    };
+    let mut plant = match Plant::new(alloc, code, journal, stations, sessions) {
+        Ok(plant) => plant,
+        Err((cause, _, _)) => return Ok(Err(plant_refused(cause, before + 1)?)),
+    };
+    let mut tracer = Tracer::new(alloc, plant.engine());
+    answer(alloc, &mut plant, &mut tracer, line, before, out, err)?;
+    talk(alloc, &mut plant, &mut tracer, lines, out, err)?;
+    Ok(Ok(()))
+}
+
+// Makes a participant by the settings for each one of the flow, and answers a line over their plant, and then all that
+// are still to come; or gives why no plant is made. (It hands no station out, as `play`.)
+fn open_over<R: Read, W: Write, E: Write>(
+    alloc: Global,
+    opening: Opening,
+    line: &[u8],
+    lines: &mut Lines<R>,
+    out: &mut W,
+    err: &mut E,
+) -> Result<Result<(), StepError>, StepError>
+    requires checked { IsChecked opening.flow }
+    requires some { line.now ≢ [] }
+    requires few { lines_given lines.old + length line.now < 2 ^ 64 }
+    requires given { lines_given lines.old ≢ 0 }
+    ensures talked { IfOk result (λ r. OnOk r (IfSome (to_come R.remaining lines.old) (λ others.
+        TalkedOver opening.flow opening.sessions line.now others (W.contents out.old) (E.contents err.old)
+        (W.contents out.new) (E.contents err.new)))) }
+    ensures refused { IfOk result (λ r. OnErr r (HasBadSessions opening.flow opening.sessions)) }
+    ensures stays { IfOk result (λ r. OnErr r
+        (AreSame lines.old lines.new out.old out.new err.old err.new)) }
+    ensures grows_out { Grows (W.contents out.old) (W.contents out.new) }
+    ensures grows_err { Grows (E.contents err.old) (E.contents err.new) }
+    ensures fault { IfErr result (IsFaultOf SomeIsMade) }
+{
+    let code = assemble(alloc, &opening.flow)?;
+    let Opening {
+        flow: _,
+        sessions,
+        replies: mut replies,
+    } = opening;
+    let mut stations = Vec::new(alloc);
+    for part in code.participants() {
+        let name = part.name.as_str();
+        let participant = Scripted::new(alloc, replies.take(alloc, name));
+        // A checked flow has no bad name, so the only refusal is out of memory.
+        match Station::new(alloc, name, Box::new(alloc, participant)?) {
+            Ok(station) => stations.push(station)?,
+            Err(_) => return Err(StepError::OutOfMemory),
+        }
+    }
+    talk_over(
+        alloc,
+        &code,
+        stations,
+        sessions as usize,
+        line,
+        lines,
+        out,
+        err,
+    )
+}
+
+// Opens the flow that the settings state at a line, and answers it and all that are still to come; or gives why it is not
+// opened.
+fn open_at<R: Read, W: Write, E: Write>(
+    alloc: Global,
+    file: &Option<Code>,
+    settings: &[u8],
+    line: &[u8],
+    lines: &mut Lines<R>,
+    out: &mut W,
+    err: &mut E,
+) -> Result<Result<(), StepError>, StepError>
+    requires some { line.now ≢ [] }
+    requires few { lines_given lines.old + length line.now < 2 ^ 64 }
+    requires given { lines_given lines.old ≢ 0 }
+    ensures opened { IfOk result (λ r. OnOk r (IfSome (to_come R.remaining lines.old) (λ others.
+        OpenedOver file.now settings.now line.now others (W.contents out.old) (E.contents err.old)
+        (W.contents out.new) (E.contents err.new)))) }
+    ensures refused { IfOk result (λ r. OnErr r (IsUnopened file.now settings.now)) }
+    ensures stays { IfOk result (λ r. OnErr r
+        (AreSame lines.old lines.new out.old out.new err.old err.new)) }
+    ensures grows_out { Grows (W.contents out.old) (W.contents out.new) }
+    ensures grows_err { Grows (E.contents err.old) (E.contents err.new) }
+    ensures fault { IfErr result (IsFaultOf SomeIsMade) }
+{
+    let flow = flow_of(alloc, file)?;
+    match open_settings(alloc, flow, settings, lines.count()) {
+        Ok(opening) => open_over(alloc, opening, line, lines, out, err),
+        Err(error) => Ok(Err(StepError::Script(refusal(error)?))),
+    }
+}
+
+// The same, with the refusal told; whether it is opened.
+fn open_or_tell<R: Read, W: Write, E: Write>(
+    alloc: Global,
+    file: &Option<Code>,
+    settings: &[u8],
+    line: &[u8],
+    lines: &mut Lines<R>,
+    out: &mut W,
+    err: &mut E,
+) -> Result<bool, StepError>
+    requires some { line.now ≢ [] }
+    requires few { lines_given lines.old + length line.now < 2 ^ 64 }
+    requires given { lines_given lines.old ≢ 0 }
+    ensures opened { IfOk result (λ opened. opened ≡ true →
+        IfSome (to_come R.remaining lines.old) (λ others.
+        OpenedOver file.now settings.now line.now others (W.contents out.old) (E.contents err.old)
+        (W.contents out.new) (E.contents err.new))) }
+    ensures refused { IfOk result (λ opened. opened ≡ false → IsUnopened file.now settings.now) }
+    ensures told { IfOk result (λ opened. opened ≡ false →
+        IsTold (E.contents err.old) (E.contents err.new)) }
+    ensures stays { IfOk result (λ opened. opened ≡ false →
+        (lines.new ≡ lines.old) × (out.new ≡ out.old)) }
+    ensures grows_out { Grows (W.contents out.old) (W.contents out.new) }
+    ensures grows_err { Grows (E.contents err.old) (E.contents err.new) }
+    ensures fault { IfErr result (IsFaultOf SomeIsMade) }
+{
+    match open_at(alloc, file, settings, line, lines, out, err)? {
+        Ok(()) => Ok(true),
+        Err(cause) => {
+            tell(alloc, &cause, err)?;
+            Ok(false)
+        }
+    }
+}
+
+// Answers a line where no flow is opened yet; whether it opened one, over which all lines were answered that were still to
+// come.
+fn answer_head<R: Read, W: Write, E: Write>(
+    alloc: Global,
+    file: &Option<Code>,
+    settings: &mut Vec<u8>,
+    line: &[u8],
+    lines: &mut Lines<R>,
+    out: &mut W,
+    err: &mut E,
+) -> Result<bool, StepError>
+    requires some { line.now ≢ [] }
+    requires few { lines_given lines.old + length line.now < 2 ^ 64 }
+    requires given { lines_given lines.old ≢ 0 }
+    ensures head { IfOk result (λ opened. opened ≡ false → HeadAnswers file.now line.now
+        (heading settings.old.items (W.contents out.old) (E.contents err.old))
+        (heading settings.new.items (W.contents out.new) (E.contents err.new))) }
+    ensures stays { IfOk result (λ opened. opened ≡ false → lines.new ≡ lines.old) }
+    ensures opened { IfOk result (λ opened. opened ≡ true →
+        IfSome (to_come R.remaining lines.old) (λ others.
+        OpenedAt file.now settings.old.items line.now others (W.contents out.old) (E.contents err.old)
+        (W.contents out.new) (E.contents err.new))) }
+    ensures grows_out { Grows (W.contents out.old) (W.contents out.new) }
+    ensures grows_err { Grows (E.contents err.old) (E.contents err.new) }
+    ensures fault { IfErr result (IsFaultOf SomeIsMade) }
+{
+    match head_line(alloc, file.is_some(), lines.count() - 1, line)? {
+        HeadLine::Help => {
+            write_out(out, HELP.as_bytes())?;
+            Ok(false)
+        }
+        HeadLine::Setting => {
+            settings.extend_from_slice(line)?;
+            Ok(false)
+        }
+        HeadLine::Opens => open_or_tell(alloc, file, settings.as_slice(), line, lines, out, err),
+        HeadLine::Refused(cause) => {
+            tell(alloc, &StepError::Script(cause), err)?;
+            Ok(false)
+        }
+    }
+}
+
+/// Runs a session at a prompt: writes the prompt, reads a line, and answers it before the next prompt, up to the end of the
+/// input, which ends the last prompt's line. The settings stand first. At the first line that needs a plant the flow is the
+/// one that they state, over that of a flow file if there is one.
+///
+/// A line that is refused is told on `err` and changes nothing, and the session goes on. Where the flow or the number of
+/// sessions is refused, the settings stay, and more may follow.
+pub fn run_prompted<R: Read, W: Write, E: Write>(
+    alloc: Global,
+    file: Option<Flow>,
+    lines: &mut Lines<R>,
+    out: &mut W,
+    err: &mut E,
+) -> Result<(), StepError>
+    requires { IfSome file IsChecked }
+    ensures prompted { OnOk result (IfSome (to_come R.remaining lines.old) (λ input.
+        IsPrompted file input (W.contents out.old) (E.contents err.old)
+        (W.contents out.new) (E.contents err.new))) }
+    ensures grows_out { Grows (W.contents out.old) (W.contents out.new) }
+    ensures grows_err { Grows (E.contents err.old) (E.contents err.new) }
+    ensures fault { IfErr result (IsFaultOf SomeIsMade) }
+{
+    let file = code_of(alloc, file)?;
+    let mut settings = Vec::new(alloc);
+    while let Some(line) = ask(alloc, lines, out)? {
+        if answer_head(
+            alloc,
+            &file,
+            &mut settings,
+            line.as_slice(),
+            lines,
+            out,
+            err,
+        )? {
+            return Ok(());
+        }
+    }
+    leave(out)
+}

@@ -1,0 +1,189 @@
+//! A session at a prompt, over a plant.
+
+ghost use Rattle.std.specs.Prelude.{◌≡◌, ◌≢◌, ◌+◌, ◌≤◌, ◌<◌, ◌^◌, ◌∷◌, ⊤, [], IfErr, IfOk, IfSome, MatchOption};
+ghost use Rattle.std.specs.Prelude.{OnOk, length, option_map};
+ghost use Rattle.std.specs.Io.KnownBytes.{Appends};
+ghost use Rattle.cli_lines.specs.Lines.{IsNextLine, lines_given, room, to_come};
+ghost use Rattle.tx_trace.specs.Follow.{Follows};
+ghost use Rattle.cli_step.specs.Doing.{point_of, world_of};
+ghost use Rattle.cli_step.specs.Prompts.{Answers, IsFaultOf, IsRunOrTold, IsTold, Talked, prompt, scene};
+ghost use Rattle.cli_script.specs.declared.error.ScriptError.TheVariants as script;
+ghost use Rattle.cli_step.specs.PromptWords.{prompt_word_text};
+ghost use Rattle.cli_step.specs.Runs.{Grows};
+
+use crate::error::StepError;
+use crate::prompt_words::{PromptWord, prompt_word_at, prompt_word_text};
+use crate::script::run_line;
+use cli_io::{write_out, write_whole};
+use cli_lines::Lines;
+use cli_script::{Actions, LineError, ScriptError};
+use sqlite::Alter;
+use std::alloc::Global;
+use std::io::{Read, Write};
+use tx_plant::Plant;
+use tx_trace::Tracer;
+
+/// Writes the prompt, and reads the next line; `None` at the end of the input.
+pub fn ask<R: Read, W: Write>(
+    alloc: Global,
+    lines: &mut Lines<R>,
+    out: &mut W,
+) -> Result<Option<Vec<u8>>, StepError>
+    ensures asked { IfOk result (λ _. Appends (W.contents out.old) (W.contents out.new) prompt) }
+    ensures grows { Grows (W.contents out.old) (W.contents out.new) }
+    ensures next { IfOk result (λ o. IsNextLine (to_come R.remaining lines.old)
+        (to_come R.remaining lines.new) (option_map (λ line. line.items) o)) }
+    ensures some { IfOk result (λ o. IfSome o (λ line. line.items ≢ [])) }
+    ensures count { IfOk result (λ o. MatchOption o (lines_given lines.new ≡ lines_given lines.old)
+        (λ _. lines_given lines.new ≡ lines_given lines.old + 1)) }
+    ensures few { IfOk result (λ o. IfSome o (λ line.
+        lines_given lines.new + length line.items < 2 ^ 64)) }
+    ensures room { IfOk result (λ o. IfSome o (λ line.
+        room lines.new + length line.items ≤ room lines.old)) }
+    ensures fault { IfErr result (IsFaultOf ⊤) }
+{
+    write_out(out, b"cardswitch> ")?;
+    Ok(lines.next(alloc)?)
+}
+
+/// Ends the last prompt's line, at the end of the input.
+pub fn leave<W: Write>(out: &mut W) -> Result<(), StepError>
+    ensures left { OnOk result (Appends (W.contents out.old) (W.contents out.new) (10 ∷ [])) }
+    ensures grows { Grows (W.contents out.old) (W.contents out.new) }
+    ensures fault { IfErr result (IsFaultOf ⊤) }
+{
+    Ok(write_out(out, b"\n")?)
+}
+
+// Where no line has the word, `help` is named.
+fn hint(cause: &StepError) -> &'static str {
+    match cause {
+        StepError::Script(
+            ScriptError::Line {
+                cause: LineError::Command,
+                ..
+            },
+        ) => "; try help",
+        _ => "",
+    }
+}
+
+/// Tells why a line is refused.
+pub fn tell<E: Write>(alloc: Global, cause: &StepError, err: &mut E) -> Result<(), StepError>
+    ensures told { OnOk result (IsTold (E.contents err.old) (E.contents err.new)) }
+    ensures grows { Grows (E.contents err.old) (E.contents err.new) }
+    ensures fault { IfErr result (IsFaultOf ⊤) }
+{
+    let hint = hint(cause);
+    let text = format!(in alloc; "{cause}{hint}\n")?;
+    write_whole(err, b"cardswitch: ")?;
+    Ok(write_out(err, text.as_bytes())?)
+}
+
+// Shows what a word of the prompt asks for.
+fn show_word<S: Alter, W: Write>(
+    alloc: Global,
+    plant: &Plant<S>,
+    word: PromptWord,
+    out: &mut W,
+) -> Result<(), StepError>
+    ensures shown { OnOk result (Appends (W.contents out.old) (W.contents out.new)
+        (prompt_word_text word (world_of (point_of S.Store plant.now)))) }
+    ensures grows { Grows (W.contents out.old) (W.contents out.new) }
+    ensures fault { IfErr result (IsFaultOf ⊤) }
+{
+    let text = prompt_word_text(alloc, plant.engine(), word)?;
+    Ok(write_out(out, text.as_slice())?)
+}
+
+/// The refusal of a line. Out of memory is no refusal, and ends the session.
+pub fn refusal(error: ScriptError) -> Result<ScriptError, StepError>
+    ensures same { IfOk result (λ e. e ≡ error) }
+    ensures refused { IfOk result (λ _. error ≢ script.OutOfMemory) }
+    ensures fault { IfErr result (IsFaultOf ⊤) }
+{
+    match error {
+        ScriptError::OutOfMemory => Err(StepError::OutOfMemory),
+        refusal => Ok(refusal),
+    }
+}
+
+// Runs a line that is an action, or tells why it is refused. So many lines came before it.
+fn run_or_tell<S: Alter, W: Write, E: Write>(
+    alloc: Global,
+    plant: &mut Plant<S>,
+    tracer: &mut Tracer,
+    line: &[u8],
+    before: usize,
+    out: &mut W,
+    err: &mut E,
+) -> Result<(), StepError>
+    requires follows { Follows plant.old.running.engine tracer.old }
+    requires some { line.now ≢ [] }
+    requires few { before + length line.now < 2 ^ 64 }
+    ensures answers { OnOk result (IsRunOrTold line.now
+        (scene (point_of S.Store plant.old) (W.contents out.old) (E.contents err.old))
+        (scene (point_of S.Store plant.new) (W.contents out.new) (E.contents err.new))) }
+    ensures follows { OnOk result (Follows plant.new.running.engine tracer.new) }
+    ensures grows_out { Grows (W.contents out.old) (W.contents out.new) }
+    ensures grows_err { Grows (E.contents err.old) (E.contents err.new) }
+    ensures fault { IfErr result (IsFaultOf ⊤) }
+{
+    let mut actions = Actions::new(line, before);
+    match actions.next(alloc) {
+        Ok(Some(action)) => run_line(alloc, plant, tracer, action, before + 1, out),
+        Ok(None) => unreachable!(),
+        Err(error) => tell(alloc, &StepError::Script(refusal(error)?), err),
+    }
+}
+
+/// Answers a line: shows what it asks for, runs it, or tells why it is refused. So many lines came before it.
+pub fn answer<S: Alter, W: Write, E: Write>(
+    alloc: Global,
+    plant: &mut Plant<S>,
+    tracer: &mut Tracer,
+    line: &[u8],
+    before: usize,
+    out: &mut W,
+    err: &mut E,
+) -> Result<(), StepError>
+    requires follows { Follows plant.old.running.engine tracer.old }
+    requires some { line.now ≢ [] }
+    requires few { before + length line.now < 2 ^ 64 }
+    ensures answers { OnOk result (Answers line.now
+        (scene (point_of S.Store plant.old) (W.contents out.old) (E.contents err.old))
+        (scene (point_of S.Store plant.new) (W.contents out.new) (E.contents err.new))) }
+    ensures follows { OnOk result (Follows plant.new.running.engine tracer.new) }
+    ensures grows_out { Grows (W.contents out.old) (W.contents out.new) }
+    ensures grows_err { Grows (E.contents err.old) (E.contents err.new) }
+    ensures fault { IfErr result (IsFaultOf ⊤) }
+{
+    match prompt_word_at(line) {
+        Some(word) => show_word(alloc, plant, word, out),
+        None => run_or_tell(alloc, plant, tracer, line, before, out, err),
+    }
+}
+
+/// Asks for the lines that are still to come, and answers each, up to the end of the input.
+pub fn talk<R: Read, S: Alter, W: Write, E: Write>(
+    alloc: Global,
+    plant: &mut Plant<S>,
+    tracer: &mut Tracer,
+    lines: &mut Lines<R>,
+    out: &mut W,
+    err: &mut E,
+) -> Result<(), StepError>
+    requires { Follows plant.old.running.engine tracer.old }
+    ensures talked { OnOk result (IfSome (to_come R.remaining lines.old) (λ input. Talked input
+        (scene (point_of S.Store plant.old) (W.contents out.old) (E.contents err.old))
+        (scene (point_of S.Store plant.new) (W.contents out.new) (E.contents err.new)))) }
+    ensures grows_out { Grows (W.contents out.old) (W.contents out.new) }
+    ensures grows_err { Grows (E.contents err.old) (E.contents err.new) }
+    ensures fault { IfErr result (IsFaultOf ⊤) }
+{
+    while let Some(line) = ask(alloc, lines, out)? {
+        let before = lines.count() - 1;
+        answer(alloc, plant, tracer, line.as_slice(), before, out, err)?;
+    }
+    leave(out)
+}

@@ -1,0 +1,162 @@
+//! The lines that a prompt has beside those of a script, and what they show.
+
+ghost use Rattle.std.specs.Prelude.{◌≡◌, ◌++◌, IfOk, OnOk, option_map, string_bytes};
+ghost use Rattle.cli_script.specs.Scripts.{line_of};
+ghost use Rattle.cli_step.specs.PromptWords.{each_session, info_text, list_text, prompt_word_of};
+ghost use Rattle.cli_step.specs.PromptWords.{prompt_word_text, session_line, step_line, totals_line};
+ghost use Rattle.cli_step.specs.Said.{whole_line};
+
+use crate::said::where_line;
+use crate::shown::push_line;
+use cli_lines::line_end;
+use flow_load::image;
+use std::alloc::{AllocError, Global};
+use tx_engine::Engine;
+use tx_trace::whereis;
+
+/// A line that a prompt has beside those of a script: its word alone.
+#[derive(Clone, Copy)]
+pub enum PromptWord {
+    /// `help`: the lines, each with its meaning.
+    Help,
+    /// `list`: the numbered steps of the flow, and at which of them the sessions stand.
+    List,
+    /// `info`: where each session stands, how many contexts wait, and how many entries are written.
+    Info,
+}
+
+/// What `help` shows: each line with its meaning.
+pub const HELP: &str = "\
+Settings stand first; the flow is opened at the first other line but help.
+retries N                  how often a transaction that aborts with RETRY is tried again
+sessions N                 the number of sessions, 1 to 16
+flow GROUP [ENTRY ..]      adds a group to the flow; an entry is NAME or NAME:MARKS
+answer NAME HH [N=HEX ..]  queues the answer of the participant's next preparation
+choose NAME TEXT           queues the text of its next selection
+advice NAME HEX            queues the advice of its next commit or abort
+restore NAME [N=HEX ..]    queues what its next recover puts into the context
+
+offer [N=HEX ..]           puts a context at the end of the queue
+take S                     session S takes the first context of the queue
+call S                     makes the due call of session S
+go S                       lets the held call of session S go
+break NAME                 holds the calls of the participant from now on
+clear NAME                 holds them no more
+where S                    shows where the transaction of session S stands
+rest S                     shows its entries that are to come
+saved S                    shows the context that a stop would leave it
+calls NAME                 shows how many calls the participant was made
+write [K]                  writes all entries, or the oldest K
+release                    puts the shelf at the end of the queue
+ack ID PLACE               says that the advice of this place was forwarded
+stop                       gives up all but the journal and the participants
+cut                        begins the history anew, without a stop
+auto                       runs one transaction with an empty context to its end
+
+list                       shows the steps of the flow, and where the sessions stand
+info                       shows each session, the queue, the shelf and what is written
+help                       shows these lines
+";
+
+// What this word is; `None` where it is none.
+fn prompt_word_of(word: &[u8]) -> Option<PromptWord>
+    ensures { result ≡ prompt_word_of word.now }
+{
+    if word == b"help".as_slice() {
+        Some(PromptWord::Help)
+    } else if word == b"list".as_slice() {
+        Some(PromptWord::List)
+    } else if word == b"info".as_slice() {
+        Some(PromptWord::Info)
+    } else {
+        None
+    }
+}
+
+/// The word of the prompt that a line is, its line feed aside; `None` where it is none.
+pub fn prompt_word_at(line: &[u8]) -> Option<PromptWord>
+    ensures { result ≡ prompt_word_of (line_of line.now) }
+{
+    prompt_word_of(&line[..line_end(line)])
+}
+
+// The line of `list` of a session whose transaction stands at a numbered step.
+fn step_line(alloc: Global, engine: &Engine, s: usize) -> Result<Option<String>, AllocError>
+    ensures { IfOk result (λ line. option_map string_bytes line ≡ step_line engine.now s) }
+{
+    let Some(place) = whereis(engine, s) else {
+        return Ok(None);
+    };
+    match place.step {
+        Some(step) => Ok(Some(format!(in alloc; "session {s} at step {step}")?)),
+        None => Ok(None),
+    }
+}
+
+// The lines of `list` after the image.
+fn step_lines(alloc: Global, engine: &Engine) -> Result<String, AllocError>
+    ensures { IfOk result (λ text. string_bytes text
+        ≡ each_session (λ s. whole_line (step_line engine.now s)) engine.now.sessions) }
+{
+    let mut text = String::new(alloc);
+    for s in 0..engine.sessions() {
+        push_line(&mut text, step_line(alloc, engine, s)?)?;
+    }
+    Ok(text)
+}
+
+// The text of `list`.
+fn list_text(alloc: Global, engine: &Engine) -> Result<Vec<u8>, AllocError>
+    ensures { IfOk result (λ text. text.items ≡ list_text engine.now) }
+{
+    let mut text = image(alloc, engine.code())?;
+    text.extend_from_slice(step_lines(alloc, engine)?.as_bytes())?;
+    Ok(text)
+}
+
+// The line of `info` of a session.
+fn session_line(alloc: Global, engine: &Engine, s: usize) -> Result<String, AllocError>
+    ensures { IfOk result (λ line. string_bytes line ≡ session_line engine.now s) }
+{
+    let mut line = format!(in alloc; "session {s}: ")?;
+    line.push_str(where_line(alloc, engine, s)?.as_str())?;
+    Ok(line)
+}
+
+// The last line of `info`.
+fn totals_line(alloc: Global, engine: &Engine) -> Result<String, AllocError>
+    ensures { IfOk result (λ line. string_bytes line ≡ totals_line engine.now) }
+{
+    let queue = engine.queued();
+    let shelf = engine.shelved();
+    let written = engine.mark();
+    let entries = engine.history().len();
+    format!(in alloc; "queue {queue}, shelf {shelf}, written {written} of {entries}")
+}
+
+// The text of `info`.
+fn info_text(alloc: Global, engine: &Engine) -> Result<String, AllocError>
+    ensures { IfOk result (λ text. string_bytes text ≡ info_text engine.now) }
+{
+    let mut text = String::new(alloc);
+    for s in 0..engine.sessions() {
+        push_line(&mut text, Some(session_line(alloc, engine, s)?))?;
+    }
+    push_line(&mut text, Some(totals_line(alloc, engine)?))?;
+    Ok(text)
+}
+
+/// What a word of the prompt shows.
+pub fn prompt_word_text(
+    alloc: Global,
+    engine: &Engine,
+    word: PromptWord,
+) -> Result<Vec<u8>, AllocError>
+    ensures { IfOk result (λ text. text.items ≡ prompt_word_text word engine.now) }
+{
+    match word {
+        PromptWord::Help => HELP.as_bytes().to_vec(alloc),
+        PromptWord::List => list_text(alloc, engine),
+        PromptWord::Info => Ok(info_text(alloc, engine)?.into_bytes()),
+    }
+}
