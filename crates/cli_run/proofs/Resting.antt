@@ -142,6 +142,10 @@ cut_rest p q o rest does seated =
 pub cut_short : (p q : Point) (o : Outcome) → Does turn.Cut o p q → is_long (world_at q) ≡ false
 cut_short p q o does = let cut = cut_to o p q does in subst (λ (w : World). is_long w ≡ false) (sym cut.world) refl
 
+-- no entry is left
+pub cut_none : (p q : Point) (o : Outcome) → Does turn.Cut o p q → (world_at q).past ≡ []
+cut_none p q o does = let cut = cut_to o p q does in subst (λ (w : World). w.past ≡ []) (sym cut.world) refl
+
 pub may_cut : (p q : Point) (o : Outcome) → Does turn.Cut o p q → MayCut p (lines_in (world_at p)) q
 may_cut p q o does = record { cuts = inr (o, does, refl); short = cut_short p q o does }
 
@@ -203,3 +207,13 @@ history_short w es n is lt bound =
     let same : length es ≡ length w.past = ap length is ∙ entries_length w.flow w.start w.past in
     let less : length w.past < 524288 = omega (arith, same, lt, bound) in
     grind (arith, nat_tests)
+
+none_of : (past : List Event) → length past < 1 → past ≡ []
+none_of [] h = refl
+none_of (e ∷ past) h = absurd (omega arith)
+
+-- a history with fewer entries than one has none
+pub history_none : (w : World) (es : List Entry) (n : ℕ) → es ≡ entries w.flow w.start w.past → length es < n → n ≡ 1 → w.past ≡ []
+history_none w es n is lt one =
+    let same : length es ≡ length w.past = ap length is ∙ entries_length w.flow w.start w.past in
+    none_of w.past (omega (arith, same, lt, one))

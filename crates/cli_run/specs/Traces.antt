@@ -6,6 +6,7 @@ use Rattle.sw_frame.specs.Stream.{AreFramed}
 use Rattle.iso_msg.specs.Messages.{PlainMessage}
 use Rattle.iso_codec.specs.declared.error.DecodeError.{DecodeError}
 use Rattle.iso_codec.specs.Reads.{read}
+use Rattle.tx_engine.specs.World.{World}
 use Rattle.cli_run.specs.declared.told.Told.{Told}
 use Rattle.cli_run.specs.Points.{Point, all_answered, responses, unanswered}
 use Rattle.cli_run.specs.Requests.{requests}
@@ -81,6 +82,10 @@ pub record Tells (lines : List ℕ) (passed : ℕ) (a b : Log) : Type 0 where
   pub before : b.lost ≡ false → a.lost ≡ false
   pub adds : b.lost ≡ false → Adds (if_wanted a.wanted lines) passed a.text b.text
   pub some : AddsSome (if_wanted a.wanted lines) passed a.text b.text
+
+-- with the trace no entry is left whose line is not told
+abbrev pub IsLive : Bool → World → Type 0
+IsLive wanted w = wanted ≡ true → w.past ≡ []
 
 -- the messages that are passed over are those that cannot be read
 abbrev pub if_passed : Result PlainMessage DecodeError → ℕ

@@ -306,8 +306,8 @@ fn boxed<P: Unjoined>(alloc: Global, participant: P) -> Result<Box<Bystander<P>>
 
 /// Recovers what the journal has unfinished. Without an input the lines of that are printed, and that is all.
 /// Else it answers the requests of an input as they come, then what is on the shelf, and sends the stored
-/// advices. The lines of the trace so far are written before the input is read on, the rest at the end, also
-/// where it ends early. Where the stream of frames is refused, what came before is answered, and all is done.
+/// advices. The lines of the trace of a transaction are written before the next request is offered, the rest at
+/// the end, also where it ends early. Where the stream of frames is refused, what came before is answered, and all is done.
 ///
 /// With threads the requests are answered in batches of those that have come, at most 256 at once; the lines
 /// of the trace are written behind each batch. Those of a batch that was given up are lost.
