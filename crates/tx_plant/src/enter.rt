@@ -17,7 +17,7 @@ ghost use Rattle.tx_plant.specs.Entered.{same_call, seat_with};
 
 use crate::seat::{Seat, Seats, newest_fate};
 use crate::serve::record;
-use crate::step::{reserve, settle, unreserve};
+use crate::step::{leave_seat, reserve, unreserve};
 use std::alloc::Global;
 use std::collections::BTreeMap;
 use std::mem;
@@ -118,7 +118,7 @@ fn enter_seated(
                 context: after,
                 kept: None,
             };
-            Ok((number, settle(ended, seat, newest_fate(engine), put)))
+            Ok((number, leave_seat(ended, seat, newest_fate(engine), put)))
         }
         Err(error) => {
             unreserve(ended, id, put);
