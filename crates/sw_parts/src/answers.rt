@@ -1,4 +1,4 @@
-//! What the participants answer to a preparation.
+//! What the participants answer to a preparation: bytes of the bits of `sw_participant::Answer`.
 
 ghost use Rattle.std.specs.Prelude.{◌≡◌, IfOk, OnErr};
 ghost use Rattle.sw_parts.specs.Checks.{Decided};
@@ -7,16 +7,16 @@ use sw_context::Context;
 use sw_messages::{ResponseCode, note_code};
 use sw_participant::NoMemory;
 
-/// The answer of a participant that is ready without joining, and has nothing to save.
+/// PREPARED, NO_JOIN and READONLY: the participant is ready without joining, and has nothing to save.
 pub const PASSES: u8 = 0xc1;
 
-/// The answer of a participant that refuses without joining.
+/// NO_JOIN alone: the participant refuses without joining.
 pub const REFUSES: u8 = 0x40;
 
-/// The answer of a participant that is ready without joining.
+/// PREPARED and NO_JOIN: the participant is ready without joining.
 pub const LEAVES_NOTES: u8 = 0x41;
 
-/// The answer of a participant that is ready, wants to be notified of the outcome, and has nothing to
+/// PREPARED and READONLY: the participant is ready, wants to be notified of the outcome, and has nothing to
 /// save.
 pub const JOINS: u8 = 0x81;
 

@@ -11,7 +11,8 @@ use std::fmt;
 use sw_participant::read_answer;
 use tx_machine::{Due, Phase, Spot};
 
-fn phase_letter(phase: Phase) -> &'static str
+/// The phase as its letter.
+pub(crate) fn phase_letter(phase: Phase) -> &'static str
     ensures { result.now ≡ phase_text phase }
 {
     match phase {
@@ -158,6 +159,23 @@ impl fmt::Display for Hex {
         let low = digit(self.0 % 16);
         write!(f, "{high}{low}")
     }
+}
+
+fn digit_byte(value: u8) -> u8
+    requires { value < 16 }
+    ensures { result ≡ hex_digit value }
+{
+    match value {
+        0..=9 => b'0' + value,
+        _ => b'a' - 10 + value,
+    }
+}
+
+/// A byte as two lower case hexadecimal digits.
+pub(crate) fn hex_digits(byte: u8) -> [u8; 2]
+    ensures { result ≡ hex_text byte }
+{
+    [digit_byte(byte / 16), digit_byte(byte % 16)]
 }
 
 fn bad_word(byte: u8) -> &'static str
