@@ -23,7 +23,7 @@ use Rattle.tx_plant.specs.Core.{Core, seat_of}
 use Rattle.tx_plant.specs.Turns.{Cuts, Logs}
 use Rattle.plant_outcome.specs.Seated.{Seated, seat_id}
 use Rattle.cli_run.specs.Points.{IsAllWritten, IsAtRest, IsReady, Point, above, ended_at, is_long, next_at, world_at}
-use Rattle.cli_run.specs.Lines.{lines_in}
+use Rattle.cli_run.specs.Lines.{Line, lines_in}
 use Rattle.cli_run.specs.Rounds.{Does, IsDone, IsEmptied, MayCut}
 use Rattle.cli_run.proofs.Doings.{did, entries_length, unraised}
 
@@ -156,14 +156,14 @@ may_keep p short = record { cuts = inl (refl, refl); short = short }
 cut_waits : (p q : Point) → CutTo p q → waits (world_at q) ≡ waits (world_at p)
 cut_waits p q cut = subst (λ (w : World). waits w ≡ waits (world_at p)) (sym cut.world) refl
 
-cuts_waits_by : (p q : Point) (lines : List ℕ) → ((q ≡ p) × (lines ≡ [])) ⊎ ((o : Outcome) × Does turn.Cut o p q × (lines ≡ lines_in (world_at p))) → waits (world_at q) ≡ waits (world_at p)
+cuts_waits_by : (p q : Point) (lines : List Line) → ((q ≡ p) × (lines ≡ [])) ⊎ ((o : Outcome) × Does turn.Cut o p q × (lines ≡ lines_in (world_at p))) → waits (world_at q) ≡ waits (world_at p)
 cuts_waits_by p q lines (inl (same, none)) = ap (λ (z : Point). waits (world_at z)) same
 cuts_waits_by p q lines (inr (o, does, are)) = cut_waits p q (cut_to o p q does)
 
-pub cuts_waits : (p q : Point) (lines : List ℕ) → MayCut p lines q → waits (world_at q) ≡ waits (world_at p)
+pub cuts_waits : (p q : Point) (lines : List Line) → MayCut p lines q → waits (world_at q) ≡ waits (world_at p)
 cuts_waits p q lines cuts = cuts_waits_by p q lines cuts.cuts
 
-pub ready_cut : (p q : Point) (lines : List ℕ) → MayCut p lines q → IsAtRest q → waits (world_at q) ≡ [] → IsReady q
+pub ready_cut : (p q : Point) (lines : List Line) → MayCut p lines q → IsAtRest q → waits (world_at q) ≡ [] → IsReady q
 ready_cut p q lines cuts rest empty = record { rest = rest; recovered = at_rest_recovered q rest; empty = empty; short = cuts.short }
 
 -- events at rest

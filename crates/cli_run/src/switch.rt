@@ -1,6 +1,6 @@
 //! The plant of the switch, one transaction after the other.
 
-ghost use Rattle.std.specs.Prelude.{◌≡◌, ◌≤◌, ◌∷◌, List, ℕ, [], Option, IfOk, OnErr, OnOk, true};
+ghost use Rattle.std.specs.Prelude.{◌≡◌, ◌≤◌, ◌∷◌, List, ℕ, [], Option, IfOk, OnErr, OnOk, is_some, true};
 ghost use Rattle.std.specs.Io.KnownBytes.{Appends};
 ghost use Rattle.sw_context.specs.Pairs.{Pairs};
 ghost use Rattle.sw_frame.specs.Stream.{AreFramed};
@@ -16,7 +16,7 @@ ghost use Rattle.cli_run.specs.Traces.{Cuts, IsLive, Reports, log_of};
 
 use crate::error::ServeError;
 use crate::given::{last_above, text_above};
-use crate::told::Told;
+use crate::told::{Form, Told};
 use cli_io::write_out;
 use flow_asm::Code;
 use sqlite::Alter;
@@ -38,11 +38,11 @@ const MANY_ENTRIES: usize = 8_192;
 
 // From how many entries on a history is cut between two transactions. With the trace it is cut each time: so
 // all lines of a transaction are told before the next one is offered, each once.
-fn entries_kept(trace: bool) -> usize
+fn entries_kept(trace: Option<Form>) -> usize
     ensures bound { result ≤ 524288 }
-    ensures live { trace ≡ true → result ≡ 1 }
+    ensures live { is_some trace ≡ true → result ≡ 1 }
 {
-    if trace { 1 } else { MANY_ENTRIES }
+    if trace.is_some() { 1 } else { MANY_ENTRIES }
 }
 
 /// The most requests of a batch, and the places of its intake.

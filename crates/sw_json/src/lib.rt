@@ -14,4 +14,4 @@ pub use members::{
     push_flag_member, push_number_member, push_opening, push_text_member, push_texts_member,
 };
 pub use notes::note_in;
-pub use strings::{is_printable, push_next_string, push_number, push_string};
+pub use strings::{is_printable, push_next_string, push_string};

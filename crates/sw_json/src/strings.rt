@@ -80,7 +80,7 @@ fn push_rest(text: &mut Vec<u8>, values: &[&str]) -> Result<(), AllocError>
 
 /// Adds strings, parted by commas.
 #[tactic(auto, unfolding(crate::specs::Json::strings))]
-pub fn push_strings(text: &mut Vec<u8>, values: &[&str]) -> Result<(), AllocError>
+pub(crate) fn push_strings(text: &mut Vec<u8>, values: &[&str]) -> Result<(), AllocError>
     ensures { OnOk result (text.new.items
         ≡ text.old.items ++ spec.strings (map (λ v. v.now) values.now)) }
 {
@@ -94,7 +94,7 @@ pub fn push_strings(text: &mut Vec<u8>, values: &[&str]) -> Result<(), AllocErro
 }
 
 /// Adds a number's decimal digits.
-pub fn push_number(text: &mut Vec<u8>, number: u64) -> Result<(), AllocError>
+pub(crate) fn push_number(text: &mut Vec<u8>, number: u64) -> Result<(), AllocError>
     ensures { OnOk result (text.new.items ≡ text.old.items ++ decimal number) }
 {
     let mut buffer = Buffer::new();
