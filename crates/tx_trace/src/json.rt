@@ -284,7 +284,14 @@ fn push_moved(
     let names = Names { code };
     push_event(text, event_word(event))?;
     push_before(text, names, moved.id, moved.before)?;
-    push_detail(alloc, text, code, event, moved.before.told, moved.after.bound)?;
+    push_detail(
+        alloc,
+        text,
+        code,
+        event,
+        moved.before.told,
+        moved.after.bound,
+    )?;
     push_flag_member(text, "recovering", moved.recovering)?;
     push_next(text, names, moved.after.restores, moved.after.due)
 }

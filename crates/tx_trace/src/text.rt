@@ -141,27 +141,7 @@ impl fmt::Display for Head<'_> {
 #[derive(Drop)]
 pub struct Hex(pub u8);
 
-fn digit(value: u8) -> char
-    requires { value < 16 }
-    ensures { result ≡ hex_digit value }
-{
-    match value {
-        0..=9 => (b'0' + value) as char,
-        _ => (b'a' - 10 + value) as char,
-    }
-}
-
-impl fmt::Display for Hex {
-    ghost output = { λ b. Some (hex_text b.0) };
-
-    fn fmt<W: fmt::Write>(&self, f: &mut fmt::Formatter<W>) -> fmt::Result {
-        let high = digit(self.0 / 16);
-        let low = digit(self.0 % 16);
-        write!(f, "{high}{low}")
-    }
-}
-
-fn digit_byte(value: u8) -> u8
+fn digit(value: u8) -> u8
     requires { value < 16 }
     ensures { result ≡ hex_digit value }
 {
@@ -171,11 +151,21 @@ fn digit_byte(value: u8) -> u8
     }
 }
 
-/// A byte as two lower case hexadecimal digits.
+/// The two digits of a byte.
 pub(crate) fn hex_digits(byte: u8) -> [u8; 2]
     ensures { result ≡ hex_text byte }
 {
-    [digit_byte(byte / 16), digit_byte(byte % 16)]
+    [digit(byte / 16), digit(byte % 16)]
+}
+
+impl fmt::Display for Hex {
+    ghost output = { λ b. Some (hex_text b.0) };
+
+    fn fmt<W: fmt::Write>(&self, f: &mut fmt::Formatter<W>) -> fmt::Result {
+        let high = digit(self.0 / 16) as char;
+        let low = digit(self.0 % 16) as char;
+        write!(f, "{high}{low}")
+    }
 }
 
 fn bad_word(byte: u8) -> &'static str

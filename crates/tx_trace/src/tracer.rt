@@ -166,7 +166,11 @@ impl Tracer {
                 &before,
                 restores_at(code, &before, journalled, self.restored),
             ),
-            after: Standing::of(code, &after, restores_at(code, &after, journalled, restored)),
+            after: Standing::of(
+                code,
+                &after,
+                restores_at(code, &after, journalled, restored),
+            ),
         });
         let kept = kept(code, after);
         Ok(Traced {
@@ -206,12 +210,7 @@ impl Tracer {
     }
 
     // Goes through the entry.
-    fn follow(
-        &mut self,
-        engine: &Engine,
-        entry: &Entry,
-        traced: Traced,
-    ) -> Result<(), AllocError>
+    fn follow(&mut self, engine: &Engine, entry: &Entry, traced: Traced) -> Result<(), AllocError>
         requires next { IsNext engine.now self.old entry.now }
         requires traced { IsTraced engine.now.flow engine.now.start
             (earlier self.old.done engine.now.past) entry.now.event traced }
