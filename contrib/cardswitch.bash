@@ -1,22 +1,25 @@
 # Completions of cardswitch for bash. Source this file, or lay it as `cardswitch` into bash-completion's folder of completions.
 
 _cardswitch() {
-    local word=${COMP_WORDS[COMP_CWORD]} before=${COMP_WORDS[COMP_CWORD - 1]} words= files=()
+    local word=${COMP_WORDS[COMP_CWORD]} before=${COMP_WORDS[COMP_CWORD - 1]} words= files=() sign=
     COMPREPLY=()
     # bash takes the = of --flow=PATH for a word of its own.
     if [[ $word == = ]]; then
-        word=
+        word= sign==
     elif [[ $before == = ]]; then
-        before=${COMP_WORDS[COMP_CWORD - 2]}
+        before=${COMP_WORDS[COMP_CWORD - 2]} sign==
     fi
-    case $before in
-        --flow | --journal)
+    case $before$sign in
+        --flow | --flow= | --journal | --journal=)
             mapfile -t COMPREPLY < <(compgen -f -- "$word")
             return ;;
-        --sessions)
+        --sessions | --sessions=)
             mapfile -t COMPREPLY < <(compgen -W "1 2 4 8 16" -- "$word")
             return ;;
-        --limit)
+        --trace=)
+            mapfile -t COMPREPLY < <(compgen -W "text json" -- "$word")
+            return ;;
+        --limit | --limit=)
             return ;;
     esac
     if [[ $COMP_CWORD -eq 1 ]]; then

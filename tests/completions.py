@@ -4,7 +4,7 @@
     tests/completions.py [--program PATH]
 
 What bash offers has to be what the program's own help lists: the subcommands, and the options of each one. After an option that
-takes a path it has to be the files that are there. The last line counts; the status is 1 where something is wrong.
+takes a path it has to be the files that are there, after `--trace=` the forms of the trace. The last line counts; the status is 1 where something is wrong.
 """
 
 import argparse
@@ -72,6 +72,8 @@ def cases(program, folder):
             yield [command, option, "=", "sw"], ["switch.toml"]
     yield ["run", "--sessions", "1"], ["1", "16"]
     yield ["run", "--limit", ""], []
+    yield ["run", "--trace", "="], ["json", "text"]
+    yield ["run", "--trace", "=", "j"], ["json"]
 
 
 def main():

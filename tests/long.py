@@ -1,12 +1,12 @@
 #!/usr/bin/env python3
 """Serves a long stream of requests with `cardswitch run --trace`, and looks at what it writes and takes.
 
-    tests/long.py [--requests N] [--kind test|authorization] [--most MEGABYTES] [--program PATH]
+    tests/long.py [--requests N] [--kind test|authorization|silent] [--form text|json] [--most MEGABYTES] [--program PATH]
 
 Each request has to be answered, in order, and each line of the trace has to come once, in order: the plain model says which lines a
 request has, and what its response is. However long the stream is, at most 64 MB may be taken, and for authorizations what the book
-keeps of each. The default, 125,000 network tests, makes a history of a million entries; 1,000,000 requests by hand take some
-minutes. The last line counts; the status is 1 where something is wrong.
+keeps of each, and the advices of those whose issuer is silent. The default, 125,000 network tests, makes a history of a million entries;
+1,000,000 requests by hand take some minutes. The last line counts; the status is 1 where something is wrong.
 """
 
 import argparse
@@ -20,26 +20,31 @@ from itertools import islice
 
 sys.dont_write_bytecode = True
 
-from model import messages, requests  # noqa: E402
+from model import messages, requests, traces  # noqa: E402
 from model.switch import Switch  # noqa: E402
 
 TOP = os.path.dirname(os.path.dirname(os.path.abspath(__file__)))
 BUILT = os.path.join(TOP, "crates", "cardswitch", "out", "cardswitch")
-# The memory that a run may take, in MB, and what the book may take of an authorization, in bytes.
-MOST, BOOK = 64, 320
+# The memory that a run may take, in MB, and what each request of a kind may leave, in bytes: what the book keeps, and advices.
+MOST, LEFT = 64, {"test": 0, "authorization": 320, "silent": 4096}
 
 
 def network_test(stan):
     return messages.encode(b"0800", {11: stan, 70: b"301"})
 
 
-def authorization(stan):
+def authorization(stan, amount=b"000000000100"):
     """One of a card of its own, which is approved."""
-    fields = {2: b"4000000000" + stan, 3: b"000000", 4: b"000000000100", 7: b"0102030405", 11: stan, 41: b"TERM0001", 49: b"978"}
+    fields = {2: b"4000000000" + stan, 3: b"000000", 4: amount, 7: b"0102030405", 11: stan, 41: b"TERM0001", 49: b"978"}
     return messages.encode(b"0100", fields)
 
 
-KINDS = {"test": network_test, "authorization": authorization}
+def silent(stan):
+    """One whose issuer is silent: it leaves advices until the end of the stream."""
+    return authorization(stan, b"000000000091")
+
+
+KINDS = {"test": network_test, "authorization": authorization, "silent": silent}
 # A STAN that stands in a text only where it was put.
 MARK = b"271828"
 
@@ -48,30 +53,41 @@ def stan_of(number):
     return b"%06d" % (number % 1_000_000)
 
 
-def worked(make):
-    """The lines of the first such request without its id, and its response."""
-    switch = Switch(requests.whole_flow(), 10_000)
-    lines = [switch.offer(make(MARK)), switch.engine.take(0)]
-    while switch.engine.sessions[0]:
-        switch.engine.write()
-        lines.append(switch.engine.call(0))
-    return lines[0], [line.split(" ", 1)[1] for line in lines[1:]], switch.responses()
+class Worked:
+    """The first request of a kind: its response, its lines with a number in the place of the id, and the places of its advices."""
+
+    def __init__(self, make, form):
+        switch = Switch(requests.whole_flow(), 10_000)
+        lines = switch.answer(make(MARK))
+        if form == "json":
+            self.lines = [traces.json_line(*line).replace('"id":1,', '"id":{},') for line in lines]
+        else:
+            self.lines = [lines[0][0], *(f"{{}} {line.split(' ', 1)[1]}" for line, _ in lines[1:])]
+        self.response, self.places = switch.responses(), [place for _, place in sorted(switch.engine.now.advices)]
+        self.form = form
+
+    def ack(self, number, place):
+        line = f"ack {number} {place}"
+        return traces.json_line(line) if self.form == "json" else line
 
 
-def lines_of(make, count):
+def filled(line, number):
+    return line.replace("{}", str(number))
+
+
+def lines_of(worked, count):
     """The lines of so many requests, one after the other."""
-    offer, lines, _ = worked(make)
     for number in range(1, count + 1):
-        yield offer
-        for line in lines:
-            yield f"{number} {line}"
+        yield from (filled(line, number) for line in worked.lines)
+    yield from (worked.ack(number, place) for number in range(1, count + 1) for place in worked.places)
 
 
-def frames_of(make, count):
+def frames_of(worked, count):
     """The frames of their responses."""
-    first = worked(make)[2]
     for number in range(1, count + 1):
-        yield first.replace(MARK, stan_of(number))
+        stan = stan_of(number)
+        # (the switch's own approval code ends in four digits of the STAN)
+        yield worked.response.replace(b"SI" + MARK[-4:], b"SI" + stan[-4:]).replace(MARK, stan)
 
 
 def requests_of(make, count):
@@ -100,17 +116,17 @@ class Reader(threading.Thread):
             self.wrong = f"after all that is wanted there is {rest[:200]!r}"
 
 
-def served(program, make, count):
+def served(program, make, count, form):
     """What is wrong with a run of so many requests; its status, the memory that it took in MB, and its seconds."""
     with tempfile.TemporaryDirectory() as room:
         flow = f"{room}/flow.toml"
         with open(flow, "wb") as file:
             file.write(requests.flow_file(requests.whole_flow()))
         began = time.monotonic()
-        words = [program, "run", "--flow", flow, "--trace"]
+        words, worked = [program, "run", "--flow", flow, f"--trace={form}"], Worked(make, form)
         with subprocess.Popen(words, stdin=subprocess.PIPE, stdout=subprocess.PIPE, stderr=subprocess.PIPE) as run:
-            lines = (f"{line}\n".encode() for line in lines_of(make, count))
-            readers = [Reader(run.stdout, frames_of(make, count)), Reader(run.stderr, lines)]
+            lines = (f"{line}\n".encode() for line in lines_of(worked, count))
+            readers = [Reader(run.stdout, frames_of(worked, count)), Reader(run.stderr, lines)]
             texts = requests_of(make, count)
             try:
                 while piece := b"".join(islice(texts, 1_000)):
@@ -129,11 +145,12 @@ def main():
     parser = argparse.ArgumentParser(description="Serves a long stream.")
     parser.add_argument("--requests", type=int, default=125_000)
     parser.add_argument("--kind", choices=KINDS, default="test", help="network tests, or authorizations of cards of their own")
+    parser.add_argument("--form", choices=("text", "json"), default="text", help="the form of the trace")
     parser.add_argument("--most", type=float, help="the memory that it may take, in MB")
     parser.add_argument("--program", default=BUILT)
     given = parser.parse_args()
-    most = given.most or MOST + given.requests * (BOOK if given.kind == "authorization" else 0) / 2**20
-    wrong, status, took, seconds = served(os.path.abspath(given.program), KINDS[given.kind], given.requests)
+    most = given.most or MOST + given.requests * LEFT[given.kind] / 2**20
+    wrong, status, took, seconds = served(os.path.abspath(given.program), KINDS[given.kind], given.requests, given.form)
     faults = [
         ("responses", wrong[0]),
         ("trace", wrong[1]),

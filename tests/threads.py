@@ -140,7 +140,7 @@ def apart(run):
     out = switch.run(made)
     give, _ = run.input_of(made)
     for options in ((), run.threads):
-        compare(run.ran(give, *options), out, requests.Told(made))
+        compare(run.ran(give, *options), out, requests.Told(requests.passed(made)))
         if run.has_file:
             need(unnumbered(tables.lines(run.journal)) == unnumbered(requests.tables(switch)), "the journal has other rows")
     return 0

@@ -12,6 +12,7 @@ pool        what sessions that run as threads did
 messages    messages of ISO 8583:1987, their frames, and what `decode` prints
 switch      the participants of the switch, and what `run` answers
 requests    random requests for `run`
+traces      the lines of the trace as JSON
 threads     what the trace of `run --threads` tells, followed line by line
 texts       how the program's messages begin
 generate    random inputs, each with what the model answers

@@ -1,7 +1,9 @@
 """Random streams of requests for `run`, each with the responses and the journal that the model answers."""
 
+import json
+
 from harness.case import Case, Exactly, difference
-from model import messages
+from model import messages, traces
 from model.flows import Entry, Flow, Group, Kind
 from model.switch import Switch
 
@@ -210,21 +212,23 @@ def crowd(random, limit, count):
 def run_case(random, name):
     flow = whole_flow() if random.random() < 0.8 else short_flow()
     limit = random.choice([10_000, 10_000, 0, 700, 999_999_999_999_999])
-    return served(name, flow, limit, stream(random), random.random() < 0.5)
+    made, is_file = stream(random), random.random() < 0.5
+    return served(name, flow, limit, made, is_file, random.choice([None, None, "", "=text", "=json"]))
 
 
-def served(name, flow, limit, made, is_file):
-    """The case of a run over a journal in memory, or on a file, whose tables are then shown."""
-    command = f"cardswitch run --flow flow.toml --limit {limit}"
+def served(name, flow, limit, made, is_file, form=None):
+    """The case of a run over a journal in memory, or on a file, whose tables are then shown; with the trace where it has a form."""
+    command = f"cardswitch run --flow flow.toml --limit {limit}" + ("" if form is None else f" --trace{form}")
     switch = Switch(flow, limit)
-    frames = switch.run(made)
+    told = list(switch.told(made))
+    frames = switch.responses()
     if is_file:
         command += " --journal journal.db && tables journal.db"
         frames += "".join(f"{line}\n" for line in tables(switch)).encode()
     case = Case(name, command, b"".join(map(messages.framed, made)))
     case.files = {"flow.toml": flow_file(flow)}
     case.stdout = Exactly(frames)
-    case.stderr = Told(made)
+    case.stderr = Told(told, form)
     return case
 
 
@@ -243,15 +247,33 @@ class Frames(Exactly):
         return None if came == self.text else difference(name, *map(messages.shown, (self.text, came)))
 
 
-class Told:
-    """On standard error: a line for each message that cannot be read, and no other."""
+def passed(made):
+    """The numbers of the messages that are passed over."""
+    return [number for number, it in enumerate(made, 1) if not messages.is_message(it)]
 
-    def __init__(self, made):
-        self.numbers = [number for number, it in enumerate(made, 1) if not messages.is_message(it)]
+
+def shown_in(form, it):
+    """A line of the trace in this form, or how the line of a message that is passed over begins."""
+    if isinstance(it, int):
+        return b"cardswitch: message %d is passed over: " % it
+    return (traces.json_line(*it) if form == "=json" else it[0]).encode()
+
+
+class Told:
+    """On standard error: the trace, where it has a form, and a line for each message that cannot be read, each in its place."""
+
+    def __init__(self, told, form=None):
+        self.told = [it for it in told if isinstance(it, int) or form is not None]
+        self.wanted, self.form = [shown_in(form, it) for it in self.told], form
+
+    def is_right(self, it, wanted, line):
+        if isinstance(it, int):
+            return line.startswith(wanted)
+        return line == wanted and (self.form != "=json" or json.loads(line) == json.loads(wanted))
 
     def wrong(self, name, came):
-        wanted = [b"cardswitch: message %d is passed over: " % number for number in self.numbers]
         lines = came.splitlines()
-        if len(lines) == len(wanted) and all(line.startswith(it) for line, it in zip(lines, wanted)):
+        pairs = zip(self.told, self.wanted, lines)
+        if len(lines) == len(self.wanted) and all(self.is_right(*pair) for pair in pairs):
             return None
-        return f"{name}: wanted messages {self.numbers} to be told, came {came!r}"
+        return difference(name, *(b"\n".join(them) for them in (self.wanted, lines)))

@@ -222,12 +222,14 @@ class Switch:
         return self.engine.offer({"request": message})
 
     def answer(self, message):
-        """Runs the transaction of a request from its offer to its end."""
-        self.offer(message)
-        self.engine.take(0)
-        while self.engine.sessions[0]:
+        """Runs the transaction of a request from its offer to its end. Its lines, each with the code that its answer's context notes."""
+        lines = [(self.offer(message), None), (self.engine.take(0), None)]
+        while its := self.engine.sessions[0]:
+            is_answer = its.due()[0].startswith("prepare")
             self.engine.write()
-            self.engine.call(0)
+            line = self.engine.call(0)
+            lines.append((line, its.live.get("rc") if is_answer else None))
+        return lines
 
     def send_advices(self):
         """Sends the stored advices; those that an issuer accepts are dropped. The lines of that."""
@@ -239,9 +241,16 @@ class Switch:
         contexts = [context for _, context in sorted(self.engine.ended.items())]
         return b"".join(messages.framed(it["response"]) for it in contexts if "response" in it)
 
+    def told(self, requests):
+        """Answers these messages one after the other. What is told of it: lines with their codes, and numbers of messages passed over."""
+        for number, message in enumerate(requests, 1):
+            if messages.is_message(message):
+                yield from self.answer(message)
+            else:
+                yield number
+        yield from ((line, None) for line in self.send_advices())
+
     def run(self, requests):
         """The frames of the responses to these messages, answered one after the other."""
-        for message in filter(messages.is_message, requests):
-            self.answer(message)
-        self.send_advices()
+        list(self.told(requests))
         return self.responses()

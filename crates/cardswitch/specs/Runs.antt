@@ -8,12 +8,16 @@ use Rattle.sw_issuers.specs.Sending.{PlainSender, SendsAdvice}
 use Rattle.tx_plant.specs.Plant.{Seen}
 use Rattle.cli_options.specs.CommandLine.{text_of}
 use Rattle.cli_options.specs.declared.choice.RunOptions.{RunOptions}
+use Rattle.cli_options.specs.declared.choice.TraceForm.{TraceForm}
+use Rattle.cli_options.specs.declared.choice.TraceForm.TheVariants as option
 use Rattle.cli_run.specs.Advices.{AdviceStep}
 use Rattle.cli_run.specs.Links.{sender_of}
 use Rattle.cli_run.specs.Ran.{Printed, Ran}
 use Rattle.cli_run.specs.Requests.{ReadTo, requests}
 use Rattle.cli_run.specs.Rounds.{Round, RoundsFor}
 use Rattle.cli_run.specs.declared.serving.Setup.{Setup}
+use Rattle.cli_run.specs.declared.told.Form.{Form}
+use Rattle.cli_run.specs.declared.told.Form.TheVariants as form
 use Rattle.cli_run.specs.declared.stream.StreamEnd.TheVariants.{Whole}
 use Rattle.cli_run.specs.declared.error.ServeError.TheVariants as serve
 use Rattle.cardswitch.specs.Journals.{IsFound, IsFoundAt}
@@ -35,6 +39,11 @@ pub record IsSetUp (limit count : ℕ) (as_threads : Bool) (setup : Setup) : Typ
   pub book : setup.book ≡ record { limit = limit; items = [] }
   pub sessions : setup.sessions ≡ count
   pub threads : setup.threads ≡ as_threads
+
+-- the form of the trace's lines that the options name
+abbrev pub form_of : TraceForm → Form
+form_of option.Text = form.Text
+form_of option.Json = form.Json
 
 -- over this journal the requests of a whole input were answered, one after the other, or by threads in batches
 pub record Served (threads : Bool) (flow : Flow) (sessions : ℕ) (j : Seen) (sender : PlainSender)

@@ -1,6 +1,6 @@
 //! The subcommands `run` and `recover`: the switch with its own participants, over a journal.
 
-ghost use Rattle.std.specs.Prelude.{◌≡◌, ◌<◌, ◌≤◌, [], IfErr, IfNone, IfOk, IfSome, OnOk, false};
+ghost use Rattle.std.specs.Prelude.{◌≡◌, ◌<◌, ◌≤◌, [], IfErr, IfNone, IfOk, IfSome, OnOk, false, option_map};
 ghost use Rattle.flow_model.specs.Check.{IsChecked};
 ghost use Rattle.flow_model.specs.declared.flow.Flow.{Flow};
 ghost use Rattle.tx_journal.specs.Kept.{kept};
@@ -8,13 +8,13 @@ ghost use Rattle.tx_plant.specs.Plant.{seen};
 ghost use Rattle.cli_run.specs.Links.{sender_of};
 ghost use Rattle.cli_run.specs.Ran.{Printed};
 ghost use Rattle.cardswitch.specs.Runs.{Answered, IsFlowFault, IsRecoverFault, IsRunFault};
-ghost use Rattle.cardswitch.specs.Runs.{IsServeFault, IsSetUp, Recovered, Served, new_sender};
+ghost use Rattle.cardswitch.specs.Runs.{IsServeFault, IsSetUp, Recovered, Served, form_of, new_sender};
 
 use crate::error::RunError;
 use crate::flow_file::flow_at;
 use crate::journals::{open_file, open_in_memory};
-use cli_options::choice::RunOptions;
-use cli_run::{Issuers, Setup, Told, run};
+use cli_options::choice::{RunOptions, TraceForm};
+use cli_run::{Form, Issuers, Setup, Told, run};
 use flow_asm::{Code, assemble};
 use sqlite::Alter;
 use sqlite_std_file::File;
@@ -101,14 +101,27 @@ fn code_at(alloc: Global, rt: &HostRuntime, path: &str) -> Result<Code, RunError
     Ok(assemble(alloc, &flow)?)
 }
 
-// What a run tells: the trace where the options want it.
+// The form of the trace's lines, by that of the options.
+fn form_of(form: TraceForm) -> Form
+    ensures { result ≡ form_of form }
+{
+    match form {
+        TraceForm::Text => Form::Text,
+        TraceForm::Json => Form::Json,
+    }
+}
+
+// What a run tells: the trace where the options want it, and in their form.
 fn told_by<'a, E>(options: &RunOptions<'_>, err: &'a mut E) -> Told<'a, E>
-    ensures trace { result.trace ≡ options.now.trace }
+    ensures trace { result.trace ≡ option_map form_of options.now.trace }
     ensures none_lost { result.lost ≡ false }
 {
     Told {
         err,
-        trace: options.trace,
+        trace: match options.trace {
+            Some(form) => Some(form_of(form)),
+            None => None,
+        },
         lost: false,
     }
 }
@@ -213,7 +226,7 @@ pub fn recover<T: Threads + Wait + Sync, O: Write>(
     let mut sink = std::io::sink();
     let mut told = Told {
         err: &mut sink,
-        trace: false,
+        trace: None,
         lost: false,
     };
     let input: Option<Empty> = None;

@@ -1,2 +1,2 @@
-mod Contexts
+mod Entries
 mod Items

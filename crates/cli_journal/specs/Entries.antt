@@ -1,5 +1,5 @@
 -- The lines of a context: one for each entry, and those of a message under it.
-use Rattle.std.specs.Prelude.{ℕ, ◌<◌, ◌||◌, ◌&&◌, nat_le, Bool, true, false, List, [], ◌∷◌, ◌++◌, length, Option, Some, None, codes, if◌then◌else◌}
+use Rattle.std.specs.Prelude.{ℕ, ◌<◌, ◌||◌, Bool, true, false, List, [], ◌∷◌, ◌++◌, length, Option, Some, None, codes, if◌then◌else◌}
 use Rattle.std.specs.Fmt.{decimal}
 use Rattle.std.specs.List.{flat_map, list_all}
 use Rattle.std.specs.Str.{bytes_eq}
@@ -8,7 +8,8 @@ use Rattle.sw_context.specs.Pairs.{Pairs}
 use Rattle.cli_decode.specs.declared.masking.Masking.{Masking}
 use Rattle.cli_decode.specs.declared.masking.Masking.TheVariants.{Off, On}
 use Rattle.cli_decode.specs.Decoded.{frame_text}
-use Rattle.cli_journal.specs.Contexts.{context_at}
+use Rattle.sw_json.specs.Contexts.{context_at}
+use Rattle.sw_json.specs.Json.{is_printable}
 
 abbrev pub Text : Type 0
 Text = List ℕ
@@ -22,10 +23,6 @@ abbrev pub is_note : Text → Bool
 is_note name =
     bytes_eq name (codes "rc") || bytes_eq name (codes "auth") || bytes_eq name (codes "sent")
     || bytes_eq name (codes "late") || bytes_eq name (codes "standin")
-
--- a byte of printable ASCII
-abbrev pub is_printable : ℕ → Bool
-is_printable b = nat_le 32 b && nat_le b 126
 
 -- printable text between quotation marks, and any other value as hexadecimal digits
 abbrev pub value_text : Text → Text

@@ -1,6 +1,5 @@
 -- The lines of JSON: one object for each item, and one for each entry of its context.
-use Rattle.std.specs.Prelude.{ℕ, ◌==◌, Bool, true, false, List, [], ◌∷◌, ◌++◌, length, Option, Some, None, codes, if◌then◌else◌}
-use Rattle.std.specs.Fmt.{decimal}
+use Rattle.std.specs.Prelude.{ℕ, Bool, true, false, List, ◌++◌, length, Option, Some, None, codes, if◌then◌else◌}
 use Rattle.std.specs.List.{flat_map, list_all}
 use Rattle.iso_codec.specs.Spelling.{hex}
 use Rattle.sw_context.specs.Pairs.{Pairs}
@@ -12,40 +11,12 @@ use Rattle.cli_decode.specs.declared.masking.Masking.{Masking}
 use Rattle.cli_decode.specs.Decoded.{frame_text}
 use Rattle.cli_journal.specs.declared.json_entries.Owner.{Owner}
 use Rattle.cli_journal.specs.declared.json_entries.Owner.TheVariants.{Transaction, Shelf}
-use Rattle.cli_journal.specs.Contexts.{context_at}
-use Rattle.cli_journal.specs.Entries.{Text, is_masked, is_message, is_printable}
+use Rattle.sw_json.specs.Contexts.{context_at}
+use Rattle.sw_json.specs.Json.{is_printable, number, opening, strings, text}
 use Rattle.journal_rows.specs.declared.error.BadRow.{BadRow}
+use Rattle.cli_journal.specs.Entries.{Text, is_masked, is_message}
 use Rattle.cli_journal.specs.LeftOut.{left_out_json}
 use Rattle.cli_journal.specs.Shown.{age_of, phase_name}
-
--- a byte within a string: a quotation mark, a backslash and a line feed are escaped, and what is not printable ASCII
-abbrev pub escaped : ℕ → Text
-escaped b =
-    if b == 34 then codes "\\\"" else if b == 92 then codes "\\\\" else if b == 10 then codes "\\n"
-    else if is_printable b then b ∷ [] else codes "\\u00" ++ flat_map hex (b ∷ [])
-
-unfoldable pub string : Text → Text
-string text = codes "\"" ++ (flat_map escaped text ++ codes "\"")
-
--- strings, parted by commas
-abbrev pub next_string : Text → Text
-next_string text = codes "," ++ string text
-
-unfoldable pub strings : List Text → Text
-strings [] = []
-strings (x ∷ xs) = string x ++ flat_map next_string xs
-
--- `{"WORD":N`
-unfoldable pub opening : Text → ℕ → Text
-opening word n = codes "{\"" ++ (word ++ (codes "\":" ++ decimal n))
-
--- `,"WORD":N`
-unfoldable pub number : Text → ℕ → Text
-number word n = codes ",\"" ++ (word ++ (codes "\":" ++ decimal n))
-
--- `,"WORD":"TEXT"`
-unfoldable pub text : Text → Text → Text
-text word value = codes ",\"" ++ (word ++ (codes "\":" ++ string value))
 
 -- ---- an entry of a context
 

@@ -1,4 +1,3 @@
-pub mod Contexts
 pub mod Entries
 pub mod LeftOut
 pub mod Shown

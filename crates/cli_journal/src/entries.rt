@@ -4,12 +4,14 @@ ghost use Rattle.std.specs.Prelude.{◌≡◌, ◌++◌, codes, OnOk};
 ghost use Rattle.std.specs.List.{list_all, flat_map};
 ghost use Rattle.sw_context.specs.Pairs.{IsContext};
 ghost use Rattle.cli_decode.specs.Decoded.{frame_text};
+ghost use Rattle.sw_json.specs.Json as json;
 ghost use Rattle.cli_journal.specs.Entries as spec;
 
 use cli_decode::{Masking, push_frame, push_number};
 use iso_codec::push_hex;
 use std::alloc::{AllocError, Global};
 use sw_context::{Context, ContextError};
+use sw_json::is_printable;
 
 /// Whether an entry has the bytes of a message.
 pub fn is_message(name: &str) -> bool
@@ -35,16 +37,9 @@ pub fn is_masked(masking: Masking, name: &str) -> bool
     }
 }
 
-/// Whether a byte is printable ASCII.
-pub fn is_printable(byte: u8) -> bool
-    ensures { result ≡ spec.is_printable byte }
-{
-    32 <= byte && byte <= 126
-}
-
 /// Whether all bytes are printable ASCII.
 pub fn is_text(value: &[u8]) -> bool
-    ensures { result ≡ list_all spec.is_printable value.now }
+    ensures { result ≡ list_all json.is_printable value.now }
 {
     value.iter().all(|byte| is_printable(*byte))
 }

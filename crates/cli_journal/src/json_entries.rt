@@ -3,14 +3,15 @@
 ghost use Rattle.std.specs.Prelude.{◌≡◌, ◌++◌, codes, OnOk};
 ghost use Rattle.std.specs.List.{flat_map};
 ghost use Rattle.cli_decode.specs.Decoded.{frame_text};
+ghost use Rattle.sw_json.specs.Json.{text as text_member};
 ghost use Rattle.cli_journal.specs.Json as spec;
 
 use crate::entries::{is_masked, is_message, is_text, push_message};
-use crate::json::{push_number_member, push_opening, push_text_member};
 use cli_decode::Masking;
 use iso_codec::push_hex;
 use std::alloc::{AllocError, Global};
 use sw_context::{Context, ContextError};
+use sw_json::{push_number_member, push_opening, push_text_member};
 
 fn push_value(alloc: Global, text: &mut Vec<u8>, value: &[u8]) -> Result<(), AllocError>
     ensures { OnOk result (text.new.items ≡ text.old.items ++ spec.value_members value.now) }
@@ -32,7 +33,7 @@ pub fn push_message_member(
     bytes: &[u8],
 ) -> Result<(), AllocError>
     ensures { OnOk result (text.new.items
-        ≡ text.old.items ++ spec.text (codes "message") (frame_text masking id bytes.now)) }
+        ≡ text.old.items ++ text_member (codes "message") (frame_text masking id bytes.now)) }
 {
     let mut message = Vec::new(alloc);
     push_message(alloc, &mut message, masking, id, bytes)?;

@@ -7,7 +7,7 @@ ghost use Rattle.tx_history.specs.History.{is_committing};
 ghost use Rattle.cli_io.specs.Written.{AppendsBeginning};
 ghost use Rattle.cli_journal.specs.Json as spec;
 
-use crate::json::{push_number_member, push_opening, push_strings, push_text_member};
+use crate::json::push_strings;
 use crate::json_entries::{Owner, push_context_lines, push_message_member};
 use crate::left_out::push_objects;
 use crate::rows::phase_name;
@@ -16,6 +16,7 @@ use cli_io::{WriteError, write_out};
 use journal_rows::BadRow;
 use std::alloc::{AllocError, Global};
 use std::io::Write;
+use sw_json::{push_number_member, push_opening, push_text_member};
 use sw_participant::{Bytes, Text};
 use tx_history::{JournalView, Row, Waiting};
 use tx_machine::Phase;

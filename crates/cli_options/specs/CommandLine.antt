@@ -1,6 +1,6 @@
 -- The command line of `cardswitch`: its subcommands as a table, and what words mean by it. clap's
 -- contracts say what a parse by such a table gives.
-use Rattle.std.specs.Prelude.{◌≡◌, ◌^◌, ℕ, Bool, true, false, List, Option, Some, None, bytes_eq, codes, option_and_then, option_map, nat_lt, ◌||◌, if◌then◌else◌}
+use Rattle.std.specs.Prelude.{◌≡◌, ◌^◌, ℕ, Bool, true, false, List, [], ◌∷◌, Option, Some, None, bytes_eq, codes, option_and_then, option_map, nat_lt, ◌||◌, if◌then◌else◌}
 use Rattle.std.specs.Option.{option_map_or}
 use Rattle.sw_base.specs.Spelling.{number_spelled}
 use Rattle.std.specs.Borrow.{Bor}
@@ -11,6 +11,8 @@ use Rattle.cli_options.specs.declared.choice.Options.{Options}
 use Rattle.cli_options.specs.declared.choice.Options.TheVariants.{Asm, Decode, Encode, Graph, Journal, List as ListImage, Recover, Run, Step}
 use Rattle.cli_options.specs.declared.choice.JournalOptions.{JournalOptions}
 use Rattle.cli_options.specs.declared.choice.RunOptions.{RunOptions}
+use Rattle.cli_options.specs.declared.choice.TraceForm.{TraceForm}
+use Rattle.cli_options.specs.declared.choice.TraceForm.TheVariants as form
 use Rattle.clap.specs.declared.builder.action.ArgAction.TheVariants.{SetTrue}
 
 -- clap's command is of this shape
@@ -32,6 +34,15 @@ needed_rule name = record (option_rule name) { required = true }
 -- a word of its own, which has to be given
 abbrev pub word_rule : Text → Rule
 word_rule name = record (new_rule name) { value_names = 1; required = true }
+
+-- `--NAME` or `--NAME=VALUE`, which may be left out, with the value that is meant without one
+abbrev pub optional_rule : Text → Text → Rule
+optional_rule name default = record (new_rule name) {
+  long = Some name;
+  value_names = 1;
+  range = Some (record { start_inclusive = 0; end_inclusive = 1 });
+  missing = default ∷ [];
+}
 
 -- `--NAME`, without a value
 abbrev pub flag_rule : Text → Rule
@@ -69,9 +80,9 @@ recover_app = with_rule (with_rule (new_app (codes "recover")) (needed_rule (cod
 abbrev pub journal_app : App
 journal_app = with_rule (with_rule (with_rule (new_app (codes "journal")) (word_rule (codes "path"))) (flag_rule (codes "json"))) (flag_rule (codes "clear"))
 
--- `run --flow PATH [--journal PATH] [--sessions N] [--limit N] [--threads] [--trace]`
+-- `run --flow PATH [--journal PATH] [--sessions N] [--limit N] [--threads] [--trace[=FORM]]`
 abbrev pub run_app : App
-run_app = with_rule (with_rule (with_rule (with_rule (with_rule (with_rule (new_app (codes "run")) (needed_rule (codes "flow"))) (option_rule (codes "journal"))) (option_rule (codes "sessions"))) (option_rule (codes "limit"))) (flag_rule (codes "threads"))) (flag_rule (codes "trace"))
+run_app = with_rule (with_rule (with_rule (with_rule (with_rule (with_rule (new_app (codes "run")) (needed_rule (codes "flow"))) (option_rule (codes "journal"))) (option_rule (codes "sessions"))) (option_rule (codes "limit"))) (flag_rule (codes "threads"))) (optional_rule (codes "trace") (codes "text"))
 
 -- the program itself: it has a version, and wants a subcommand
 abbrev pub program_app : App
@@ -100,6 +111,13 @@ number_in default (Some word) = option_and_then bounded (number_spelled word)
 abbrev pub is_set : Option Text → Bool
 is_set text = option_map_or (λ t. bytes_eq t (codes "true")) text false
 
+-- the form of the trace that a value of `--trace` names; without the option there is no trace
+abbrev pub trace_in : Option Text → Option (Option TraceForm)
+trace_in None = Some None
+trace_in (Some word) =
+    if bytes_eq word (codes "text") then Some (Some form.Text)
+    else if bytes_eq word (codes "json") then Some (Some form.Json) else None
+
 -- the options of `run`, whose own options are in the rows
 pub record AreRunOptions (rows : List Row) (o : RunOptions) : Type 0 where
   pub flow : Some o.flow.now ≡ first_of (codes "flow") rows
@@ -107,7 +125,7 @@ pub record AreRunOptions (rows : List Row) (o : RunOptions) : Type 0 where
   pub sessions : number_in 1 (first_of (codes "sessions") rows) ≡ Some o.sessions
   pub limit : number_in 10000 (first_of (codes "limit") rows) ≡ Some o.limit
   pub threads : o.threads ≡ is_set (first_of (codes "threads") rows)
-  pub trace : o.trace ≡ is_set (first_of (codes "trace") rows)
+  pub trace : trace_in (first_of (codes "trace") rows) ≡ Some o.trace
 
 -- the same of `journal`
 pub record AreJournalOptions (rows : List Row) (o : JournalOptions) : Type 0 where

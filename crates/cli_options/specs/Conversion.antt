@@ -4,7 +4,7 @@ use Rattle.clap.specs.Words.{kind_of}
 use Rattle.clap.specs.declared.error.Error.{Error}
 use Rattle.clap.specs.declared.error.kind.ErrorKind.TheVariants as kind
 use Rattle.cli_options.specs.declared.error.OptionsError.{OptionsError}
-use Rattle.cli_options.specs.declared.error.OptionsError.TheVariants.{BadCommandLine, BadNumber, NoSubcommand}
+use Rattle.cli_options.specs.declared.error.OptionsError.TheVariants.{BadCommandLine, BadForm, BadNumber, NoSubcommand}
 use Rattle.cli_options.specs.declared.error.OptionsError.TheVariants.{OutOfMemory}
 
 -- clap's error for want of memory is told as such, and every other error is carried
@@ -12,4 +12,5 @@ abbrev pub Carries : Error → OptionsError → Type 0
 Carries e (BadCommandLine f) = (f ≡ e) × (kind_of e ≢ kind.OutOfMemory)
 Carries e NoSubcommand = ⊥
 Carries e (BadNumber name found) = ⊥
+Carries e (BadForm found) = ⊥
 Carries e OutOfMemory = kind_of e ≡ kind.OutOfMemory

@@ -7,7 +7,7 @@ use Rattle.cli_options.specs.CommandLine.{AreOptionsOf, AreRunOptions, IsNoSubco
 use Rattle.cli_options.specs.declared.choice.RunOptions.{RunOptions}
 use Rattle.cli_options.specs.declared.choice.Options.{Options}
 use Rattle.cli_options.specs.declared.error.OptionsError.{OptionsError}
-use Rattle.cli_options.specs.declared.error.OptionsError.TheVariants.{BadCommandLine, BadNumber, NoSubcommand}
+use Rattle.cli_options.specs.declared.error.OptionsError.TheVariants.{BadCommandLine, BadForm, BadNumber, NoSubcommand}
 use Rattle.cli_options.specs.declared.error.OptionsError.TheVariants.{OutOfMemory}
 
 -- the table finds no fault in the words
@@ -19,21 +19,28 @@ abbrev pub IsRefusalOf : List Text → OptionsError → Type 0
 IsRefusalOf words (BadCommandLine e) = IsAmong (kind_of e) (fault_of switch_app words)
 IsRefusalOf words NoSubcommand = (o : Options) → AreOptionsOf words o → ⊥
 IsRefusalOf words (BadNumber name found) = (o : Options) → AreOptionsOf words o → ⊥
+IsRefusalOf words (BadForm found) = (o : Options) → AreOptionsOf words o → ⊥
 IsRefusalOf words OutOfMemory = ⊤
 
 abbrev pub IsBadNumber : OptionsError → Type 0
 IsBadNumber (BadNumber name found) = ⊤
 IsBadNumber _ = ⊥
 
+abbrev pub IsBadForm : OptionsError → Type 0
+IsBadForm (BadForm found) = ⊤
+IsBadForm _ = ⊥
+
 -- the rows of a subcommand are refused, which give no options
 abbrev pub IsRefusalAt : Text → List Row → OptionsError → Type 0
 IsRefusalAt name rows NoSubcommand = IsNoSubcommand name rows
 IsRefusalAt name rows (BadNumber option found) = IsNoSubcommand name rows
+IsRefusalAt name rows (BadForm found) = IsNoSubcommand name rows
 IsRefusalAt name rows _ = ⊥
 
 abbrev pub IsRunRefusal : List Row → OptionsError → Type 0
 IsRunRefusal rows NoSubcommand = (o : RunOptions) → AreRunOptions rows o → ⊥
 IsRunRefusal rows (BadNumber option found) = (o : RunOptions) → AreRunOptions rows o → ⊥
+IsRunRefusal rows (BadForm found) = (o : RunOptions) → AreRunOptions rows o → ⊥
 IsRunRefusal rows _ = ⊥
 
 -- help and the version are shown; every other text tells a mistake
@@ -46,4 +53,5 @@ abbrev pub status_of : OptionsError → ℕ
 status_of (BadCommandLine e) = kind_status (kind_of e)
 status_of NoSubcommand = 2
 status_of (BadNumber name found) = 2
+status_of (BadForm found) = 2
 status_of OutOfMemory = 4

@@ -81,6 +81,14 @@ pub struct RunOptions<'a> {
     pub limit: u64,
     /// Whether the sessions run as threads.
     pub threads: bool,
-    /// Whether the trace is printed on standard error at the end.
-    pub trace: bool,
+    /// In which form the trace is printed on standard error, if it is.
+    pub trace: Option<TraceForm>,
+}
+
+/// The form of the trace's lines.
+#[derive(Clone, Copy)]
+pub enum TraceForm {
+    Text,
+    /// A line is an object of JSON.
+    Json,
 }

@@ -2,10 +2,11 @@
 ghost use Rattle.std.specs.Prelude.{◌≡◌, IfErr, IfOk, None, OnOk, Some, codes, map};
 ghost use Rattle.clap.specs.Words.{first_of, found_of, rows_of};
 ghost use Rattle.cli_options.specs.CommandLine.{AreOptionsAt, AreOptionsOf, AreRunOptions};
-ghost use Rattle.cli_options.specs.CommandLine.{is_set, number_in, text_of};
-ghost use Rattle.cli_options.specs.Refusal.{IsAccepted, IsBadNumber, IsRefusalAt, IsRefusalOf, IsRunRefusal};
+ghost use Rattle.cli_options.specs.CommandLine.{is_set, number_in, text_of, trace_in};
+ghost use Rattle.cli_options.specs.Refusal.{IsAccepted, IsBadForm, IsBadNumber, IsRefusalAt};
+ghost use Rattle.cli_options.specs.Refusal.{IsRefusalOf, IsRunRefusal};
 
-use crate::choice::{JournalOptions, Options, RunOptions};
+use crate::choice::{JournalOptions, Options, RunOptions, TraceForm};
 use crate::error::OptionsError;
 use crate::table::switch_command;
 use clap::ArgMatches;
@@ -68,6 +69,19 @@ fn number_in(name: &'static str, text: Option<&str>, default: u64) -> Result<u64
     }
 }
 
+/// The form of the trace, by the value of `--trace`; `None` where it was not given.
+fn trace_in(text: Option<&str>) -> Result<Option<TraceForm>, OptionsError>
+    ensures found { IfOk result (λ form. trace_in (text_of text.entry) ≡ Some form) }
+    ensures refused { IfErr result (λ e. IsBadForm e × (trace_in (text_of text.entry) ≡ None)) }
+{
+    match text {
+        None => Ok(None),
+        Some("text") => Ok(Some(TraceForm::Text)),
+        Some("json") => Ok(Some(TraceForm::Json)),
+        Some(other) => Err(OptionsError::BadForm(Quoted::of(other.as_bytes()))),
+    }
+}
+
 /// The options of `run`, by what clap found for it.
 fn run_options<'a>(found: &ArgMatches<'a>) -> Result<RunOptions<'a>, OptionsError>
     ensures found { IfOk result (AreRunOptions (rows_of (found_of found.now))) }
@@ -82,7 +96,7 @@ fn run_options<'a>(found: &ArgMatches<'a>) -> Result<RunOptions<'a>, OptionsErro
         sessions: number_in("sessions", text_at(found, "sessions"), 1)?,
         limit: number_in("limit", text_at(found, "limit"), 10_000)?,
         threads: is_set(text_at(found, "threads")),
-        trace: is_set(text_at(found, "trace")),
+        trace: trace_in(text_at(found, "trace"))?,
     })
 }
 

@@ -22,6 +22,9 @@ pub enum OptionsError {
     /// The text of an option is not the number that it takes.
     #[error("error: --{name} has a bad number: expected decimal digits, of a number below 2^63; found {found}\n")]
     BadNumber { name: &'static str, found: Quoted },
+    /// The value of `--trace` is no form of the trace.
+    #[error("error: --trace has a bad form: expected text or json; found {0}\n")]
+    BadForm(Quoted),
     /// No memory was left to read the words.
     #[error("error: out of memory\n")]
     OutOfMemory,
@@ -42,7 +45,9 @@ impl OptionsError {
     {
         match self {
             OptionsError::BadCommandLine(error) => kind_status(error.kind()),
-            OptionsError::NoSubcommand | OptionsError::BadNumber { .. } => 2,
+            OptionsError::NoSubcommand
+            | OptionsError::BadNumber { .. }
+            | OptionsError::BadForm(_) => 2,
             OptionsError::OutOfMemory => 4,
         }
     }

@@ -12,6 +12,8 @@ use std::alloc::{AllocError, Global};
 enum Given<'a> {
     /// `--NAME VALUE`, with what help calls the value.
     Value(&'a str),
+    /// `--NAME` or `--NAME=VALUE`, with what help calls the value, and the value that is meant without one.
+    Optional(&'a str, &'a str),
     /// `--NAME`.
     Flag,
     /// A word of its own, with what help calls it.
@@ -175,8 +177,8 @@ const COMMANDS: [CommandRow<'static>; 9] = [
             },
             OptionRow {
                 name: "trace",
-                given: Given::Flag,
-                help: "Prints the trace on standard error, one line for each step",
+                given: Given::Optional("FORM", "text"),
+                help: "Prints the trace on standard error, one line for each step; FORM is text or json [without FORM: text]",
                 is_required: false,
             },
         ],
@@ -192,6 +194,11 @@ fn option_of<'a>(alloc: Global, row: OptionRow<'a>) -> Arg<'a>
         .required(row.is_required);
     match row.given {
         Given::Value(value) => arg.long(row.name).value_name(value),
+        Given::Optional(value, default) => arg
+            .long(row.name)
+            .value_name(value)
+            .num_args(0..=1)
+            .default_missing_value(default),
         Given::Flag => arg.long(row.name).action(ArgAction::SetTrue),
         Given::Word(value) => arg.value_name(value),
     }

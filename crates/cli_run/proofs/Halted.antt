@@ -11,7 +11,8 @@ use Rattle.tx_plant.specs.Plant.{Seen, Whole}
 use Rattle.plant_outcome.specs.Lives.{IsMade}
 use Rattle.cli_run.specs.declared.stream.StreamEnd.{StreamEnd}
 use Rattle.cli_run.specs.Advices.{AdviceStep}
-use Rattle.cli_run.specs.Lines.{lines_in}
+use Rattle.cli_run.specs.declared.told.Form.TheVariants.{Text}
+use Rattle.cli_run.specs.Lines.{lines_in, written_as}
 use Rattle.cli_run.specs.Points.{Point, world_at}
 use Rattle.cli_run.specs.Ran.{ServesAll}
 use Rattle.cli_run.specs.Requests.{ReadTo, requests}
@@ -21,7 +22,7 @@ use Rattle.cli_run.proofs.Runs.{FirstRecovers, begun}
 use Rattle.cli_run.proofs.Stops.{drains_all}
 
 pub unprinted : (f : Flow) (n : ℕ) (view : JournalView) (j : Seen) (made : Whole) (first id : ℕ) (r : Point) (a b : Option (List ℕ))
-    → IsMade f n view j made → first ≡ made.core.world.start.view.next_id → id ≡ first - 1 → FirstRecovers (record { plant = made; answered = id }) r → AppendsBeginning a b (lines_in (world_at r)) → Unprinted f n j a b
+    → IsMade f n view j made → first ≡ made.core.world.start.view.next_id → id ≡ first - 1 → FirstRecovers (record { plant = made; answered = id }) r → AppendsBeginning a b (written_as Text (lines_in (world_at r))) → Unprinted f n j a b
 unprinted f n view j made first id r a b is first_at before recovers written = record {
   recovered = r;
   begins = begun f n view j made first id r is first_at before recovers;

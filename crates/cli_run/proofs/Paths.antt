@@ -11,7 +11,7 @@ use Rattle.tx_plant.specs.Plant.{Seen, Whole}
 use Rattle.tx_plant.specs.Steps.{Moved}
 use Rattle.plant_outcome.specs.Lives.{AllDriven, Drive, TookEnded}
 use Rattle.cli_run.specs.Advices.{Acks, AdviceStep, SendsAll}
-use Rattle.cli_run.specs.Lines.{lines_in}
+use Rattle.cli_run.specs.Lines.{Line, lines_in}
 use Rattle.cli_run.specs.Points.{Point, all_answered, world_at}
 use Rattle.cli_run.specs.Ran.{Begins, Ran, ServesAll}
 use Rattle.cli_run.specs.Rounds.{Acts, Alone, Batched, Completed, Completes, Does, Goes, MayCut, Offered, Released, Round, Runs, RunsLone, Trimmed}
@@ -38,11 +38,11 @@ acts_path ds p q a = record { drives = ds; moved = a.moved; driven = a.driven }
 does_path : (t : Turn) (o : Outcome) (p q : Point) → Does t o p q → Path p.plant q.plant
 does_path t o p q does = acts_path _ p q does.acts
 
-cuts_by : (p q : Point) (lines : List ℕ) → ((q ≡ p) × (lines ≡ [])) ⊎ ((o : Outcome) × Does turn.Cut o p q × (lines ≡ lines_in (world_at p))) → Path p.plant q.plant
+cuts_by : (p q : Point) (lines : List Line) → ((q ≡ p) × (lines ≡ [])) ⊎ ((o : Outcome) × Does turn.Cut o p q × (lines ≡ lines_in (world_at p))) → Path p.plant q.plant
 cuts_by p q lines (inl (same, none)) = path_none p.plant q.plant (ap (λ (z : Point). z.plant) same)
 cuts_by p q lines (inr (o, does, are)) = does_path turn.Cut o p q does
 
-cuts_path : (p q : Point) (lines : List ℕ) → MayCut p lines q → Path p.plant q.plant
+cuts_path : (p q : Point) (lines : List Line) → MayCut p lines q → Path p.plant q.plant
 cuts_path p q lines cuts = cuts_by p q lines cuts.cuts
 
 -- the contexts of the transactions that ended are taken
@@ -53,7 +53,7 @@ given_path p q path = path_then p.plant q.plant (all_answered q).plant path (rec
   driven = ((all_answered q).plant, [], [], (refl, refl), (refl, refl), refl);
 })
 
-completes_path : (p q : Point) (bytes lines : List ℕ) → Completes p bytes lines q → Path p.plant q.plant
+completes_path : (p q : Point) (bytes : List ℕ) (lines : List Line) → Completes p bytes lines q → Path p.plant q.plant
 completes_path p q bytes lines c = path_then p.plant (all_answered c.ended).plant q.plant (given_path p c.ended (acts_path _ p c.ended c.transacts.acts)) (cuts_path _ q lines c.cuts)
 
 runs_path : (xs : List Pairs) (p q : Point) (bytes : List ℕ) → Runs xs p bytes q → Path p.plant q.plant
@@ -65,7 +65,7 @@ lone_path x p q bytes runs =
     subst (λ (z : Point). Path p.plant z.plant) (sym runs.answered) (given_path p runs.ended
     (path_then p.plant l.offered.plant runs.ended.plant (does_path (turn.Offer x) l.outcome p l.offered l.offers) (acts_path _ l.offered runs.ended l.transacts.acts)))
 
-goes_path : (rounds : List Round) (p q : Point) (bytes lines : List ℕ) → Goes rounds p bytes lines q → Path p.plant q.plant
+goes_path : (rounds : List Round) (p q : Point) (bytes : List ℕ) (lines : List Line) → Goes rounds p bytes lines q → Path p.plant q.plant
 goes_path [] p q bytes lines (none, nothing, same) = path_none p.plant q.plant (ap (λ (z : Point). z.plant) same)
 goes_path (Offered x ∷ rs) p q bytes lines (ready, o, w, does, more) = path_then p.plant w.plant q.plant (does_path (turn.Offer x) o p w does) (goes_path rs w q bytes lines more)
 goes_path (Completed ∷ rs) p q bytes lines (w, first, later, cut, others, completes, more, all, these) = path_then p.plant w.plant q.plant (completes_path p w first cut completes) (goes_path rs w q later others more)

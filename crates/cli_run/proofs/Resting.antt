@@ -23,7 +23,7 @@ use Rattle.tx_plant.specs.Core.{Core, seat_of}
 use Rattle.tx_plant.specs.Turns.{Cuts, Logs}
 use Rattle.plant_outcome.specs.Seated.{Seated, seat_id}
 use Rattle.cli_run.specs.Points.{IsAllWritten, IsAtRest, IsReady, Point, above, ended_at, is_long, next_at, world_at}
-use Rattle.cli_run.specs.Lines.{lines_in}
+use Rattle.cli_run.specs.Lines.{Line, lines_in}
 use Rattle.cli_run.specs.Rounds.{Does, IsDone, IsEmptied, MayCut}
 use Rattle.cli_run.proofs.Doings.{did, entries_length, unraised}
 
@@ -142,6 +142,10 @@ cut_rest p q o rest does seated =
 pub cut_short : (p q : Point) (o : Outcome) → Does turn.Cut o p q → is_long (world_at q) ≡ false
 cut_short p q o does = let cut = cut_to o p q does in subst (λ (w : World). is_long w ≡ false) (sym cut.world) refl
 
+-- no entry is left
+pub cut_none : (p q : Point) (o : Outcome) → Does turn.Cut o p q → (world_at q).past ≡ []
+cut_none p q o does = let cut = cut_to o p q does in subst (λ (w : World). w.past ≡ []) (sym cut.world) refl
+
 pub may_cut : (p q : Point) (o : Outcome) → Does turn.Cut o p q → MayCut p (lines_in (world_at p)) q
 may_cut p q o does = record { cuts = inr (o, does, refl); short = cut_short p q o does }
 
@@ -152,14 +156,14 @@ may_keep p short = record { cuts = inl (refl, refl); short = short }
 cut_waits : (p q : Point) → CutTo p q → waits (world_at q) ≡ waits (world_at p)
 cut_waits p q cut = subst (λ (w : World). waits w ≡ waits (world_at p)) (sym cut.world) refl
 
-cuts_waits_by : (p q : Point) (lines : List ℕ) → ((q ≡ p) × (lines ≡ [])) ⊎ ((o : Outcome) × Does turn.Cut o p q × (lines ≡ lines_in (world_at p))) → waits (world_at q) ≡ waits (world_at p)
+cuts_waits_by : (p q : Point) (lines : List Line) → ((q ≡ p) × (lines ≡ [])) ⊎ ((o : Outcome) × Does turn.Cut o p q × (lines ≡ lines_in (world_at p))) → waits (world_at q) ≡ waits (world_at p)
 cuts_waits_by p q lines (inl (same, none)) = ap (λ (z : Point). waits (world_at z)) same
 cuts_waits_by p q lines (inr (o, does, are)) = cut_waits p q (cut_to o p q does)
 
-pub cuts_waits : (p q : Point) (lines : List ℕ) → MayCut p lines q → waits (world_at q) ≡ waits (world_at p)
+pub cuts_waits : (p q : Point) (lines : List Line) → MayCut p lines q → waits (world_at q) ≡ waits (world_at p)
 cuts_waits p q lines cuts = cuts_waits_by p q lines cuts.cuts
 
-pub ready_cut : (p q : Point) (lines : List ℕ) → MayCut p lines q → IsAtRest q → waits (world_at q) ≡ [] → IsReady q
+pub ready_cut : (p q : Point) (lines : List Line) → MayCut p lines q → IsAtRest q → waits (world_at q) ≡ [] → IsReady q
 ready_cut p q lines cuts rest empty = record { rest = rest; recovered = at_rest_recovered q rest; empty = empty; short = cuts.short }
 
 -- events at rest
@@ -203,3 +207,13 @@ history_short w es n is lt bound =
     let same : length es ≡ length w.past = ap length is ∙ entries_length w.flow w.start w.past in
     let less : length w.past < 524288 = omega (arith, same, lt, bound) in
     grind (arith, nat_tests)
+
+none_of : (past : List Event) → length past < 1 → past ≡ []
+none_of [] h = refl
+none_of (e ∷ past) h = absurd (omega arith)
+
+-- a history with fewer entries than one has none
+pub history_none : (w : World) (es : List Entry) (n : ℕ) → es ≡ entries w.flow w.start w.past → length es < n → n ≡ 1 → w.past ≡ []
+history_none w es n is lt one =
+    let same : length es ≡ length w.past = ap length is ∙ entries_length w.flow w.start w.past in
+    none_of w.past (omega (arith, same, lt, one))

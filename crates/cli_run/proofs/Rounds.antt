@@ -21,16 +21,17 @@ use Rattle.tx_plant.specs.declared.turn.Outcome.{Outcome}
 use Rattle.tx_plant.specs.declared.turn.Turn.TheVariants as turn
 use Rattle.plant_outcome.specs.Seated.{Seated}
 use Rattle.cli_run.specs.Points.{IsAtRest, IsReady, Point, RestsGiven, above, all_answered, ended_at, last_id, next_at, response_of, responses, unanswered, with_ended, world_at}
+use Rattle.cli_run.specs.Lines.{Line}
 use Rattle.cli_run.specs.Rounds.{Alone, Batched, Completed, Completes, Does, Goes, IsEmptied, IsRetry, MayCut, Offered, Released, Round, Serves, Transacts, Trimmed, answering}
 use Rattle.cli_run.specs.Traces.{Cuts, DrainsAll, Log, Reports, Tells}
 use Rattle.cli_run.proofs.Ended.{is_above}
 use Rattle.cli_run.proofs.Tracing.{passed_then, tells_none, tells_then}
 use Rattle.cli_run.proofs.Resting.{at_rest_recovered, cuts_waits, offered_one}
 
-pub goes_append : (ds bs : List Round) (p q r : Point) (xs ys ls ms : List ℕ) → Goes ds p xs ls q → Goes bs q ys ms r → Goes (ds ++ bs) p (xs ++ ys) (ls ++ ms) r
+pub goes_append : (ds bs : List Round) (p q r : Point) (xs ys : List ℕ) (ls ms : List Line) → Goes ds p xs ls q → Goes bs q ys ms r → Goes (ds ++ bs) p (xs ++ ys) (ls ++ ms) r
 goes_append [] bs p q r xs ys ls ms (none, nothing, same) h =
     subst (λ (l : List ℕ). Goes bs p (l ++ ys) (ls ++ ms) r) (sym none)
-    (subst (λ (l : List ℕ). Goes bs p ys (l ++ ms) r) (sym nothing) (subst (λ (z : Point). Goes bs z ys ms r) same h))
+    (subst (λ (l : List Line). Goes bs p ys (l ++ ms) r) (sym nothing) (subst (λ (z : Point). Goes bs z ys ms r) same h))
 goes_append (Offered x ∷ ds) bs p q r xs ys ls ms (ready, o, w, does, more) h =
     (ready, o, w, does, goes_append ds bs w q r xs ys ls ms more h)
 goes_append (Completed ∷ ds) bs p q r xs ys ls ms (w, first, later, cut, others, completes, more, all, these) h = (
@@ -42,7 +43,7 @@ goes_append (Completed ∷ ds) bs p q r xs ys ls ms (w, first, later, cut, other
   completes,
   goes_append ds bs w q r later ys others ms more h,
   ap (λ (l : List ℕ). l ++ ys) all ∙ append_assoc first later ys,
-  ap (λ (l : List ℕ). l ++ ms) these ∙ append_assoc cut others ms,
+  ap (λ (l : List Line). l ++ ms) these ∙ append_assoc cut others ms,
 )
 goes_append (Released ∷ ds) bs p q r xs ys ls ms (o, w, does, more) h =
     (o, w, does, goes_append ds bs w q r xs ys ls ms more h)
@@ -51,7 +52,7 @@ goes_append (Batched rs ∷ ds) bs p q r xs ys ls ms (ready, w, first, later, ru
 goes_append (Alone x ∷ ds) bs p q r xs ys ls ms (ready, w, first, later, runs, more, all) h =
     (ready, w, first, later ++ ys, runs, goes_append ds bs w q r later ys ls ms more h, ap (λ (l : List ℕ). l ++ ys) all ∙ append_assoc first later ys)
 goes_append (Trimmed ∷ ds) bs p q r xs ys ls ms (w, cut, others, cuts, more, these) h =
-    (w, cut, others ++ ms, cuts, goes_append ds bs w q r xs ys others ms more h, ap (λ (l : List ℕ). l ++ ms) these ∙ append_assoc cut others ms)
+    (w, cut, others ++ ms, cuts, goes_append ds bs w q r xs ys others ms more h, ap (λ (l : List Line). l ++ ms) these ∙ append_assoc cut others ms)
 
 abbrev pub serves_none : (p : Point) (o : Option (List ℕ)) → Serves [] p o p o
 serves_none p o = record { bytes = []; lines = []; goes = (refl, refl, refl); appends = Appends-nil o }
@@ -70,7 +71,7 @@ serves_offer x o p w q ds a b ready does s = record { bytes = s.bytes; lines = s
 abbrev pub serves_release : (o : Outcome) (p q : Point) (a : Option (List ℕ)) → Does turn.Release o p q → Serves (Released ∷ []) p a q a
 serves_release o p q a does = record { bytes = []; lines = []; goes = (o, q, does, (refl, refl, refl)); appends = Appends-nil a }
 
-abbrev pub serves_completed : (p q : Point) (bytes lines : List ℕ) (a b : Option (List ℕ)) → Completes p bytes lines q → Appends a b bytes → Serves (Completed ∷ []) p a q b
+abbrev pub serves_completed : (p q : Point) (bytes : List ℕ) (lines : List Line) (a b : Option (List ℕ)) → Completes p bytes lines q → Appends a b bytes → Serves (Completed ∷ []) p a q b
 serves_completed p q bytes lines a b completes appends = record {
   bytes = bytes;
   lines = lines;
@@ -78,7 +79,7 @@ serves_completed p q bytes lines a b completes appends = record {
   appends = appends;
 }
 
-abbrev pub serves_trimmed : (p q : Point) (lines : List ℕ) (a : Option (List ℕ)) → MayCut p lines q → Serves (Trimmed ∷ []) p a q a
+abbrev pub serves_trimmed : (p q : Point) (lines : List Line) (a : Option (List ℕ)) → MayCut p lines q → Serves (Trimmed ∷ []) p a q a
 serves_trimmed p q lines a cuts = record { bytes = []; lines = lines; goes = (q, lines, [], cuts, (refl, refl, refl), sym (append-nil lines)); appends = Appends-nil a }
 
 -- the responses were given, and the contexts taken
@@ -148,7 +149,7 @@ gives_own p q own text rest t framed =
 
 -- ready for the next request
 
-pub ready_again : (x : Pairs) (o : Outcome) (p w q : Point) (bytes lines : List ℕ) → IsReady p → Does (turn.Offer x) o p w → Completes w bytes lines q → IsReady q
+pub ready_again : (x : Pairs) (o : Outcome) (p w q : Point) (bytes : List ℕ) (lines : List Line) → IsReady p → Does (turn.Offer x) o p w → Completes w bytes lines q → IsReady q
 ready_again x o p w q bytes lines ready does c = record {
   rest = c.rest;
   recovered = at_rest_recovered q c.rest;
@@ -157,9 +158,9 @@ ready_again x o p w q bytes lines ready does c = record {
 }
 
 -- one completed transaction
-pub the_completed : (p q : Point) (a b : Option (List ℕ)) → Serves (Completed ∷ []) p a q b → (bytes : List ℕ) × (lines : List ℕ) × Completes p bytes lines q
+pub the_completed : (p q : Point) (a b : Option (List ℕ)) → Serves (Completed ∷ []) p a q b → (bytes : List ℕ) × (lines : List Line) × Completes p bytes lines q
 the_completed p q a b s = by_goes s.goes where
-  by_goes : Goes (Completed ∷ []) p s.bytes s.lines q → (bytes : List ℕ) × (lines : List ℕ) × Completes p bytes lines q
+  by_goes : Goes (Completed ∷ []) p s.bytes s.lines q → (bytes : List ℕ) × (lines : List Line) × Completes p bytes lines q
   by_goes (w, first, later, cut, others, completes, (none, nothing, same), all, these) = (first, cut, subst (Completes p first cut) (sym same) completes)
 
 -- requests

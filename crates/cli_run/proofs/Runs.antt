@@ -10,7 +10,8 @@ use Rattle.tx_engine.specs.World.{World}
 use Rattle.tx_plant.specs.Plant.{Seen, Whole}
 use Rattle.plant_outcome.specs.Lives.{IsMade}
 use Rattle.cli_run.specs.Advices.{AdviceStep, SendsAll, stored_at}
-use Rattle.cli_run.specs.Lines.{lines_in}
+use Rattle.cli_run.specs.declared.told.Form.TheVariants.{Text}
+use Rattle.cli_run.specs.Lines.{lines_in, written_as}
 use Rattle.cli_run.specs.Points.{IsAtRest, IsReady, Point, world_at}
 use Rattle.cli_run.specs.Ran.{Begins, Closes, Printed, Ran, ServesAll, all_lines, lines_cut}
 use Rattle.cli_run.specs.Traces.{Cuts, DrainsAll, Log, ReportsFor, Tells, passed_over}
@@ -56,7 +57,7 @@ told_last step first rounds p sender a b n k l m q w s end is cut left =
     (s, lines_then (lines_cut s) (lines_in (world_at s.end)) n k l m cut (subst (λ (v : World). Tells (lines_in v) 0 l m) same left))
 
 pub printed : (f : Flow) (n : ℕ) (view : JournalView) (j : Seen) (made : Whole) (first id : ℕ) (r : Point) (a b : Option (List ℕ))
-    → IsMade f n view j made → first ≡ made.core.world.start.view.next_id → id ≡ first - 1 → FirstRecovers (record { plant = made; answered = id }) r → Appends a b (lines_in (world_at r)) → Printed f n j a b
+    → IsMade f n view j made → first ≡ made.core.world.start.view.next_id → id ≡ first - 1 → FirstRecovers (record { plant = made; answered = id }) r → Appends a b (written_as Text (lines_in (world_at r))) → Printed f n j a b
 printed f n view j made first id r a b is first_at before recovers prints = record {
   recovered = r;
   begins = begun f n view j made first id r is first_at before recovers;

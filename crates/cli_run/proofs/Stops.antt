@@ -15,6 +15,7 @@ use Rattle.tx_plant.specs.declared.turn.Outcome.{Outcome}
 use Rattle.tx_plant.specs.declared.turn.Turn.TheVariants as turn
 use Rattle.cli_run.specs.Points.{IsAtRest, IsReady, Point, responses, unanswered}
 use Rattle.cli_run.specs.Requests.{Reads, ReadsOn, if_read, request_of, requests}
+use Rattle.cli_run.specs.Lines.{Line}
 use Rattle.cli_run.specs.Rounds.{Alone, Batched, Completed, Does, Drains, IsOfBatches, IsRetry, MayCut, Offered, Released, Round, RoundsFor, Serves, ServesFor, Transacts, Trimmed, answering, offered_in, untrimmed}
 use Rattle.cli_run.specs.Stopped.{DrainsSome, GivesSome, Halts, HaltsOn, HaltsToward, IsOfNext, StopsWithin}
 use Rattle.cli_run.proofs.Readings.{nothing_read, requests_append, requests_front, requests_next}
@@ -224,7 +225,7 @@ toward_before true xs ys p a b (rs, (later, split, all), h) = (
 )
 
 -- the history may be cut first
-pub toward_trimmed : (xs : List Pairs) (p q : Point) (lines : List ℕ) (a b : Option (List ℕ)) → MayCut p lines q → Halts (answering xs) q a b → HaltsToward false xs p a b
+pub toward_trimmed : (xs : List Pairs) (p q : Point) (lines : List Line) (a b : Option (List ℕ)) → MayCut p lines q → Halts (answering xs) q a b → HaltsToward false xs p a b
 toward_trimmed xs p q lines a b cuts h =
     (Trimmed ∷ answering xs, untrimmed_answering xs, halts_then (Trimmed ∷ []) (answering xs) p q a a b (serves_trimmed p q lines a cuts) h)
 

@@ -1,15 +1,18 @@
 -- What is told, one after the other.
 -- for: told::Told, switch::Switch, stream::Requests, serving::Switch
-use Rattle.std.proofs.Common.{◌≡◌, ◌<◌, ℕ, ◌+◌, Bool, true, false, List, [], ◌∷◌, ◌++◌, length, map, take, drop, get_or, Option, Result, Ok, Err, refl, sym, ap, subst, arith, ◌∙◌, add-zero, add_assoc, zero-add, append-nil, append_assoc, take-append-drop}
+use Rattle.std.proofs.Common.{◌≡◌, ◌<◌, ℕ, ◌+◌, Bool, true, false, List, [], ◌∷◌, ◌++◌, length, map, take, drop, get_or, Option, Some, None, Result, Ok, Err, refl, sym, ap, subst, arith, ◌∙◌, add-zero, add_assoc, zero-add, append-nil, append_assoc, take-append-drop}
 use Rattle.std.specs.Global.{Vec}
 use Rattle.std.specs.Io.KnownBytes.{Appends}
 use Rattle.std.proofs.KnownBytes.{Appends-nil, Appends-trans}
+use Rattle.std.proofs.lemmas.Grind.{flat_map-append}
 use Rattle.std.proofs.lemmas.List.{map-append, take_more}
 use Rattle.iso_msg.specs.Messages.{PlainMessage}
 use Rattle.iso_codec.specs.declared.error.DecodeError.{DecodeError}
 use Rattle.iso_codec.specs.Reads.{read}
 use Rattle.sw_frame.specs.Feeds.{messages}
 use Rattle.cli_io.specs.Written.{AppendsBeginning}
+use Rattle.cli_run.specs.declared.told.Form.{Form}
+use Rattle.cli_run.specs.Lines.{Line, in_form, written_as}
 use Rattle.cli_run.specs.Traces.{Adds, AddsSome, AreBegun, Log, Passed, Piece, Tells, Traced, if_passed, if_wanted, passed_in, passed_line, passed_over, piece_text, text_of, traced_in}
 
 text_append : (ps qs : List Piece) → text_of (ps ++ qs) ≡ text_of ps ++ text_of qs
@@ -70,13 +73,13 @@ some_of p a b (first, rest, is, written) = record {
   written = written;
 }
 
-none_wanted : (w : Bool) → if_wanted w [] ≡ []
-none_wanted true = refl
-none_wanted false = refl
+none_wanted : (w : Option Form) → if_wanted w [] ≡ []
+none_wanted (Some form) = refl
+none_wanted None = refl
 
-both_wanted : (w : Bool) (xs ys : List ℕ) → if_wanted w (xs ++ ys) ≡ if_wanted w xs ++ if_wanted w ys
-both_wanted true xs ys = refl
-both_wanted false xs ys = refl
+both_wanted : (w : Option Form) (xs ys : List Line) → if_wanted w (xs ++ ys) ≡ if_wanted w xs ++ if_wanted w ys
+both_wanted (Some form) xs ys = flat_map-append (λ (l : Line). in_form form l ++ 10 ∷ []) xs ys
+both_wanted None xs ys = refl
 
 pub tells_none : (a : Log) → Tells [] 0 a a
 tells_none a = record {
@@ -86,48 +89,48 @@ tells_none a = record {
   some = subst (λ (l : List ℕ). AddsSome l 0 a.text a.text) (sym (none_wanted a.wanted)) (adds_some [] 0 a.text a.text (adds_none a.text));
 }
 
-pub tells_then : (xs ys : List ℕ) (m n : ℕ) (a b c : Log) → Tells xs m a b → Tells ys n b c → Tells (xs ++ ys) (m + n) a c
+pub tells_then : (xs ys : List Line) (m n : ℕ) (a b c : Log) → Tells xs m a b → Tells ys n b c → Tells (xs ++ ys) (m + n) a c
 tells_then xs ys m n a b c s t = record {
   wanted = t.wanted ∙ s.wanted;
   before = λ h. s.before (t.before h);
-  adds = λ h. (let more : Adds (if_wanted a.wanted ys) n b.text c.text = subst (λ (w : Bool). Adds (if_wanted w ys) n b.text c.text) s.wanted (t.adds h) in
+  adds = λ h. (let more : Adds (if_wanted a.wanted ys) n b.text c.text = subst (λ (w : Option Form). Adds (if_wanted w ys) n b.text c.text) s.wanted (t.adds h) in
       subst (λ (l : List ℕ). Adds l (m + n) a.text c.text) (sym (both_wanted a.wanted xs ys))
       (adds_then (if_wanted a.wanted xs) (if_wanted a.wanted ys) m n a.text b.text c.text (s.adds (t.before h)) more));
-  some = (let more : AddsSome (if_wanted a.wanted ys) n b.text c.text = subst (λ (w : Bool). AddsSome (if_wanted w ys) n b.text c.text) s.wanted t.some in
+  some = (let more : AddsSome (if_wanted a.wanted ys) n b.text c.text = subst (λ (w : Option Form). AddsSome (if_wanted w ys) n b.text c.text) s.wanted t.some in
       subst (λ (l : List ℕ). AddsSome l (m + n) a.text c.text) (sym (both_wanted a.wanted xs ys))
       (some_then (if_wanted a.wanted xs) (if_wanted a.wanted ys) m n a.text b.text c.text s.some more));
 }
 
 -- messages that are passed over, and then lines
-pub passed_then : (xs : List ℕ) (n : ℕ) (a b c : Log) → Tells [] n a b → Tells xs 0 b c → Tells xs n a c
+pub passed_then : (xs : List Line) (n : ℕ) (a b c : Log) → Tells [] n a b → Tells xs 0 b c → Tells xs n a c
 passed_then xs n a b c s t = subst (λ (k : ℕ). Tells xs k a c) (add-zero n) (tells_then [] xs n 0 a b c s t)
 
 -- lines, and then others
-pub lines_then : (xs ys : List ℕ) (n : ℕ) (a b c : Log) → Tells xs n a b → Tells ys 0 b c → Tells (xs ++ ys) n a c
+pub lines_then : (xs ys : List Line) (n : ℕ) (a b c : Log) → Tells xs n a b → Tells ys 0 b c → Tells (xs ++ ys) n a c
 lines_then xs ys n a b c s t = subst (λ (k : ℕ). Tells (xs ++ ys) k a c) (add-zero n) (tells_then xs ys n 0 a b c s t)
 
 -- lines, and then others with messages that are passed over
-pub lines_before : (xs ys : List ℕ) (n : ℕ) (a b c : Log) → Tells xs 0 a b → Tells ys n b c → Tells (xs ++ ys) n a c
+pub lines_before : (xs ys : List Line) (n : ℕ) (a b c : Log) → Tells xs 0 a b → Tells ys n b c → Tells (xs ++ ys) n a c
 lines_before xs ys n a b c s t = subst (λ (k : ℕ). Tells (xs ++ ys) k a c) (zero-add n) (tells_then xs ys 0 n a b c s t)
 
 -- one write
 
 -- all is written
-told_whole : (lines : List ℕ) (n : ℕ) (w l : Bool) (t u : Option (List ℕ)) → Adds (if_wanted w lines) n t u → Tells lines n (record { wanted = w; lost = l; text = t }) (record { wanted = w; lost = l; text = u })
+told_whole : (lines : List Line) (n : ℕ) (w : Option Form) (l : Bool) (t u : Option (List ℕ)) → Adds (if_wanted w lines) n t u → Tells lines n (record { wanted = w; lost = l; text = t }) (record { wanted = w; lost = l; text = u })
 told_whole lines n w l t u all = record { wanted = refl; before = λ h. h; adds = λ h. all; some = adds_some (if_wanted w lines) n t u all }
 
-pub unwanted : (lines : List ℕ) (w l : Bool) (t : Option (List ℕ)) → w ≡ false → Tells lines 0 (record { wanted = w; lost = l; text = t }) (record { wanted = w; lost = l; text = t })
-unwanted lines w l t not = told_whole lines 0 w l t t (subst (λ (b : Bool). Adds (if_wanted b lines) 0 t t) (sym not) (adds_none t))
+pub unwanted : (lines : List Line) (w : Option Form) (l : Bool) (t : Option (List ℕ)) → w ≡ None → Tells lines 0 (record { wanted = w; lost = l; text = t }) (record { wanted = w; lost = l; text = t })
+unwanted lines w l t not = told_whole lines 0 w l t t (subst (λ (b : Option Form). Adds (if_wanted b lines) 0 t t) (sym not) (adds_none t))
 
-pub lines_told : (lines : List ℕ) (w l : Bool) (t u : Option (List ℕ)) → w ≡ true → Appends t u lines → Tells lines 0 (record { wanted = w; lost = l; text = t }) (record { wanted = w; lost = l; text = u })
-lines_told lines w l t u is written = told_whole lines 0 w l t u (subst (λ (b : Bool). Adds (if_wanted b lines) 0 t u) (sym is) (record {
-  pieces = Traced lines ∷ [];
-  traced = append-nil lines;
+pub lines_told : (lines : List Line) (form : Form) (w : Option Form) (l : Bool) (t u : Option (List ℕ)) → w ≡ Some form → Appends t u (written_as form lines) → Tells lines 0 (record { wanted = w; lost = l; text = t }) (record { wanted = w; lost = l; text = u })
+lines_told lines form w l t u is written = told_whole lines 0 w l t u (subst (λ (b : Option Form). Adds (if_wanted b lines) 0 t u) (sym is) (record {
+  pieces = Traced (written_as form lines) ∷ [];
+  traced = append-nil (written_as form lines);
   count = refl;
-  written = subst (Appends t u) (sym (append-nil lines)) written;
+  written = subst (Appends t u) (sym (append-nil (written_as form lines))) written;
 }))
 
-pub passed_told : (number : ℕ) (cause line : List ℕ) (w l : Bool) (t u : Option (List ℕ)) → line ≡ passed_line number cause → Appends t u line → Tells [] 1 (record { wanted = w; lost = l; text = t }) (record { wanted = w; lost = l; text = u })
+pub passed_told : (number : ℕ) (cause line : List ℕ) (w : Option Form) (l : Bool) (t u : Option (List ℕ)) → line ≡ passed_line number cause → Appends t u line → Tells [] 1 (record { wanted = w; lost = l; text = t }) (record { wanted = w; lost = l; text = u })
 passed_told number cause line w l t u is written = told_whole [] 1 w l t u (subst (λ (x : List ℕ). Adds x 1 t u) (sym (none_wanted w)) (record {
   pieces = Passed number cause ∷ [];
   traced = refl;
@@ -140,7 +143,7 @@ passed_told number cause line w l t u is written = told_whole [] 1 w l t u (subs
 true_not_false : {A : Type 0} (b : Bool) → b ≡ true → b ≡ false → A
 true_not_false b is not = absurd (let both : true ≡ false = sym is ∙ not in cc)
 
-told_some : (lines : List ℕ) (n : ℕ) (w l m : Bool) (t u : Option (List ℕ)) → m ≡ true → AddsSome (if_wanted w lines) n t u → Tells lines n (record { wanted = w; lost = l; text = t }) (record { wanted = w; lost = m; text = u })
+told_some : (lines : List Line) (n : ℕ) (w : Option Form) (l m : Bool) (t u : Option (List ℕ)) → m ≡ true → AddsSome (if_wanted w lines) n t u → Tells lines n (record { wanted = w; lost = l; text = t }) (record { wanted = w; lost = m; text = u })
 told_some lines n w l m t u lost some = record {
   wanted = refl;
   before = λ h. true_not_false m lost h;
@@ -148,12 +151,13 @@ told_some lines n w l m t u lost some = record {
   some = some;
 }
 
-pub lines_lost : (lines : List ℕ) (w l m : Bool) (t u : Option (List ℕ)) → w ≡ true → m ≡ true → AppendsBeginning t u lines → Tells lines 0 (record { wanted = w; lost = l; text = t }) (record { wanted = w; lost = m; text = u })
-lines_lost lines w l m t u is lost written =
-    let begun : AddsSome (lines ++ []) 0 t u = some_of (Traced lines) t u written in
-    told_some lines 0 w l m t u lost (subst (λ (b : Bool). AddsSome (if_wanted b lines) 0 t u) (sym is) (subst (λ (x : List ℕ). AddsSome x 0 t u) (append-nil lines) begun))
+pub lines_lost : (lines : List Line) (form : Form) (w : Option Form) (l m : Bool) (t u : Option (List ℕ)) → w ≡ Some form → m ≡ true → AppendsBeginning t u (written_as form lines) → Tells lines 0 (record { wanted = w; lost = l; text = t }) (record { wanted = w; lost = m; text = u })
+lines_lost lines form w l m t u is lost written =
+    let text : List ℕ = written_as form lines in
+    let begun : AddsSome (text ++ []) 0 t u = some_of (Traced text) t u written in
+    told_some lines 0 w l m t u lost (subst (λ (b : Option Form). AddsSome (if_wanted b lines) 0 t u) (sym is) (subst (λ (x : List ℕ). AddsSome x 0 t u) (append-nil text) begun))
 
-pub passed_lost : (number : ℕ) (cause line : List ℕ) (w l m : Bool) (t u : Option (List ℕ)) → line ≡ passed_line number cause → m ≡ true → AppendsBeginning t u line → Tells [] 1 (record { wanted = w; lost = l; text = t }) (record { wanted = w; lost = m; text = u })
+pub passed_lost : (number : ℕ) (cause line : List ℕ) (w : Option Form) (l m : Bool) (t u : Option (List ℕ)) → line ≡ passed_line number cause → m ≡ true → AppendsBeginning t u line → Tells [] 1 (record { wanted = w; lost = l; text = t }) (record { wanted = w; lost = m; text = u })
 passed_lost number cause line w l m t u is lost written =
     let begun : AddsSome [] 1 t u = some_of (Passed number cause) t u (subst (AppendsBeginning t u) is written) in
     told_some [] 1 w l m t u lost (subst (λ (x : List ℕ). AddsSome x 1 t u) (sym (none_wanted w)) begun)

@@ -8,7 +8,8 @@ use Rattle.tx_plant.specs.Plant.{Seen, Whole}
 use Rattle.plant_outcome.specs.Lives.{IsMade}
 use Rattle.cli_run.specs.Points.{IsAtRest, IsReady, Point, world_at}
 use Rattle.cli_run.specs.Rounds.{Drains, IsEmptied, MayCut, Recovers, Round, Serves}
-use Rattle.cli_run.specs.Lines.{lines_in}
+use Rattle.cli_run.specs.declared.told.Form.TheVariants.{Text}
+use Rattle.cli_run.specs.Lines.{Line, lines_in, written_as}
 use Rattle.cli_run.specs.Advices.{AdviceStep, SendsAll, stored_at}
 
 -- a new plant, of which no response of the journal's own transactions is given
@@ -27,7 +28,7 @@ pub record Begins (f : Flow) (sessions : ℕ) (j : Seen) (p : Point) : Type 0 wh
 -- dropped where it is accepted.
 pub record ServesAll (step : AdviceStep) (first : ℕ) (rounds : List Round) (p : Point) (sender : PlainSender) (before after : Option (List ℕ)) : Type 0 where
   pub begun : Point
-  pub cut : List ℕ
+  pub cut : List Line
   pub cuts : MayCut p cut begun
   pub ready : IsReady begun
   pub served : Point
@@ -42,11 +43,11 @@ pub record ServesAll (step : AdviceStep) (first : ℕ) (rounds : List Round) (p 
   pub emptied : IsEmptied (world_at end)
 
 -- the lines of the entries that were cut till then, each once, the oldest first
-abbrev pub lines_cut : {step : AdviceStep} {first : ℕ} {rounds : List Round} {p : Point} {sender : PlainSender} {before after : Option (List ℕ)} → ServesAll step first rounds p sender before after → List ℕ
+abbrev pub lines_cut : {step : AdviceStep} {first : ℕ} {rounds : List Round} {p : Point} {sender : PlainSender} {before after : Option (List ℕ)} → ServesAll step first rounds p sender before after → List Line
 lines_cut s = s.cut ++ (s.serves.lines ++ s.drains.serves.lines)
 
 -- and with those of the history that is left
-abbrev pub all_lines : {step : AdviceStep} {first : ℕ} {rounds : List Round} {p : Point} {sender : PlainSender} {before after : Option (List ℕ)} → ServesAll step first rounds p sender before after → List ℕ
+abbrev pub all_lines : {step : AdviceStep} {first : ℕ} {rounds : List Round} {p : Point} {sender : PlainSender} {before after : Option (List ℕ)} → ServesAll step first rounds p sender before after → List Line
 all_lines s = lines_cut s ++ lines_in (world_at s.end)
 
 -- the queue and the shelf are emptied; then each stored advice is sent
@@ -67,4 +68,4 @@ pub record Ran (f : Flow) (sessions : ℕ) (j : Seen) (step : AdviceStep) (sende
 pub record Printed (f : Flow) (sessions : ℕ) (j : Seen) (before after : Option (List ℕ)) : Type 0 where
   pub recovered : Point
   pub begins : Begins f sessions j recovered
-  pub prints : Appends before after (lines_in (world_at recovered))
+  pub prints : Appends before after (written_as Text (lines_in (world_at recovered)))

@@ -18,7 +18,7 @@ use Rattle.plant_outcome.specs.Lives.{AllDriven, Done, Drive}
 use Rattle.tx_pool.specs.Receipts.{offered_of, run_entries}
 use Rattle.tx_pool.specs.Settled.{IsSettled}
 use Rattle.tx_pool.specs.Went.{Grown}
-use Rattle.cli_run.specs.Lines.{lines_in}
+use Rattle.cli_run.specs.Lines.{Line, lines_in}
 use Rattle.cli_run.specs.Points.{IsAllWritten, IsAtRest, IsIdle, IsReady, Point, all_answered, ended_at, is_long, next_at, response_of, responses, unanswered, with_ended, world_at}
 
 -- calls of `drive`, one after the other; no response is given meanwhile
@@ -56,12 +56,12 @@ pub record Transacts (p : Point) (own : Option Pairs) (q : Point) : Type 0 where
   pub written : IsAllWritten (world_at q)
 
 -- The history is cut or not, and is not long then. These are the lines of the entries that are cut.
-pub record MayCut (p : Point) (lines : List ℕ) (q : Point) : Type 0 where
+pub record MayCut (p : Point) (lines : List Line) (q : Point) : Type 0 where
   pub cuts : ((q ≡ p) × (lines ≡ [])) ⊎ ((o : Outcome) × Does turn.Cut o p q × (lines ≡ lines_in (world_at p)))
   pub short : is_long (world_at q) ≡ false
 
 -- A transaction runs to its end; then its response is given, and no other. The history may be cut.
-pub record Completes (p : Point) (bytes lines : List ℕ) (q : Point) : Type 0 where
+pub record Completes (p : Point) (bytes : List ℕ) (lines : List Line) (q : Point) : Type 0 where
   pub own : Option Pairs
   pub ended : Point
   pub transacts : Transacts p own ended
@@ -113,16 +113,16 @@ pub data Round : Type 0 where
 
 -- One after the other, with what they give, and the lines of the entries that are cut. A request is offered, or a batch, only
 -- when the switch is ready for it.
-abbrev pub Goes : List Round → Point → List ℕ → List ℕ → Point → Type 0
+abbrev pub Goes : List Round → Point → List ℕ → List Line → Point → Type 0
 Goes [] p bytes lines q = (bytes ≡ []) × (lines ≡ []) × (q ≡ p)
 Goes (Offered x ∷ rs) p bytes lines q = IsReady p × (o : Outcome) × (w : Point) × Does (turn.Offer x) o p w × Goes rs w bytes lines q
 Goes (Completed ∷ rs) p bytes lines q =
-    (w : Point) × (first : List ℕ) × (later : List ℕ) × (cut : List ℕ) × (others : List ℕ)
+    (w : Point) × (first : List ℕ) × (later : List ℕ) × (cut : List Line) × (others : List Line)
     × Completes p first cut w × Goes rs w later others q × (bytes ≡ first ++ later) × (lines ≡ cut ++ others)
 Goes (Released ∷ rs) p bytes lines q = (o : Outcome) × (w : Point) × Does turn.Release o p w × Goes rs w bytes lines q
 Goes (Batched xs ∷ rs) p bytes lines q = IsReady p × (w : Point) × (first : List ℕ) × (later : List ℕ) × Runs xs p first w × Goes rs w later lines q × (bytes ≡ first ++ later)
 Goes (Alone x ∷ rs) p bytes lines q = IsReady p × (w : Point) × (first : List ℕ) × (later : List ℕ) × RunsLone x p first w × Goes rs w later lines q × (bytes ≡ first ++ later)
-Goes (Trimmed ∷ rs) p bytes lines q = (w : Point) × (cut : List ℕ) × (others : List ℕ) × MayCut p cut w × Goes rs w bytes others q × (lines ≡ cut ++ others)
+Goes (Trimmed ∷ rs) p bytes lines q = (w : Point) × (cut : List Line) × (others : List Line) × MayCut p cut w × Goes rs w bytes others q × (lines ≡ cut ++ others)
 
 -- each request is offered, and the queue's first transaction runs to its end before the next is
 abbrev pub answering : List Pairs → List Round
@@ -158,7 +158,7 @@ offered_in (_ ∷ rs) = offered_in rs
 -- rounds, with what an output holds before and after, where that is known, and the lines of the entries that are cut
 pub record Serves (rounds : List Round) (p : Point) (before : Option (List ℕ)) (q : Point) (after : Option (List ℕ)) : Type 0 where
   pub bytes : List ℕ
-  pub lines : List ℕ
+  pub lines : List Line
   pub goes : Goes rounds p bytes lines q
   pub appends : Appends before after bytes
 

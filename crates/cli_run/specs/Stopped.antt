@@ -10,7 +10,8 @@ use Rattle.tx_plant.specs.Plant.{Seen}
 use Rattle.cli_run.specs.declared.stream.StreamEnd.{StreamEnd}
 use Rattle.cli_run.specs.Points.{IsReady, Point, all_answered, response_of, responses, unanswered, world_at}
 use Rattle.cli_run.specs.Rounds.{Alone, Batched, Completed, IsRetry, Lone, MayCut, Round, RoundsToward, Serves, ServesFor, Together, Transacts}
-use Rattle.cli_run.specs.Lines.{lines_in}
+use Rattle.cli_run.specs.declared.told.Form.TheVariants.{Text}
+use Rattle.cli_run.specs.Lines.{Line, lines_in, written_as}
 use Rattle.cli_run.specs.Ran.{Begins}
 use Rattle.cli_run.specs.Requests.{ReadTo, Reads, requests}
 
@@ -110,7 +111,7 @@ pub record StopsBehind (threads : Bool) (input : Option (List ℕ)) (p : Point) 
 -- the history may be cut, and what an input has was served, up to an error
 pub record Serving (threads : Bool) (input : Option (List ℕ)) (p : Point) (before after : Option (List ℕ)) : Type 0 where
   pub begun : Point
-  pub cut : List ℕ
+  pub cut : List Line
   pub cuts : MayCut p cut begun
   pub ready : IsReady begun
   pub serves : StopsWithin threads input begun before after ⊎ StopsBehind threads input begun before after
@@ -128,7 +129,7 @@ pub record Stopped (threads : Bool) (f : Flow) (sessions : ℕ) (j : Seen) (inpu
 pub record Unprinted (f : Flow) (sessions : ℕ) (j : Seen) (before after : Option (List ℕ)) : Type 0 where
   pub recovered : Point
   pub begins : Begins f sessions j recovered
-  pub written : AppendsBeginning before after (lines_in (world_at recovered))
+  pub written : AppendsBeginning before after (written_as Text (lines_in (world_at recovered)))
 
 abbrev pub StopsWith : Bool → Option (Option (List ℕ)) → Flow → ℕ → Seen → Option (List ℕ) → Option (List ℕ) → Type 0
 StopsWith threads None f sessions j before after = Unprinted f sessions j before after

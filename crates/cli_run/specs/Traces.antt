@@ -1,12 +1,15 @@
 -- What a run writes to standard error: the lines of the trace, and between them a line for each message that is passed over.
-use Rattle.std.specs.Prelude.{◌≡◌, ℕ, ◌+◌, Bool, true, false, List, [], ◌∷◌, ◌++◌, Option, Result, Ok, Err, codes}
+use Rattle.std.specs.Prelude.{◌≡◌, ℕ, ◌+◌, Bool, true, false, List, [], ◌∷◌, ◌++◌, Option, Some, None, is_some, Result, Ok, Err, codes}
 use Rattle.std.specs.Fmt.{decimal}
 use Rattle.std.specs.Io.KnownBytes.{Appends}
 use Rattle.sw_frame.specs.Stream.{AreFramed}
 use Rattle.iso_msg.specs.Messages.{PlainMessage}
 use Rattle.iso_codec.specs.declared.error.DecodeError.{DecodeError}
 use Rattle.iso_codec.specs.Reads.{read}
+use Rattle.tx_engine.specs.World.{World}
+use Rattle.cli_run.specs.declared.told.Form.{Form}
 use Rattle.cli_run.specs.declared.told.Told.{Told}
+use Rattle.cli_run.specs.Lines.{Line, written_as}
 use Rattle.cli_run.specs.Points.{Point, all_answered, responses, unanswered}
 use Rattle.cli_run.specs.Requests.{requests}
 use Rattle.cli_run.specs.Rounds.{Drains, MayCut, Round, RoundsFor, Serves}
@@ -60,27 +63,31 @@ pub record AddsSome (lines : List ℕ) (passed : ℕ) (before after : Option (Li
   pub begun : AreBegun pieces text
   pub written : Appends before after text
 
--- standard error as a run sees it: whether the trace is wanted, whether a write failed, and what is written, where that is
--- known
+-- standard error as a run sees it: in which form the trace is wanted, if it is, whether a write failed, and what is written,
+-- where that is known
 pub record Log : Type 0 where
-  pub wanted : Bool
+  pub wanted : Option Form
   pub lost : Bool
   pub text : Option (List ℕ)
 
 abbrev pub log_of : {E : Type 0} → (E → Option (List ℕ)) → Told E → Log
 log_of contents told = record { wanted = told.trace; lost = told.lost; text = contents told.err.now }
 
-abbrev pub if_wanted : Bool → List ℕ → List ℕ
-if_wanted true lines = lines
-if_wanted false lines = []
+abbrev pub if_wanted : Option Form → List Line → List ℕ
+if_wanted (Some form) lines = written_as form lines
+if_wanted None lines = []
 
--- these lines of the trace were told, where it is wanted, and so many messages that are passed over: all is written, or, where
+-- these lines of the trace were told, in the form in which it is wanted, if it is, and so many messages that are passed over: all is written, or, where
 -- a write failed, beginnings of these pieces
-pub record Tells (lines : List ℕ) (passed : ℕ) (a b : Log) : Type 0 where
+pub record Tells (lines : List Line) (passed : ℕ) (a b : Log) : Type 0 where
   pub wanted : b.wanted ≡ a.wanted
   pub before : b.lost ≡ false → a.lost ≡ false
   pub adds : b.lost ≡ false → Adds (if_wanted a.wanted lines) passed a.text b.text
   pub some : AddsSome (if_wanted a.wanted lines) passed a.text b.text
+
+-- with the trace no entry is left whose line is not told
+abbrev pub IsLive : Option Form → World → Type 0
+IsLive wanted w = is_some wanted ≡ true → w.past ≡ []
 
 -- the messages that are passed over are those that cannot be read
 abbrev pub if_passed : Result PlainMessage DecodeError → ℕ
@@ -93,7 +100,7 @@ passed_over (bytes ∷ more) = if_passed (read bytes) + passed_over more
 
 -- the history may be cut, and the lines of the entries that are cut were told
 pub record Cuts (p : Point) (a : Log) (q : Point) (b : Log) : Type 0 where
-  pub lines : List ℕ
+  pub lines : List Line
   pub cuts : MayCut p lines q
   pub tells : Tells lines 0 a b
 

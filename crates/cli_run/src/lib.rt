@@ -22,4 +22,4 @@ pub use issuers::Issuers;
 pub use laws::runs_keep_the_law;
 pub use serving::{Setup, run};
 pub use stream::StreamEnd;
-pub use told::{Told, write_lines};
+pub use told::{Form, Told, write_lines};

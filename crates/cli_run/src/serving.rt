@@ -11,7 +11,7 @@ ghost use Rattle.tx_journal.specs.Kept.{kept};
 ghost use Rattle.tx_plant.specs.Plant.{IsEngine, Seen, seen};
 ghost use Rattle.plant_outcome.specs.Lives.{IsMade};
 ghost use Rattle.cli_run.specs.Links.{sender_of};
-ghost use Rattle.cli_run.specs.Lines.{lines_in};
+ghost use Rattle.cli_run.specs.Lines.{lines_in, written_as};
 ghost use Rattle.cli_run.specs.Points.{IsAtRest, point_of};
 ghost use Rattle.cli_run.specs.Ran.{Closes, Printed, Ran, ServesAll, all_lines, lines_cut};
 ghost use Rattle.cli_run.specs.Rounds.{Recovers, Round, RoundsFor};
@@ -19,6 +19,7 @@ ghost use Rattle.cli_run.specs.Requests.{ReadTo, requests};
 ghost use Rattle.cli_run.specs.Stopped.{DrainsSome, IsStopped, ServesSome};
 ghost use Rattle.cli_run.specs.Traces.{DrainsAll, Tells, log_of, passed_over};
 ghost use Rattle.cli_io.specs.Written.{AppendsBeginning};
+ghost use Rattle.cli_run.specs.declared.told.Form.TheVariants.{Text};
 
 use crate::advices::send_advices;
 use crate::error::ServeError;
@@ -182,12 +183,12 @@ impl<S: Alter + Drop> Switch<S> {
     }
 }
 
-// Prints the lines of all entries of the engine's history.
+// Prints the lines of all entries of the engine's history, as text.
 fn print<O: Write>(alloc: Global, engine: &Engine, out: &mut O) -> Result<(), ServeError>
     ensures lines { OnOk result (Appends
-        (O.contents out.old) (O.contents out.new) (lines_in engine.now)) }
+        (O.contents out.old) (O.contents out.new) (written_as Text (lines_in engine.now))) }
     ensures beginning { AppendsBeginning
-        (O.contents out.old) (O.contents out.new) (lines_in engine.now) }
+        (O.contents out.old) (O.contents out.new) (written_as Text (lines_in engine.now)) }
 {
     write_lines(alloc, engine, out)?;
     out.flush().map_err(WriteError::from)?;
@@ -306,8 +307,8 @@ fn boxed<P: Unjoined>(alloc: Global, participant: P) -> Result<Box<Bystander<P>>
 
 /// Recovers what the journal has unfinished. Without an input the lines of that are printed, and that is all.
 /// Else it answers the requests of an input as they come, then what is on the shelf, and sends the stored
-/// advices. The lines of the trace so far are written before the input is read on, the rest at the end, also
-/// where it ends early. Where the stream of frames is refused, what came before is answered, and all is done.
+/// advices. The lines of the trace of a transaction are written before the next request is offered, the rest at
+/// the end, also where it ends early. Where the stream of frames is refused, what came before is answered, and all is done.
 ///
 /// With threads the requests are answered in batches of those that have come, at most 256 at once; the lines
 /// of the trace are written behind each batch. Those of a batch that was given up are lost.

@@ -1,6 +1,6 @@
 //! The plant of the switch, one transaction after the other.
 
-ghost use Rattle.std.specs.Prelude.{◌≡◌, ◌≤◌, ◌∷◌, List, ℕ, [], Option, IfOk, OnErr, OnOk};
+ghost use Rattle.std.specs.Prelude.{◌≡◌, ◌≤◌, ◌∷◌, List, ℕ, [], Option, IfOk, OnErr, OnOk, is_some, true};
 ghost use Rattle.std.specs.Io.KnownBytes.{Appends};
 ghost use Rattle.sw_context.specs.Pairs.{Pairs};
 ghost use Rattle.sw_frame.specs.Stream.{AreFramed};
@@ -12,11 +12,11 @@ ghost use Rattle.cli_run.specs.Points.{responses, unanswered};
 ghost use Rattle.cli_run.specs.Rounds.{Completed, Does, IsDone, Lone, Together, Transacts};
 ghost use Rattle.cli_run.specs.Rounds.{answering};
 ghost use Rattle.cli_run.specs.Stopped.{GivesSome, Halts};
-ghost use Rattle.cli_run.specs.Traces.{Cuts, Reports, log_of};
+ghost use Rattle.cli_run.specs.Traces.{Cuts, IsLive, Reports, log_of};
 
 use crate::error::ServeError;
 use crate::given::{last_above, text_above};
-use crate::told::Told;
+use crate::told::{Form, Told};
 use cli_io::write_out;
 use flow_asm::Code;
 use sqlite::Alter;
@@ -35,6 +35,15 @@ use tx_pool::{Open, Pool};
 /// A history of so many entries is cut between two transactions. Contracts know the bound, half of what a
 /// history may have, and not this number, which keeps a long run small.
 const MANY_ENTRIES: usize = 8_192;
+
+// From how many entries on a history is cut between two transactions. With the trace it is cut each time: so
+// all lines of a transaction are told before the next one is offered, each once.
+fn entries_kept(trace: Option<Form>) -> usize
+    ensures bound { result ≤ 524288 }
+    ensures live { is_some trace ≡ true → result ≡ 1 }
+{
+    if trace.is_some() { 1 } else { MANY_ENTRIES }
+}
 
 /// The most requests of a batch, and the places of its intake.
 pub(crate) const MAX_BATCH: usize = 256;
@@ -186,22 +195,23 @@ impl<S: Alter> Switch<S> {
         Ok(())
     }
 
-    // Cuts a history of so many entries or more, its lines told before.
-    fn cut_from<E: Write>(
+    // Cuts a history between two transactions, where it is long or its lines are wanted; these are told
+    // before. With the trace no line is left to tell then.
+    fn cut_between<E: Write>(
         &mut self,
         alloc: Global,
-        entries: usize,
         told: &mut Told<'_, E>,
     ) -> Result<(), ServeError>
         requires rest { IsAtRest (point_of S.Store self.old) }
-        requires bound { entries ≤ 524288 }
         ensures cuts { OnOk result (Cuts
             (point_of S.Store self.old) (log_of E.contents told.old)
             (point_of S.Store self.new) (log_of E.contents told.new)) }
         ensures rest { OnOk result (IsAtRest (point_of S.Store self.new)) }
         ensures queue { OnOk result (waits self.new.plant.running.engine
             ≡ waits self.old.plant.running.engine) }
+        ensures live { OnOk result (IsLive told.old.trace self.new.plant.running.engine) }
     {
+        let entries = entries_kept(told.trace);
         if self.engine().history().len() < entries {
             return Ok(());
         }
@@ -223,14 +233,13 @@ impl<S: Alter> Switch<S> {
             (point_of S.Store self.old) (log_of E.contents told.old)
             (point_of S.Store self.new) (log_of E.contents told.new)) }
         ensures ready { OnOk result (IsReady (point_of S.Store self.new)) }
+        ensures live { OnOk result (IsLive told.old.trace self.new.plant.running.engine) }
     {
-        if told.trace {
-            return self.cut_from(alloc, 1, told);
-        }
-        self.cut_from(alloc, MANY_ENTRIES, told)
+        self.cut_between(alloc, told)
     }
 
-    /// Runs the transaction of the queue's first context to its end, and writes its response.
+    /// Runs the transaction of the queue's first context to its end, and writes its response; then the lines of
+    /// the trace so far, where it is wanted.
     pub(crate) fn answer_next<O: Write, E: Write>(
         &mut self,
         alloc: Global,
@@ -244,13 +253,15 @@ impl<S: Alter> Switch<S> {
         ensures halts { OnErr result (Halts (Completed ∷ [])
             (point_of S.Store self.old) (O.contents out.old) (O.contents out.new)) }
         ensures rest { OnOk result (IsAtRest (point_of S.Store self.new)) }
+        ensures live { OnOk result (IsLive told.old.trace self.new.plant.running.engine) }
     {
         self.serve_next(alloc)?;
         self.give(alloc, out)?;
-        self.cut_from(alloc, MANY_ENTRIES, told)
+        self.cut_between(alloc, told)
     }
 
-    /// Runs the transaction of a request to its end, and writes its response.
+    /// Runs the transaction of a request to its end, and writes its response; then the lines of the trace so
+    /// far, where it is wanted.
     pub(crate) fn answer<O: Write, E: Write>(
         &mut self,
         alloc: Global,
@@ -265,6 +276,7 @@ impl<S: Alter> Switch<S> {
         ensures halts { OnErr result (Halts (answering (request ∷ []))
             (point_of S.Store self.old) (O.contents out.old) (O.contents out.new)) }
         ensures ready { OnOk result (IsReady (point_of S.Store self.new)) }
+        ensures live { OnOk result (IsLive told.old.trace self.new.plant.running.engine) }
     {
         self.act(alloc, Turn::Offer(request))?;
         self.answer_next(alloc, told, out)

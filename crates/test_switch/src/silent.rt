@@ -66,7 +66,7 @@ pub fn run_silent<T: Threads + Wait + Sync>(
     };
     let mut told = Told {
         err: &mut rt.stderr(),
-        trace: false,
+        trace: None,
         lost: false,
     };
     match serve(

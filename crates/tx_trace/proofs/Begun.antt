@@ -19,7 +19,6 @@ use Rattle.tx_history.specs.Journal.{IsLawful, row}
 use Rattle.tx_history.specs.Views.{IsOrdered}
 use Rattle.tx_history.proofs.Rows.{as_row, row_some, row_unended}
 use Rattle.tx_history.proofs.SoundJournals.{own_none}
-use Rattle.tx_trace.specs.Trace.{due_text}
 
 -- an opening keeps the tries and the context, and has no retry
 
@@ -58,23 +57,23 @@ opens f tries saved =
 
 -- without a retry nothing ends on the shelf
 
-commit_done : (f : Flow) (b : Bool) (p : ℕ) → is_over (if b then due.Commit p else due.Done) ≡ true → due_text f (if b then due.Commit p else due.Done) ≡ codes "done"
-commit_done f true p h = absurd (cc)
-commit_done f false p h = refl
+commit_done : (b : Bool) (p : ℕ) → is_over (if b then due.Commit p else due.Done) ≡ true → (if b then due.Commit p else due.Done) ≡ due.Done
+commit_done true p h = absurd (cc)
+commit_done false p h = refl
 
-abort_done : (f : Flow) (b c : Bool) (p n : ℕ) → c ≡ false → is_over (if b then due.Abort p else end_by c n) ≡ true → due_text f (if b then due.Abort p else end_by c n) ≡ codes "done"
-abort_done f true c p n r h = absurd (cc)
-abort_done f false c p n r h = rw r refl
+abort_done : (b c : Bool) (p n : ℕ) → c ≡ false → is_over (if b then due.Abort p else end_by c n) ≡ true → (if b then due.Abort p else end_by c n) ≡ due.Done
+abort_done true c p n r h = absurd (cc)
+abort_done false c p n r h = rw r refl
 
-done_at : (f : Flow) (s : TxState) (p : Phase) (ms : List Upcoming) → s.retry ≡ false → is_over (due_at f s p ms) ≡ true → due_text f (due_at f s p ms) ≡ codes "done"
+done_at : (f : Flow) (s : TxState) (p : Phase) (ms : List Upcoming) → s.retry ≡ false → is_over (due_at f s p ms) ≡ true → due_at f s p ms ≡ due.Done
 done_at f s Preparing [] r h = refl
 done_at f s Preparing (Prepare e ∷ ms) r h = absurd (cc)
 done_at f s Preparing (Select e ∷ ms) r h = absurd (cc)
 done_at f s Aborting [] r h = rw r refl
 done_at f s Aborting (Prepare e ∷ ms) r h = absurd (cc)
 done_at f s Aborting (Select e ∷ ms) r h = absurd (cc)
-done_at f s Committing ms r h = commit_done f _ _ h
-done_at f s Undoing ms r h = abort_done f _ s.retry _ s.tries r h
+done_at f s Committing ms r h = commit_done _ _ h
+done_at f s Undoing ms r h = abort_done _ s.retry _ s.tries r h
 
 -- what the row of a taken transaction says
 
@@ -85,7 +84,7 @@ ended_if f st false e h = absurd (cc)
 pub no_row_ended : (f : Flow) (st : TxState) → row f st ≡ None → is_ended f st ≡ true
 no_row_ended f st h = ended_if f st (is_ended f st) refl (sym (row_unended f st) ∙ h)
 
-pub no_row_done : (f : Flow) (tries : ℕ) (saved : List ℕ) → row f (opening f tries saved) ≡ None → due_text f (due_of f (opening f tries saved)) ≡ codes "done"
+pub no_row_done : (f : Flow) (tries : ℕ) (saved : List ℕ) → row f (opening f tries saved) ≡ None → due_of f (opening f tries saved) ≡ due.Done
 no_row_done f tries saved h =
     let st : TxState = opening f tries saved in
     done_at f st st.phase st.rest (opens f tries saved).retry (no_row_ended f st h)

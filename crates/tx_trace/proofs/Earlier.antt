@@ -15,7 +15,8 @@ use Rattle.tx_engine.specs.World.{World, happened}
 use Rattle.tx_engine.specs.Calls.{after_mark, mark_refusal, marked_unless}
 use Rattle.tx_engine.specs.declared.error.EngineError.{EngineError}
 use Rattle.tx_trace.specs.declared.tracer.Tracer.{Tracer}
-use Rattle.tx_trace.specs.Lines.{line_in, line_of, line_text}
+use Rattle.tx_trace.specs.Trace.{Text}
+use Rattle.tx_trace.specs.Lines.{at_number, json_in, json_text, line_in, line_of, line_text}
 use Rattle.tx_trace.specs.Follow.{Follows, IsNext, earlier}
 
 pub earlier_all : (past : List Event) (n : ℕ) → length past ≤ n → earlier n past ≡ past
@@ -49,12 +50,12 @@ get_last : {A : Type 0} (xs : List A) (x : A) → slice_get (xs ++ x ∷ []) (le
 get_last [] x = refl
 get_last (y ∷ xs) x = get_last xs x
 
--- the entry after the first n, and its line
+-- the entry after the first n, and what there is of it
 pub record Nth (f : Flow) (v : Start) (past : List Event) (n : ℕ) : Type 0 where
   pub event : Event
   pub split : earlier (n + 1) past ≡ event ∷ earlier n past
   pub entry : slice_get (entries f v past) n ≡ Some (record { number = n + 1; event = event; change = change f v (event ∷ earlier n past) })
-  pub line : line_of f v past (n + 1) ≡ Some (line_text f v (earlier n past) event)
+  pub line : (what : List Event → Event → Text) → at_number what past (n + 1) ≡ Some (what (earlier n past) event)
 
 nth_last : (f : Flow) (v : Start) (past : List Event) (e : Event) (n : ℕ) → n ≡ length past → Nth f v (e ∷ past) n
 nth_last f v past e n is =
@@ -68,7 +69,7 @@ nth_last f v past e n is =
       event = e;
       split = rw (no, yes, all) refl;
       entry = rw (yes, all) (ap (λ (k : ℕ). slice_get (entries f v (e ∷ past)) k) (sym len) ∙ last ∙ ap (λ (k : ℕ). Some (record { number = k + 1; event = e; change = change f v (e ∷ past) })) (sym is));
-      line = rw (same, yes, all) refl;
+      line = λ what. rw (same, yes, all) refl;
     }
 
 nth_more : (f : Flow) (v : Start) (past : List Event) (e : Event) (n : ℕ) → n < length past → Nth f v past n → Nth f v (e ∷ past) n
@@ -81,7 +82,7 @@ nth_more f v past e n lt h =
       event = h.event;
       split = two ∙ (h.split ∙ ap (λ (p : List Event). h.event ∷ p) (sym one));
       entry = get_append (entries f v past) _ n (omega arith) ∙ (h.entry ∙ ap (λ (p : List Event). Some (record { number = n + 1; event = h.event; change = change f v (h.event ∷ p) })) (sym one));
-      line = rw other (h.line ∙ ap (λ (p : List Event). Some (line_text f v p h.event)) (sym one));
+      line = λ what. rw other (h.line what ∙ ap (λ (p : List Event). Some (what p h.event)) (sym one));
     }
 
 nth_if : (f : Flow) (v : Start) (past : List Event) (e : Event) (n : ℕ) → n < length (e ∷ past) → (n < length past → Nth f v past n) → (b : Bool) → nat_lt n (length past) ≡ b → Nth f v (e ∷ past) n
@@ -93,15 +94,16 @@ nth f v [] n lt = absurd (omega arith)
 nth f v (e ∷ past) n lt = nth_if f v past e n lt (nth f v past n) (nat_lt n (length past)) refl
 
 -- there is no line after the last
-pub line_past : (f : Flow) (v : Start) (past : List Event) (n : ℕ) → length past < n → line_of f v past n ≡ None
-line_past f v [] n h = refl
-line_past f v (e ∷ past) n h = let no : (length past + 1 == n) ≡ false = grind (arith, nat_tests) in rw no (line_past f v past n (omega arith))
+pub line_past : (what : List Event → Event → Text) (past : List Event) (n : ℕ) → length past < n → at_number what past n ≡ None
+line_past what [] n h = refl
+line_past what (e ∷ past) n h = let no : (length past + 1 == n) ≡ false = grind (arith, nat_tests) in rw no (line_past what past n (omega arith))
 
 -- the entry that a tracer finds next
 pub record NextIs (w : World) (t : Tracer) (entry : Entry) : Type 0 where
   pub next : IsNext w t entry
   pub split : earlier (t.done + 1) w.past ≡ entry.event ∷ earlier t.done w.past
   pub line : line_in w (t.done + 1) ≡ Some (line_text w.flow w.start (earlier t.done w.past) entry.event)
+  pub json : json_in w (t.done + 1) ≡ Some (json_text w.flow w.start (earlier t.done w.past) entry.event)
   pub within : t.done + 1 ≤ length w.past
 
 pub next_is : (w : World) (t : Tracer) (es : List Entry) (entry d : Entry) → es ≡ entries w.flow w.start w.past → t.done < length es → entry ≡ get_or es t.done d → StartFits w.flow w.start → IsLawful w.flow w.start w.past → Follows w t → NextIs w t entry
@@ -120,27 +122,28 @@ next_is w t es entry d is lt at start law h =
         tracks = h.tracks;
       };
       split = split;
-      line = n.line ∙ ap (λ (e : Event). Some (line_text w.flow w.start (earlier t.done w.past) e)) (sym event);
+      line = n.line (line_text w.flow w.start) ∙ ap (λ (e : Event). Some (line_text w.flow w.start (earlier t.done w.past) e)) (sym event);
+      json = n.line (json_text w.flow w.start) ∙ ap (λ (e : Event). Some (json_text w.flow w.start (earlier t.done w.past) e)) (sym event);
       within = omega arith;
     }
 
 -- nothing comes next
-pub no_line : (w : World) (t : Tracer) (es : List Entry) → es ≡ entries w.flow w.start w.past → length es ≤ t.done → line_in w (t.done + 1) ≡ None
-no_line w t es is le =
+pub no_line : (what : List Event → Event → Text) (w : World) (t : Tracer) (es : List Entry) → es ≡ entries w.flow w.start w.past → length es ≤ t.done → at_number what w.past (t.done + 1) ≡ None
+no_line what w t es is le =
     let len : length es ≡ length w.past = ap (λ (xs : List Entry). length xs) is ∙ length_entries w.flow w.start w.past in
-    line_past w.flow w.start w.past (t.done + 1) (omega arith)
+    line_past what w.past (t.done + 1) (omega arith)
 
 -- where nothing comes next, nothing comes later
 pub no_later : (f : Flow) (v : Start) (past : List Event) (n m : ℕ) → 0 < n → n ≤ m → line_of f v past n ≡ None → line_of f v past m ≡ None
 no_later f v past n m low le none = by (nat_lt (length past) n) refl
   where
     by : (b : Bool) → nat_lt (length past) n ≡ b → line_of f v past m ≡ None
-    by true is = let far : length past < n = grind (arith, nat_tests) in line_past f v past m (omega arith)
+    by true is = let far : length past < n = grind (arith, nat_tests) in line_past (line_text f v) past m (omega arith)
     by false is =
         let near : n ≤ length past = grind (arith, nat_tests) in
         let h = nth f v past (n - 1) (omega arith) in
         let at : n - 1 + 1 ≡ n = omega arith in
-        let some : None ≡ Some (line_text f v (earlier (n - 1) past) h.event) = sym none ∙ (ap (line_of f v past) (sym at) ∙ h.line) in
+        let some : None ≡ Some (line_text f v (earlier (n - 1) past) h.event) = sym none ∙ (ap (line_of f v past) (sym at) ∙ h.line (line_text f v)) in
         absurd (cc)
 
 -- no entry has the number 0

@@ -16,7 +16,7 @@ use Rattle.tx_history.proofs.OwnItems.{holds_serves, serves_below, taken_from}
 use Rattle.tx_history.proofs.GivenItems.{Gave, gave_answered, gave_chose, gave_told, state_other}
 use Rattle.tx_history.proofs.Sessions.{recovering_below, recovering_other, serves_who, state_given}
 use Rattle.tx_history.proofs.RecoveryOrder.{recovering_next}
-use Rattle.tx_trace.specs.Lines.{held_line, is_journalled, line_text}
+use Rattle.tx_trace.specs.Lines.{held_shown, is_journalled, shown_at}
 use Rattle.tx_trace.specs.Follow.{Concerns, IsSubject, next_recovered, over_then}
 
 -- the journalled transactions that are over after an item
@@ -43,11 +43,11 @@ over_item f v past e s id over x o law g serves h = elim (serves_who f v past s 
 ]
 
 concerns_item : (f : Flow) (v : Start) (past : List Event) (e : Event) (s id : ℕ) (x : Item) → IsOrdered v.view → IsLawful f v past → Gave f v past e id x → holds f v past s ≡ Some id → item_of e ≡ Some x
-    → line_text f v past e ≡ held_line f v past e (holds f v past s) → Concerns f v past e id
-concerns_item f v past e s id x o law g held item line =
+    → shown_at f v past e ≡ held_shown f v past e (holds f v past s) → Concerns f v past e id
+concerns_item f v past e s id x o law g held item shown =
     let w = holds_serves f v past s id held in
     record {
-      line = line ∙ ap (held_line f v past e) held;
+      shown = shown ∙ ap (held_shown f v past e) held;
       under_way = record { below = (serves_below f v past s id o w.0).1; unfinished = w.1 };
       after = rw item (state_given f v past e id x g);
       others = λ j d. state_other f v past e id x j g (λ z. d (sym z));
@@ -108,7 +108,7 @@ subject_recovered f v past s c over o ord law was is =
     ] in
     row_of f v past (Recovered s c) id (recovering f v past) o (is ∙ sym was) at
     (record {
-      line = ap (held_line f v past (Recovered s c)) law.0.2;
+      shown = ap (held_shown f v past (Recovered s c)) law.0.2;
       under_way = record { below = (serves_below f v past s id ord w.0).1; unfinished = w.1 };
       after = refl;
       others = λ j d. refl;

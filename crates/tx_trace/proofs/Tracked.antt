@@ -1,7 +1,7 @@
 -- What a tracer keeps is of the transactions, entry by entry.
 -- for: tracer::Tracer
 use Rattle.std.proofs.Common.{◌≡◌, ℕ, ◌<◌, ◌≤◌, Bool, true, false, not, ◌⊎◌, inl, inr, List, [], ◌∷◌, length, Option, Some, None, refl, sym, ◌∙◌, ap, subst, arith}
-use Rattle.std.specs.Prelude.{if◌then◌else◌, ◌==◌, nat_lt, ◌&&◌, string_bytes}
+use Rattle.std.specs.Prelude.{if◌then◌else◌, ◌==◌, nat_lt, ◌&&◌}
 use Rattle.std.proofs.lemmas.Bool.Decides.{nat_tests}
 use Rattle.std.specs.BTreeMap.{BTreeMap, is_at}
 use Rattle.std.specs.Map.{lookup}
@@ -23,8 +23,10 @@ use Rattle.tx_history.proofs.Sessions.{state_more, state_released}
 use Rattle.tx_history.proofs.RecoveryOrder.{filter_above}
 use Rattle.tx_trace.specs.declared.tracer.Tracer.{Tracer}
 use Rattle.tx_trace.specs.declared.tracer.Traced.{Traced}
-use Rattle.tx_trace.specs.Trace.{Point, moved_text, point_of}
-use Rattle.tx_trace.specs.Lines.{is_journalled, line_text, plain_line, point_at}
+use Rattle.tx_trace.specs.declared.shown.Shown.{Shown}
+use Rattle.tx_trace.specs.declared.shown.Shown.TheVariants.{Moved, Plain}
+use Rattle.tx_trace.specs.Trace.{Point, moved_of, point_of}
+use Rattle.tx_trace.specs.Lines.{is_journalled, point_at, shown_at}
 use Rattle.tx_trace.specs.Follow.{Concerns, IsBegun, IsBegunMove, IsKept, IsLeft, IsMove, IsTraced, PutsMove, StandsFor, Tracks, is_given, is_take, led_by, machine_at, next_recovered, over_after, over_then, shelved_after}
 use Rattle.tx_trace.proofs.Shelved.{shelf_count}
 use Rattle.tx_trace.proofs.Begun.{stands_taken}
@@ -43,7 +45,7 @@ stay : (f : Flow) (v : Start) (past : List Event) (e : Event) → next_id v (e �
 stay f v past e count same = λ j lt u. let l : j < next_id v past = omega arith in (l, same j l)
 
 plain_stays : (f : Flow) (v : Start) (past : List Event) (e : Event) → IsOrdered v.view → IsLawful f v past → is_given e ≡ false → is_take e ≡ false
-    → IsMove f v past e None × (next_id v (e ∷ past) ≡ next_id v past) × (recovering f v (e ∷ past) ≡ recovering f v past) × (line_text f v past e ≡ plain_line f (length (shelf f v past)) e)
+    → IsMove f v past e None × (next_id v (e ∷ past) ≡ next_id v past) × (recovering f v (e ∷ past) ≡ recovering f v past) × (shown_at f v past e ≡ Plain (length (shelf f v past)))
 plain_stays f v past (Offered c) o law g t = (stay f v past (Offered c) refl (λ j l. state_more f v past c j o law l), refl, refl, refl)
 plain_stays f v past (Taken s) o law g t = absurd (cc)
 plain_stays f v past (Answered s b c) o law g t = absurd (cc)
@@ -58,12 +60,12 @@ plain_stays f v past (LetGo s) o law g t = (stay f v past (LetGo s) refl (λ j l
 plain_stays f v past (Closed id) o law g t = (stay f v past (Closed id) refl (λ j l. refl), refl, refl, refl)
 
 pub plain_traced : (f : Flow) (v : Start) (past : List Event) (e : Event) (t : Traced) (count : ℕ) → IsOrdered v.view → IsLawful f v past → is_given e ≡ false → is_take e ≡ false → count ≡ length (shelf f v past)
-    → string_bytes t.line ≡ plain_line f count e → t.moved ≡ None → IsTraced f v past e t
-plain_traced f v past e t count o law other untaken is text none =
+    → t.shown ≡ Plain count → t.moved ≡ None → IsTraced f v past e t
+plain_traced f v past e t count o law other untaken is shown none =
     let w = plain_stays f v past e o law other untaken in
     let same = w.1 in
     record {
-      text = text ∙ (ap (λ (n : ℕ). plain_line f n e) is ∙ sym w.3);
+      shown = shown ∙ (ap Plain is ∙ sym w.3);
       move = subst (λ (m : Option (ℕ × Option Machine)). IsMove f v past e m) (sym none) w.0;
       more = omega arith;
       over = λ over h. w.2 ∙ (h ∙ ap (λ (m : Option (ℕ × Option Machine)). next_recovered f v.view.rows (over_after over v.view.next_id m)) (sym none));
@@ -94,7 +96,7 @@ take_traced f v past s id r t o law is begun =
     let c : IsBegun f (next_id v past) s st t = subst (λ (x : TxState). IsBegun f (next_id v past) s x t) (sym w.state) (subst (λ (n : ℕ). IsBegun f n s (opening f w.first.tries w.first.context) t) at b) in
     let k = begun_kept f v past (next_id v past) s t.moved (omega arith) refl c.moves in
     record {
-      text = c.text;
+      shown = c.shown;
       move = k.0;
       more = omega arith;
       over = λ over h. h ∙ ap (next_recovered f v.view.rows) (sym (k.1 over));
@@ -135,8 +137,8 @@ pub record Found (f : Flow) (v : Start) (past : List Event) (e : Event) (id : �
   pub left : IsLeft f after k
 
 pub given_traced : (f : Flow) (v : Start) (past : List Event) (e : Event) (id : ℕ) (before after : Machine) (j was is : Bool) (r to : Option (ℕ × Bool)) (k : Option Machine) (t : Traced) → Concerns f v past e id → Found f v past e id before after j was is r to k
-    → string_bytes t.line ≡ moved_text id f j (point_of f before r) e (point_of f after to) → t.moved ≡ Some (id, k) → IsTraced f v past e t
-given_traced f v past e id before after j was is r to k t c h text moved =
+    → t.shown ≡ Moved (moved_of f id j (point_of f before r) (point_of f after to)) → t.moved ≡ Some (id, k) → IsTraced f v past e t
+given_traced f v past e id before after j was is r to k t c h shown moved =
     let state : tx_state f after ≡ state_of f v (e ∷ past) id = h.led ∙ (ap (λ (st : TxState). led_by f st e) h.stood.state ∙ sym c.after) in
     let stood = point_is f v past id before j was r h.stood.state h.old h.restored h.call in
     let stands = point_is f v (e ∷ past) id after j is to state h.old h.restores h.next in
@@ -144,7 +146,7 @@ given_traced f v past e id before after j was is r to k t c h text moved =
     let below = c.under_way.below in
     let now : StandsFor f v (e ∷ past) id after = record { below = omega arith; sound = h.sound; state = state } in
     record {
-      text = text ∙ (ap (λ (x : Point). moved_text id f j x e (point_of f after to)) stood ∙ (ap (λ (x : Point). moved_text id f j (point_at f v past id) e x) stands ∙ (ap (λ (b : Bool). moved_text id f b (point_at f v past id) e (point_at f v (e ∷ past) id)) h.old ∙ sym c.line)));
+      shown = shown ∙ (ap (λ (x : Point). Moved (moved_of f id j x (point_of f after to))) stood ∙ (ap (λ (x : Point). Moved (moved_of f id j (point_at f v past id) x)) stands ∙ (ap (λ (b : Bool). Moved (moved_of f id b (point_at f v past id) (point_at f v (e ∷ past) id))) h.old ∙ sym c.shown)));
       move = subst (λ (m : Option (ℕ × Option Machine)). IsMove f v past e m) (sym moved) (kept_after f v (e ∷ past) id after k now h.left, λ i lt apart. (omega arith, c.others i apart));
       more = omega arith;
       over = λ over is. c.recovers over is ∙ ap (next_recovered f v.view.rows) (ap (λ (st : TxState). over_then (is_journalled v id && is_ended f st) id over) (sym state) ∙ (left_over f after k v.view.next_id id over h.left ∙ ap (over_after over v.view.next_id) (sym moved)));
@@ -214,19 +216,19 @@ tracks_same f v past t new h same a b c =
 -- the entry by its event
 
 pub other_traced : (f : Flow) (v : Start) (past : List Event) (e : Event) (t : Traced) (count : ℕ) → IsOrdered v.view → IsLawful f v (e ∷ past) → is_given e ≡ false → ((s : ℕ) → e ≡ Taken s → ⊥) → count ≡ length (shelf f v past)
-    → string_bytes t.line ≡ plain_line f count e → t.moved ≡ None → IsTraced f v past e t
-other_traced f v past (Taken s) t count o law other untaken is text none = absurd (untaken s refl)
-other_traced f v past (Offered c) t count o law other untaken is text none = plain_traced f v past (Offered c) t count o law.2 refl refl is text none
-other_traced f v past (Answered s b c) t count o law other untaken is text none = absurd (cc)
-other_traced f v past (Chose s x) t count o law other untaken is text none = absurd (cc)
-other_traced f v past (Told s a) t count o law other untaken is text none = absurd (cc)
-other_traced f v past (Recovered s c) t count o law other untaken is text none = absurd (cc)
-other_traced f v past Released t count o law other untaken is text none = plain_traced f v past Released t count o law.2 refl refl is text none
-other_traced f v past (Acked id n) t count o law other untaken is text none = plain_traced f v past (Acked id n) t count o law.2 refl refl is text none
-other_traced f v past (Broke p) t count o law other untaken is text none = plain_traced f v past (Broke p) t count o law.2 refl refl is text none
-other_traced f v past (Cleared p) t count o law other untaken is text none = plain_traced f v past (Cleared p) t count o law.2 refl refl is text none
-other_traced f v past (LetGo s) t count o law other untaken is text none = plain_traced f v past (LetGo s) t count o law.2 refl refl is text none
-other_traced f v past (Closed id) t count o law other untaken is text none = plain_traced f v past (Closed id) t count o law.2 refl refl is text none
+    → t.shown ≡ Plain count → t.moved ≡ None → IsTraced f v past e t
+other_traced f v past (Taken s) t count o law other untaken is shown none = absurd (untaken s refl)
+other_traced f v past (Offered c) t count o law other untaken is shown none = plain_traced f v past (Offered c) t count o law.2 refl refl is shown none
+other_traced f v past (Answered s b c) t count o law other untaken is shown none = absurd (cc)
+other_traced f v past (Chose s x) t count o law other untaken is shown none = absurd (cc)
+other_traced f v past (Told s a) t count o law other untaken is shown none = absurd (cc)
+other_traced f v past (Recovered s c) t count o law other untaken is shown none = absurd (cc)
+other_traced f v past Released t count o law other untaken is shown none = plain_traced f v past Released t count o law.2 refl refl is shown none
+other_traced f v past (Acked id n) t count o law other untaken is shown none = plain_traced f v past (Acked id n) t count o law.2 refl refl is shown none
+other_traced f v past (Broke p) t count o law other untaken is shown none = plain_traced f v past (Broke p) t count o law.2 refl refl is shown none
+other_traced f v past (Cleared p) t count o law other untaken is shown none = plain_traced f v past (Cleared p) t count o law.2 refl refl is shown none
+other_traced f v past (LetGo s) t count o law other untaken is shown none = plain_traced f v past (LetGo s) t count o law.2 refl refl is shown none
+other_traced f v past (Closed id) t count o law other untaken is shown none = plain_traced f v past (Closed id) t count o law.2 refl refl is shown none
 
 pub taken_traced : (f : Flow) (v : Start) (past : List Event) (e : Event) (c : Change) (s id : ℕ) (r : Option Row) (t : Traced) → e ≡ Taken s → IsOrdered v.view → IsLawful f v (e ∷ past) → c ≡ change f v (e ∷ past) → c.row ≡ Some (id, r)
     → ((tries : ℕ) (saved : List ℕ) → r ≡ row f (opening f tries saved) → IsBegun f id s (opening f tries saved) t) → IsTraced f v past e t

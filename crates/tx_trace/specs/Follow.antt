@@ -1,5 +1,5 @@
 -- What a tracer keeps of the entries that it has gone through.
-use Rattle.std.specs.Prelude.{◌≡◌, ℕ, ◌+◌, ◌<◌, ◌≤◌, Bool, true, false, List, [], ◌∷◌, length, filter, nat_lt, Option, Some, None, is_some, if◌then◌else◌, string_bytes, ◌&&◌}
+use Rattle.std.specs.Prelude.{◌≡◌, ℕ, ◌+◌, ◌<◌, ◌≤◌, Bool, true, false, List, [], ◌∷◌, length, filter, nat_lt, Option, Some, None, is_some, if◌then◌else◌, ◌&&◌}
 use Rattle.std.specs.Option.{option_map_or}
 use Rattle.std.specs.Ordering.{nat_cmp}
 use Rattle.std.specs.BTreeMap.{BTreeMap, get}
@@ -9,6 +9,7 @@ use Rattle.flow_model.specs.Places.{parts_of}
 use Rattle.tx_machine.specs.declared.machine.Machine.{Machine}
 use Rattle.tx_machine.specs.Contract.{IsSound, tx_state}
 use Rattle.tx_machine.specs.Table.{TxState, next}
+use Rattle.tx_machine.specs.Due.{due_of}
 use Rattle.tx_history.specs.declared.event.Event.{Event}
 use Rattle.tx_history.specs.declared.event.Event.TheVariants.{Answered, Chose, Told, Recovered, Taken}
 use Rattle.tx_history.specs.declared.event.Change.{Change}
@@ -21,7 +22,8 @@ use Rattle.tx_history.specs.Views.{StartFits}
 use Rattle.tx_engine.specs.World.{World}
 use Rattle.tx_trace.specs.declared.tracer.Tracer.{Tracer}
 use Rattle.tx_trace.specs.declared.tracer.Traced.{Traced}
-use Rattle.tx_trace.specs.Lines.{begun_line, is_journalled, line_text, tx_line}
+use Rattle.tx_trace.specs.declared.shown.Shown.TheVariants.{Begun}
+use Rattle.tx_trace.specs.Lines.{is_journalled, shown_at, tx_shown}
 
 -- the first events, of this number
 abbrev pub earlier : ℕ → List Event → List Event
@@ -94,7 +96,7 @@ pub record IsUnderWay (f : Flow) (v : Start) (past : List Event) (id : ℕ) : Ty
 
 -- what an event is to the transaction that it is given for, and to the others
 pub record Concerns (f : Flow) (v : Start) (past : List Event) (e : Event) (id : ℕ) : Type 0 where
-  pub line : line_text f v past e ≡ tx_line f v past e id
+  pub shown : shown_at f v past e ≡ tx_shown f v past e id
   pub under_way : IsUnderWay f v past id
   pub after : state_of f v (e ∷ past) id ≡ led_by f (state_of f v past id) e
   pub others : (j : ℕ) → (id ≡ j → ⊥) → state_of f v (e ∷ past) j ≡ state_of f v past j
@@ -131,7 +133,7 @@ over_after over first (Some (id, None)) = over_then (nat_lt id first) id over
 
 -- what an entry shows, and what it moves
 pub record IsTraced (f : Flow) (v : Start) (past : List Event) (e : Event) (t : Traced) : Type 0 where
-  pub text : string_bytes t.line ≡ line_text f v past e
+  pub shown : t.shown ≡ shown_at f v past e
   pub move : IsMove f v past e t.moved
   pub more : next_id v past ≤ next_id v (e ∷ past)
   pub over : (over : ℕ) → recovering f v past ≡ next_recovered f v.view.rows over
@@ -152,9 +154,9 @@ IsBegunMove f id st None = ⊥
 IsBegunMove f id st (Some (n, None)) = (n ≡ id) × (is_ended f st ≡ true)
 IsBegunMove f id st (Some (n, Some m)) = (n ≡ id) × IsSound f m × (tx_state f m ≡ st)
 
--- the line of a take, and what it moves
+-- what a take shows, and what it moves
 pub record IsBegun (f : Flow) (id s : ℕ) (st : TxState) (t : Traced) : Type 0 where
-  pub text : string_bytes t.line ≡ begun_line f id s st
+  pub shown : t.shown ≡ Begun id s (due_of f st)
   pub moves : IsBegunMove f id st t.moved
 
 -- the flow knows whom these rows name

@@ -1,14 +1,15 @@
--- The line of each entry of a history. Lists of events have the newest first.
-use Rattle.std.specs.Prelude.{ℕ, ◌+◌, Bool, ◌==◌, List, [], ◌∷◌, ◌++◌, length, codes, nat_lt, Option, Some, None, if◌then◌else◌}
-use Rattle.std.specs.Fmt.{decimal}
+-- What each entry of a history shows, and its line in either form. Lists of events have the newest first.
+use Rattle.std.specs.Prelude.{ℕ, ◌+◌, Bool, ◌==◌, List, [], ◌∷◌, length, nat_lt, Option, Some, None, if◌then◌else◌}
 use Rattle.flow_model.specs.declared.flow.Flow.{Flow}
-use Rattle.tx_machine.specs.Table.{TxState}
 use Rattle.tx_machine.specs.Due.{due_of}
 use Rattle.tx_history.specs.declared.event.Event.{Event}
-use Rattle.tx_history.specs.declared.event.Event.TheVariants.{Offered, Taken, Answered, Chose, Told, Recovered, Released, Acked, Broke, Cleared, LetGo, Closed}
+use Rattle.tx_history.specs.declared.event.Event.TheVariants.{Taken, Answered, Chose, Told, Recovered}
 use Rattle.tx_history.specs.History.{Start, holds, next_id, restores, shelf, state_of}
 use Rattle.tx_engine.specs.World.{World}
-use Rattle.tx_trace.specs.Trace.{Text, Point, due_text, moved_text, part_name}
+use Rattle.tx_trace.specs.declared.shown.Shown.{Shown}
+use Rattle.tx_trace.specs.declared.shown.Shown.TheVariants.{Moved, Begun, Plain}
+use Rattle.tx_trace.specs.Json.{shown_json}
+use Rattle.tx_trace.specs.Trace.{Text, Point, moved_of, shown_text}
 
 -- where a transaction stands, by its own items so far
 abbrev pub point_at : Flow → Start → List Event → ℕ → Point
@@ -18,47 +19,43 @@ point_at f v past id = record { state = state_of f v past id; restores = restore
 abbrev pub is_journalled : Start → ℕ → Bool
 is_journalled v id = nat_lt id v.view.next_id
 
--- the line of an event on a transaction
-abbrev pub tx_line : Flow → Start → List Event → Event → ℕ → Text
-tx_line f v past e id = moved_text id f (is_journalled v id) (point_at f v past id) e (point_at f v (e ∷ past) id)
+-- an event on a transaction
+abbrev pub tx_shown : Flow → Start → List Event → Event → ℕ → Shown
+tx_shown f v past e id = Moved (moved_of f id (is_journalled v id) (point_at f v past id) (point_at f v (e ∷ past) id))
 
-abbrev pub held_line : Flow → Start → List Event → Event → Option ℕ → Text
-held_line f v past e None = []
-held_line f v past e (Some id) = tx_line f v past e id
+-- an event on the transaction that a session holds; no such event is accepted where it holds none
+abbrev pub held_shown : Flow → Start → List Event → Event → Option ℕ → Shown
+held_shown f v past e None = Plain 0
+held_shown f v past e (Some id) = tx_shown f v past e id
 
--- the line of a take of the transaction `id`, which stands so then
-abbrev pub begun_line : Flow → ℕ → ℕ → TxState → Text
-begun_line f id s st = decimal id ++ codes " take " ++ decimal s ++ codes " -> " ++ due_text f (due_of f st)
+-- what an event shows after those before it
+abbrev pub shown_at : Flow → Start → List Event → Event → Shown
+shown_at f v past (Taken s) = Begun (next_id v past) s (due_of f (state_of f v (Taken s ∷ past) (next_id v past)))
+shown_at f v past (Answered s byte context) = held_shown f v past (Answered s byte context) (holds f v past s)
+shown_at f v past (Chose s text) = held_shown f v past (Chose s text) (holds f v past s)
+shown_at f v past (Told s advice) = held_shown f v past (Told s advice) (holds f v past s)
+shown_at f v past (Recovered s context) = held_shown f v past (Recovered s context) (holds f v past s)
+shown_at f v past e = Plain (length (shelf f v past))
 
--- the line of an event of the debugger
-abbrev pub debug_line : Flow → Event → Text
-debug_line f (Broke p) = codes "break " ++ part_name f p
-debug_line f (Cleared p) = codes "clear " ++ part_name f p
-debug_line f (LetGo s) = codes "go " ++ decimal s
-debug_line f _ = []
-
--- the line of an event that is of no transaction under way; `count` is how many contexts are on the shelf
-abbrev pub plain_line : Flow → ℕ → Event → Text
-plain_line f count (Offered context) = codes "offer " ++ decimal (length context)
-plain_line f count Released = codes "release " ++ decimal count
-plain_line f count (Acked id place) = codes "ack " ++ decimal id ++ codes " " ++ decimal place
-plain_line f count (Closed id) = decimal id ++ codes " closed"
-plain_line f count e = debug_line f e
-
--- the line of an event after those before it
+-- its line, as text and as an object of JSON
 abbrev pub line_text : Flow → Start → List Event → Event → Text
-line_text f v past (Taken s) = begun_line f (next_id v past) s (state_of f v (Taken s ∷ past) (next_id v past))
-line_text f v past (Answered s byte context) = held_line f v past (Answered s byte context) (holds f v past s)
-line_text f v past (Chose s text) = held_line f v past (Chose s text) (holds f v past s)
-line_text f v past (Told s advice) = held_line f v past (Told s advice) (holds f v past s)
-line_text f v past (Recovered s context) = held_line f v past (Recovered s context) (holds f v past s)
-line_text f v past e = plain_line f (length (shelf f v past)) e
+line_text f v past e = shown_text f (shown_at f v past e) e
+
+abbrev pub json_text : Flow → Start → List Event → Event → Text
+json_text f v past e = shown_json f (shown_at f v past e) e
+
+-- what there is of the entry of this number
+abbrev pub at_number : (List Event → Event → Text) → List Event → ℕ → Option Text
+at_number what [] number = None
+at_number what (e ∷ past) number = if length past + 1 == number then Some (what past e) else at_number what past number
 
 -- the line of the entry of this number
 abbrev pub line_of : Flow → Start → List Event → ℕ → Option Text
-line_of f v [] number = None
-line_of f v (e ∷ past) number =
-    if length past + 1 == number then Some (line_text f v past e) else line_of f v past number
+line_of f v past number = at_number (line_text f v) past number
 
 abbrev pub line_in : World → ℕ → Option Text
 line_in w number = line_of w.flow w.start w.past number
+
+-- the same as JSON
+abbrev pub json_in : World → ℕ → Option Text
+json_in w number = at_number (json_text w.flow w.start) w.past number

@@ -1,5 +1,5 @@
--- The text of the trace.
-use Rattle.std.specs.Prelude.{ℕ, Bool, List, [], ◌∷◌, ◌++◌, codes, if◌then◌else◌, ◌/◌, ◌%◌, ◌+◌, nat_lt, slice_get, take, map, filter, is_some, Option, Some, None, false}
+-- The text of the trace: the line of an entry, by what it shows.
+use Rattle.std.specs.Prelude.{ℕ, Bool, List, [], ◌∷◌, ◌++◌, codes, if◌then◌else◌, ◌/◌, ◌%◌, ◌+◌, nat_lt, slice_get, take, map, filter, is_some, length, Option, Some, None, false}
 use Rattle.std.specs.Borrow.{Bor}
 use Rattle.std.specs.List.{flat_map}
 use Rattle.std.specs.Option.{option_map_or}
@@ -21,7 +21,11 @@ use Rattle.tx_machine.specs.Due.{due_of}
 use Rattle.tx_machine.specs.declared.machine.Machine.{Machine}
 use Rattle.tx_machine.specs.Contract.{tx_state}
 use Rattle.tx_history.specs.declared.event.Event.{Event}
-use Rattle.tx_history.specs.declared.event.Event.TheVariants.{Answered, Chose, Told}
+use Rattle.tx_history.specs.declared.event.Event.TheVariants.{Offered, Answered, Chose, Told, Released, Acked, Broke, Cleared, LetGo, Closed}
+use Rattle.tx_trace.specs.declared.shown.Move.{Move}
+use Rattle.tx_trace.specs.declared.shown.Shown.{Shown}
+use Rattle.tx_trace.specs.declared.shown.Shown.TheVariants.{Moved, Begun, Plain}
+use Rattle.tx_trace.specs.declared.shown.Standing.{Standing}
 
 abbrev pub Text : Type 0
 Text = List ℕ
@@ -120,27 +124,68 @@ pub record Point : Type 0 where
 abbrev pub point_of : Flow → Machine → Option (ℕ × Bool) → Point
 point_of f m call = record { state = tx_state f m; restores = call }
 
-abbrev pub point_text : Flow → Point → Text
-point_text f s = call_text f s.restores (due_of f s.state)
+-- the same, as far as a line shows it
+abbrev pub standing_of : Flow → Point → Standing
+standing_of f p = record {
+  phase = p.state.phase;
+  due = due_of f p.state;
+  restores = p.restores;
+  told = p.state.told;
+  bound = p.state.bound;
+}
+
+-- what an event on a transaction shows, which leads it from where it stood to where it stands; `recovering` says that the transaction
+-- comes from the journal
+abbrev pub moved_of : Flow → ℕ → Bool → Point → Point → Move
+moved_of f id recovering before after =
+    record { id = id; recovering = recovering; before = standing_of f before; after = standing_of f after }
+
+abbrev pub standing_text : Flow → Standing → Text
+standing_text f s = call_text f s.restores s.due
 
 -- `ID PHASE CALL `
 abbrev pub head_text : ℕ → Phase → Text → Text
 head_text id phase call = decimal id ++ codes " " ++ phase_text phase ++ codes " " ++ call ++ codes " "
 
--- what an event on a transaction adds after its call; `recovering` says that the transaction comes from the journal
+-- what an event on a transaction adds after its call
 abbrev pub detail_text : Flow → Bool → Event → ℕ → Bool → Text
 detail_text f recovering event place bound = word_if recovering (codes "recovering ") ++ event_text f event place bound
 
--- `ID PHASE CALL .. -> NEXT`: an event that leads a transaction from where it stood to where it stands
-abbrev pub moved_text : ℕ → Flow → Bool → Point → Event → Point → Text
-moved_text id f recovering before event after =
-    head_text id before.state.phase (point_text f before)
-    ++ (detail_text f recovering event before.state.told after.state.bound ++ codes "-> " ++ point_text f after)
+-- `ID PHASE CALL .. -> NEXT`
+abbrev pub moved_text : Flow → Move → Event → Text
+moved_text f m event =
+    head_text m.id m.before.phase (standing_text f m.before)
+    ++ (detail_text f m.recovering event m.before.told m.after.bound ++ codes "-> " ++ standing_text f m.after)
+
+-- `ID take S -> NEXT`
+abbrev pub begun_text : Flow → ℕ → ℕ → Due → Text
+begun_text f id s d = decimal id ++ codes " take " ++ decimal s ++ codes " -> " ++ due_text f d
+
+-- an event of the debugger
+abbrev pub debug_text : Flow → Event → Text
+debug_text f (Broke p) = codes "break " ++ part_name f p
+debug_text f (Cleared p) = codes "clear " ++ part_name f p
+debug_text f (LetGo s) = codes "go " ++ decimal s
+debug_text f _ = []
+
+-- an event that is of no transaction under way; `count` is how many contexts are on the shelf
+abbrev pub plain_text : Flow → ℕ → Event → Text
+plain_text f count (Offered context) = codes "offer " ++ decimal (length context)
+plain_text f count Released = codes "release " ++ decimal count
+plain_text f count (Acked id place) = codes "ack " ++ decimal id ++ codes " " ++ decimal place
+plain_text f count (Closed id) = decimal id ++ codes " closed"
+plain_text f count e = debug_text f e
+
+-- the line of an entry, by what it shows
+abbrev pub shown_text : Flow → Shown → Event → Text
+shown_text f (Moved m) event = moved_text f m event
+shown_text f (Begun id s d) event = begun_text f id s d
+shown_text f (Plain count) event = plain_text f count event
 
 -- where no `recover` call goes before the outcome
 abbrev pub plain_point : TxState → Point
 plain_point s = record { state = s; restores = None }
 
--- the same of a transaction that does not come from the journal
+-- the line of an event on a transaction that does not come from the journal
 abbrev pub step_text : ℕ → Flow → TxState → Event → TxState → Text
-step_text id f before event after = moved_text id f false (plain_point before) event (plain_point after)
+step_text id f before event after = moved_text f (moved_of f id false (plain_point before) (plain_point after)) event

@@ -1,7 +1,9 @@
-//! The trace: one line of text for each entry of an engine's history.
+//! The trace: one line for each entry of an engine's history, as text or as an object of JSON.
 //!
-//! Promised here, byte by byte, by the definitions in `specs/Trace.antt` and `specs/Lines.antt`:
-//! - [`Tracer::next`] is the line of the next entry, for every kind of event;
+//! Promised here, byte by byte, by the definitions in `specs/Lines.antt`, `specs/Trace.antt` and
+//! `specs/Json.antt`. An entry shows one value (`shown_at`), of which both forms are made:
+//! - [`Tracer::next`] is the line of the next entry as text, for every kind of event, and
+//!   [`Tracer::next_json`] the line as JSON;
 //! - [`line`] is the line of the entry of a number, and there is none where there is no such entry;
 //! - [`whereis`] and [`rest`] are where the transaction of a session stands, and what is still to
 //!   come;
@@ -10,11 +12,14 @@
 #![tactic(auto)]
 
 mod entries;
+mod json;
 mod known;
 mod laws;
+mod lines;
 mod moves;
 mod names;
 mod places;
+mod shown;
 mod text;
 mod tracer;
 

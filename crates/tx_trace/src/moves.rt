@@ -3,10 +3,11 @@
 ghost use Rattle.std.specs.Prelude.{◌≡◌, ◌++◌, codes, IfOk, string_bytes};
 ghost use Rattle.tx_machine.specs.Contract.{IsSound, tx_state};
 ghost use Rattle.tx_trace.specs.Trace.{call_text, choice_text, detail_text, event_text, head_text};
-ghost use Rattle.tx_trace.specs.Trace.{moved_text, point_of, point_text, step_text};
+ghost use Rattle.tx_trace.specs.Trace.{moved_text, standing_text, step_text};
 
 use crate::known::{ChoiceText, known_names};
 use crate::names::Names;
+use crate::shown::{Move, Standing};
 use crate::text::{AnswerText, CallText, Head, NextText, ToldText, bound_word, recovering_word};
 use flow_asm::Code;
 use std::alloc::{AllocError, Global};
@@ -47,47 +48,32 @@ fn detail(
     }
 }
 
-// Where a transaction stands.
-#[derive(Clone, Copy)]
-pub(crate) struct Point<'a> {
-    pub(crate) machine: &'a Machine,
-    // The `recover` call that goes before its outcome.
-    pub(crate) restores: Option<(usize, bool)>,
-}
-
-impl Point<'_> {
-    fn call<'a>(&self, names: Names<'a>) -> CallText<'a>
-        requires { IsSound names.code.now self.now.machine.now }
-        ensures { call_text result.next.names.code.now result.restores result.next.due
-            ≡ point_text names.entry.code.now
-            (point_of names.entry.code.now self.now.machine.now self.now.restores) }
-    {
-        CallText {
-            next: NextText {
-                names,
-                due: self.machine.due(names.code),
-            },
-            restores: self.restores,
-        }
+// The call that is due where a transaction stands.
+fn call<'a>(names: Names<'a>, standing: Standing) -> CallText<'a>
+    ensures { call_text result.next.names.code.now result.restores result.next.due
+        ≡ standing_text names.entry.code.now standing }
+{
+    CallText {
+        next: NextText {
+            names,
+            due: standing.due,
+        },
+        restores: standing.restores,
     }
 }
 
-// What an event adds after its call, with what the transaction told before it and whether the
-// bound is met after it.
+// What an event adds after its call.
 fn event_detail(
     alloc: Global,
     code: &Code,
-    recovering: bool,
-    before: &Machine,
+    moved: Move,
     event: &Event,
-    after: &Machine,
 ) -> Result<String, AllocError>
     ensures { IfOk result (λ s. string_bytes s
-        ≡ detail_text code.now recovering event.now
-        (tx_state code.now before.now).told (tx_state code.now after.now).bound) }
+        ≡ detail_text code.now moved.recovering event.now moved.before.told moved.after.bound) }
 {
-    let detail = detail(alloc, code, event, before.told_count(), after.bound())?;
-    let word = recovering_word(recovering);
+    let detail = detail(alloc, code, event, moved.before.told, moved.after.bound)?;
+    let word = recovering_word(moved.recovering);
     format!(in alloc; "{word}{detail}")
 }
 
@@ -106,38 +92,23 @@ fn joined(
     format!(in alloc; "{head}{detail}-> {next}")
 }
 
-/// The line of an event that leads the transaction `id` from where it stood to where it stands.
+/// The line of an event that leads a transaction from where it stood to where it stands.
 pub(crate) fn moved_line(
     alloc: Global,
-    id: u64,
     code: &Code,
-    recovering: bool,
-    before: Point<'_>,
+    moved: Move,
     event: &Event,
-    after: Point<'_>,
 ) -> Result<String, AllocError>
-    requires before { IsSound code.now before.machine.now }
-    requires after { IsSound code.now after.machine.now }
-    ensures { IfOk result (λ s. string_bytes s
-        ≡ moved_text id code.now recovering
-        (point_of code.now before.entry.machine.now before.entry.restores) event.now
-        (point_of code.now after.entry.machine.now after.entry.restores)) }
+    ensures { IfOk result (λ s. string_bytes s ≡ moved_text code.now moved event.now) }
 {
     let names = Names { code };
     let head = Head {
-        id,
-        phase: before.machine.phase(),
-        call: before.call(names),
+        id: moved.id,
+        phase: moved.before.phase,
+        call: call(names, moved.before),
     };
-    let detail = event_detail(
-        alloc,
-        code,
-        recovering,
-        before.machine,
-        event,
-        after.machine,
-    )?;
-    let next = after.call(names);
+    let detail = event_detail(alloc, code, moved, event)?;
+    let next = call(names, moved.after);
     joined(alloc, &head, detail.as_str(), &next)
 }
 
@@ -158,13 +129,11 @@ pub fn step_line(
         ≡ step_text id code.now
         (tx_state code.now before.now) event.now (tx_state code.now after.now)) }
 {
-    let before = Point {
-        machine: before,
-        restores: None,
+    let moved = Move {
+        id,
+        recovering: false,
+        before: Standing::of(code, before, None),
+        after: Standing::of(code, after, None),
     };
-    let after = Point {
-        machine: after,
-        restores: None,
-    };
-    moved_line(alloc, id, code, false, before, event, after)
+    moved_line(alloc, code, moved, event)
 }

@@ -11,7 +11,8 @@ use std::fmt;
 use sw_participant::read_answer;
 use tx_machine::{Due, Phase, Spot};
 
-fn phase_letter(phase: Phase) -> &'static str
+/// The phase as its letter.
+pub(crate) fn phase_letter(phase: Phase) -> &'static str
     ensures { result.now ≡ phase_text phase }
 {
     match phase {
@@ -140,22 +141,29 @@ impl fmt::Display for Head<'_> {
 #[derive(Drop)]
 pub struct Hex(pub u8);
 
-fn digit(value: u8) -> char
+fn digit(value: u8) -> u8
     requires { value < 16 }
     ensures { result ≡ hex_digit value }
 {
     match value {
-        0..=9 => (b'0' + value) as char,
-        _ => (b'a' - 10 + value) as char,
+        0..=9 => b'0' + value,
+        _ => b'a' - 10 + value,
     }
+}
+
+/// The two digits of a byte.
+pub(crate) fn hex_digits(byte: u8) -> [u8; 2]
+    ensures { result ≡ hex_text byte }
+{
+    [digit(byte / 16), digit(byte % 16)]
 }
 
 impl fmt::Display for Hex {
     ghost output = { λ b. Some (hex_text b.0) };
 
     fn fmt<W: fmt::Write>(&self, f: &mut fmt::Formatter<W>) -> fmt::Result {
-        let high = digit(self.0 / 16);
-        let low = digit(self.0 % 16);
+        let high = digit(self.0 / 16) as char;
+        let low = digit(self.0 % 16) as char;
         write!(f, "{high}{low}")
     }
 }

@@ -1,9 +1,8 @@
-//! A tracer: it goes through the entries of an engine once, and writes the line of each.
+//! A tracer: it goes through the entries of an engine once, and gives the line of each.
 
 ghost use Rattle.std.specs.Prelude.{◌≡◌, ◌<◌, ◌+◌, ◌∷◌, ℕ, false, List, Some, None};
 ghost use Rattle.std.specs.Prelude.{IfOk, OnErr, OnOk, if◌then◌else◌};
-ghost use Rattle.std.specs.Prelude.{codes, is_some, not, ◌&&◌, ◌++◌, option_map, string_bytes};
-ghost use Rattle.std.specs.Fmt.{decimal};
+ghost use Rattle.std.specs.Prelude.{is_some, not, ◌&&◌, option_map, string_bytes};
 ghost use Rattle.tx_machine.specs.Contract.{IsSound, tx_state};
 ghost use Rattle.tx_machine.specs.Due.{due_of};
 ghost use Rattle.tx_machine.specs.Table.{next, opening};
@@ -15,18 +14,18 @@ ghost use Rattle.tx_history.specs.History.{is_over, is_restored, marked, outcome
 ghost use Rattle.tx_history.specs.Journal.{row as row_of};
 ghost use Rattle.tx_history.specs.Views.{StartFits};
 ghost use Rattle.tx_slots.specs.Rows.{AreKnown};
-ghost use Rattle.tx_trace.specs.Lines.{debug_line, line_in, plain_line};
-ghost use Rattle.tx_trace.specs.Trace.{due_text};
+ghost use Rattle.tx_trace.specs.Lines.{json_in, line_in};
 ghost use Rattle.tx_trace.specs.Follow.{AreFound, Concerns, Follows, IsBegun};
 ghost use Rattle.tx_trace.specs.Follow.{IsLeft, IsNext, IsSubject};
 ghost use Rattle.tx_trace.specs.Follow.{IsTraced, IsUnderWay, PutsMove};
 ghost use Rattle.tx_trace.specs.Follow.{StandsFor, Tracks, is_given};
 ghost use Rattle.tx_trace.specs.Follow.{count_of, earlier, led_by};
 ghost use Rattle.tx_trace.specs.Follow.{next_recovered, over_after, shelved_after};
+ghost use Rattle.tx_trace.specs.declared.shown.Shown.TheVariants.{Plain};
 
-use crate::moves::{Point, moved_line};
-use crate::names::Names;
-use crate::text::NextText;
+use crate::json::shown_json;
+use crate::lines::shown_line;
+use crate::shown::{Move, Shown, Standing};
 use flow_asm::Code;
 use std::alloc::{AllocError, Global};
 use std::collections::BTreeMap;
@@ -68,7 +67,7 @@ impl Drop for Tracer {
 // What an entry shows, and what it moves.
 #[derive(Drop)]
 struct Traced {
-    line: String,
+    shown: Shown,
     // The transaction whose machine is kept from now on, or is kept no more since it has ended.
     moved: Option<(u64, Option<Machine>)>,
 }
@@ -159,18 +158,23 @@ impl Tracer {
         let before = self.machine(alloc, engine, id)?;
         let after = led(alloc, code, &before, event)?;
         let restored = restored_after(self.restored, event);
-        let stood = Point {
-            machine: &before,
-            restores: restores_at(code, &before, journalled, self.restored),
-        };
-        let stands = Point {
-            machine: &after,
-            restores: restores_at(code, &after, journalled, restored),
-        };
-        let line = moved_line(alloc, id, code, journalled, stood, event, stands)?;
+        let shown = Shown::Moved(Move {
+            id,
+            recovering: journalled,
+            before: Standing::of(
+                code,
+                &before,
+                restores_at(code, &before, journalled, self.restored),
+            ),
+            after: Standing::of(
+                code,
+                &after,
+                restores_at(code, &after, journalled, restored),
+            ),
+        });
         let kept = kept(code, after);
         Ok(Traced {
-            line,
+            shown,
             moved: Some((id, kept)),
         })
     }
@@ -187,13 +191,13 @@ impl Tracer {
             // Each take puts a row, or says that there is none.
             Event::Taken { session } => match &entry.change.row {
                 Some((id, row)) => begun(alloc, code, *session, *id, row),
-                None => plain(alloc, code, self.shelved, &entry.event),
+                None => Ok(plain(self.shelved)),
             },
-            event => plain(alloc, code, self.shelved, event),
+            _ => Ok(plain(self.shelved)),
         }
     }
 
-    // The entry's line, and what it moves.
+    // What the entry shows, and what it moves.
     fn traced(&self, alloc: Global, engine: &Engine, entry: &Entry) -> Result<Traced, AllocError>
         requires { IsNext engine.now self.now entry.now }
         ensures { IfOk result (IsTraced engine.now.flow engine.now.start
@@ -206,17 +210,11 @@ impl Tracer {
     }
 
     // Goes through the entry.
-    fn follow(
-        &mut self,
-        engine: &Engine,
-        entry: &Entry,
-        traced: Traced,
-    ) -> Result<String, AllocError>
+    fn follow(&mut self, engine: &Engine, entry: &Entry, traced: Traced) -> Result<(), AllocError>
         requires next { IsNext engine.now self.old entry.now }
         requires traced { IsTraced engine.now.flow engine.now.start
             (earlier self.old.done engine.now.past) entry.now.event traced }
         requires few { self.old.done < 18446744073709551615 }
-        ensures line { IfOk result (λ line. line ≡ traced.line) }
         ensures tracks { OnOk result (Tracks engine.now.flow engine.now.start
             (entry.now.event ∷ earlier self.old.done engine.now.past) self.new) }
         ensures done { OnOk result (self.new.done ≡ self.old.done + 1) }
@@ -224,14 +222,14 @@ impl Tracer {
             (earlier self.old.done engine.now.past) self.new) }
         ensures kept { OnErr result (self.new.done ≡ self.old.done) }
     {
-        let Traced { line, moved } = traced;
+        let Traced { shown: _, moved } = traced;
         let over = over_after(self.over, engine.opened().next_id, &moved);
         put(&mut self.machines, moved)?;
         self.done += 1;
         self.shelved = shelved_after(self.shelved, &entry.change);
         self.restored = restored_after(self.restored, &entry.event);
         self.over = over;
-        Ok(line)
+        Ok(())
     }
 
     /// The line of the next entry, without a line feed; none where it has gone through all. The
@@ -253,7 +251,35 @@ impl Tracer {
             return Ok(None);
         };
         let traced = self.traced(alloc, engine, entry)?;
-        let line = self.follow(engine, entry, traced)?;
+        let line = shown_line(alloc, engine.code(), traced.shown, &entry.event)?;
+        self.follow(engine, entry, traced)?;
+        Ok(Some(line))
+    }
+
+    /// The same line as an object of JSON, in ASCII. Lines in both forms may be taken in any order: each
+    /// is that of the next entry.
+    ///
+    /// The engine is as in [`Tracer::next`].
+    pub fn next_json(
+        &mut self,
+        alloc: Global,
+        engine: &Engine,
+    ) -> Result<Option<Vec<u8>>, AllocError>
+        requires { Follows engine.now self.old }
+        ensures line { IfOk result (λ line.
+            option_map (λ l. l.items) line ≡ json_in engine.now (count_of self.old + 1)) }
+        ensures on { IfOk result (λ line.
+            count_of self.new
+            ≡ (if is_some line then count_of self.old + 1 else count_of self.old)) }
+        ensures kept { OnErr result (count_of self.new ≡ count_of self.old) }
+        ensures follows { Follows engine.now self.new }
+    {
+        let Some(entry) = engine.history().get(self.done) else {
+            return Ok(None);
+        };
+        let traced = self.traced(alloc, engine, entry)?;
+        let line = shown_json(alloc, engine.code(), traced.shown, &entry.event)?;
+        self.follow(engine, entry, traced)?;
         Ok(Some(line))
     }
 
@@ -456,7 +482,7 @@ fn row_id(change: &Change) -> Option<u64>
     }
 }
 
-// The line of a take, and the machine of the transaction.
+// What a take shows, and the machine of the transaction.
 fn begun(
     alloc: Global,
     code: &Code,
@@ -469,87 +495,28 @@ fn begun(
         → IsBegun code.now id session (opening code.now tries saved) t) }
 {
     let Some(row) = row else {
+        let due = Due::Done;
         return Ok(Traced {
-            line: begun_line(alloc, code, session, id, Due::Done)?,
+            shown: Shown::Begun { id, session, due },
             moved: Some((id, None)),
         });
     };
     let saved = row.context.copy()?;
     let machine = Machine::start(alloc, code, row.tries, saved.into_vec());
-    let line = begun_line(alloc, code, session, id, machine.due(code))?;
+    let due = machine.due(code);
     Ok(Traced {
-        line,
+        shown: Shown::Begun { id, session, due },
         moved: Some((id, Some(machine))),
     })
 }
 
-// The line of a take under this id, after which this is due.
-fn begun_line(
-    alloc: Global,
-    code: &Code,
-    session: usize,
-    id: u64,
-    due: Due,
-) -> Result<String, AllocError>
-    ensures { IfOk result (λ s. string_bytes s ≡ decimal id ++ codes " take " ++ decimal session
-        ++ codes " -> " ++ due_text code.now due) }
-{
-    let next = NextText {
-        names: Names { code },
-        due,
-    };
-    format!(in alloc; "{id} take {session} -> {next}")
-}
-
 // What an entry shows that is of no transaction under way: it moves nothing.
-fn plain(alloc: Global, code: &Code, shelved: usize, event: &Event) -> Result<Traced, AllocError>
-    ensures line { IfOk result (λ t. string_bytes t.line ≡ plain_line code.now shelved event.now) }
-    ensures moved { IfOk result (λ t. t.moved ≡ None) }
+fn plain(shelved: usize) -> Traced
+    ensures shown { result.shown ≡ Plain shelved }
+    ensures moved { result.moved ≡ None }
 {
-    Ok(Traced {
-        line: plain_line(alloc, code, shelved, event)?,
+    Traced {
+        shown: Shown::Plain { shelved },
         moved: None,
-    })
-}
-
-fn debug_line(alloc: Global, code: &Code, event: &Event) -> Result<String, AllocError>
-    ensures { IfOk result (λ s. string_bytes s ≡ debug_line code.now event.now) }
-{
-    let names = Names { code };
-    match event {
-        Event::Broke { participant } => {
-            let name = names.participant(*participant);
-            format!(in alloc; "break {name}")
-        }
-        Event::Cleared { participant } => {
-            let name = names.participant(*participant);
-            format!(in alloc; "clear {name}")
-        }
-        Event::LetGo { session } => format!(in alloc; "go {session}"),
-        _ => Ok(String::new(alloc)),
-    }
-}
-
-// The line of an event that is of no transaction under way.
-fn plain_line(
-    alloc: Global,
-    code: &Code,
-    shelved: usize,
-    event: &Event,
-) -> Result<String, AllocError>
-    ensures { IfOk result (λ s. string_bytes s ≡ plain_line code.now shelved event.now) }
-{
-    match event {
-        Event::Offered { context } => {
-            let length = context.as_slice().len();
-            format!(in alloc; "offer {length}")
-        }
-        Event::Released => format!(in alloc; "release {shelved}"),
-        Event::Acked { id, place } => {
-            let (id, place) = (*id, *place);
-            format!(in alloc; "ack {id} {place}")
-        }
-        Event::Closed { id } => format!(in alloc; "{id} closed"),
-        _ => debug_line(alloc, code, event),
     }
 }

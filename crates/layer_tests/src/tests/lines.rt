@@ -3,6 +3,7 @@
 
 ghost use Rattle.std.specs.Prelude.{IfOk};
 ghost use Rattle.tx_machine.specs.Contract.{IsSound};
+ghost use Rattle.tx_trace.specs.Follow.{Follows};
 
 use flow_asm::{Code, assemble};
 use flow_model::{Flow, Group};
@@ -13,7 +14,7 @@ use sw_participant::{Bytes, Kind, Sequence, Text};
 use tx_engine::{Engine, EngineError};
 use tx_history::{Entry, Event, JournalView, Row};
 use tx_machine::{Item, Machine, MachineError, Phase};
-use tx_trace::{line, step_line};
+use tx_trace::{Tracer, line, step_line};
 
 /// The lines, written out by hand. The journal has a transaction with nobody to notify, and one to recover.
 const LINES: [&str; 18] = [
@@ -35,6 +36,70 @@ const LINES: [&str; 18] = [
     "3 U abort keep -> shelve",
     "release 1",
     "ack 2 0",
+];
+
+/// The same as JSON. What answer 13 notes has bytes that are escaped.
+const JSON_LINES: [&[&str]; 18] = [
+    &[r#"{"event":"closed","id":1}"#],
+    &[
+        r#"{"event":"recover","id":2,"phase":"C","call":"recover","participant":"r""#,
+        r#","recovering":true,"next":{"call":"commit","participant":"r"}}"#,
+    ],
+    &[
+        r#"{"event":"outcome","id":2,"phase":"C","call":"commit","participant":"r","advice":0"#,
+        r#","recovering":true,"next":{"call":"done"}}"#,
+    ],
+    &[r#"{"event":"offer","bytes":1}"#],
+    &[
+        r#"{"event":"take","id":3,"session":0,"next":{"call":"prepare","participant":"pick""#,
+        r#","group":"main","index":0}}"#,
+    ],
+    &[
+        r#"{"event":"answer","id":3,"phase":"P","call":"prepare","participant":"pick""#,
+        r#","group":"main","index":0,"byte":"01","answer":["PREPARED"],"bad":false"#,
+        r#","joined":true,"saved":true,"bound":false,"recovering":false"#,
+        r#","next":{"call":"select","participant":"pick","group":"main","index":0}}"#,
+    ],
+    &[
+        r#"{"event":"choice","id":3,"phase":"P","call":"select","participant":"pick""#,
+        r#","group":"main","index":0,"names":["a"],"bound":false,"recovering":false"#,
+        r#","next":{"call":"prepare","participant":"pa","group":"a","index":0}}"#,
+    ],
+    &[r#"{"event":"break","participant":"pa"}"#],
+    &[r#"{"event":"go","session":0}"#],
+    &[
+        r#"{"event":"answer","id":3,"phase":"P","call":"prepare","participant":"pa""#,
+        r#","group":"a","index":0,"byte":"c1","answer":["PREPARED","NO_JOIN","READONLY"]"#,
+        r#","bad":false,"joined":false,"saved":false,"bound":false,"recovering":false"#,
+        r#","next":{"call":"prepare","participant":"r","group":"main","index":1}}"#,
+    ],
+    &[r#"{"event":"clear","participant":"pa"}"#],
+    &[
+        r#"{"event":"answer","id":3,"phase":"P","call":"prepare","participant":"r""#,
+        r#","group":"main","index":1,"byte":"02","answer":["RETRY"],"bad":false,"joined":true"#,
+        r#","saved":true,"bound":false,"recovering":false,"next":{"call":"prepare_for_abort""#,
+        r#","participant":"keep","group":"main","index":2}}"#,
+    ],
+    &[
+        r#"{"event":"answer","id":3,"phase":"A","call":"prepare_for_abort""#,
+        r#","participant":"keep","group":"main","index":2,"byte":"04","answer":[],"bad":true"#,
+        r#","joined":true,"saved":true,"rc":"0\"\\\n\u0007\u00E9","bound":false"#,
+        r#","recovering":false,"next":{"call":"abort","participant":"pick"}}"#,
+    ],
+    &[
+        r#"{"event":"outcome","id":3,"phase":"U","call":"abort","participant":"pick""#,
+        r#","recovering":false,"next":{"call":"abort","participant":"r"}}"#,
+    ],
+    &[
+        r#"{"event":"outcome","id":3,"phase":"U","call":"abort","participant":"r","advice":1"#,
+        r#","recovering":false,"next":{"call":"abort","participant":"keep"}}"#,
+    ],
+    &[
+        r#"{"event":"outcome","id":3,"phase":"U","call":"abort","participant":"keep""#,
+        r#","recovering":false,"next":{"call":"shelve"}}"#,
+    ],
+    &[r#"{"event":"release","count":1}"#],
+    &[r#"{"event":"ack","id":2,"advice":0}"#],
 ];
 
 /// `main`: the selector pick, r, which recovers, and keep, which is abort-aware; `a`: pa. One retry.
@@ -98,9 +163,18 @@ fn byte(number: usize) -> u8 {
     }
 }
 
+/// The context that the answer of this number leaves: answer 13 notes a response code.
+fn context_after(alloc: Global, number: usize) -> Result<Context, EngineError> {
+    let mut context = Context::new(alloc);
+    if number == 13 && context.put("rc", b"0\"\\\n\x07\xe9").is_err() {
+        return Err(EngineError::OutOfMemory);
+    }
+    Ok(context)
+}
+
 /// Gives session 0 the reply that makes the entry of this number.
 fn reply(alloc: Global, engine: &mut Engine, number: usize) -> Result<usize, EngineError> {
-    let context = Context::new(alloc);
+    let context = context_after(alloc, number)?;
     match number {
         2 => engine.recovered(0, &context),
         3 | 15 => engine.told(alloc, 0, Some(&[7])),
@@ -225,6 +299,45 @@ fn lines_of_every_kind_of_entry(rt: HostRuntime) -> Result<(), Fail> {
         assert!(rt; is_line(alloc, &engine, index + 1, wanted)?, "{wanted}");
     }
     assert!(rt; !has_line(alloc, &engine, 0)? && !has_line(alloc, &engine, 19)?);
+    Ok(())
+}
+
+/// Texts, one after the other.
+fn joined(alloc: Global, pieces: &[&str]) -> Result<String, AllocError> {
+    let mut text = String::new(alloc);
+    for piece in pieces {
+        text.push_str(piece)?;
+    }
+    Ok(text)
+}
+
+/// Whether the tracer's next line of JSON is this one.
+fn is_json_line(
+    alloc: Global,
+    engine: &Engine,
+    tracer: &mut Tracer,
+    wanted: &str,
+) -> Result<bool, Fail>
+    requires { Follows engine.now tracer.old }
+    ensures { Follows engine.now tracer.new }
+{
+    match tracer.next_json(alloc, engine)? {
+        Some(json) => Ok(json.as_slice() == wanted.as_bytes()),
+        None => Ok(false),
+    }
+}
+
+#[test]
+fn json_of_every_kind_of_entry(rt: HostRuntime) -> Result<(), Fail> {
+    let alloc = rt.alloc();
+    let engine = played(alloc)?;
+    let mut tracer = Tracer::new(alloc, &engine);
+    for pieces in JSON_LINES {
+        let wanted = joined(alloc, pieces)?;
+        let is_next = is_json_line(alloc, &engine, &mut tracer, wanted.as_str())?;
+        assert!(rt; is_next, "{wanted}");
+    }
+    assert!(rt; tracer.next_json(alloc, &engine)?.is_none());
     Ok(())
 }
 

@@ -1,6 +1,6 @@
 use Rattle.std.proofs.Common.{◌≡◌, ◌++◌, drop}
 use Rattle.std.specs.List.{flat_map}
-use Rattle.cli_journal.specs.Json.{next_string}
+use Rattle.sw_json.specs.Json.{next_string}
 use Rattle.cli_journal.proofs.json.push_rest.Given as goal
 
 abbrev pub invariant-loop-name : goal.invariant-loop-name

@@ -1,7 +1,7 @@
 use Rattle.std.proofs.Common.{◌≡◌, ap, sym, subst, List, ℕ, ◌++◌}
 use Rattle.std.specs.Prelude.{OnOk}
 use Rattle.cli_journal.specs.Json.{context_lines, entry_lines}
-use Rattle.cli_journal.proofs.Contexts.{reads, reads_none}
+use Rattle.sw_json.proofs.Contexts.{reads, reads_none}
 use Rattle.cli_journal.proofs.json_entries.push_context_lines.Goals as goal
 
 pub returns-in-Ok : goal.returns-in-Ok

@@ -7,7 +7,8 @@ use Rattle.tx_engine.specs.World.{World}
 use Rattle.tx_journal.specs.Kept.{kept}
 use Rattle.tx_plant.specs.Plant.{Whole, seen, whole}
 use Rattle.plant_outcome.specs.Lives.{IsMade}
-use Rattle.cli_run.specs.Lines.{lines_in}
+use Rattle.cli_run.specs.declared.told.Form.TheVariants.{Text}
+use Rattle.cli_run.specs.Lines.{lines_in, written_as}
 use Rattle.cli_run.specs.Requests.{requests}
 use Rattle.cli_run.proofs.Batched.{for_these, some_for}
 use Rattle.cli_run.proofs.Rounds.{if_ok, none_none, some_ok}
@@ -23,7 +24,7 @@ returns-in_default-clause-printed g c =
     let view : JournalView = c.in-Ok.ensures.opened.0 in
     let is : IsMade c.args.code.now c.args.self.sessions view (seen (kept g.S.Store c.args.self.journal)) made = record { opened = c.in-Ok.ensures.opened.1; engine = c.in-Ok.ensures.engine } in
     let first : c.opened.result.now.next_id ≡ made.core.world.start.view.next_id = ap (λ (v : JournalView). v.next_id) (c.opened.ensures ∙ ap (λ (w : World). w.start.view) c.engine.ensures) in
-    let prints = ap (λ (w : World). lines_in w) c.engine-in_default.ensures in
+    let prints = ap (λ (w : World). written_as Text (lines_in w)) c.engine-in_default.ensures in
     none_none _ c.args.self.input c.in_default.is (printed c.args.code.now c.args.self.sessions view (seen (kept g.S.Store c.args.self.journal)) made c.opened.result.now.next_id c.saturating_sub.result _ _ _ is first c.saturating_sub.ensures c.in_ok-recover.ensures.recovers (subst (λ (l : List ℕ). Appends (g.O.Write.contents c.args.out.now) (g.O.Write.contents c.print.new.out) l) prints c.in_ok-print.ensures.lines))
 
 pub serve_to_end-served-requires-clause-rest : goal.serve_to_end-served-requires-clause-rest
@@ -105,7 +106,7 @@ returns-in_err-print-clause-stopped g c =
     let view : JournalView = c.in-Ok.ensures.opened.0 in
     let is : IsMade c.args.code.now c.args.self.sessions view (seen (kept g.S.Store c.args.self.journal)) made = record { opened = c.in-Ok.ensures.opened.1; engine = c.in-Ok.ensures.engine } in
     let first : c.opened.result.now.next_id ≡ made.core.world.start.view.next_id = ap (λ (v : JournalView). v.next_id) (c.opened.ensures ∙ ap (λ (w : World). w.start.view) c.engine.ensures) in
-    let prints = ap (λ (w : World). lines_in w) c.engine-in_default.ensures in
+    let prints = ap (λ (w : World). written_as Text (lines_in w)) c.engine-in_default.ensures in
     on_err_of c.from_residual-in_err-print.result (inr (stops_none c.args.self.threads g.R.Read.remaining c.args.self.input c.in_default.is (unprinted c.args.code.now c.args.self.sessions view (seen (kept g.S.Store c.args.self.journal)) made c.opened.result.now.next_id c.saturating_sub.result _ _ _ is first c.saturating_sub.ensures c.in_ok-recover.ensures.recovers (subst (λ (l : List ℕ). AppendsBeginning (g.O.Write.contents c.args.out.now) (g.O.Write.contents c.print.new.out) l) prints c.in_err-print.ensures.beginning))))
 
 pub returns-clause-stopped : goal.returns-clause-stopped

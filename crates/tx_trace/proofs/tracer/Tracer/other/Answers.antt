@@ -1,13 +1,10 @@
-use Rattle.std.proofs.Common.{◌≡◌, ◌∙◌, ap, subst, List, ℕ, None}
-use Rattle.std.specs.Prelude.{string_bytes}
+use Rattle.std.proofs.Common.{◌≡◌, subst, List, ℕ}
 use Rattle.flow_model.specs.declared.flow.Flow.{Flow}
 use Rattle.tx_machine.specs.Table.{opening}
 use Rattle.tx_history.specs.declared.event.Event.{Event}
 use Rattle.tx_history.specs.Journal.{row}
-use Rattle.tx_trace.specs.declared.tracer.Traced.{Traced}
-use Rattle.tx_trace.specs.Lines.{plain_line}
 use Rattle.tx_trace.specs.Follow.{IsBegun, IsTraced, earlier}
-use Rattle.tx_trace.proofs.Answered.{answered_both, answered_so}
+use Rattle.tx_trace.proofs.Answered.{answered_so}
 use Rattle.tx_trace.proofs.Tracked.{other_traced, taken_traced}
 use Rattle.tx_trace.proofs.tracer.Tracer.other.Goals as goal
 
@@ -22,11 +19,5 @@ returns-in-Some c =
 
 pub returns-in_default : goal.returns-in_default
 returns-in_default c =
-    let f : Flow = c.args.engine.now.flow in
-    let past : List Event = earlier c.args.self.now.done c.args.engine.now.past in
-    let count : ℕ = c.args.self.now.shelved in
-    answered_both (λ (t : Traced). string_bytes t.line ≡ plain_line c.code-code.result.now count c.args.entry.now.event) (λ (t : Traced). t.moved ≡ None) (IsTraced f c.args.engine.now.start past c.args.entry.now.event) c.plain-in_default.result
-    (λ t line moved. other_traced f c.args.engine.now.start past c.args.entry.now.event t count c.requires.next.start.view.ordered c.requires.next.lawful c.requires.other c.in_default.not-Taken c.requires.next.tracks.shelved
-    (line ∙ ap (λ (g : Flow). plain_line g count c.args.entry.now.event) c.code-code.ensures)
-    moved)
-    c.plain-in_default.ensures.line c.plain-in_default.ensures.moved
+    other_traced c.args.engine.now.flow c.args.engine.now.start (earlier c.args.self.now.done c.args.engine.now.past) c.args.entry.now.event c.plain-in_default.result c.args.self.now.shelved c.requires.next.start.view.ordered c.requires.next.lawful c.requires.other c.in_default.not-Taken c.requires.next.tracks.shelved
+    c.plain-in_default.ensures.shown c.plain-in_default.ensures.moved

@@ -1,5 +1,5 @@
--- The context that bytes spell, as it is read; and its entries, one after the other.
--- for: entries::push_context, entries::push_entries
+-- The context that bytes spell, as it is read.
+-- for: notes::note_in
 use Rattle.std.proofs.Common.{◌≡◌, ℕ, zero, suc, ◌+◌, ◌*◌, ◌/◌, ◌%◌, ◌<◌, ◌≤◌, ◌&&◌, Bool, true, false, cond, List, [], ◌∷◌, ◌++◌, length, take, drop, Option, Some, None, Result, Ok, Err, option_map, slice_get, refl, sym, ap, subst, ◌∙◌, append_assoc, append-nil, add-one, arith}
 use Rattle.std.specs.Prelude.{is_none, nat_le, nat_lt}
 use Rattle.std.specs.List.{flat_map}
@@ -10,30 +10,10 @@ use Rattle.std.proofs.lemmas.Slice.Eq.{bytes_eq-Decides}
 use Rattle.sw_context.specs.Names.{is_name}
 use Rattle.sw_context.specs.Pairs.{Pairs, AreEntries, IsContext, find}
 use Rattle.sw_context.specs.Spelling.{IsReading, IsSpelled, bytes_of, entry_bytes, value_bytes}
-use Rattle.cli_journal.specs.Contexts.{Front, are_entries, context_at, entries_at, entry_at, is_spelling, pairs_at, value_at}
+use Rattle.sw_json.specs.Contexts.{Front, are_entries, context_at, entries_at, entry_at, is_spelling, pairs_at, value_at}
 
 abbrev Named : Type 0
 Named = List ℕ × List ℕ
-
--- ---- the entries by their numbers
-
-front_is : (es : Pairs) (i : ℕ) (name value : List ℕ) → Some name ≡ option_map (λ (e : Named). e.0) (slice_get es i) → Some value ≡ option_map (λ (e : Named). e.1) (slice_get es i) → drop i es ≡ (name, value) ∷ drop (suc i) es
-front_is [] i name value n v = cc
-front_is (e ∷ es) zero name value n v =
-    let first : e.0 ≡ name = cc in
-    let second : e.1 ≡ value = cc in
-    ap (λ (z : Named). z ∷ es) (λ i. (first i, second i))
-front_is (e ∷ es) (suc i) name value n v = front_is es i name value n v
-
--- one entry more
-pub entry_more : (f : Named → List ℕ) (es : Pairs) (i : ℕ) (name value text new total : List ℕ) → Some name ≡ option_map (λ (e : Named). e.0) (slice_get es i) → Some value ≡ option_map (λ (e : Named). e.1) (slice_get es i)
-    → text ++ flat_map f (drop i es) ≡ total → new ≡ text ++ f (name, value) → new ++ flat_map f (drop (i + 1) es) ≡ total
-entry_more f es i name value text new total n v before is =
-    rw add-one
-    (ap (λ (t : List ℕ). t ++ flat_map f (drop (suc i) es)) is
-    ∙ append_assoc text (f (name, value)) (flat_map f (drop (suc i) es))
-    ∙ sym (ap (λ (xs : Pairs). text ++ flat_map f xs) (front_is es i name value n v))
-    ∙ before)
 
 -- ---- reading what was spelled
 

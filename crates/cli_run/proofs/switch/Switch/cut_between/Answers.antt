@@ -3,17 +3,18 @@ use Rattle.tx_engine.specs.World.{World}
 use Rattle.cli_run.specs.Lines.{lines_in}
 use Rattle.cli_run.specs.Points.{is_long}
 use Rattle.cli_run.specs.Traces.{Tells, log_of}
-use Rattle.cli_run.proofs.Resting.{cut_rest, cuts_waits, history_short, may_cut, may_keep}
+use Rattle.cli_run.proofs.Resting.{cut_none, cut_rest, cuts_waits, history_none, history_short, may_cut, may_keep}
 use Rattle.cli_run.proofs.Tracing.{tells_none}
-use Rattle.cli_run.proofs.switch.Switch.cut_from.Goals as goal
+use Rattle.cli_run.proofs.switch.Switch.cut_between.Goals as goal
 
 pub returns-then-history-entries : goal.returns-then-history-entries
 returns-then-history-entries g c =
-    let short = history_short c.engine.result.now c.history.result.now c.args.entries c.history.ensures.entries c.if-history-entries.true c.requires.bound in
+    let short = history_short c.engine.result.now c.history.result.now c.entries_kept-entries.result c.history.ensures.entries c.if-history-entries.true c.entries_kept-entries.ensures.bound in
     record {
       cuts = record { lines = []; cuts = may_keep _ (subst (λ (w : World). is_long w ≡ false) c.engine.ensures short); tells = tells_none _ };
       rest = c.requires.rest;
       queue = refl;
+      live = λ wanted. subst (λ (w : World). w.past ≡ []) c.engine.ensures (history_none c.engine.result.now c.history.result.now c.entries_kept-entries.result c.history.ensures.entries c.if-history-entries.true (c.entries_kept-entries.ensures.live wanted));
     }
 
 pub returns : goal.returns
@@ -27,4 +28,5 @@ returns g c =
       };
       rest = cut_rest _ _ _ c.requires.rest c.in_ok-act.ensures.does c.in_ok-act.ensures.seated;
       queue = cuts_waits _ _ _ cuts;
+      live = λ wanted. cut_none _ _ _ c.in_ok-act.ensures.does;
     }

@@ -1,5 +1,5 @@
 -- The context that bytes spell.
-use Rattle.std.specs.Prelude.{ℕ, zero, suc, ◌+◌, ◌*◌, Bool, true, ◌&&◌, nat_le, nat_lt, List, [], ◌∷◌, length, take, drop, Option, Some, None, is_none, if◌then◌else◌}
+use Rattle.std.specs.Prelude.{ℕ, zero, suc, ◌+◌, ◌*◌, Bool, true, ◌&&◌, nat_le, nat_lt, List, [], ◌∷◌, length, take, drop, Option, Some, None, is_none, option_and_then, if◌then◌else◌}
 use Rattle.std.specs.Str.{bytes_eq}
 use Rattle.sw_context.specs.Names.{is_name}
 use Rattle.sw_context.specs.Pairs.{Pairs, find}
@@ -41,3 +41,7 @@ is_spelling es bytes = nat_le (length es) 64 && are_entries es && bytes_eq (byte
 -- the context that bytes spell; none where they are those of no context
 unfoldable pub context_at : List ℕ → Option Pairs
 context_at bytes = if is_spelling (pairs_at bytes) bytes then Some (pairs_at bytes) else None
+
+-- the value under a name in the context that bytes spell; none where they spell none, or it has no such entry
+abbrev pub noted : List ℕ → List ℕ → Option (List ℕ)
+noted name bytes = option_and_then (find name) (context_at bytes)

@@ -1,5 +1,5 @@
 use Rattle.std.proofs.Common.{append_assoc}
-use Rattle.tx_trace.proofs.tracer.begun_line.Goals as goal
+use Rattle.tx_trace.proofs.lines.begun_line.Goals as goal
 
 pub returns : goal.returns
 returns c = simp append_assoc c.format.ensures.ok

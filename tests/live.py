@@ -1,0 +1,124 @@
+#!/usr/bin/env python3
+"""Looks at the trace of `cardswitch run` while it runs.
+
+    tests/live.py [--seed N] [--count N] [--program PATH]
+
+pipe      Each request is sent once the response and the lines of the one before it have come, and nothing more has.
+one read  All requests come at once, and both outputs go into one pipe: the lines of each transaction come before the response of the
+          next one.
+
+Random requests, with each form of the trace. What has to come is what the plain model answers. The last line counts; the status is 1 where
+something is wrong.
+"""
+
+import argparse
+import os
+import random
+import select
+import subprocess
+import sys
+import tempfile
+import time
+
+sys.dont_write_bytecode = True
+
+from model import messages, requests  # noqa: E402
+from model.switch import Switch  # noqa: E402
+
+TOP = os.path.dirname(os.path.dirname(os.path.abspath(__file__)))
+BUILT = os.path.join(TOP, "crates", "cardswitch", "out", "cardswitch")
+# How many seconds an answer may take, and how long nothing more may come after it.
+SECONDS, QUIET = 20, 0.002
+FORMS = ("", "=text", "=json")
+LIMIT = 10_000
+
+
+def answers(form, made):
+    """For each message its frame, and what has to come of it: the response, and the lines of the trace."""
+    switch = Switch(requests.whole_flow(), LIMIT)
+    for message in made:
+        lines = switch.answer(message)
+        _, context = max(switch.engine.ended.items())
+        response = messages.framed(context["response"]) if "response" in context else b""
+        yield messages.framed(message), response, text_of(form, lines)
+    yield b"", b"", text_of(form, [(line, None) for line in switch.send_advices()])
+
+
+def text_of(form, lines):
+    return b"".join(requests.shown_in(form, line) + b"\n" for line in lines)
+
+
+def came(stream, wanted):
+    """What came on a stream of which so much is wanted, and a little longer."""
+    text, until = b"", time.monotonic() + SECONDS
+    while len(text) < len(wanted) and (piece := read(stream, until - time.monotonic())):
+        text += piece
+    return text + (read(stream, QUIET) or b"")
+
+
+def read(stream, seconds):
+    """The next bytes of a stream, none at its end or where none come in so many seconds."""
+    ready, _, _ = select.select([stream], [], [], max(seconds, 0))
+    return os.read(stream.fileno(), 65_536) if ready else b""
+
+
+def pipe_faults(words, form, made):
+    """What is wrong where each request is sent once the one before is answered, and its lines are there."""
+    streams = {"stdin": subprocess.PIPE, "stdout": subprocess.PIPE, "stderr": subprocess.PIPE, "bufsize": 0}
+    with subprocess.Popen([*words, f"--trace{form}"], **streams) as process:
+        for number, (frame, response, lines) in enumerate(answers(form, made), 1):
+            if frame:
+                process.stdin.write(frame)
+            else:
+                process.stdin.close()
+            for name, stream, wanted in ("response", process.stdout, response), ("trace", process.stderr, lines):
+                got = came(stream, wanted)
+                if got != wanted:
+                    process.kill()
+                    yield f"message {number}: {name}: {got}, wanted {wanted}"
+                    return
+        status = process.wait(SECONDS)
+        if status:
+            yield f"status {status}, wanted 0"
+
+
+def read_faults(words, form, made):
+    """What is wrong where all requests come at once, and both outputs go into one pipe."""
+    wanted = list(answers(form, made))
+    frames = b"".join(frame for frame, _, _ in wanted)
+    text = b"".join(response + lines for _, response, lines in wanted)
+    with tempfile.TemporaryFile() as file:
+        file.write(frames)
+        file.seek(0)
+        run = subprocess.run(
+            [*words, f"--trace{form}"], stdin=file, stdout=subprocess.PIPE, stderr=subprocess.STDOUT, timeout=SECONDS, check=False
+        )
+    if run.returncode or run.stdout != text:
+        yield f"status {run.returncode}, {run.stdout}, wanted {text}"
+
+
+def main():
+    parser = argparse.ArgumentParser(description="Looks at the trace of a run while it runs.")
+    parser.add_argument("--seed", type=int, default=random.SystemRandom().randrange(10**9))
+    parser.add_argument("--count", type=int, default=30)
+    parser.add_argument("--program", default=BUILT)
+    given = parser.parse_args()
+    chosen, passed, failed = random.Random(given.seed), 0, 0
+    with tempfile.TemporaryDirectory() as room:
+        flow = os.path.join(room, "flow.toml")
+        with open(flow, "wb") as file:
+            file.write(requests.flow_file(requests.whole_flow()))
+        words = [os.path.abspath(given.program), "run", "--flow", flow, "--limit", str(LIMIT)]
+        for number in range(given.count):
+            made, form = [it for it in requests.stream(chosen) if messages.is_message(it)], chosen.choice(FORMS)
+            for name, faults in ("pipe", pipe_faults), ("one read", read_faults):
+                wrong = list(faults(words, form, made))
+                passed, failed = passed + (not wrong), failed + bool(wrong)
+                for fault in wrong:
+                    print(f"FAILED live: {name} {number} of seed {given.seed}, --trace{form}: {fault}")
+    print(f"{passed} passed, {failed} failed")
+    return 1 if failed else 0
+
+
+if __name__ == "__main__":
+    sys.exit(main())
