@@ -1,6 +1,6 @@
 -- The command line of `cardswitch`: its subcommands as a table, and what words mean by it. clap's
 -- contracts say what a parse by such a table gives.
-use Rattle.std.specs.Prelude.{◌≡◌, ◌^◌, ℕ, Bool, true, false, List, Option, Some, None, bytes_eq, codes, option_and_then, option_map, nat_lt, if◌then◌else◌}
+use Rattle.std.specs.Prelude.{◌≡◌, ◌^◌, ℕ, Bool, true, false, List, [], ◌∷◌, Option, Some, None, bytes_eq, codes, option_and_then, option_map, nat_lt, if◌then◌else◌}
 use Rattle.std.specs.Option.{option_map_or}
 use Rattle.sw_base.specs.Spelling.{number_spelled}
 use Rattle.std.specs.Borrow.{Bor}
@@ -11,6 +11,8 @@ use Rattle.cli_options.specs.declared.choice.Options.{Options}
 use Rattle.cli_options.specs.declared.choice.Options.TheVariants.{Asm, Decode, Encode, Graph, Journal, List as ListImage, Recover, Run, Step}
 use Rattle.cli_options.specs.declared.choice.JournalOptions.{JournalOptions}
 use Rattle.cli_options.specs.declared.choice.RunOptions.{RunOptions}
+use Rattle.cli_options.specs.declared.choice.StatsLines.{StatsLines}
+use Rattle.cli_options.specs.declared.choice.StatsLines.TheVariants.{AtEnd, Every, Off}
 use Rattle.clap.specs.declared.builder.action.ArgAction.TheVariants.{SetTrue}
 
 -- clap's command is of this shape
@@ -28,6 +30,10 @@ option_rule name = record (new_rule name) { long = Some name; value_names = 1 }
 -- `--NAME VALUE`, which has to be given
 abbrev pub needed_rule : Text → Rule
 needed_rule name = record (option_rule name) { required = true }
+
+-- `--NAME` or `--NAME VALUE`, which may be left out; without a value it is as with this one
+abbrev pub optional_rule : Text → Text → Rule
+optional_rule name missing = record (option_rule name) { range = Some (record { start_inclusive = 0; end_inclusive = 1 }); missing = missing ∷ [] }
 
 -- a word of its own, which has to be given
 abbrev pub word_rule : Text → Rule
@@ -69,9 +75,9 @@ recover_app = with_rule (with_rule (new_app (codes "recover")) (needed_rule (cod
 abbrev pub journal_app : App
 journal_app = with_rule (with_rule (with_rule (new_app (codes "journal")) (word_rule (codes "path"))) (flag_rule (codes "json"))) (flag_rule (codes "clear"))
 
--- `run --flow PATH [--journal PATH] [--sessions N] [--limit N] [--threads] [--trace]`
+-- `run --flow PATH [--journal PATH] [--sessions N] [--limit N] [--threads] [--trace] [--stats [N]]`
 abbrev pub run_app : App
-run_app = with_rule (with_rule (with_rule (with_rule (with_rule (with_rule (new_app (codes "run")) (needed_rule (codes "flow"))) (option_rule (codes "journal"))) (option_rule (codes "sessions"))) (option_rule (codes "limit"))) (flag_rule (codes "threads"))) (flag_rule (codes "trace"))
+run_app = with_rule (with_rule (with_rule (with_rule (with_rule (with_rule (with_rule (new_app (codes "run")) (needed_rule (codes "flow"))) (option_rule (codes "journal"))) (option_rule (codes "sessions"))) (option_rule (codes "limit"))) (flag_rule (codes "threads"))) (flag_rule (codes "trace"))) (optional_rule (codes "stats") (codes "end"))
 
 -- the program itself: it has a version, and wants a subcommand
 abbrev pub program_app : App
@@ -100,6 +106,18 @@ number_in default (Some word) = option_and_then bounded (number_spelled word)
 abbrev pub is_set : Option Text → Bool
 is_set text = option_map_or (λ t. bytes_eq t (codes "true")) text false
 
+-- The lines of numbers that are wanted: without `--stats` none; with `end` one at the end; with a number above 0 also one after
+-- every so many requests.
+abbrev pub every : ℕ → Option StatsLines
+every n = if nat_lt 0 n then Some (Every n) else None
+
+abbrev pub stats_by : Text → Option StatsLines
+stats_by word = if bytes_eq word (codes "end") then Some AtEnd else option_and_then every (option_and_then bounded (number_spelled word))
+
+abbrev pub stats_in : Option Text → Option StatsLines
+stats_in None = Some Off
+stats_in (Some word) = stats_by word
+
 -- the options of `run`, whose own options are in the rows
 pub record AreRunOptions (rows : List Row) (o : RunOptions) : Type 0 where
   pub flow : Some o.flow.now ≡ first_of (codes "flow") rows
@@ -108,6 +126,7 @@ pub record AreRunOptions (rows : List Row) (o : RunOptions) : Type 0 where
   pub limit : number_in 10000 (first_of (codes "limit") rows) ≡ Some o.limit
   pub threads : o.threads ≡ is_set (first_of (codes "threads") rows)
   pub trace : o.trace ≡ is_set (first_of (codes "trace") rows)
+  pub stats : stats_in (first_of (codes "stats") rows) ≡ Some o.stats
 
 -- the same of `journal`
 pub record AreJournalOptions (rows : List Row) (o : JournalOptions) : Type 0 where

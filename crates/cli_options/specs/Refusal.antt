@@ -18,22 +18,22 @@ IsAccepted words = fault_of switch_app words ≡ []
 abbrev pub IsRefusalOf : List Text → OptionsError → Type 0
 IsRefusalOf words (BadCommandLine e) = IsAmong (kind_of e) (fault_of switch_app words)
 IsRefusalOf words NoSubcommand = (o : Options) → AreOptionsOf words o → ⊥
-IsRefusalOf words (BadNumber name found) = (o : Options) → AreOptionsOf words o → ⊥
+IsRefusalOf words (BadNumber name expected found) = (o : Options) → AreOptionsOf words o → ⊥
 IsRefusalOf words OutOfMemory = ⊤
 
 abbrev pub IsBadNumber : OptionsError → Type 0
-IsBadNumber (BadNumber name found) = ⊤
+IsBadNumber (BadNumber name expected found) = ⊤
 IsBadNumber _ = ⊥
 
 -- the rows of a subcommand are refused, which give no options
 abbrev pub IsRefusalAt : Text → List Row → OptionsError → Type 0
 IsRefusalAt name rows NoSubcommand = IsNoSubcommand name rows
-IsRefusalAt name rows (BadNumber option found) = IsNoSubcommand name rows
+IsRefusalAt name rows (BadNumber option expected found) = IsNoSubcommand name rows
 IsRefusalAt name rows _ = ⊥
 
 abbrev pub IsRunRefusal : List Row → OptionsError → Type 0
 IsRunRefusal rows NoSubcommand = (o : RunOptions) → AreRunOptions rows o → ⊥
-IsRunRefusal rows (BadNumber option found) = (o : RunOptions) → AreRunOptions rows o → ⊥
+IsRunRefusal rows (BadNumber option expected found) = (o : RunOptions) → AreRunOptions rows o → ⊥
 IsRunRefusal rows _ = ⊥
 
 -- help and the version are shown; every other text tells a mistake
@@ -45,5 +45,5 @@ kind_status _ = 2
 abbrev pub status_of : OptionsError → ℕ
 status_of (BadCommandLine e) = kind_status (kind_of e)
 status_of NoSubcommand = 2
-status_of (BadNumber name found) = 2
+status_of (BadNumber name expected found) = 2
 status_of OutOfMemory = 4

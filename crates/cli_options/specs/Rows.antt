@@ -4,12 +4,14 @@ use Rattle.clap.specs.Words.{App, Rule, Text, new_app, new_rule, with_rule, with
 use Rattle.clap.specs.declared.builder.action.ArgAction.TheVariants.{SetTrue}
 use Rattle.cli_options.specs.declared.table.CommandRow.{CommandRow}
 use Rattle.cli_options.specs.declared.table.Given.{Given}
-use Rattle.cli_options.specs.declared.table.Given.TheVariants.{Value, Flag, Word}
+use Rattle.cli_options.specs.declared.table.Given.TheVariants.{Value, Optional, Flag, Word}
 use Rattle.cli_options.specs.declared.table.OptionRow.{OptionRow}
 
--- an option with a value, a flag, or a word of its own
+-- an option with a value, or with one that may be left out, a flag, or a word of its own
 abbrev pub rule_with : Text → Given → Bool → Rule
 rule_with name (Value value) required = record (new_rule name) { long = Some name; value_names = 1; required = required }
+rule_with name (Optional value missing) required =
+    record (new_rule name) { long = Some name; value_names = 1; range = Some (record { start_inclusive = 0; end_inclusive = 1 }); missing = missing.now ∷ []; required = required }
 rule_with name Flag required = record (new_rule name) { long = Some name; action = Some SetTrue; required = required }
 rule_with name (Word value) required = record (new_rule name) { value_names = 1; required = required }
 

@@ -64,4 +64,17 @@ pub struct RunOptions<'a> {
     pub threads: bool,
     /// Whether the trace is printed on standard error at the end.
     pub trace: bool,
+    /// The lines of the run's numbers on standard error.
+    pub stats: StatsLines,
+}
+
+/// Which lines of a run's numbers are wanted.
+#[derive(Clone, Copy)]
+pub enum StatsLines {
+    /// None.
+    Off,
+    /// One at the end.
+    AtEnd,
+    /// One after every so many requests, at least 1, and one at the end.
+    Every(u64),
 }

@@ -20,8 +20,12 @@ pub enum OptionsError {
     #[error("error: a subcommand was expected; try '--help'\n")]
     NoSubcommand,
     /// The text of an option is not the number that it takes.
-    #[error("error: --{name} has a bad number: expected decimal digits, of a number below 2^63; found {found}\n")]
-    BadNumber { name: &'static str, found: Quoted },
+    #[error("error: --{name} has a bad number: expected {expected}; found {found}\n")]
+    BadNumber {
+        name: &'static str,
+        expected: &'static str,
+        found: Quoted,
+    },
     /// No memory was left to read the words.
     #[error("error: out of memory\n")]
     OutOfMemory,

@@ -12,6 +12,9 @@ use std::alloc::{AllocError, Global};
 enum Given<'a> {
     /// `--NAME VALUE`, with what help calls the value.
     Value(&'a str),
+    /// `--NAME` or `--NAME VALUE`, with what help calls the value, and the value that counts as given
+    /// without one.
+    Optional(&'a str, &'a str),
     /// `--NAME`.
     Flag,
     /// A word of its own, with what help calls it.
@@ -171,6 +174,12 @@ const COMMANDS: [CommandRow<'static>; 9] = [
                 help: "Prints the trace on standard error, one line for each step",
                 is_required: false,
             },
+            OptionRow {
+                name: "stats",
+                given: Given::Optional("N", "end"),
+                help: "Prints the numbers of the run on standard error at the end, with N also after every N requests",
+                is_required: false,
+            },
         ],
     },
 ];
@@ -184,6 +193,11 @@ fn option_of<'a>(alloc: Global, row: OptionRow<'a>) -> Arg<'a>
         .required(row.is_required);
     match row.given {
         Given::Value(value) => arg.long(row.name).value_name(value),
+        Given::Optional(value, missing) => arg
+            .long(row.name)
+            .value_name(value)
+            .num_args(0..=1)
+            .default_missing_value(missing),
         Given::Flag => arg.long(row.name).action(ArgAction::SetTrue),
         Given::Word(value) => arg.value_name(value),
     }
