@@ -1,6 +1,6 @@
 -- What `run` and `recover` have done, and why they end early. What a file holds no clause can say; the flow of a flow
 -- file is one that is checked.
-use Rattle.std.specs.Prelude.{◌≡◌, ◌≢◌, ◌<◌, ◌≤◌, ⊤, ℕ, Bool, false, List, [], Option, Some}
+use Rattle.std.specs.Prelude.{◌≡◌, ◌≢◌, ◌<◌, ◌≤◌, ⊤, ℕ, Bool, false, List, [], Option, None, Some}
 use Rattle.sqlite_trees.specs.declared.store.Store.{Ghosts}
 use Rattle.flow_model.specs.declared.flow.Flow.{Flow}
 use Rattle.sw_issuers.specs.Issuing.{Receives, Sends, shown_issuer}
@@ -8,6 +8,8 @@ use Rattle.sw_issuers.specs.Sending.{PlainSender, SendsAdvice}
 use Rattle.tx_plant.specs.Plant.{Seen}
 use Rattle.cli_options.specs.CommandLine.{text_of}
 use Rattle.cli_options.specs.declared.choice.RunOptions.{RunOptions}
+use Rattle.cli_options.specs.declared.choice.StatsLines.{StatsLines}
+use Rattle.cli_options.specs.declared.choice.StatsLines.TheVariants.{AtEnd, Every, Off}
 use Rattle.cli_run.specs.Advices.{AdviceStep}
 use Rattle.cli_run.specs.Links.{sender_of}
 use Rattle.cli_run.specs.Ran.{Printed, Ran}
@@ -35,6 +37,12 @@ pub record IsSetUp (limit count : ℕ) (as_threads : Bool) (setup : Setup) : Typ
   pub book : setup.book ≡ record { limit = limit; items = [] }
   pub sessions : setup.sessions ≡ count
   pub threads : setup.threads ≡ as_threads
+
+-- the lines of numbers that the options want: of those that are wanted, after how many requests there is one more
+abbrev pub wanted : StatsLines → Option (Option ℕ)
+wanted Off = None
+wanted AtEnd = Some None
+wanted (Every n) = Some (Some n)
 
 -- over this journal the requests of a whole input were answered, one after the other, or by threads in batches
 pub record Served (threads : Bool) (flow : Flow) (sessions : ℕ) (j : Seen) (sender : PlainSender)

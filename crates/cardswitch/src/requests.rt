@@ -1,6 +1,6 @@
 //! The subcommands `run` and `recover`: the switch with its own participants, over a journal.
 
-ghost use Rattle.std.specs.Prelude.{◌≡◌, ◌<◌, ◌≤◌, [], IfErr, IfNone, IfOk, IfSome, OnOk, false};
+ghost use Rattle.std.specs.Prelude.{◌≡◌, ◌<◌, ◌≤◌, [], IfErr, IfNone, IfOk, IfSome, OnOk, false, option_map};
 ghost use Rattle.flow_model.specs.Check.{IsChecked};
 ghost use Rattle.flow_model.specs.declared.flow.Flow.{Flow};
 ghost use Rattle.tx_journal.specs.Kept.{kept};
@@ -8,13 +8,13 @@ ghost use Rattle.tx_plant.specs.Plant.{seen};
 ghost use Rattle.cli_run.specs.Links.{sender_of};
 ghost use Rattle.cli_run.specs.Ran.{Printed};
 ghost use Rattle.cardswitch.specs.Runs.{Answered, IsFlowFault, IsRecoverFault, IsRunFault};
-ghost use Rattle.cardswitch.specs.Runs.{IsServeFault, IsSetUp, Recovered, Served, new_sender};
+ghost use Rattle.cardswitch.specs.Runs.{IsServeFault, IsSetUp, Recovered, Served, new_sender, wanted};
 
 use crate::error::RunError;
 use crate::flow_file::flow_at;
 use crate::journals::{open_file, open_in_memory};
-use cli_options::choice::RunOptions;
-use cli_run::{Issuers, Setup, Told, run};
+use cli_options::choice::{RunOptions, StatsLines};
+use cli_run::{Issuers, Setup, Stats, Told, run};
 use flow_asm::{Code, assemble};
 use sqlite::Alter;
 use sqlite_std_file::File;
@@ -24,6 +24,7 @@ use std::alloc::Global;
 use std::io::{Empty, Read, Write};
 use std::sync::Wait;
 use std::thread::Threads;
+use std::time::Clock;
 use sw_book::Book;
 use sw_issuers::Issuer;
 use sw_parts::Link;
@@ -70,7 +71,7 @@ fn setup(alloc: Global, limit: u64, sessions: usize, threads: bool) -> Result<Se
 }
 
 // Runs over a journal.
-fn serve<S: Alter + Drop, T: Threads + Wait + Sync, R: Read + Drop, O: Write, E: Write>(
+fn serve<S: Alter + Drop, T: Threads + Wait + Clock + Sync, R: Read + Drop, O: Write, E: Write>(
     threads: &T,
     alloc: Global,
     code: &Code,
@@ -101,21 +102,36 @@ fn code_at(alloc: Global, rt: &HostRuntime, path: &str) -> Result<Code, RunError
     Ok(assemble(alloc, &flow)?)
 }
 
-// What a run tells: the trace where the options want it.
-fn told_by<'a, E>(options: &RunOptions<'_>, err: &'a mut E) -> Told<'a, E>
+// The lines of numbers that are wanted, of a run that begins now.
+fn stats_by<C: Clock>(rt: &C, lines: StatsLines) -> Option<Stats>
+    ensures { option_map (λ s. s.every) result ≡ wanted lines }
+{
+    match lines {
+        StatsLines::Off => None,
+        StatsLines::AtEnd => Some(Stats::begin(rt, None)),
+        StatsLines::Every(count) => Some(Stats::begin(rt, Some(count))),
+    }
+}
+
+// What a run tells: the trace and the numbers where the options want them.
+fn told_by<'a, C: Clock, E>(rt: &C, options: &RunOptions<'_>, err: &'a mut E) -> Told<'a, E>
     ensures trace { result.trace ≡ options.now.trace }
+    ensures stats { option_map (λ s. s.every) result.stats ≡ wanted options.now.stats }
     ensures none_lost { result.lost ≡ false }
+    ensures none_passed { result.passed ≡ 0 }
 {
     Told {
         err,
         trace: options.trace,
         lost: false,
+        stats: stats_by(rt, options.stats),
+        passed: 0,
     }
 }
 
 // Answers the requests of an input by a flow. (The flow comes as what became of its file, so that contracts can say that
 // its fault is the first.)
-fn answer_by<T: Threads + Wait + Sync, R: Read + Drop, O: Write, E: Write>(
+fn answer_by<T: Threads + Wait + Clock + Sync, R: Read + Drop, O: Write, E: Write>(
     threads: &T,
     alloc: Global,
     rt: &HostRuntime,
@@ -141,7 +157,7 @@ fn answer_by<T: Threads + Wait + Sync, R: Read + Drop, O: Write, E: Write>(
         options.sessions as usize,
         options.threads,
     )?;
-    let mut told = told_by(options, err);
+    let mut told = told_by(threads, options, err);
     match options.journal {
         Some(path) => {
             let journal = open_file(alloc, rt, path)?;
@@ -173,7 +189,7 @@ fn answer_by<T: Threads + Wait + Sync, R: Read + Drop, O: Write, E: Write>(
 }
 
 /// Answers the requests of an input, over a journal in memory or in the file that the options name.
-pub fn answer_requests<T: Threads + Wait + Sync, R: Read + Drop, O: Write, E: Write>(
+pub fn answer_requests<T: Threads + Wait + Clock + Sync, R: Read + Drop, O: Write, E: Write>(
     threads: &T,
     alloc: Global,
     rt: &HostRuntime,
@@ -193,7 +209,7 @@ pub fn answer_requests<T: Threads + Wait + Sync, R: Read + Drop, O: Write, E: Wr
 }
 
 /// Finishes what the journal in a file has unfinished, and prints the lines.
-pub fn recover<T: Threads + Wait + Sync, O: Write>(
+pub fn recover<T: Threads + Wait + Clock + Sync, O: Write>(
     threads: &T,
     alloc: Global,
     rt: &HostRuntime,
@@ -215,6 +231,8 @@ pub fn recover<T: Threads + Wait + Sync, O: Write>(
         err: &mut sink,
         trace: false,
         lost: false,
+        stats: None,
+        passed: 0,
     };
     let input: Option<Empty> = None;
     serve(threads, alloc, &code, journal, setup, input, out, &mut told)
