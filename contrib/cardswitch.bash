@@ -16,6 +16,11 @@ _cardswitch() {
         --sessions)
             mapfile -t COMPREPLY < <(compgen -W "1 2 4 8 16" -- "$word")
             return ;;
+        --stats)
+            [[ $word == -* ]] || {
+                mapfile -t COMPREPLY < <(compgen -W "end" -- "$word")
+                return
+            } ;;
         --limit)
             return ;;
     esac
@@ -28,7 +33,7 @@ _cardswitch() {
             graph) words="--flow --dot --help" ;;
             decode) words="--mask --help" ;;
             recover) words="--flow --journal --help" ;;
-            run) words="--flow --journal --sessions --limit --threads --trace --help" ;;
+            run) words="--flow --journal --sessions --limit --threads --trace --stats --help" ;;
             journal)
                 words="--json --clear --help"
                 [[ $word == -* ]] || mapfile -t files < <(compgen -f -- "$word") ;;

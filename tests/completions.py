@@ -72,6 +72,8 @@ def cases(program, folder):
             yield [command, option, "=", "sw"], ["switch.toml"]
     yield ["run", "--sessions", "1"], ["1", "16"]
     yield ["run", "--limit", ""], []
+    yield ["run", "--stats", "e"], ["end"]
+    yield ["run", "--stats", "--tr"], ["--trace"]
 
 
 def main():

@@ -1,5 +1,7 @@
 """Random streams of requests for `run`, each with the responses and the journal that the model answers."""
 
+import re
+
 from harness.case import Case, Exactly, difference
 from model import messages
 from model.flows import Entry, Flow, Group, Kind
@@ -210,21 +212,25 @@ def crowd(random, limit, count):
 def run_case(random, name):
     flow = whole_flow() if random.random() < 0.8 else short_flow()
     limit = random.choice([10_000, 10_000, 0, 700, 999_999_999_999_999])
-    return served(name, flow, limit, stream(random), random.random() < 0.5)
+    made, is_file = stream(random), random.random() < 0.5
+    return served(name, flow, limit, made, is_file, random.choice([None, None, None, 0, 1, 2, 3, 7]))
 
 
-def served(name, flow, limit, made, is_file):
-    """The case of a run over a journal in memory, or on a file, whose tables are then shown."""
+def served(name, flow, limit, made, is_file, every=None):
+    """The case of a run over a journal in memory, or on a file, whose tables are then shown; with `--stats` where it is said after
+    how many requests there is a line (0: at the end alone)."""
     command = f"cardswitch run --flow flow.toml --limit {limit}"
+    if every is not None:
+        command += f" --stats {every}" if every else " --stats"
     switch = Switch(flow, limit)
-    frames = switch.run(made)
+    frames, lines = switch.told(made, every)
     if is_file:
         command += " --journal journal.db && tables journal.db"
         frames += "".join(f"{line}\n" for line in tables(switch)).encode()
     case = Case(name, command, b"".join(map(messages.framed, made)))
     case.files = {"flow.toml": flow_file(flow)}
     case.stdout = Exactly(frames)
-    case.stderr = Told(made)
+    case.stderr = Lines(lines)
     return case
 
 
@@ -241,6 +247,28 @@ class Frames(Exactly):
 
     def wrong(self, name, came):
         return None if came == self.text else difference(name, *map(messages.shown, (self.text, came)))
+
+
+TIME = re.compile(rb"requests=(\d+) .* seconds=(\d+)\.(\d{3}) per-second=(\d+)")
+
+
+class Lines:
+    """On standard error: lines that begin like these, and no others. Of lines of numbers the rate has to be that of the time."""
+
+    def __init__(self, beginnings):
+        self.beginnings = beginnings
+
+    def wrong(self, name, came):
+        lines = came.splitlines()
+        if len(lines) != len(self.beginnings) or not all(line.startswith(it) for line, it in zip(lines, self.beginnings)):
+            return f"{name}: wanted lines that begin with {self.beginnings}, came {came!r}"
+        for line in lines:
+            if line.startswith(b"cardswitch: stats: "):
+                time = TIME.search(line)
+                requests, whole, part, rate = map(int, time.groups()) if time else (0, 0, 0, -1)
+                if rate != requests * 1000 // max(1, whole * 1000 + part):
+                    return f"{name}: the rate is not that of the time in {line!r}"
+        return None
 
 
 class Told:
