@@ -19,6 +19,11 @@ _cardswitch() {
         --trace=)
             mapfile -t COMPREPLY < <(compgen -W "text json" -- "$word")
             return ;;
+        --stats | --stats=)
+            [[ $word == -* ]] || {
+                mapfile -t COMPREPLY < <(compgen -W "end" -- "$word")
+                return
+            } ;;
         --limit | --limit=)
             return ;;
     esac
@@ -31,7 +36,7 @@ _cardswitch() {
             graph) words="--flow --dot --help" ;;
             decode) words="--mask --help" ;;
             recover) words="--flow --journal --help" ;;
-            run) words="--flow --journal --sessions --limit --threads --trace --help" ;;
+            run) words="--flow --journal --sessions --limit --threads --trace --stats --help" ;;
             journal)
                 words="--json --clear --help"
                 [[ $word == -* ]] || mapfile -t files < <(compgen -f -- "$word") ;;

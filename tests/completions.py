@@ -74,6 +74,8 @@ def cases(program, folder):
     yield ["run", "--limit", ""], []
     yield ["run", "--trace", "="], ["json", "text"]
     yield ["run", "--trace", "=", "j"], ["json"]
+    yield ["run", "--stats", "e"], ["end"]
+    yield ["run", "--stats", "--tr"], ["--trace"]
 
 
 def main():

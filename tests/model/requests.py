@@ -1,6 +1,7 @@
 """Random streams of requests for `run`, each with the responses and the journal that the model answers."""
 
 import json
+import re
 
 from harness.case import Case, Exactly, difference
 from model import messages, traces
@@ -213,22 +214,31 @@ def run_case(random, name):
     flow = whole_flow() if random.random() < 0.8 else short_flow()
     limit = random.choice([10_000, 10_000, 0, 700, 999_999_999_999_999])
     made, is_file = stream(random), random.random() < 0.5
-    return served(name, flow, limit, made, is_file, random.choice([None, None, "", "=text", "=json"]))
+    form, every = random.choice([None, None, "", "=text", "=json"]), None
+    if form is None:
+        every = random.choice([None, None, None, 0, 1, 2, 3, 7])
+    return served(name, flow, limit, made, is_file, form, every)
 
 
-def served(name, flow, limit, made, is_file, form=None):
-    """The case of a run over a journal in memory, or on a file, whose tables are then shown; with the trace where it has a form."""
+def served(name, flow, limit, made, is_file, form=None, every=None):
+    """The case of a run over a journal in memory, or on a file, whose tables are then shown; with the trace where it has a form, else
+    with `--stats` where it is said after how many requests there is a line (0: at the end alone)."""
     command = f"cardswitch run --flow flow.toml --limit {limit}" + ("" if form is None else f" --trace{form}")
+    if every is not None:
+        command += f" --stats {every}" if every else " --stats"
     switch = Switch(flow, limit)
-    told = list(switch.told(made))
-    frames = switch.responses()
+    if every is None:
+        told, lines = list(switch.told(made)), None
+        frames = switch.responses()
+    else:
+        told, (frames, lines) = None, switch.counted(made, every)
     if is_file:
         command += " --journal journal.db && tables journal.db"
         frames += "".join(f"{line}\n" for line in tables(switch)).encode()
     case = Case(name, command, b"".join(map(messages.framed, made)))
     case.files = {"flow.toml": flow_file(flow)}
     case.stdout = Exactly(frames)
-    case.stderr = Told(told, form)
+    case.stderr = Told(told, form) if every is None else Lines(lines)
     return case
 
 
@@ -250,6 +260,28 @@ class Frames(Exactly):
 def passed(made):
     """The numbers of the messages that are passed over."""
     return [number for number, it in enumerate(made, 1) if not messages.is_message(it)]
+
+
+TIME = re.compile(rb"requests=(\d+) .* seconds=(\d+)\.(\d{3}) per-second=(\d+)")
+
+
+class Lines:
+    """On standard error: lines that begin like these, and no others. Of lines of numbers the rate has to be that of the time."""
+
+    def __init__(self, beginnings):
+        self.beginnings = beginnings
+
+    def wrong(self, name, came):
+        lines = came.splitlines()
+        if len(lines) != len(self.beginnings) or not all(line.startswith(it) for line, it in zip(lines, self.beginnings)):
+            return f"{name}: wanted lines that begin with {self.beginnings}, came {came!r}"
+        for line in lines:
+            if line.startswith(b"cardswitch: stats: "):
+                time = TIME.search(line)
+                requests, whole, part, rate = map(int, time.groups()) if time else (0, 0, 0, -1)
+                if rate != requests * 1000 // max(1, whole * 1000 + part):
+                    return f"{name}: the rate is not that of the time in {line!r}"
+        return None
 
 
 def shown_in(form, it):

@@ -254,3 +254,32 @@ class Switch:
         """The frames of the responses to these messages, answered one after the other."""
         list(self.told(requests))
         return self.responses()
+
+    def counted(self, requests, every):
+        """The same frames, and the beginnings of the lines on standard error with `--stats EVERY`; 0 is `--stats` alone."""
+        lines, passed, answered = [], 0, 0
+        for number, message in enumerate(requests, 1):
+            if not messages.is_message(message):
+                passed += 1
+                lines.append(b"cardswitch: message %d is passed over: " % number)
+                continue
+            self.answer(message)
+            answered += 1
+            if every and answered % every == 0:
+                lines.append(self.numbers(passed, 0))
+        delivered = len(self.send_advices())
+        if every is not None:
+            lines.append(self.numbers(passed, delivered))
+        return self.responses(), lines
+
+    def numbers(self, passed, delivered):
+        """The line of numbers up to its time: what the contexts say of the transactions that ended, by their responses."""
+        contexts = self.engine.ended.values()
+        codes = [messages.decode(it["response"])[1].get(39) for it in contexts if "response" in it]
+        declined = sorted({code for code in codes if code not in (b"00", None)})
+        members = [("requests", len(contexts)), ("approved", codes.count(b"00"))]
+        members += [(f"declined-{code.decode()}", codes.count(code)) for code in declined]
+        members += [("passed-over", passed), ("stand-ins", sum("standin" in it for it in contexts))]
+        members += [("reversals", sum(read(it["request"])[0][:2] == b"04" and read(it["request"])[0] in CLASSES for it in contexts))]
+        members += [("advices-stored", len(self.engine.now.advices) + delivered), ("advices-delivered", delivered)]
+        return ("cardswitch: stats: " + " ".join(f"{name}={count}" for name, count in members) + " seconds=").encode()

@@ -6,7 +6,8 @@ use Rattle.sw_issuers.specs.Sending.{PlainSender}
 use Rattle.tx_plant.specs.Plant.{Seen}
 use Rattle.cli_run.specs.Errors.{result_of}
 use Rattle.cli_run.specs.Ran.{Ran, all_lines}
-use Rattle.cli_run.specs.Traces.{Log, Tells, passed_over}
+use Rattle.cli_run.specs.Shown.{TellsAll}
+use Rattle.cli_run.specs.Traces.{Log, passed_over}
 use Rattle.cli_run.specs.Requests.{ReadTo, requests}
 use Rattle.cli_run.specs.Rounds.{Round, RoundsFor}
 use Rattle.cli_run.specs.declared.stream.StreamEnd.{StreamEnd}
@@ -17,7 +18,7 @@ use Rattle.cardswitch.specs.Runs.{Served, issuer_step, new_sender}
 abbrev RanTo : Bool → Flow → ℕ → Seen → PlainSender → Option (List ℕ) → Option (List ℕ) → Option (List ℕ) → Log → Log → StreamEnd → Type 0
 RanTo threads f n j sender unread before after k l end =
     (frames : List (List ℕ)) × ReadTo end unread frames × (rounds : List Round) × RoundsFor threads (requests frames) rounds
-    × (ran : Ran f n j issuer_step sender rounds before after) × Tells (all_lines ran.serves) (passed_over frames) k l
+    × (ran : Ran f n j issuer_step sender rounds before after) × TellsAll (all_lines ran.serves) (passed_over frames) ran.serves.end k l
 
 -- an end that is no error is that of a whole input
 whole : (P : StreamEnd → Type 0) (end : StreamEnd) → Ok tt ≡ result_of end → P end → P Whole

@@ -1,6 +1,6 @@
 -- What `run` and `recover` have done, and why they end early. What a file holds no clause can say; the flow of a flow
 -- file is one that is checked.
-use Rattle.std.specs.Prelude.{◌≡◌, ◌≢◌, ◌<◌, ◌≤◌, ⊤, ℕ, Bool, false, List, [], Option, Some}
+use Rattle.std.specs.Prelude.{◌≡◌, ◌≢◌, ◌<◌, ◌≤◌, ⊤, ℕ, Bool, false, List, [], Option, None, Some}
 use Rattle.sqlite_trees.specs.declared.store.Store.{Ghosts}
 use Rattle.flow_model.specs.declared.flow.Flow.{Flow}
 use Rattle.sw_issuers.specs.Issuing.{Receives, Sends, shown_issuer}
@@ -10,6 +10,8 @@ use Rattle.cli_options.specs.CommandLine.{text_of}
 use Rattle.cli_options.specs.declared.choice.RunOptions.{RunOptions}
 use Rattle.cli_options.specs.declared.choice.TraceForm.{TraceForm}
 use Rattle.cli_options.specs.declared.choice.TraceForm.TheVariants as option
+use Rattle.cli_options.specs.declared.choice.StatsLines.{StatsLines}
+use Rattle.cli_options.specs.declared.choice.StatsLines.TheVariants.{AtEnd, Every, Off}
 use Rattle.cli_run.specs.Advices.{AdviceStep}
 use Rattle.cli_run.specs.Links.{sender_of}
 use Rattle.cli_run.specs.Ran.{Printed, Ran}
@@ -44,6 +46,12 @@ pub record IsSetUp (limit count : ℕ) (as_threads : Bool) (setup : Setup) : Typ
 abbrev pub form_of : TraceForm → Form
 form_of option.Text = form.Text
 form_of option.Json = form.Json
+
+-- the lines of numbers that the options want: of those that are wanted, after how many requests there is one more
+abbrev pub wanted : StatsLines → Option (Option ℕ)
+wanted Off = None
+wanted AtEnd = Some None
+wanted (Every n) = Some (Some n)
 
 -- over this journal the requests of a whole input were answered, one after the other, or by threads in batches
 pub record Served (threads : Bool) (flow : Flow) (sessions : ℕ) (j : Seen) (sender : PlainSender)

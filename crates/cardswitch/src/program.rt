@@ -29,11 +29,12 @@ use std::alloc::Global;
 use std::io::{self, ErrorKind, Read, Write};
 use std::sync::Wait;
 use std::thread::Threads;
+use std::time::Clock;
 
 /// Runs a subcommand, and gives the exit status: 0 where it is done, or else that of the error, which
 /// is told. What it prints goes to `out`, and the error's text to `err`. Files that the options name
 /// are opened through `rt`, and sessions run as threads by `threads`.
-pub fn run<T: Threads + Wait + Sync, R: Read + Drop, O: Write, E: Write>(
+pub fn run<T: Threads + Wait + Clock + Sync, R: Read + Drop, O: Write, E: Write>(
     threads: &T,
     alloc: Global,
     rt: &HostRuntime,
@@ -138,7 +139,7 @@ fn encode<R: Read + Drop, O: Write>(alloc: Global, input: R, out: &mut O) -> Res
     Ok(encode_stream(alloc, &mut Input::new(input), out)?)
 }
 
-fn run_subcommand<T: Threads + Wait + Sync, R: Read + Drop, O: Write, E: Write>(
+fn run_subcommand<T: Threads + Wait + Clock + Sync, R: Read + Drop, O: Write, E: Write>(
     options: &Options<'_>,
     threads: &T,
     alloc: Global,

@@ -9,12 +9,13 @@ ghost use Rattle.cli_run.specs.Links.{sender_of};
 ghost use Rattle.cli_run.specs.Ran.{Printed};
 ghost use Rattle.cardswitch.specs.Runs.{Answered, IsFlowFault, IsRecoverFault, IsRunFault};
 ghost use Rattle.cardswitch.specs.Runs.{IsServeFault, IsSetUp, Recovered, Served, form_of, new_sender};
+ghost use Rattle.cardswitch.specs.Runs.{wanted};
 
 use crate::error::RunError;
 use crate::flow_file::flow_at;
 use crate::journals::{open_file, open_in_memory};
-use cli_options::choice::{RunOptions, TraceForm};
-use cli_run::{Form, Issuers, Setup, Told, run};
+use cli_options::choice::{RunOptions, StatsLines, TraceForm};
+use cli_run::{Form, Issuers, Setup, Stats, Told, run};
 use flow_asm::{Code, assemble};
 use sqlite::Alter;
 use sqlite_std_file::File;
@@ -24,6 +25,7 @@ use std::alloc::Global;
 use std::io::{Empty, Read, Write};
 use std::sync::Wait;
 use std::thread::Threads;
+use std::time::Clock;
 use sw_book::Book;
 use sw_issuers::Issuer;
 use sw_parts::Link;
@@ -70,7 +72,7 @@ fn setup(alloc: Global, limit: u64, sessions: usize, threads: bool) -> Result<Se
 }
 
 // Runs over a journal.
-fn serve<S: Alter + Drop, T: Threads + Wait + Sync, R: Read + Drop, O: Write, E: Write>(
+fn serve<S: Alter + Drop, T: Threads + Wait + Clock + Sync, R: Read + Drop, O: Write, E: Write>(
     threads: &T,
     alloc: Global,
     code: &Code,
@@ -111,10 +113,23 @@ fn form_of(form: TraceForm) -> Form
     }
 }
 
-// What a run tells: the trace where the options want it, and in their form.
-fn told_by<'a, E>(options: &RunOptions<'_>, err: &'a mut E) -> Told<'a, E>
+// The lines of numbers that are wanted, of a run that begins now.
+fn stats_by<C: Clock>(rt: &C, lines: StatsLines) -> Option<Stats>
+    ensures { option_map (λ s. s.every) result ≡ wanted lines }
+{
+    match lines {
+        StatsLines::Off => None,
+        StatsLines::AtEnd => Some(Stats::begin(rt, None)),
+        StatsLines::Every(count) => Some(Stats::begin(rt, Some(count))),
+    }
+}
+
+// What a run tells: the trace and the numbers where the options want them.
+fn told_by<'a, C: Clock, E>(rt: &C, options: &RunOptions<'_>, err: &'a mut E) -> Told<'a, E>
     ensures trace { result.trace ≡ option_map form_of options.now.trace }
+    ensures stats { option_map (λ s. s.every) result.stats ≡ wanted options.now.stats }
     ensures none_lost { result.lost ≡ false }
+    ensures none_passed { result.passed ≡ 0 }
 {
     Told {
         err,
@@ -123,12 +138,14 @@ fn told_by<'a, E>(options: &RunOptions<'_>, err: &'a mut E) -> Told<'a, E>
             None => None,
         },
         lost: false,
+        stats: stats_by(rt, options.stats),
+        passed: 0,
     }
 }
 
 // Answers the requests of an input by a flow. (The flow comes as what became of its file, so that contracts can say that
 // its fault is the first.)
-fn answer_by<T: Threads + Wait + Sync, R: Read + Drop, O: Write, E: Write>(
+fn answer_by<T: Threads + Wait + Clock + Sync, R: Read + Drop, O: Write, E: Write>(
     threads: &T,
     alloc: Global,
     rt: &HostRuntime,
@@ -154,7 +171,7 @@ fn answer_by<T: Threads + Wait + Sync, R: Read + Drop, O: Write, E: Write>(
         options.sessions as usize,
         options.threads,
     )?;
-    let mut told = told_by(options, err);
+    let mut told = told_by(threads, options, err);
     match options.journal {
         Some(path) => {
             let journal = open_file(alloc, rt, path)?;
@@ -186,7 +203,7 @@ fn answer_by<T: Threads + Wait + Sync, R: Read + Drop, O: Write, E: Write>(
 }
 
 /// Answers the requests of an input, over a journal in memory or in the file that the options name.
-pub fn answer_requests<T: Threads + Wait + Sync, R: Read + Drop, O: Write, E: Write>(
+pub fn answer_requests<T: Threads + Wait + Clock + Sync, R: Read + Drop, O: Write, E: Write>(
     threads: &T,
     alloc: Global,
     rt: &HostRuntime,
@@ -206,7 +223,7 @@ pub fn answer_requests<T: Threads + Wait + Sync, R: Read + Drop, O: Write, E: Wr
 }
 
 /// Finishes what the journal in a file has unfinished, and prints the lines.
-pub fn recover<T: Threads + Wait + Sync, O: Write>(
+pub fn recover<T: Threads + Wait + Clock + Sync, O: Write>(
     threads: &T,
     alloc: Global,
     rt: &HostRuntime,
@@ -228,6 +245,8 @@ pub fn recover<T: Threads + Wait + Sync, O: Write>(
         err: &mut sink,
         trace: None,
         lost: false,
+        stats: None,
+        passed: 0,
     };
     let input: Option<Empty> = None;
     serve(threads, alloc, &code, journal, setup, input, out, &mut told)

@@ -19,7 +19,7 @@ carried words app e shape (inr among) (Err (BadCommandLine f)) carries =
     subst (λ a. IsAmong (kind_of f) (fault_of a words)) shape
     (subst (λ x. IsAmong (kind_of x) (fault_of app words)) (sym carries.0) among)
 carried words app e shape among (Err NoSubcommand) carries = elim carries [ ]
-carried words app e shape among (Err (BadNumber _ _)) carries = elim carries [ ]
+carried words app e shape among (Err (BadNumber _ _ _)) carries = elim carries [ ]
 carried words app e shape among (Err (BadForm _)) carries = elim carries [ ]
 carried words app e shape among (Err OutOfMemory) carries = tt
 
@@ -34,7 +34,7 @@ joined m name rows one two = search rules
 pub refused_at : (words : List Text) (name : Text) (rows : List Row) (e : OptionsError)
     → subcommand_of switch_app words ≡ Some (name, rows) → IsRefusalAt name rows e → IsRefusalOf words e
 refused_at words name rows NoSubcommand is refusal = rw is refusal
-refused_at words name rows (BadNumber _ _) is refusal = rw is refusal
+refused_at words name rows (BadNumber _ _ _) is refusal = rw is refusal
 refused_at words name rows (BadForm _) is refusal = rw is refusal
 refused_at words name rows (BadCommandLine _) is refusal = elim refusal [ ]
 refused_at words name rows OutOfMemory is refusal = tt

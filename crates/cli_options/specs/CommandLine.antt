@@ -13,6 +13,8 @@ use Rattle.cli_options.specs.declared.choice.JournalOptions.{JournalOptions}
 use Rattle.cli_options.specs.declared.choice.RunOptions.{RunOptions}
 use Rattle.cli_options.specs.declared.choice.TraceForm.{TraceForm}
 use Rattle.cli_options.specs.declared.choice.TraceForm.TheVariants as form
+use Rattle.cli_options.specs.declared.choice.StatsLines.{StatsLines}
+use Rattle.cli_options.specs.declared.choice.StatsLines.TheVariants.{AtEnd, Every, Off}
 use Rattle.clap.specs.declared.builder.action.ArgAction.TheVariants.{SetTrue}
 
 -- clap's command is of this shape
@@ -80,9 +82,9 @@ recover_app = with_rule (with_rule (new_app (codes "recover")) (needed_rule (cod
 abbrev pub journal_app : App
 journal_app = with_rule (with_rule (with_rule (new_app (codes "journal")) (word_rule (codes "path"))) (flag_rule (codes "json"))) (flag_rule (codes "clear"))
 
--- `run --flow PATH [--journal PATH] [--sessions N] [--limit N] [--threads] [--trace[=FORM]]`
+-- `run --flow PATH [--journal PATH] [--sessions N] [--limit N] [--threads] [--trace[=FORM]] [--stats [N]]`
 abbrev pub run_app : App
-run_app = with_rule (with_rule (with_rule (with_rule (with_rule (with_rule (new_app (codes "run")) (needed_rule (codes "flow"))) (option_rule (codes "journal"))) (option_rule (codes "sessions"))) (option_rule (codes "limit"))) (flag_rule (codes "threads"))) (optional_rule (codes "trace") (codes "text"))
+run_app = with_rule (with_rule (with_rule (with_rule (with_rule (with_rule (with_rule (new_app (codes "run")) (needed_rule (codes "flow"))) (option_rule (codes "journal"))) (option_rule (codes "sessions"))) (option_rule (codes "limit"))) (flag_rule (codes "threads"))) (optional_rule (codes "trace") (codes "text"))) (optional_rule (codes "stats") (codes "end"))
 
 -- the program itself: it has a version, and wants a subcommand
 abbrev pub program_app : App
@@ -118,6 +120,18 @@ trace_in (Some word) =
     if bytes_eq word (codes "text") then Some (Some form.Text)
     else if bytes_eq word (codes "json") then Some (Some form.Json) else None
 
+-- The lines of numbers that are wanted: without `--stats` none; with `end` one at the end; with a number above 0 also one after
+-- every so many requests.
+abbrev pub every : ℕ → Option StatsLines
+every n = if nat_lt 0 n then Some (Every n) else None
+
+abbrev pub stats_by : Text → Option StatsLines
+stats_by word = if bytes_eq word (codes "end") then Some AtEnd else option_and_then every (option_and_then bounded (number_spelled word))
+
+abbrev pub stats_in : Option Text → Option StatsLines
+stats_in None = Some Off
+stats_in (Some word) = stats_by word
+
 -- the options of `run`, whose own options are in the rows
 pub record AreRunOptions (rows : List Row) (o : RunOptions) : Type 0 where
   pub flow : Some o.flow.now ≡ first_of (codes "flow") rows
@@ -126,6 +140,7 @@ pub record AreRunOptions (rows : List Row) (o : RunOptions) : Type 0 where
   pub limit : number_in 10000 (first_of (codes "limit") rows) ≡ Some o.limit
   pub threads : o.threads ≡ is_set (first_of (codes "threads") rows)
   pub trace : trace_in (first_of (codes "trace") rows) ≡ Some o.trace
+  pub stats : stats_in (first_of (codes "stats") rows) ≡ Some o.stats
 
 -- the same of `journal`
 pub record AreJournalOptions (rows : List Row) (o : JournalOptions) : Type 0 where

@@ -11,6 +11,6 @@ use Rattle.cli_options.specs.declared.error.OptionsError.TheVariants.{OutOfMemor
 abbrev pub Carries : Error → OptionsError → Type 0
 Carries e (BadCommandLine f) = (f ≡ e) × (kind_of e ≢ kind.OutOfMemory)
 Carries e NoSubcommand = ⊥
-Carries e (BadNumber name found) = ⊥
+Carries e (BadNumber name expected found) = ⊥
 Carries e (BadForm found) = ⊥
 Carries e OutOfMemory = kind_of e ≡ kind.OutOfMemory

@@ -18,12 +18,12 @@ IsAccepted words = fault_of switch_app words ≡ []
 abbrev pub IsRefusalOf : List Text → OptionsError → Type 0
 IsRefusalOf words (BadCommandLine e) = IsAmong (kind_of e) (fault_of switch_app words)
 IsRefusalOf words NoSubcommand = (o : Options) → AreOptionsOf words o → ⊥
-IsRefusalOf words (BadNumber name found) = (o : Options) → AreOptionsOf words o → ⊥
+IsRefusalOf words (BadNumber name expected found) = (o : Options) → AreOptionsOf words o → ⊥
 IsRefusalOf words (BadForm found) = (o : Options) → AreOptionsOf words o → ⊥
 IsRefusalOf words OutOfMemory = ⊤
 
 abbrev pub IsBadNumber : OptionsError → Type 0
-IsBadNumber (BadNumber name found) = ⊤
+IsBadNumber (BadNumber name expected found) = ⊤
 IsBadNumber _ = ⊥
 
 abbrev pub IsBadForm : OptionsError → Type 0
@@ -33,13 +33,13 @@ IsBadForm _ = ⊥
 -- the rows of a subcommand are refused, which give no options
 abbrev pub IsRefusalAt : Text → List Row → OptionsError → Type 0
 IsRefusalAt name rows NoSubcommand = IsNoSubcommand name rows
-IsRefusalAt name rows (BadNumber option found) = IsNoSubcommand name rows
+IsRefusalAt name rows (BadNumber option expected found) = IsNoSubcommand name rows
 IsRefusalAt name rows (BadForm found) = IsNoSubcommand name rows
 IsRefusalAt name rows _ = ⊥
 
 abbrev pub IsRunRefusal : List Row → OptionsError → Type 0
 IsRunRefusal rows NoSubcommand = (o : RunOptions) → AreRunOptions rows o → ⊥
-IsRunRefusal rows (BadNumber option found) = (o : RunOptions) → AreRunOptions rows o → ⊥
+IsRunRefusal rows (BadNumber option expected found) = (o : RunOptions) → AreRunOptions rows o → ⊥
 IsRunRefusal rows (BadForm found) = (o : RunOptions) → AreRunOptions rows o → ⊥
 IsRunRefusal rows _ = ⊥
 
@@ -52,6 +52,6 @@ kind_status _ = 2
 abbrev pub status_of : OptionsError → ℕ
 status_of (BadCommandLine e) = kind_status (kind_of e)
 status_of NoSubcommand = 2
-status_of (BadNumber name found) = 2
+status_of (BadNumber name expected found) = 2
 status_of (BadForm found) = 2
 status_of OutOfMemory = 4

@@ -83,6 +83,8 @@ pub struct RunOptions<'a> {
     pub threads: bool,
     /// In which form the trace is printed on standard error, if it is.
     pub trace: Option<TraceForm>,
+    /// The lines of the run's numbers on standard error.
+    pub stats: StatsLines,
 }
 
 /// The form of the trace's lines.
@@ -91,4 +93,15 @@ pub enum TraceForm {
     Text,
     /// A line is an object of JSON.
     Json,
+}
+
+/// Which lines of a run's numbers are wanted.
+#[derive(Clone, Copy)]
+pub enum StatsLines {
+    /// None.
+    Off,
+    /// One at the end.
+    AtEnd,
+    /// One after every so many requests, at least 1, and one at the end.
+    Every(u64),
 }

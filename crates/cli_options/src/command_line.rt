@@ -2,11 +2,11 @@
 ghost use Rattle.std.specs.Prelude.{◌≡◌, IfErr, IfOk, None, OnOk, Some, codes, map};
 ghost use Rattle.clap.specs.Words.{first_of, found_of, rows_of};
 ghost use Rattle.cli_options.specs.CommandLine.{AreOptionsAt, AreOptionsOf, AreRunOptions};
-ghost use Rattle.cli_options.specs.CommandLine.{is_set, number_in, text_of, trace_in};
+ghost use Rattle.cli_options.specs.CommandLine.{is_set, number_in, stats_in, text_of, trace_in};
 ghost use Rattle.cli_options.specs.Refusal.{IsAccepted, IsBadForm, IsBadNumber, IsRefusalAt};
 ghost use Rattle.cli_options.specs.Refusal.{IsRefusalOf, IsRunRefusal};
 
-use crate::choice::{JournalOptions, Options, RunOptions, TraceForm};
+use crate::choice::{JournalOptions, Options, RunOptions, StatsLines, TraceForm};
 use crate::error::OptionsError;
 use crate::table::switch_command;
 use clap::ArgMatches;
@@ -64,6 +64,28 @@ fn number_in(name: &'static str, text: Option<&str>, default: u64) -> Result<u64
         Some(number) if number < BOUND => Ok(number),
         _ => Err(OptionsError::BadNumber {
             name,
+            expected: "decimal digits, of a number below 2^63",
+            found: Quoted::of(text.as_bytes()),
+        }),
+    }
+}
+
+/// The lines of numbers that `--stats` asks for: without a value, as with `end`, one at the end.
+fn stats_in(text: Option<&str>) -> Result<StatsLines, OptionsError>
+    ensures found { IfOk result (λ lines. stats_in (text_of text.entry) ≡ Some lines) }
+    ensures refused { IfErr result (λ e. IsBadNumber e × (stats_in (text_of text.entry) ≡ None)) }
+{
+    let Some(text) = text else {
+        return Ok(StatsLines::Off);
+    };
+    if text == "end" {
+        return Ok(StatsLines::AtEnd);
+    }
+    match read_number(text) {
+        Some(number) if 0 < number && number < BOUND => Ok(StatsLines::Every(number)),
+        _ => Err(OptionsError::BadNumber {
+            name: "stats",
+            expected: "decimal digits, of a number above 0 and below 2^63",
             found: Quoted::of(text.as_bytes()),
         }),
     }
@@ -97,6 +119,7 @@ fn run_options<'a>(found: &ArgMatches<'a>) -> Result<RunOptions<'a>, OptionsErro
         limit: number_in("limit", text_at(found, "limit"), 10_000)?,
         threads: is_set(text_at(found, "threads")),
         trace: trace_in(text_at(found, "trace"))?,
+        stats: stats_in(text_at(found, "stats"))?,
     })
 }
 

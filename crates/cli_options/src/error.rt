@@ -20,8 +20,12 @@ pub enum OptionsError {
     #[error("error: a subcommand was expected; try '--help'\n")]
     NoSubcommand,
     /// The text of an option is not the number that it takes.
-    #[error("error: --{name} has a bad number: expected decimal digits, of a number below 2^63; found {found}\n")]
-    BadNumber { name: &'static str, found: Quoted },
+    #[error("error: --{name} has a bad number: expected {expected}; found {found}\n")]
+    BadNumber {
+        name: &'static str,
+        expected: &'static str,
+        found: Quoted,
+    },
     /// The value of `--trace` is no form of the trace.
     #[error("error: --trace has a bad form: expected text or json; found {0}\n")]
     BadForm(Quoted),

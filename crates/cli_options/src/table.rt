@@ -181,6 +181,12 @@ const COMMANDS: [CommandRow<'static>; 9] = [
                 help: "Prints the trace on standard error, one line for each step; FORM is text or json [without FORM: text]",
                 is_required: false,
             },
+            OptionRow {
+                name: "stats",
+                given: Given::Optional("N", "end"),
+                help: "Prints the numbers of the run on standard error at the end, with N also after every N requests",
+                is_required: false,
+            },
         ],
     },
 ];

@@ -32,6 +32,7 @@ use Rattle.plant_outcome.specs.Lives.{Done}
 use Rattle.plant_outcome.specs.Seated.{Seated, seat_id}
 use Rattle.plant_outcome.proofs.Cutting.{free_session}
 use Rattle.plant_outcome.proofs.SeatedTurns.{all_seated}
+use Rattle.cli_run.specs.declared.progress.Progress.{Progress}
 use Rattle.cli_run.specs.Points.{IsAtRest, IsReady, Point, RestsGiven, above, all_answered, ended_at, last_id, next_at, responses, unanswered, world_at}
 use Rattle.cli_run.specs.Rounds.{Alone, Batched, Goes, IsOfBatches, Lone, Round, RoundsFor, Serves, ServesFor, Together, Trimmed, doing, offered_in}
 use Rattle.cli_run.specs.Requests.{if_read, request_of, requests}
@@ -95,7 +96,7 @@ rest_below_by a n (e ∷ es) lt none = by_test (is_lt (nat_cmp a e.0)) refl none
   by_test false is nothing ih = (let le : e.0 ≤ a = ge_from_not_lt a e.0 is in omega (arith, le, lt), ih nothing)
 
 rest_below : (p : Point) → IsAtRest p → EndedBelow p.plant.core
-rest_below p rest = rest_below_by p.answered (next_at p) (ended_at p) rest.below rest.given
+rest_below p rest = rest_below_by p.answered.last (next_at p) (ended_at p) rest.below rest.given
 
 above_below : (a n : ℕ) (es : List (ℕ × Pairs)) → AreBelow n es → AreBelow n (above a es)
 above_below a n [] h = tt
@@ -119,9 +120,9 @@ together_rests xs p q rest t = let seated = together_seated xs p q rest.seated t
   idle = λ s. no_holder q.plant.core s seated t.settled.idle;
   written = t.settled.written;
   given = refl;
-  below = last_below q.answered (next_at q) (unanswered q)
-      (let le = next_more xs p q t in let same = t.acts.answered in let lt = rest.below in omega (arith, le, same, lt))
-      (above_below q.answered (next_at q) (ended_at q) (driven_of xs p q rest.seated t (rest_below p rest)));
+  below = last_below q.answered.last (next_at q) (unanswered q)
+      (let le = next_more xs p q t in let same = ap (λ (g : Progress). g.last) t.acts.answered in let lt = rest.below in omega (arith, le, same, lt))
+      (above_below q.answered.last (next_at q) (ended_at q) (driven_of xs p q rest.seated t (rest_below p rest)));
 }
 
 -- a request that came alone
@@ -134,7 +135,7 @@ pub lone_rests : (x : Pairs) (own : Option Pairs) (p e : Point) → IsAtRest p �
 lone_rests x own p e rest l seated = rest_given l.offered e own (lone_offered x own p e rest l) l.transacts seated
 
 -- what the pool promises of a run over a list
-pub together_of : (xs : List Pairs) (rule : ℕ → Rule) (os ps : List (List ℕ)) (cs ds : List ℕ) (p q : Whole) (id : ℕ) (source : Listing) (after : List Pairs) (ended : Bool) → source ≡ listing xs 0 false → Drove rule os cs p ps ds q → Grown p.core.world q.core.world
+pub together_of : (xs : List Pairs) (rule : ℕ → Rule) (os ps : List (List ℕ)) (cs ds : List ℕ) (p q : Whole) (id : Progress) (source : Listing) (after : List Pairs) (ended : Bool) → source ≡ listing xs 0 false → Drove rule os cs p ps ds q → Grown p.core.world q.core.world
     → Offered p.core.world q.core.world (given_of source) after ended → after ≡ source.list → IsSettled q.core.world → Together xs (record { plant = p; answered = id }) (record { plant = q; answered = id })
 together_of xs rule os ps cs ds p q id source after ended is drove grown offered whole settled =
     let (m, driven, led, counts) = drove.drives in

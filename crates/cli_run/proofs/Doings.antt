@@ -17,6 +17,7 @@ use Rattle.tx_plant.specs.declared.turn.Turn.TheVariants as turn
 use Rattle.tx_plant.specs.Steps.{Moved}
 use Rattle.tx_plant.specs.Plant.{Driven, GoesOn, Seen, Turned, Whole, Writes, journal_fault, raised}
 use Rattle.plant_outcome.specs.Lives.{AllDriven, Done, Drive}
+use Rattle.cli_run.specs.declared.progress.Progress.{Progress}
 use Rattle.cli_run.specs.Points.{IsAllWritten, Point}
 use Rattle.cli_run.specs.Rounds.{Acts, Does, IsDone, doing}
 
@@ -39,7 +40,7 @@ acts_then ds es p q r a b = record {
 }
 
 -- one call of `drive`
-pub acts_once : (turns : List Turn) (outcomes : List Outcome) (m : List Moved) (p q : Whole) (id : ℕ) → Driven turns outcomes m p q → Acts (Done turns outcomes ∷ []) (record { plant = p; answered = id }) (record { plant = q; answered = id })
+pub acts_once : (turns : List Turn) (outcomes : List Outcome) (m : List Moved) (p q : Whole) (id : Progress) → Driven turns outcomes m p q → Acts (Done turns outcomes ∷ []) (record { plant = p; answered = id }) (record { plant = q; answered = id })
 acts_once turns outcomes m p q id driven = record { moved = m ++ []; driven = (q, m, [], driven, (refl, refl), refl); answered = refl }
 
 -- after a write of all entries every entry is written
@@ -140,7 +141,7 @@ did t o p q does = by_driven does.acts.driven where
 head_is : (o u : Outcome) (us vs : List Outcome) → o ∷ us ≡ u ∷ vs → o ≡ u
 head_is o u us vs e = cc
 
-pub does_turn : (t : Turn) (os rest : List Outcome) (m : List Moved) (p q : Whole) (id : ℕ) (o : Outcome) → Driven (t ∷ turn.Write None ∷ []) os m p q → os ≡ o ∷ rest → IsDone o
+pub does_turn : (t : Turn) (os rest : List Outcome) (m : List Moved) (p q : Whole) (id : Progress) (o : Outcome) → Driven (t ∷ turn.Write None ∷ []) os m p q → os ≡ o ∷ rest → IsDone o
     → Does t o (record { plant = p; answered = id }) (record { plant = q; answered = id })
 does_turn t os rest m p q id o driven is done =
     let two = both_done t os m p q driven in

@@ -13,6 +13,8 @@ use Rattle.cli_run.specs.declared.stream.StreamEnd.{StreamEnd}
 use Rattle.cli_run.specs.Advices.{AdviceStep}
 use Rattle.cli_run.specs.declared.told.Form.TheVariants.{Text}
 use Rattle.cli_run.specs.Lines.{lines_in, written_as}
+use Rattle.cli_run.specs.declared.progress.Progress.{Progress}
+use Rattle.cli_run.specs.Numbers.{begun_in}
 use Rattle.cli_run.specs.Points.{Point, world_at}
 use Rattle.cli_run.specs.Ran.{ServesAll}
 use Rattle.cli_run.specs.Requests.{ReadTo, requests}
@@ -21,16 +23,16 @@ use Rattle.cli_run.specs.Stopped.{IsStopped, ServesSome, Serving, Stopped, Stops
 use Rattle.cli_run.proofs.Runs.{FirstRecovers, begun}
 use Rattle.cli_run.proofs.Stops.{drains_all}
 
-pub unprinted : (f : Flow) (n : ℕ) (view : JournalView) (j : Seen) (made : Whole) (first id : ℕ) (r : Point) (a b : Option (List ℕ))
-    → IsMade f n view j made → first ≡ made.core.world.start.view.next_id → id ≡ first - 1 → FirstRecovers (record { plant = made; answered = id }) r → AppendsBeginning a b (written_as Text (lines_in (world_at r))) → Unprinted f n j a b
+pub unprinted : (f : Flow) (n : ℕ) (view : JournalView) (j : Seen) (made : Whole) (first : ℕ) (id : Progress) (r : Point) (a b : Option (List ℕ))
+    → IsMade f n view j made → first ≡ made.core.world.start.view.next_id → id ≡ begun_in made.core.world first → FirstRecovers (record { plant = made; answered = id }) r → AppendsBeginning a b (written_as Text (lines_in (world_at r))) → Unprinted f n j a b
 unprinted f n view j made first id r a b is first_at before recovers written = record {
   recovered = r;
   begins = begun f n view j made first id r is first_at before recovers;
   written = written;
 }
 
-pub stopped : (threads : Bool) (f : Flow) (n : ℕ) (view : JournalView) (j : Seen) (made : Whole) (first id : ℕ) (r : Point) (input a b : Option (List ℕ))
-    → IsMade f n view j made → first ≡ made.core.world.start.view.next_id → id ≡ first - 1 → FirstRecovers (record { plant = made; answered = id }) r → Serving threads input r a b → Stopped threads f n j input a b
+pub stopped : (threads : Bool) (f : Flow) (n : ℕ) (view : JournalView) (j : Seen) (made : Whole) (first : ℕ) (id : Progress) (r : Point) (input a b : Option (List ℕ))
+    → IsMade f n view j made → first ≡ made.core.world.start.view.next_id → id ≡ begun_in made.core.world first → FirstRecovers (record { plant = made; answered = id }) r → Serving threads input r a b → Stopped threads f n j input a b
 stopped threads f n view j made first id r input a b is first_at before recovers serves = record {
   recovered = r;
   begins = begun f n view j made first id r is first_at before recovers;
@@ -61,8 +63,8 @@ stops_none {R} threads remaining o {f} {n} {j} {a} {b} is h = subst (λ (z : Opt
 pub stops_some : {R : Type 0} (threads : Bool) (remaining : R → Option (List ℕ)) (o : Option R) (x : R) {f : Flow} {n : ℕ} {j : Seen} {a b : Option (List ℕ)} → o ≡ Some x → Stopped threads f n j (remaining x) a b → StopsWith threads (option_map remaining o) f n j a b
 stops_some {R} threads remaining o x {f} {n} {j} {a} {b} is h = subst (λ (z : Option R). StopsWith threads (option_map remaining z) f n j a b) (sym is) h
 
-pub stopped_some : {R : Type 0} (threads : Bool) (remaining : R → Option (List ℕ)) (o : Option R) (x : R) → o ≡ Some x → (f : Flow) (n : ℕ) (view : JournalView) (j : Seen) (made : Whole) (first id : ℕ) (r : Point) (a b : Option (List ℕ))
-    → IsMade f n view j made → first ≡ made.core.world.start.view.next_id → id ≡ first - 1 → FirstRecovers (record { plant = made; answered = id }) r → ServesSome threads (remaining x) r a b → IsStopped threads (option_map remaining o) f n j a b
+pub stopped_some : {R : Type 0} (threads : Bool) (remaining : R → Option (List ℕ)) (o : Option R) (x : R) → o ≡ Some x → (f : Flow) (n : ℕ) (view : JournalView) (j : Seen) (made : Whole) (first : ℕ) (id : Progress) (r : Point) (a b : Option (List ℕ))
+    → IsMade f n view j made → first ≡ made.core.world.start.view.next_id → id ≡ begun_in made.core.world first → FirstRecovers (record { plant = made; answered = id }) r → ServesSome threads (remaining x) r a b → IsStopped threads (option_map remaining o) f n j a b
 stopped_some threads remaining o x at f n view j made first id r a b is first_at before recovers some = by_some some where
   by_some : Keeps a b ⊎ Serving threads (remaining x) r a b → IsStopped threads (option_map remaining o) f n j a b
   by_some (inl keeps) = inl keeps

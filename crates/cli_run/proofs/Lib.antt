@@ -16,3 +16,4 @@ mod Halted
 mod Below
 mod Reporting
 mod Batched
+mod Shown

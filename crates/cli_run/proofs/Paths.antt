@@ -75,7 +75,7 @@ goes_path (Alone x ∷ rs) p q bytes lines (ready, w, first, later, runs, more, 
 goes_path (Trimmed ∷ rs) p q bytes lines (w, cut, others, cuts, more, these) = path_then p.plant w.plant q.plant (cuts_path p w cut cuts) (goes_path rs w q bytes others more)
 
 acks_path : (b : Bool) (place : ℕ × ℕ) (p q : Point) → Acks b place p q → Path p.plant q.plant
-acks_path true place p q (o, does) = does_path (turn.Ack place.0 place.1) o p q does
+acks_path true place p q (o, w, does, same) = subst (λ (z : Point). Path p.plant z.plant) (sym same) (does_path (turn.Ack place.0 place.1) o p w does)
 acks_path false place p q same = path_none p.plant q.plant (ap (λ (z : Point). z.plant) same)
 
 sends_path : (step : AdviceStep) (is_old : ℕ → Bool) (xs : List ((ℕ × ℕ) × List ℕ)) (s t : PlainSender) (p q : Point) → SendsAll step is_old xs s p t q → Path p.plant q.plant

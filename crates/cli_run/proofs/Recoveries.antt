@@ -39,6 +39,7 @@ use Rattle.tx_plant.specs.Recovery.{IsHeld, IsRecovered, IsRecovery}
 use Rattle.tx_plant.specs.Steps.{Moved, event_of}
 use Rattle.plant_outcome.specs.Lives.{Done, IsMade}
 use Rattle.plant_outcome.specs.Seated.{Seated, seat_id}
+use Rattle.cli_run.specs.declared.progress.Progress.{Progress}
 use Rattle.cli_run.specs.Points.{above}
 use Rattle.cli_run.specs.Rounds.{Acts, Recovers}
 use Rattle.cli_run.proofs.Doings.{Marked, acts_once, acts_then, marked, unraised}
@@ -233,8 +234,8 @@ idle_all view c b none (suc s) = sym (b.seated.seats (suc s)) ∙ ap seat_id (b.
 no_waits : (w : World) → takes w.past ≡ 0 → arrivals w.flow w.start w.past ≡ [] → waits w ≡ []
 no_waits w start none = rw (start, none) refl
 
-pub recovers : (seats : TurnsSeat) (f : Flow) (n : ℕ) (j : Seen) (view : JournalView) (id : ℕ) (ts : List Turn) (os us : List Outcome) (m k : List Moved) (p q r : Whole)
-    → IsMade f n view j p → Seated p.core → id ≡ view.next_id - 1 → AllByRecursion IsRecovery ts → Driven ts os m p q → IsRecovered q.core.world ⊎ IsHeld q.core.world → Driven (turn.Write None ∷ []) us k q r
+pub recovers : (seats : TurnsSeat) (f : Flow) (n : ℕ) (j : Seen) (view : JournalView) (id : Progress) (ts : List Turn) (os us : List Outcome) (m k : List Moved) (p q r : Whole)
+    → IsMade f n view j p → Seated p.core → id.last ≡ view.next_id - 1 → AllByRecursion IsRecovery ts → Driven ts os m p q → IsRecovered q.core.world ⊎ IsHeld q.core.world → Driven (turn.Write None ∷ []) us k q r
     → Recovers (record { plant = p; answered = id }) (record { plant = r; answered = id })
 recovers seats f n j view id ts os us m k p q r made seated begins own first over second =
     let b = driven_on seats view ts os m p q own (begun_new f n view j p made seated) first in

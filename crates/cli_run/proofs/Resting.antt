@@ -22,8 +22,10 @@ use Rattle.tx_plant.specs.declared.turn.Turn.TheVariants as turn
 use Rattle.tx_plant.specs.Core.{Core, seat_of}
 use Rattle.tx_plant.specs.Turns.{Cuts, Logs}
 use Rattle.plant_outcome.specs.Seated.{Seated, seat_id}
+use Rattle.cli_run.specs.declared.progress.Progress.{Progress}
 use Rattle.cli_run.specs.Points.{IsAllWritten, IsAtRest, IsReady, Point, above, ended_at, is_long, next_at, world_at}
 use Rattle.cli_run.specs.Lines.{Line, lines_in}
+use Rattle.cli_run.specs.Advices.{one_delivered}
 use Rattle.cli_run.specs.Rounds.{Does, IsDone, IsEmptied, MayCut}
 use Rattle.cli_run.proofs.Doings.{did, entries_length, unraised}
 
@@ -37,8 +39,8 @@ rest_kept p q rest apart seated written le = record {
   seated = seated;
   idle = λ s. sym (seated.seats s) ∙ (ap (λ (c : Core). seat_id (seat_of c s)) apart.core ∙ (rest.seated.seats s ∙ rest.idle s));
   written = written;
-  given = ap (λ (c : Core). above q.answered c.ended) apart.core ∙ (ap (λ (n : ℕ). above n (ended_at p)) apart.answered ∙ rest.given);
-  below = (let b = rest.below in let a = apart.answered in omega (arith, a, b, le));
+  given = ap (λ (c : Core). above q.answered.last c.ended) apart.core ∙ (ap (λ (g : Progress). above g.last (ended_at p)) apart.answered ∙ rest.given);
+  below = (let b = rest.below in let a = ap (λ (g : Progress). g.last) apart.answered in omega (arith, a, b, le));
 }
 
 -- nothing is recovered where session 0 is idle
@@ -187,6 +189,10 @@ pub acked_emptied : (id place : ℕ) (o : Outcome) (p q : Point) → IsEmptied (
 acked_emptied id place o p q emptied does =
     let h = acknowledges id place o p q does in
     subst IsEmptied (sym h.world) (record { queue = emptied.queue; shelf = emptied.shelf })
+
+-- what was counted changes nothing of that
+pub delivered_rest : (p : Point) → IsAtRest p → IsAtRest (one_delivered p)
+delivered_rest p rest = record { seated = rest.seated; idle = rest.idle; written = rest.written; given = rest.given; below = rest.below }
 
 -- one context is in the queue after an offer to an empty one
 one_offered : (n : ℕ) (xs : List Waiting) (x : Waiting) → drop n xs ≡ [] → drop 1 (drop n (xs ++ x ∷ [])) ≡ []

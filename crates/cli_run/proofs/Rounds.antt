@@ -20,6 +20,8 @@ use Rattle.tx_plant.specs.Plant.{Seen}
 use Rattle.tx_plant.specs.declared.turn.Outcome.{Outcome}
 use Rattle.tx_plant.specs.declared.turn.Turn.TheVariants as turn
 use Rattle.plant_outcome.specs.Seated.{Seated}
+use Rattle.sw_stats.specs.Tallies.{Tally, tallied}
+use Rattle.cli_run.specs.declared.progress.Progress.{Progress}
 use Rattle.cli_run.specs.Points.{IsAtRest, IsReady, Point, RestsGiven, above, all_answered, ended_at, last_id, next_at, response_of, responses, unanswered, with_ended, world_at}
 use Rattle.cli_run.specs.Lines.{Line}
 use Rattle.cli_run.specs.Rounds.{Alone, Batched, Completed, Completes, Does, Goes, IsEmptied, IsRetry, MayCut, Offered, Released, Round, Serves, Transacts, Trimmed, answering}
@@ -83,9 +85,9 @@ abbrev pub serves_trimmed : (p q : Point) (lines : List Line) (a : Option (List 
 serves_trimmed p q lines a cuts = record { bytes = []; lines = lines; goes = (q, lines, [], cuts, (refl, refl, refl), sym (append-nil lines)); appends = Appends-nil a }
 
 -- the responses were given, and the contexts taken
-pub given_all : (c d : Core) (j k : Seen) (a n : ℕ) → d ≡ without_ended c → k ≡ j → n ≡ last_id a (above a c.ended)
-    → ◌≡◌ {A = Point} (record { plant = record { core = d; journal = k }; answered = n }) (all_answered (record { plant = record { core = c; journal = j }; answered = a }))
-given_all c d j k a n core journal last = rw (core, journal, last) refl
+pub given_all : (c d : Core) (j k : Seen) (a : Progress) (n : ℕ) (t : Tally) → d ≡ without_ended c → k ≡ j → n ≡ last_id a.last (above a.last c.ended) → t ≡ tallied a.counts (above a.last c.ended)
+    → ◌≡◌ {A = Point} (record { plant = record { core = d; journal = k }; answered = record a { last = n; counts = t } }) (all_answered (record { plant = record { core = c; journal = j }; answered = a }))
+given_all c d j k a n t core journal last counts = rw (core, journal, last, counts) refl
 
 -- the response of the transaction that ended is the only one that is not given
 
@@ -126,7 +128,7 @@ same_answered p q own t = t.acts.answered
 
 pub own_unanswered : (p q : Point) (own : Option Pairs) → IsAtRest p → Transacts p own q → unanswered q ≡ own_list (next_at p) own
 own_unanswered p q own rest t =
-    ap (λ (n : ℕ). above n (ended_at q)) t.acts.answered ∙ (ap (above p.answered) t.ended ∙ own_above p.answered (next_at p) own (ended_at p) rest.below rest.given)
+    ap (λ (g : Progress). above g.last (ended_at q)) t.acts.answered ∙ (ap (above p.answered.last) t.ended ∙ own_above p.answered.last (next_at p) own (ended_at p) rest.below rest.given)
 
 pub seated_given : (c : Core) → Seated c → Seated (without_ended c)
 seated_given c h = record { engine = h.engine; sessions = h.sessions; places = h.places; seats = h.seats; replies = h.replies; waits = h.waits }
@@ -137,8 +139,8 @@ rest_given p q own rest t seated = record {
   idle = t.idle;
   written = t.written;
   given = refl;
-  below = (let at : last_id q.answered (unanswered q) ≡ last_id p.answered (own_list (next_at p) own) = ap (λ (n : ℕ). last_id n (unanswered q)) t.acts.answered ∙ ap (last_id p.answered) (own_unanswered p q own rest t) in
-      let lt = own_last p.answered (next_at p) own rest.below in
+  below = (let at : last_id q.answered.last (unanswered q) ≡ last_id p.answered.last (own_list (next_at p) own) = ap (λ (g : Progress). last_id g.last (unanswered q)) t.acts.answered ∙ ap (last_id p.answered.last) (own_unanswered p q own rest t) in
+      let lt = own_last p.answered.last (next_at p) own rest.below in
       let next = t.next in
       omega (arith, at, lt, next));
 }

@@ -13,7 +13,10 @@ use Rattle.cli_run.specs.Advices.{AdviceStep, SendsAll, stored_at}
 use Rattle.cli_run.specs.declared.told.Form.TheVariants.{Text}
 use Rattle.cli_run.specs.Lines.{lines_in, written_as}
 use Rattle.cli_run.specs.Points.{IsAtRest, IsReady, Point, world_at}
-use Rattle.cli_run.specs.Ran.{Begins, Closes, Printed, Ran, ServesAll, all_lines, lines_cut}
+use Rattle.cli_run.specs.Ran.{Begins, Closes, Printed, Ran, ServesAll, all_lines, lines_cut, made_at}
+use Rattle.cli_run.specs.declared.progress.Progress.{Progress}
+use Rattle.cli_run.specs.Numbers.{begun_in, numbers_at}
+use Rattle.cli_run.specs.Shown.{Shows, TellsAll}
 use Rattle.cli_run.specs.Traces.{Cuts, DrainsAll, Log, ReportsFor, Tells, passed_over}
 use Rattle.cli_run.proofs.Tracing.{lines_before, lines_then}
 use Rattle.cli_run.specs.Rounds.{IsEmptied, Recovers, Round}
@@ -25,39 +28,45 @@ first_is f n view j p first made is = is ∙ ap (λ (v : JournalView). v.next_id
 
 -- what a recovery of a new plant promises
 abbrev pub FirstRecovers : Point → Point → Type 0
-FirstRecovers p q = (f : Flow) (n : ℕ) (view : JournalView) (j : Seen) → IsMade f n view j p.plant → p.answered ≡ view.next_id - 1 → Recovers p q
+FirstRecovers p q = (f : Flow) (n : ℕ) (view : JournalView) (j : Seen) → IsMade f n view j p.plant → p.answered.last ≡ view.next_id - 1 → Recovers p q
 
-pub begun : (f : Flow) (n : ℕ) (view : JournalView) (j : Seen) (made : Whole) (first id : ℕ) (r : Point) → IsMade f n view j made → first ≡ made.core.world.start.view.next_id → id ≡ first - 1 → FirstRecovers (record { plant = made; answered = id }) r → Begins f n j r
+pub begun : (f : Flow) (n : ℕ) (view : JournalView) (j : Seen) (made : Whole) (first : ℕ) (id : Progress) (r : Point) → IsMade f n view j made → first ≡ made.core.world.start.view.next_id → id ≡ begun_in made.core.world first → FirstRecovers (record { plant = made; answered = id }) r → Begins f n j r
 begun f n view j made first id r is first_at before recovers =
-    let answered : id ≡ view.next_id - 1 = before ∙ ap (λ (k : ℕ). k - 1) (first_is f n view j made first is first_at) in
+    let answered : id ≡ begun_in made.core.world view.next_id = before ∙ ap (begun_in made.core.world) (first_is f n view j made first is first_at) in
     record {
       view = view;
       made = made;
       is_made = is;
-      recovers = subst (λ (k : ℕ). Recovers (record { plant = made; answered = k }) r) answered (recovers f n view j is answered);
+      recovers = subst (λ (g : Progress). Recovers (record { plant = made; answered = g }) r) answered (recovers f n view j is (ap (λ (g : Progress). g.last) answered));
     }
 
--- all was served, and what it tells was told
+-- all was served, and what it tells was told, with the numbers at its end
 abbrev pub ServesTold : AdviceStep → List Round → Point → PlainSender → Option (List ℕ) → Option (List ℕ) → ℕ → Log → Log → ℕ → Type 0
-ServesTold step rounds r sender a b n k l first = (s : ServesAll step first rounds r sender a b) × Tells (all_lines s) n k l
+ServesTold step rounds r sender a b n k l first = (s : ServesAll step first rounds r sender a b) × TellsAll (all_lines s) n s.end k l
 
-pub ran : (f : Flow) (n : ℕ) (view : JournalView) (j : Seen) (made : Whole) (first id : ℕ) (r : Point) (step : AdviceStep) (sender : PlainSender) (rounds : List Round) (a b : Option (List ℕ)) (passed : ℕ) (k l : Log)
-    → IsMade f n view j made → first ≡ made.core.world.start.view.next_id → id ≡ first - 1 → FirstRecovers (record { plant = made; answered = id }) r
-    → ServesTold step rounds r sender a b passed k l first → (ran : Ran f n j step sender rounds a b) × Tells (all_lines ran.serves) passed k l
+pub ran : (f : Flow) (n : ℕ) (view : JournalView) (j : Seen) (made : Whole) (first : ℕ) (id : Progress) (r : Point) (step : AdviceStep) (sender : PlainSender) (rounds : List Round) (a b : Option (List ℕ)) (passed : ℕ) (k l : Log)
+    → IsMade f n view j made → first ≡ made.core.world.start.view.next_id → id ≡ begun_in made.core.world first → FirstRecovers (record { plant = made; answered = id }) r
+    → ServesTold step rounds r sender a b passed k l first → (ran : Ran f n j step sender rounds a b) × TellsAll (all_lines ran.serves) passed ran.serves.end k l
 unfolding begun
 ran f n view j made first id r step sender rounds a b passed k l is first_at before recovers told =
     let (serves, tells) = subst (ServesTold step rounds r sender a b passed k l) (first_is f n view j made first is first_at) told in
     (record { recovered = r; begins = begun f n view j made first id r is first_at before recovers; serves = serves }, tells)
 
--- the lines that were left were told last
-pub told_last : (step : AdviceStep) (first : ℕ) (rounds : List Round) (p : Point) (sender : PlainSender) (a b : Option (List ℕ)) (n : ℕ) (k l m : Log) (q : Point) (w : World) → (s : ServesAll step first rounds p sender a b) → s.end ≡ q → w ≡ world_at q
-    → Tells (lines_cut s) n k l → Tells (lines_in w) 0 l m → ServesTold step rounds p sender a b n k m first
-told_last step first rounds p sender a b n k l m q w s end is cut left =
-    let same : w ≡ world_at s.end = is ∙ ap world_at (sym end) in
-    (s, lines_then (lines_cut s) (lines_in (world_at s.end)) n k l m cut (subst (λ (v : World). Tells (lines_in v) 0 l m) same left))
+-- the lines that were left were told, and the numbers last
+pub told_last : (step : AdviceStep) (first : ℕ) (rounds : List Round) (p : Point) (sender : PlainSender) (a b : Option (List ℕ)) (n : ℕ) (k l m o : Log) (q : Point) (w : World) → (s : ServesAll step first rounds p sender a b) → s.end ≡ q → w ≡ world_at q
+    → Tells (lines_cut s) n k l → Tells (lines_in w) 0 l m → Shows (numbers_at q m.passed) m o → ServesTold step rounds p sender a b n k o first
+told_last step first rounds p sender a b n k l m o q w s end is cut left shows =
+    let same : w ≡ world_at s.end = is ∙ ap world_at (sym end) in (
+      s,
+      record {
+        between = m;
+        tells = lines_then (lines_cut s) (lines_in (world_at s.end)) n k l m cut (subst (λ (v : World). Tells (lines_in v) 0 l m) same left);
+        shows = subst (λ (z : Point). Shows (numbers_at z m.passed) m o) (sym end) shows;
+      },
+    )
 
-pub printed : (f : Flow) (n : ℕ) (view : JournalView) (j : Seen) (made : Whole) (first id : ℕ) (r : Point) (a b : Option (List ℕ))
-    → IsMade f n view j made → first ≡ made.core.world.start.view.next_id → id ≡ first - 1 → FirstRecovers (record { plant = made; answered = id }) r → Appends a b (written_as Text (lines_in (world_at r))) → Printed f n j a b
+pub printed : (f : Flow) (n : ℕ) (view : JournalView) (j : Seen) (made : Whole) (first : ℕ) (id : Progress) (r : Point) (a b : Option (List ℕ))
+    → IsMade f n view j made → first ≡ made.core.world.start.view.next_id → id ≡ begun_in made.core.world first → FirstRecovers (record { plant = made; answered = id }) r → Appends a b (written_as Text (lines_in (world_at r))) → Printed f n j a b
 printed f n view j made first id r a b is first_at before recovers prints = record {
   recovered = r;
   begins = begun f n view j made first id r is first_at before recovers;
@@ -65,8 +74,8 @@ printed f n view j made first id r a b is first_at before recovers prints = reco
 }
 
 -- it is at rest after that, and nothing is in the queue
-pub begun_recovers : (f : Flow) (n : ℕ) (view : JournalView) (j : Seen) (made : Whole) (first id : ℕ) (r : Point) → IsMade f n view j made → first ≡ made.core.world.start.view.next_id → id ≡ first - 1 → FirstRecovers (record { plant = made; answered = id }) r
-    → Recovers (record { plant = made; answered = view.next_id - 1 }) r
+pub begun_recovers : (f : Flow) (n : ℕ) (view : JournalView) (j : Seen) (made : Whole) (first : ℕ) (id : Progress) (r : Point) → IsMade f n view j made → first ≡ made.core.world.start.view.next_id → id ≡ begun_in made.core.world first → FirstRecovers (record { plant = made; answered = id }) r
+    → Recovers (made_at made view) r
 unfolding begun
 begun_recovers f n view j made first id r is first_at before recovers = (begun f n view j made first id r is first_at before recovers).recovers
 

@@ -1,9 +1,10 @@
 -- What is told, one after the other.
 -- for: told::Told, switch::Switch, stream::Requests, serving::Switch
-use Rattle.std.proofs.Common.{◌≡◌, ◌<◌, ℕ, ◌+◌, Bool, true, false, List, [], ◌∷◌, ◌++◌, length, map, take, drop, get_or, Option, Some, None, Result, Ok, Err, refl, sym, ap, subst, arith, ◌∙◌, add-zero, add_assoc, zero-add, append-nil, append_assoc, take-append-drop}
+use Rattle.std.proofs.Common.{◌≡◌, ◌<◌, ℕ, ◌+◌, Bool, true, false, List, [], ◌∷◌, ◌++◌, length, map, take, drop, get_or, ◌≤◌, min, ◌-◌, ◌^◌, Option, Some, None, Result, Ok, Err, refl, sym, ap, subst, arith, ◌∙◌, add-zero, add_assoc, zero-add, append-nil, append_assoc, take-append-drop}
 use Rattle.std.specs.Global.{Vec}
 use Rattle.std.specs.Io.KnownBytes.{Appends}
 use Rattle.std.proofs.KnownBytes.{Appends-nil, Appends-trans}
+use Rattle.std.proofs.Math.Nat.{min-eq_left}
 use Rattle.std.proofs.lemmas.Grind.{flat_map-append}
 use Rattle.std.proofs.lemmas.List.{map-append, take_more}
 use Rattle.iso_msg.specs.Messages.{PlainMessage}
@@ -13,7 +14,7 @@ use Rattle.sw_frame.specs.Feeds.{messages}
 use Rattle.cli_io.specs.Written.{AppendsBeginning}
 use Rattle.cli_run.specs.declared.told.Form.{Form}
 use Rattle.cli_run.specs.Lines.{Line, in_form, written_as}
-use Rattle.cli_run.specs.Traces.{Adds, AddsSome, AreBegun, Log, Passed, Piece, Tells, Traced, if_passed, if_wanted, passed_in, passed_line, passed_over, piece_text, text_of, traced_in}
+use Rattle.cli_run.specs.Traces.{Adds, AddsSome, AreBegun, Counted, IsQuiet, Log, Passed, Piece, Tells, Traced, counted_in, if_passed, if_wanted, passed_in, passed_line, passed_over, piece_text, text_of, traced_in}
 
 text_append : (ps qs : List Piece) → text_of (ps ++ qs) ≡ text_of ps ++ text_of qs
 text_append [] qs = refl
@@ -32,29 +33,42 @@ traced_append : (ps qs : List Piece) → traced_in (ps ++ qs) ≡ traced_in ps +
 traced_append [] qs = refl
 traced_append (Traced ls ∷ ps) qs = ap (λ (l : List ℕ). ls ++ l) (traced_append ps qs) ∙ sym (append_assoc ls (traced_in ps) (traced_in qs))
 traced_append (Passed n c ∷ ps) qs = traced_append ps qs
+traced_append (Counted n m ∷ ps) qs = traced_append ps qs
 
 passed_append : (ps qs : List Piece) → passed_in (ps ++ qs) ≡ passed_in ps + passed_in qs
 passed_append [] qs = sym (zero-add (passed_in qs))
 passed_append (Traced ls ∷ ps) qs = passed_append ps qs
 passed_append (Passed n c ∷ ps) qs = let ih = passed_append ps qs in omega (arith, ih)
+passed_append (Counted n m ∷ ps) qs = passed_append ps qs
 
-adds_none : (a : Option (List ℕ)) → Adds [] 0 a a
-adds_none a = record { pieces = []; traced = refl; count = refl; written = Appends-nil a }
+counted_append : (ps qs : List Piece) → counted_in (ps ++ qs) ≡ counted_in ps + counted_in qs
+counted_append [] qs = sym (zero-add (counted_in qs))
+counted_append (Traced ls ∷ ps) qs = counted_append ps qs
+counted_append (Passed n c ∷ ps) qs = counted_append ps qs
+counted_append (Counted n m ∷ ps) qs = let ih = counted_append ps qs in omega (arith, ih)
 
-adds_then : (xs ys : List ℕ) (m n : ℕ) (a b c : Option (List ℕ)) → Adds xs m a b → Adds ys n b c → Adds (xs ++ ys) (m + n) a c
-adds_then xs ys m n a b c s t = record {
+quiet_append : (s : Bool) (ps qs : List Piece) → IsQuiet s ps → IsQuiet s qs → IsQuiet s (ps ++ qs)
+quiet_append s ps qs h k = λ not. (let is = counted_append ps qs in let first = h not in let second = k not in omega (arith, is, first, second))
+
+adds_none : (w : Bool) (a : Option (List ℕ)) → Adds w [] 0 a a
+adds_none w a = record { pieces = []; traced = refl; count = refl; quiet = λ not. refl; written = Appends-nil a }
+
+adds_then : (w : Bool) (xs ys : List ℕ) (m n : ℕ) (a b c : Option (List ℕ)) → Adds w xs m a b → Adds w ys n b c → Adds w (xs ++ ys) (m + n) a c
+adds_then w xs ys m n a b c s t = record {
   pieces = s.pieces ++ t.pieces;
+  quiet = quiet_append w s.pieces t.pieces s.quiet t.quiet;
   traced = rw (traced_append s.pieces t.pieces, s.traced, t.traced) refl;
   count = (let is = passed_append s.pieces t.pieces in let first = s.count in let second = t.count in omega (arith, is, first, second));
   written = subst (Appends a c) (sym (text_append s.pieces t.pieces)) (Appends-trans a b c (text_of s.pieces) (text_of t.pieces) s.written t.written);
 }
 
-adds_some : (xs : List ℕ) (n : ℕ) (a b : Option (List ℕ)) → Adds xs n a b → AddsSome xs n a b
-adds_some xs n a b s = record { pieces = s.pieces; traced = s.traced; count = s.count; text = text_of s.pieces; begun = all_begun s.pieces; written = s.written }
+adds_some : (w : Bool) (xs : List ℕ) (n : ℕ) (a b : Option (List ℕ)) → Adds w xs n a b → AddsSome w xs n a b
+adds_some w xs n a b s = record { pieces = s.pieces; traced = s.traced; count = s.count; quiet = s.quiet; text = text_of s.pieces; begun = all_begun s.pieces; written = s.written }
 
-some_then : (xs ys : List ℕ) (m n : ℕ) (a b c : Option (List ℕ)) → AddsSome xs m a b → AddsSome ys n b c → AddsSome (xs ++ ys) (m + n) a c
-some_then xs ys m n a b c s t = record {
+some_then : (w : Bool) (xs ys : List ℕ) (m n : ℕ) (a b c : Option (List ℕ)) → AddsSome w xs m a b → AddsSome w ys n b c → AddsSome w (xs ++ ys) (m + n) a c
+some_then w xs ys m n a b c s t = record {
   pieces = s.pieces ++ t.pieces;
+  quiet = quiet_append w s.pieces t.pieces s.quiet t.quiet;
   traced = rw (traced_append s.pieces t.pieces, s.traced, t.traced) refl;
   count = (let is = passed_append s.pieces t.pieces in let first = s.count in let second = t.count in omega (arith, is, first, second));
   text = s.text ++ t.text;
@@ -63,9 +77,10 @@ some_then xs ys m n a b c s t = record {
 }
 
 -- a beginning of one piece
-some_of : (p : Piece) (a b : Option (List ℕ)) → AppendsBeginning a b (piece_text p) → AddsSome (traced_in (p ∷ [])) (passed_in (p ∷ [])) a b
-some_of p a b (first, rest, is, written) = record {
+some_of : (w : Bool) (p : Piece) (a b : Option (List ℕ)) → IsQuiet w (p ∷ []) → AppendsBeginning a b (piece_text p) → AddsSome w (traced_in (p ∷ [])) (passed_in (p ∷ [])) a b
+some_of w p a b quiet (first, rest, is, written) = record {
   pieces = p ∷ [];
+  quiet = quiet;
   traced = refl;
   count = refl;
   text = first;
@@ -73,7 +88,7 @@ some_of p a b (first, rest, is, written) = record {
   written = written;
 }
 
-none_wanted : (w : Option Form) → if_wanted w [] ≡ []
+pub none_wanted : (w : Option Form) → if_wanted w [] ≡ []
 none_wanted (Some form) = refl
 none_wanted None = refl
 
@@ -81,24 +96,37 @@ both_wanted : (w : Option Form) (xs ys : List Line) → if_wanted w (xs ++ ys) �
 both_wanted (Some form) xs ys = flat_map-append (λ (l : Line). in_form form l ++ 10 ∷ []) xs ys
 both_wanted None xs ys = refl
 
+-- below 2^64 the messages that are passed over are counted
+both_counted : (p q r m n : ℕ) → (p + m < 2 ^ 64 → q ≡ p + m) → (q + n < 2 ^ 64 → r ≡ q + n) → p + (m + n) < 2 ^ 64 → r ≡ p + (m + n)
+both_counted p q r m n first second small =
+    let at : q ≡ p + m = first (omega (arith, small)) in
+    let then : r ≡ q + n = second (omega (arith, small, at)) in
+    omega (arith, at, then)
+
 pub tells_none : (a : Log) → Tells [] 0 a a
 tells_none a = record {
   wanted = refl;
+  stats = refl;
+  count = λ h. sym (add-zero a.passed);
   before = λ h. h;
-  adds = λ h. subst (λ (l : List ℕ). Adds l 0 a.text a.text) (sym (none_wanted a.wanted)) (adds_none a.text);
-  some = subst (λ (l : List ℕ). AddsSome l 0 a.text a.text) (sym (none_wanted a.wanted)) (adds_some [] 0 a.text a.text (adds_none a.text));
+  adds = λ h. subst (λ (l : List ℕ). Adds a.stats l 0 a.text a.text) (sym (none_wanted a.wanted)) (adds_none a.stats a.text);
+  some = subst (λ (l : List ℕ). AddsSome a.stats l 0 a.text a.text) (sym (none_wanted a.wanted)) (adds_some a.stats [] 0 a.text a.text (adds_none a.stats a.text));
 }
 
 pub tells_then : (xs ys : List Line) (m n : ℕ) (a b c : Log) → Tells xs m a b → Tells ys n b c → Tells (xs ++ ys) (m + n) a c
 tells_then xs ys m n a b c s t = record {
   wanted = t.wanted ∙ s.wanted;
+  stats = t.stats ∙ s.stats;
+  count = λ h. both_counted a.passed b.passed c.passed m n s.count t.count h;
   before = λ h. s.before (t.before h);
-  adds = λ h. (let more : Adds (if_wanted a.wanted ys) n b.text c.text = subst (λ (w : Option Form). Adds (if_wanted w ys) n b.text c.text) s.wanted (t.adds h) in
-      subst (λ (l : List ℕ). Adds l (m + n) a.text c.text) (sym (both_wanted a.wanted xs ys))
-      (adds_then (if_wanted a.wanted xs) (if_wanted a.wanted ys) m n a.text b.text c.text (s.adds (t.before h)) more));
-  some = (let more : AddsSome (if_wanted a.wanted ys) n b.text c.text = subst (λ (w : Option Form). AddsSome (if_wanted w ys) n b.text c.text) s.wanted t.some in
-      subst (λ (l : List ℕ). AddsSome l (m + n) a.text c.text) (sym (both_wanted a.wanted xs ys))
-      (some_then (if_wanted a.wanted xs) (if_wanted a.wanted ys) m n a.text b.text c.text s.some more));
+  adds = λ h. (let more : Adds b.stats (if_wanted a.wanted ys) n b.text c.text = subst (λ (w : Option Form). Adds b.stats (if_wanted w ys) n b.text c.text) s.wanted (t.adds h) in
+      let same : Adds a.stats (if_wanted a.wanted ys) n b.text c.text = subst (λ (w : Bool). Adds w (if_wanted a.wanted ys) n b.text c.text) s.stats more in
+      subst (λ (l : List ℕ). Adds a.stats l (m + n) a.text c.text) (sym (both_wanted a.wanted xs ys))
+      (adds_then a.stats (if_wanted a.wanted xs) (if_wanted a.wanted ys) m n a.text b.text c.text (s.adds (t.before h)) same));
+  some = (let more : AddsSome b.stats (if_wanted a.wanted ys) n b.text c.text = subst (λ (w : Option Form). AddsSome b.stats (if_wanted w ys) n b.text c.text) s.wanted t.some in
+      let same : AddsSome a.stats (if_wanted a.wanted ys) n b.text c.text = subst (λ (w : Bool). AddsSome w (if_wanted a.wanted ys) n b.text c.text) s.stats more in
+      subst (λ (l : List ℕ). AddsSome a.stats l (m + n) a.text c.text) (sym (both_wanted a.wanted xs ys))
+      (some_then a.stats (if_wanted a.wanted xs) (if_wanted a.wanted ys) m n a.text b.text c.text s.some same));
 }
 
 -- messages that are passed over, and then lines
@@ -116,51 +144,66 @@ lines_before xs ys n a b c s t = subst (λ (k : ℕ). Tells (xs ++ ys) k a c) (z
 -- one write
 
 -- all is written
-told_whole : (lines : List Line) (n : ℕ) (w : Option Form) (l : Bool) (t u : Option (List ℕ)) → Adds (if_wanted w lines) n t u → Tells lines n (record { wanted = w; lost = l; text = t }) (record { wanted = w; lost = l; text = u })
-told_whole lines n w l t u all = record { wanted = refl; before = λ h. h; adds = λ h. all; some = adds_some (if_wanted w lines) n t u all }
+told_whole : (lines : List Line) (n : ℕ) (w : Option Form) (s l : Bool) (k m : ℕ) (t u : Option (List ℕ)) → (k + n < 2 ^ 64 → m ≡ k + n) → Adds s (if_wanted w lines) n t u
+    → Tells lines n (record { wanted = w; stats = s; passed = k; lost = l; text = t }) (record { wanted = w; stats = s; passed = m; lost = l; text = u })
+told_whole lines n w s l k m t u count all = record { wanted = refl; stats = refl; count = count; before = λ h. h; adds = λ h. all; some = adds_some s (if_wanted w lines) n t u all }
 
-pub unwanted : (lines : List Line) (w : Option Form) (l : Bool) (t : Option (List ℕ)) → w ≡ None → Tells lines 0 (record { wanted = w; lost = l; text = t }) (record { wanted = w; lost = l; text = t })
-unwanted lines w l t not = told_whole lines 0 w l t t (subst (λ (b : Option Form). Adds (if_wanted b lines) 0 t t) (sym not) (adds_none t))
+none_more : (k : ℕ) → k + 0 < 2 ^ 64 → k ≡ k + 0
+none_more k small = sym (add-zero k)
 
-pub lines_told : (lines : List Line) (form : Form) (w : Option Form) (l : Bool) (t u : Option (List ℕ)) → w ≡ Some form → Appends t u (written_as form lines) → Tells lines 0 (record { wanted = w; lost = l; text = t }) (record { wanted = w; lost = l; text = u })
-lines_told lines form w l t u is written = told_whole lines 0 w l t u (subst (λ (b : Option Form). Adds (if_wanted b lines) 0 t u) (sym is) (record {
+one_more : (k m : ℕ) → m ≡ min (k + 1) (2 ^ 64 - 1) → k + 1 < 2 ^ 64 → m ≡ k + 1
+one_more k m is small = is ∙ min-eq_left (omega (arith, small))
+
+pub unwanted : (lines : List Line) (w : Option Form) (s l : Bool) (k : ℕ) (t : Option (List ℕ)) → w ≡ None → Tells lines 0 (record { wanted = w; stats = s; passed = k; lost = l; text = t }) (record { wanted = w; stats = s; passed = k; lost = l; text = t })
+unwanted lines w s l k t not = told_whole lines 0 w s l k k t t (none_more k) (subst (λ (b : Option Form). Adds s (if_wanted b lines) 0 t t) (sym not) (adds_none s t))
+
+pub lines_told : (lines : List Line) (form : Form) (w : Option Form) (s l : Bool) (k : ℕ) (t u : Option (List ℕ)) → w ≡ Some form → Appends t u (written_as form lines) → Tells lines 0 (record { wanted = w; stats = s; passed = k; lost = l; text = t }) (record { wanted = w; stats = s; passed = k; lost = l; text = u })
+lines_told lines form w s l k t u is written = told_whole lines 0 w s l k k t u (none_more k) (subst (λ (b : Option Form). Adds s (if_wanted b lines) 0 t u) (sym is) (record {
   pieces = Traced (written_as form lines) ∷ [];
   traced = append-nil (written_as form lines);
   count = refl;
+  quiet = λ not. refl;
   written = subst (Appends t u) (sym (append-nil (written_as form lines))) written;
 }))
 
-pub passed_told : (number : ℕ) (cause line : List ℕ) (w : Option Form) (l : Bool) (t u : Option (List ℕ)) → line ≡ passed_line number cause → Appends t u line → Tells [] 1 (record { wanted = w; lost = l; text = t }) (record { wanted = w; lost = l; text = u })
-passed_told number cause line w l t u is written = told_whole [] 1 w l t u (subst (λ (x : List ℕ). Adds x 1 t u) (sym (none_wanted w)) (record {
+pub passed_told : (number : ℕ) (cause line : List ℕ) (w : Option Form) (s l : Bool) (k m : ℕ) (t u : Option (List ℕ)) → m ≡ min (k + 1) (2 ^ 64 - 1) → line ≡ passed_line number cause → Appends t u line
+    → Tells [] 1 (record { wanted = w; stats = s; passed = k; lost = l; text = t }) (record { wanted = w; stats = s; passed = m; lost = l; text = u })
+passed_told number cause line w s l k m t u more is written = told_whole [] 1 w s l k m t u (one_more k m more) (subst (λ (x : List ℕ). Adds s x 1 t u) (sym (none_wanted w)) (record {
   pieces = Passed number cause ∷ [];
   traced = refl;
   count = refl;
+  quiet = λ not. refl;
   written = subst (Appends t u) (is ∙ sym (append-nil (passed_line number cause))) written;
 }))
 
 -- a write failed
 
-true_not_false : {A : Type 0} (b : Bool) → b ≡ true → b ≡ false → A
+pub true_not_false : {A : Type 0} (b : Bool) → b ≡ true → b ≡ false → A
 true_not_false b is not = absurd (let both : true ≡ false = sym is ∙ not in cc)
 
-told_some : (lines : List Line) (n : ℕ) (w : Option Form) (l m : Bool) (t u : Option (List ℕ)) → m ≡ true → AddsSome (if_wanted w lines) n t u → Tells lines n (record { wanted = w; lost = l; text = t }) (record { wanted = w; lost = m; text = u })
-told_some lines n w l m t u lost some = record {
+told_some : (lines : List Line) (n : ℕ) (w : Option Form) (s l o : Bool) (k m : ℕ) (t u : Option (List ℕ)) → (k + n < 2 ^ 64 → m ≡ k + n) → o ≡ true → AddsSome s (if_wanted w lines) n t u
+    → Tells lines n (record { wanted = w; stats = s; passed = k; lost = l; text = t }) (record { wanted = w; stats = s; passed = m; lost = o; text = u })
+told_some lines n w s l o k m t u count lost some = record {
   wanted = refl;
-  before = λ h. true_not_false m lost h;
-  adds = λ h. true_not_false m lost h;
+  stats = refl;
+  count = count;
+  before = λ h. true_not_false o lost h;
+  adds = λ h. true_not_false o lost h;
   some = some;
 }
 
-pub lines_lost : (lines : List Line) (form : Form) (w : Option Form) (l m : Bool) (t u : Option (List ℕ)) → w ≡ Some form → m ≡ true → AppendsBeginning t u (written_as form lines) → Tells lines 0 (record { wanted = w; lost = l; text = t }) (record { wanted = w; lost = m; text = u })
-lines_lost lines form w l m t u is lost written =
+pub lines_lost : (lines : List Line) (form : Form) (w : Option Form) (s l o : Bool) (k : ℕ) (t u : Option (List ℕ)) → w ≡ Some form → o ≡ true → AppendsBeginning t u (written_as form lines)
+    → Tells lines 0 (record { wanted = w; stats = s; passed = k; lost = l; text = t }) (record { wanted = w; stats = s; passed = k; lost = o; text = u })
+lines_lost lines form w s l o k t u is lost written =
     let text : List ℕ = written_as form lines in
-    let begun : AddsSome (text ++ []) 0 t u = some_of (Traced text) t u written in
-    told_some lines 0 w l m t u lost (subst (λ (b : Option Form). AddsSome (if_wanted b lines) 0 t u) (sym is) (subst (λ (x : List ℕ). AddsSome x 0 t u) (append-nil text) begun))
+    let begun : AddsSome s (text ++ []) 0 t u = some_of s (Traced text) t u (λ not. refl) written in
+    told_some lines 0 w s l o k k t u (none_more k) lost (subst (λ (b : Option Form). AddsSome s (if_wanted b lines) 0 t u) (sym is) (subst (λ (x : List ℕ). AddsSome s x 0 t u) (append-nil text) begun))
 
-pub passed_lost : (number : ℕ) (cause line : List ℕ) (w : Option Form) (l m : Bool) (t u : Option (List ℕ)) → line ≡ passed_line number cause → m ≡ true → AppendsBeginning t u line → Tells [] 1 (record { wanted = w; lost = l; text = t }) (record { wanted = w; lost = m; text = u })
-passed_lost number cause line w l m t u is lost written =
-    let begun : AddsSome [] 1 t u = some_of (Passed number cause) t u (subst (AppendsBeginning t u) is written) in
-    told_some [] 1 w l m t u lost (subst (λ (x : List ℕ). AddsSome x 1 t u) (sym (none_wanted w)) begun)
+pub passed_lost : (number : ℕ) (cause line : List ℕ) (w : Option Form) (s l o : Bool) (k m : ℕ) (t u : Option (List ℕ)) → m ≡ min (k + 1) (2 ^ 64 - 1) → line ≡ passed_line number cause → o ≡ true → AppendsBeginning t u line
+    → Tells [] 1 (record { wanted = w; stats = s; passed = k; lost = l; text = t }) (record { wanted = w; stats = s; passed = m; lost = o; text = u })
+passed_lost number cause line w s l o k m t u more is lost written =
+    let begun : AddsSome s [] 1 t u = some_of s (Passed number cause) t u (λ not. refl) (subst (AppendsBeginning t u) is written) in
+    told_some [] 1 w s l o k m t u (one_more k m more) lost (subst (λ (x : List ℕ). AddsSome s x 1 t u) (sym (none_wanted w)) begun)
 
 -- messages
 

@@ -4,6 +4,7 @@ use Rattle.sw_issuers.specs.Sending.{PlainSender, SenderStep}
 use Rattle.tx_history.specs.Journal.{advices}
 use Rattle.tx_plant.specs.declared.turn.Outcome.{Outcome}
 use Rattle.tx_plant.specs.declared.turn.Turn.TheVariants as turn
+use Rattle.sw_stats.specs.Tallies.{with_delivered}
 use Rattle.cli_run.specs.Points.{Point, world_at}
 use Rattle.cli_run.specs.Rounds.{Does}
 
@@ -11,9 +12,13 @@ use Rattle.cli_run.specs.Rounds.{Does}
 abbrev pub AdviceStep : Type 1
 AdviceStep = List ℕ → Bool → SenderStep
 
--- an advice that was accepted is dropped, and no other
+-- one more advice was accepted
+abbrev pub one_delivered : Point → Point
+one_delivered p = record p { answered = record p.answered { counts = with_delivered p.answered.counts } }
+
+-- an advice that was accepted is dropped and counted, and no other
 abbrev pub Acks : Bool → ℕ × ℕ → Point → Point → Type 0
-Acks true place p q = (o : Outcome) × Does (turn.Ack place.0 place.1) o p q
+Acks true place p q = (o : Outcome) × (w : Point) × Does (turn.Ack place.0 place.1) o p w × (q ≡ one_delivered w)
 Acks false place p q = q ≡ p
 
 -- an advice is sent once; `is_old` says of which transactions it is a repeat

@@ -10,3 +10,5 @@ pub mod Stored
 pub mod Calls
 pub mod Stopped
 pub mod Traces
+pub mod Numbers
+pub mod Shown

@@ -14,16 +14,18 @@ use Rattle.tx_plant.specs.declared.seat.Seats.{Seats}
 use Rattle.tx_plant.specs.Core.{without_ended}
 use Rattle.tx_plant.specs.Plant.{Whole, seen, whole}
 use Rattle.plant_outcome.specs.Seated.{Seated}
+use Rattle.sw_stats.specs.Tallies.{tallied}
+use Rattle.cli_run.specs.declared.progress.Progress.{Progress}
 use Rattle.cli_run.specs.declared.switch.Switch.{Switch}
 
--- the plant, and the id of the last transaction whose response was given
+-- the plant, and what was given: the id of the last transaction whose response was, and what was counted
 pub record Point : Type 0 where
   pub plant : Whole
-  pub answered : ℕ
+  pub answered : Progress
 
 -- the same of its parts
-abbrev pub point : World → Seats → JournalState → ℕ → Point
-point w seats j id = record { plant = whole w seats (seen j); answered = id }
+abbrev pub point : World → Seats → JournalState → Progress → Point
+point w seats j given = record { plant = whole w seats (seen j); answered = given }
 
 -- the same of a switch
 abbrev pub point_of : {S : Type 0} {I : Type 0} {D : I → Type 0} → Ghosts S → Switch S I D → Point
@@ -54,7 +56,7 @@ above id ended = entries_between nat_cmp (Excluded id) Unbounded ended
 
 -- the contexts whose responses were not given
 abbrev pub unanswered : Point → List (ℕ × Pairs)
-unanswered p = above p.answered (ended_at p)
+unanswered p = above p.answered.last (ended_at p)
 
 -- the response of a context is its entry of that name
 abbrev pub response : Pairs → Option (List ℕ)
@@ -73,9 +75,13 @@ abbrev pub last_id : ℕ → List (ℕ × Pairs) → ℕ
 last_id id [] = id
 last_id id (e ∷ es) = last_id e.0 es
 
+-- the responses of these contexts are given, and each context is counted
+abbrev pub with_given : Progress → List (ℕ × Pairs) → Progress
+with_given g es = record g { last = last_id g.last es; counts = tallied g.counts es }
+
 -- their responses are given, and all contexts of transactions that ended are taken: the plant keeps none of them
 abbrev pub all_answered : Point → Point
-all_answered p = record { plant = record p.plant { core = without_ended p.plant.core }; answered = last_id p.answered (unanswered p) }
+all_answered p = record { plant = record p.plant { core = without_ended p.plant.core }; answered = with_given p.answered (unanswered p) }
 
 -- the context that a transaction ended with, under its id; one that waits on the shelf has not ended
 abbrev pub with_ended : ℕ → Option Pairs → List (ℕ × Pairs) → List (ℕ × Pairs)
@@ -98,7 +104,7 @@ pub record IsAtRest (p : Point) : Type 0 where
   pub idle : IsIdle (world_at p)
   pub written : IsAllWritten (world_at p)
   pub given : unanswered p ≡ []
-  pub below : p.answered < next_at p
+  pub below : p.answered.last < next_at p
 
 -- it is at rest once the responses are given
 abbrev pub RestsGiven : Point → Type 0

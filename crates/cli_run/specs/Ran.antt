@@ -1,5 +1,5 @@
 -- A whole run.
-use Rattle.std.specs.Prelude.{ℕ, ◌-◌, List, ◌++◌, nat_lt, Option}
+use Rattle.std.specs.Prelude.{ℕ, List, ◌++◌, nat_lt, Option}
 use Rattle.std.specs.Io.KnownBytes.{Appends}
 use Rattle.flow_model.specs.declared.flow.Flow.{Flow}
 use Rattle.sw_issuers.specs.Sending.{PlainSender}
@@ -11,10 +11,11 @@ use Rattle.cli_run.specs.Rounds.{Drains, IsEmptied, MayCut, Recovers, Round, Ser
 use Rattle.cli_run.specs.declared.told.Form.TheVariants.{Text}
 use Rattle.cli_run.specs.Lines.{Line, lines_in, written_as}
 use Rattle.cli_run.specs.Advices.{AdviceStep, SendsAll, stored_at}
+use Rattle.cli_run.specs.Numbers.{begun_in}
 
--- a new plant, of which no response of the journal's own transactions is given
+-- a new plant, of which no response of the journal's own transactions is given, and nothing is counted
 abbrev pub made_at : Whole → JournalView → Point
-made_at made view = record { plant = made; answered = view.next_id - 1 }
+made_at made view = record { plant = made; answered = begun_in made.core.world view.next_id }
 
 -- The first of a run: a plant is made on the view of the journal, and recovers.
 pub record Begins (f : Flow) (sessions : ℕ) (j : Seen) (p : Point) : Type 0 where

@@ -1,11 +1,13 @@
--- What a run writes to standard error: the lines of the trace, and between them a line for each message that is passed over.
-use Rattle.std.specs.Prelude.{◌≡◌, ℕ, ◌+◌, Bool, true, false, List, [], ◌∷◌, ◌++◌, Option, Some, None, is_some, Result, Ok, Err, codes}
+-- What a run writes to standard error: the lines of the trace, and between them a line for each message that is passed over, and
+-- lines of numbers where they are wanted.
+use Rattle.std.specs.Prelude.{◌≡◌, ◌<◌, ℕ, ◌+◌, ◌^◌, Bool, true, false, List, [], ◌∷◌, ◌++◌, Option, Some, None, is_some, Result, Ok, Err, codes}
 use Rattle.std.specs.Fmt.{decimal}
 use Rattle.std.specs.Io.KnownBytes.{Appends}
 use Rattle.sw_frame.specs.Stream.{AreFramed}
 use Rattle.iso_msg.specs.Messages.{PlainMessage}
 use Rattle.iso_codec.specs.declared.error.DecodeError.{DecodeError}
 use Rattle.iso_codec.specs.Reads.{read}
+use Rattle.sw_stats.specs.Line.{Numbers, stats_line}
 use Rattle.tx_engine.specs.World.{World}
 use Rattle.cli_run.specs.declared.told.Form.{Form}
 use Rattle.cli_run.specs.declared.told.Told.{Told}
@@ -14,10 +16,11 @@ use Rattle.cli_run.specs.Points.{Point, all_answered, responses, unanswered}
 use Rattle.cli_run.specs.Requests.{requests}
 use Rattle.cli_run.specs.Rounds.{Drains, MayCut, Round, RoundsFor, Serves}
 
--- lines of the trace, or the line of a message that is passed over: its number, and why
+-- lines of the trace; or the line of a message that is passed over: its number, and why; or the line of a run's numbers
 pub data Piece : Type 0 where
   Traced : (lines : List ℕ) → Piece
   Passed : (number : ℕ) → (cause : List ℕ) → Piece
+  Counted : (numbers : Numbers) → (milliseconds : ℕ) → Piece
 
 abbrev pub passed_line : ℕ → List ℕ → List ℕ
 passed_line number cause = codes "cardswitch: message " ++ decimal number ++ codes " is passed over: " ++ cause ++ 10 ∷ []
@@ -25,6 +28,7 @@ passed_line number cause = codes "cardswitch: message " ++ decimal number ++ cod
 abbrev pub piece_text : Piece → List ℕ
 piece_text (Traced lines) = lines
 piece_text (Passed number cause) = passed_line number cause
+piece_text (Counted numbers milliseconds) = stats_line numbers milliseconds
 
 abbrev pub text_of : List Piece → List ℕ
 text_of [] = []
@@ -40,50 +44,70 @@ abbrev pub traced_in : List Piece → List ℕ
 traced_in [] = []
 traced_in (Traced lines ∷ ps) = lines ++ traced_in ps
 traced_in (Passed number cause ∷ ps) = traced_in ps
+traced_in (Counted numbers milliseconds ∷ ps) = traced_in ps
 
 -- how many messages are passed over
 abbrev pub passed_in : List Piece → ℕ
 passed_in [] = 0
 passed_in (Traced lines ∷ ps) = passed_in ps
 passed_in (Passed number cause ∷ ps) = 1 + passed_in ps
+passed_in (Counted numbers milliseconds ∷ ps) = passed_in ps
 
--- these lines of the trace were added, all and in this order, and the lines of so many messages that are passed over
-pub record Adds (lines : List ℕ) (passed : ℕ) (before after : Option (List ℕ)) : Type 0 where
+-- how many lines of numbers
+abbrev pub counted_in : List Piece → ℕ
+counted_in [] = 0
+counted_in (Traced lines ∷ ps) = counted_in ps
+counted_in (Passed number cause ∷ ps) = counted_in ps
+counted_in (Counted numbers milliseconds ∷ ps) = 1 + counted_in ps
+
+-- there are none where they are not wanted
+abbrev pub IsQuiet : Bool → List Piece → Type 0
+IsQuiet stats ps = stats ≡ false → counted_in ps ≡ 0
+
+-- these lines of the trace were added, all and in this order, the lines of so many messages that are passed over, and lines of
+-- numbers where they are wanted
+pub record Adds (stats : Bool) (lines : List ℕ) (passed : ℕ) (before after : Option (List ℕ)) : Type 0 where
   pub pieces : List Piece
   pub traced : traced_in pieces ≡ lines
   pub count : passed_in pieces ≡ passed
+  pub quiet : IsQuiet stats pieces
   pub written : Appends before after (text_of pieces)
 
 -- of each of these a beginning was added, all of it, or none, and nothing else
-pub record AddsSome (lines : List ℕ) (passed : ℕ) (before after : Option (List ℕ)) : Type 0 where
+pub record AddsSome (stats : Bool) (lines : List ℕ) (passed : ℕ) (before after : Option (List ℕ)) : Type 0 where
   pub pieces : List Piece
   pub traced : traced_in pieces ≡ lines
   pub count : passed_in pieces ≡ passed
+  pub quiet : IsQuiet stats pieces
   pub text : List ℕ
   pub begun : AreBegun pieces text
   pub written : Appends before after text
 
--- standard error as a run sees it: in which form the trace is wanted, if it is, whether a write failed, and what is written,
--- where that is known
+-- standard error as a run sees it: in which form the trace is wanted, if it is, whether lines of numbers are, how many messages
+-- were passed over, whether a write failed, and what is written, where that is known
 pub record Log : Type 0 where
   pub wanted : Option Form
+  pub stats : Bool
+  pub passed : ℕ
   pub lost : Bool
   pub text : Option (List ℕ)
 
 abbrev pub log_of : {E : Type 0} → (E → Option (List ℕ)) → Told E → Log
-log_of contents told = record { wanted = told.trace; lost = told.lost; text = contents told.err.now }
+log_of contents told = record { wanted = told.trace; stats = is_some told.stats; passed = told.passed; lost = told.lost; text = contents told.err.now }
 
 abbrev pub if_wanted : Option Form → List Line → List ℕ
 if_wanted (Some form) lines = written_as form lines
 if_wanted None lines = []
 
--- these lines of the trace were told, in the form in which it is wanted, if it is, and so many messages that are passed over: all is written, or, where
--- a write failed, beginnings of these pieces
+-- these lines of the trace were told, in the form in which it is wanted, if it is, and so many messages that are passed over, which
+-- are counted: all is written, or, where a write failed, beginnings of these pieces
 pub record Tells (lines : List Line) (passed : ℕ) (a b : Log) : Type 0 where
   pub wanted : b.wanted ≡ a.wanted
+  pub stats : b.stats ≡ a.stats
+  pub count : a.passed + passed < 2 ^ 64 → b.passed ≡ a.passed + passed
   pub before : b.lost ≡ false → a.lost ≡ false
-  pub adds : b.lost ≡ false → Adds (if_wanted a.wanted lines) passed a.text b.text
-  pub some : AddsSome (if_wanted a.wanted lines) passed a.text b.text
+  pub adds : b.lost ≡ false → Adds a.stats (if_wanted a.wanted lines) passed a.text b.text
+  pub some : AddsSome a.stats (if_wanted a.wanted lines) passed a.text b.text
 
 -- with the trace no entry is left whose line is not told
 abbrev pub IsLive : Option Form → World → Type 0

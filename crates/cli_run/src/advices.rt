@@ -41,8 +41,8 @@ fn advices_of(alloc: Global, engine: &Engine) -> Result<Vec<Stored>, AllocError>
     Ok(list)
 }
 
-// Sends an advice, as a repeat where its transaction has an id below this one, and drops it where its
-// issuer accepts it.
+// Sends an advice, as a repeat where its transaction has an id below this one, and drops and counts it where
+// its issuer accepts it.
 fn send_advice<S: Alter, L: Link>(
     alloc: Global,
     switch: &mut Switch<S>,
@@ -64,6 +64,7 @@ fn send_advice<S: Alter, L: Link>(
         return Ok(());
     }
     switch.act(alloc, Turn::Ack(stored.id, stored.place))?;
+    switch.answered.counts.deliver();
     Ok(())
 }
 

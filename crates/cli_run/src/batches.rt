@@ -19,6 +19,7 @@ use std::alloc::Global;
 use std::io::{Read, Write};
 use std::sync::Wait;
 use std::thread::Threads;
+use std::time::Clock;
 use sw_context::Context;
 
 impl<S: Alter + Drop> Switch<S> {
@@ -166,8 +167,9 @@ fn requests_in<E: Write>(
     Ok(found)
 }
 
-// Answers the requests among some messages, in batches.
-fn answer_batches<S: Alter + Drop, T: Threads + Wait + Sync, O: Write, E: Write>(
+// Answers the requests among some messages, in batches. After each the numbers of the run are told where that is
+// due.
+fn answer_batches<S: Alter + Drop, T: Threads + Wait + Clock + Sync, O: Write, E: Write>(
     rt: &T,
     alloc: Global,
     switch: Switch<S>,
@@ -189,7 +191,9 @@ fn answer_batches<S: Alter + Drop, T: Threads + Wait + Sync, O: Write, E: Write>
     for _ in 0..list.len() {
         let (batch, more) = rest.split_at(rest.len().min(MAX_BATCH));
         let requests = requests_in(alloc, count, batch, told)?;
+        let before = switch.answered.counts.requests();
         switch = switch.answer_batch(rt, alloc, requests, out, told)?;
+        switch.show_since(rt, alloc, before, told);
         rest = more;
     }
     Ok(switch)
@@ -200,7 +204,7 @@ impl Requests {
     /// least one. A request that came alone is answered in this thread.
     pub(crate) fn serve_in_batches<
         S: Alter + Drop,
-        T: Threads + Wait + Sync,
+        T: Threads + Wait + Clock + Sync,
         R: Read,
         O: Write,
         E: Write,

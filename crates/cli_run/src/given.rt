@@ -1,8 +1,9 @@
 //! The responses of the transactions that ended, as frames.
 
-ghost use Rattle.std.specs.Prelude.{◌≡◌, ◌++◌, ℕ, List, [], IfOk};
+ghost use Rattle.std.specs.Prelude.{◌≡◌, ◌++◌, ℕ, List, [], IfOk, OnOk};
 ghost use Rattle.sw_context.specs.Pairs.{find};
 ghost use Rattle.sw_frame.specs.Stream.{AreFramed};
+ghost use Rattle.sw_stats.specs.Tallies.{tallied};
 ghost use Rattle.cli_run.specs.Points.{above, last_id, response, responses, with_response};
 
 use crate::error::ServeError;
@@ -11,6 +12,7 @@ use std::collections::BTreeMap;
 use std::ops::Bound;
 use sw_context::Context;
 use sw_frame::{FrameError, frame};
+use sw_stats::Counts;
 
 // Adds the frame of the response that a context has, if it has one.
 fn add_frame(
@@ -47,6 +49,21 @@ pub(crate) fn text_above(
         add_frame(alloc, &mut text, *number, context)?;
     }
     Ok(text)
+}
+
+/// Counts the contexts of the transactions with ids above this one. Out of memory is the only error.
+pub(crate) fn count_above(
+    alloc: Global,
+    counts: &mut Counts,
+    ended: &BTreeMap<u64, Context>,
+    id: u64,
+) -> Result<(), ServeError>
+    ensures { OnOk result (counts.new ≡ tallied counts.old (above id ended.now.entries)) }
+{
+    for (_, context) in ended.range((Bound::Excluded(id), Bound::Unbounded)) {
+        counts.count(alloc, context)?;
+    }
+    Ok(())
 }
 
 /// The greatest id, if it is above this one.

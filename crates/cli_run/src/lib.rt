@@ -3,7 +3,8 @@
 //! [`run`] makes a plant of the switch's participants over a journal. It recovers what the journal has
 //! unfinished, then answers each request as it comes: its response is written and flushed once the last
 //! entry of its transaction is written. Behind the last request the shelf is released and drained, and the
-//! stored advices are sent to the issuers.
+//! stored advices are sent to the issuers. Where they are wanted, lines with the numbers of the run go to standard
+//! error.
 #![tactic(auto)]
 
 mod advices;
@@ -12,7 +13,9 @@ mod error;
 mod given;
 mod issuers;
 mod laws;
+mod progress;
 mod serving;
+mod stats;
 mod stream;
 mod switch;
 mod told;
@@ -22,4 +25,5 @@ pub use issuers::Issuers;
 pub use laws::runs_keep_the_law;
 pub use serving::{Setup, run};
 pub use stream::StreamEnd;
+pub use stats::Stats;
 pub use told::{Form, Told, write_lines};

@@ -17,6 +17,7 @@ ghost use Rattle.cli_run.specs.Ran.{Closes, Printed, Ran, ServesAll, all_lines, 
 ghost use Rattle.cli_run.specs.Rounds.{Recovers, Round, RoundsFor};
 ghost use Rattle.cli_run.specs.Requests.{ReadTo, requests};
 ghost use Rattle.cli_run.specs.Stopped.{DrainsSome, IsStopped, ServesSome};
+ghost use Rattle.cli_run.specs.Shown.{TellsAll};
 ghost use Rattle.cli_run.specs.Traces.{DrainsAll, Tells, log_of, passed_over};
 ghost use Rattle.cli_io.specs.Written.{AppendsBeginning};
 ghost use Rattle.cli_run.specs.declared.told.Form.TheVariants.{Text};
@@ -24,6 +25,7 @@ ghost use Rattle.cli_run.specs.declared.told.Form.TheVariants.{Text};
 use crate::advices::send_advices;
 use crate::error::ServeError;
 use crate::issuers::{Issuers, routes, sender_over};
+use crate::progress::Progress;
 use crate::stream::{Requests, StreamEnd};
 use crate::switch::{Switch, cause_of};
 use crate::told::{Told, write_lines};
@@ -34,6 +36,7 @@ use std::alloc::Global;
 use std::io::{Read, Write};
 use std::sync::Wait;
 use std::thread::Threads;
+use std::time::Clock;
 use sw_book::Book;
 use sw_issuers::{Issuer, Sender};
 use sw_participant::{Bystander, Station, Unjoined};
@@ -51,7 +54,7 @@ impl<S: Alter> Switch<S> {
         requires made { IsEngine self.old.plant.running.engine }
         ensures recovers { OnOk result ((f : Flow) (n : ℕ) (view : JournalView) (j : Seen)
             → IsMade f n view j (point_of S.Store self.old).plant
-            → self.old.answered ≡ view.next_id - 1
+            → self.old.answered.last ≡ view.next_id - 1
             → Recovers (point_of S.Store self.old) (point_of S.Store self.new)) }
     {
         self.plant.recover(alloc)?;
@@ -90,8 +93,9 @@ impl<S: Alter> Switch<S> {
 
     // Answers the requests of an input and what is on the shelf, and sends the stored advices, those of
     // transactions with ids below this one as repeats.
-    fn serve_to_end<L: Link, R: Read + Drop, O: Write, E: Write>(
+    fn serve_to_end<C: Clock, L: Link, R: Read + Drop, O: Write, E: Write>(
         &mut self,
+        rt: &C,
         alloc: Global,
         sender: &mut Sender<L>,
         first: u64,
@@ -115,7 +119,7 @@ impl<S: Alter> Switch<S> {
         self.cut_told(alloc, told)?;
         let mut input = input;
         let mut requests = Requests::new(alloc);
-        let end = requests.serve_all(alloc, self, &mut input, out, told)?;
+        let end = requests.serve_all(rt, alloc, self, &mut input, out, told)?;
         self.close(alloc, sender, first, out, told)?;
         Ok(end)
     }
@@ -146,8 +150,15 @@ impl<S: Alter> Switch<S> {
 
 impl<S: Alter + Drop> Switch<S> {
     // Answers the requests of an input in batches, each run by all sessions at once, then what is on the
-    // shelf, and sends the stored advices. The lines of the trace are told behind each batch, and at the end.
-    fn serve_together<T: Threads + Wait + Sync, L: Link, R: Read + Drop, O: Write, E: Write>(
+    // shelf, and sends the stored advices. The lines of the trace are told behind each batch, and at the end, the
+    // numbers of the run last.
+    fn serve_together<
+        T: Threads + Wait + Clock + Sync,
+        L: Link,
+        R: Read + Drop,
+        O: Write,
+        E: Write,
+    >(
         self,
         rt: &T,
         alloc: Global,
@@ -164,7 +175,7 @@ impl<S: Alter + Drop> Switch<S> {
             × (rounds : List Round) × RoundsFor true (requests frames) rounds
             × (all : ServesAll (SendsAdvice L.sends L.receives L.starves (Unit {0})) first rounds
             (point_of S.Store self) sender.old (O.contents out.old) (O.contents out.new))
-            × Tells (all_lines all) (passed_over frames)
+            × TellsAll (all_lines all) (passed_over frames) all.end
             (log_of E.contents told.old) (log_of E.contents told.new)) }
         ensures stops { OnErr result (ServesSome true (R.remaining input)
             (point_of S.Store self) (O.contents out.old) (O.contents out.new)) }
@@ -177,6 +188,7 @@ impl<S: Alter + Drop> Switch<S> {
         let (mut switch, end) = served;
         let closed = switch.close(alloc, sender, first, out, told);
         let traced = told.trace(alloc, switch.engine());
+        switch.show(rt, alloc, told);
         closed?;
         traced?;
         Ok(end)
@@ -247,7 +259,7 @@ impl<S: Alter + Drop, R: Read + Drop, L: Link> Drop for Over<S, R, L> {
 
 impl<S: Alter + Drop, R: Read + Drop, L: Link> Over<S, R, L> {
     // The run over the stations that were made (apart, so that its proof does not carry their making).
-    fn run<T: Threads + Wait + Sync, O: Write, E: Write>(
+    fn run<T: Threads + Wait + Clock + Sync, O: Write, E: Write>(
         self,
         rt: &T,
         alloc: Global,
@@ -262,7 +274,7 @@ impl<S: Alter + Drop, R: Read + Drop, L: Link> Over<S, R, L> {
             × (ran : Ran code.now self.sessions (seen (kept S.Store self.journal))
             (SendsAdvice L.sends L.receives L.starves (Unit {0})) self.sender rounds
             (O.contents out.old) (O.contents out.new))
-            × Tells (all_lines ran.serves) (passed_over frames)
+            × TellsAll (all_lines ran.serves) (passed_over frames) ran.serves.end
             (log_of E.contents told.old) (log_of E.contents told.new))) }
         ensures printed { OnOk result (IfNone self.input (Printed code.now self.sessions
             (seen (kept S.Store self.journal)) (O.contents out.old) (O.contents out.new))) }
@@ -283,10 +295,8 @@ impl<S: Alter + Drop, R: Read + Drop, L: Link> Over<S, R, L> {
             Err((error, _, _)) => return Err(cause_of(alloc, code, error)),
         };
         let first = plant.engine().opened().next_id;
-        let mut switch = Switch {
-            plant,
-            answered: first.saturating_sub(1),
-        };
+        let answered = Progress::begin(alloc, plant.engine(), first);
+        let mut switch = Switch { plant, answered };
         switch.recover(alloc)?;
         let Some(input) = input else {
             print(alloc, switch.engine(), out)?;
@@ -295,8 +305,10 @@ impl<S: Alter + Drop, R: Read + Drop, L: Link> Over<S, R, L> {
         if threads {
             return switch.serve_together(rt, alloc, &mut sender, first, input, out, told);
         }
-        let served = switch.serve_to_end(alloc, &mut sender, first, input, out, told);
-        end_of(served, told.trace(alloc, switch.engine()))
+        let served = switch.serve_to_end(rt, alloc, &mut sender, first, input, out, told);
+        let traced = told.trace(alloc, switch.engine());
+        switch.show(rt, alloc, told);
+        end_of(served, traced)
     }
 }
 
@@ -313,10 +325,19 @@ fn boxed<P: Unjoined>(alloc: Global, participant: P) -> Result<Box<Bystander<P>>
 /// With threads the requests are answered in batches of those that have come, at most 256 at once; the lines
 /// of the trace are written behind each batch. Those of a batch that was given up are lost.
 ///
+/// The numbers of the run, where `told` wants them, are told after each so many requests, with threads after a
+/// batch, and last.
+///
 /// Standard error that takes nothing is no error of the run: its result is as if all had been written there.
 ///
 /// The stations are made here; no caller has one of them.
-pub fn run<S: Alter + Drop, T: Threads + Wait + Sync, R: Read + Drop, O: Write, E: Write>(
+pub fn run<
+    S: Alter + Drop,
+    T: Threads + Wait + Clock + Sync,
+    R: Read + Drop,
+    O: Write,
+    E: Write,
+>(
     rt: &T,
     alloc: Global,
     code: &Code,
@@ -335,7 +356,7 @@ pub fn run<S: Alter + Drop, T: Threads + Wait + Sync, R: Read + Drop, O: Write, 
         (sender_of (⟦<Issuer as Link>⟧.state setup.advised.alpha)
         (⟦<Issuer as Link>⟧.state setup.advised.beta)) rounds
         (O.contents out.old) (O.contents out.new))
-        × Tells (all_lines ran.serves) (passed_over frames)
+        × TellsAll (all_lines ran.serves) (passed_over frames) ran.serves.end
         (log_of E.contents told.old) (log_of E.contents told.new))) }
     ensures printed { OnOk result (IfNone input (Printed code.now setup.sessions
         (seen (kept S.Store journal)) (O.contents out.old) (O.contents out.new))) }

@@ -23,6 +23,7 @@ use iso_codec::{DecodeError, decode};
 use sqlite::Alter;
 use std::alloc::Global;
 use std::io::{self, ErrorKind, Read, Write};
+use std::time::Clock;
 use sw_context::Context;
 use sw_frame::{FrameError, Framer};
 
@@ -108,8 +109,9 @@ pub(crate) fn request_in<E: Write>(
     }
 }
 
-// Answers a message, if it can be read.
-fn serve<S: Alter, O: Write, E: Write>(
+// Answers a message, if it can be read, and tells the numbers of the run where that is due.
+fn serve<S: Alter, C: Clock, O: Write, E: Write>(
+    rt: &C,
     alloc: Global,
     switch: &mut Switch<S>,
     number: u64,
@@ -127,14 +129,18 @@ fn serve<S: Alter, O: Write, E: Write>(
         (point_of S.Store switch.old) (O.contents out.old) (O.contents out.new)) }
     ensures ready { OnOk result (IsReady (point_of S.Store switch.new)) }
 {
-    match request_in(alloc, number, message, told)? {
-        Some(request) => switch.answer(alloc, request, told, out),
-        None => Ok(()),
-    }
+    let Some(request) = request_in(alloc, number, message, told)? else {
+        return Ok(());
+    };
+    let before = switch.answered.counts.requests();
+    switch.answer(alloc, request, told, out)?;
+    switch.show_since(rt, alloc, before, told);
+    Ok(())
 }
 
 // Answers messages, one after the other.
-fn serve_messages<S: Alter, O: Write, E: Write>(
+fn serve_messages<S: Alter, C: Clock, O: Write, E: Write>(
+    rt: &C,
     alloc: Global,
     switch: &mut Switch<S>,
     count: &mut u64,
@@ -153,7 +159,7 @@ fn serve_messages<S: Alter, O: Write, E: Write>(
 {
     for message in list {
         *count = count.saturating_add(1);
-        serve(alloc, switch, *count, message, out, told)?;
+        serve(rt, alloc, switch, *count, message, out, told)?;
     }
     Ok(())
 }
@@ -234,8 +240,9 @@ impl Requests {
 
     // Reads once, and answers the messages that are whole then; the lines of the trace are told before. It
     // tells how the stream ended, if it did.
-    fn serve_read<S: Alter, R: Read, O: Write, E: Write>(
+    fn serve_read<S: Alter, C: Clock, R: Read, O: Write, E: Write>(
         &mut self,
+        rt: &C,
         alloc: Global,
         switch: &mut Switch<S>,
         input: &mut R,
@@ -261,13 +268,14 @@ impl Requests {
     {
         switch.cut_told(alloc, told)?;
         let Piece { messages, end } = self.read(alloc, input, buf)?;
-        serve_messages(alloc, switch, &mut self.count, &messages, out, told)?;
+        serve_messages(rt, alloc, switch, &mut self.count, &messages, out, told)?;
         Ok(end)
     }
 
     /// Answers all messages of an input, as they come.
-    pub(crate) fn serve_all<S: Alter, R: Read, O: Write, E: Write>(
+    pub(crate) fn serve_all<S: Alter, C: Clock, R: Read, O: Write, E: Write>(
         &mut self,
+        rt: &C,
         alloc: Global,
         switch: &mut Switch<S>,
         input: &mut R,
@@ -288,7 +296,8 @@ impl Requests {
         let mut buf = vec![in alloc; 0u8; PIECE]?;
         // More reads than any run makes.
         for _ in 0..u64::MAX {
-            let end = self.serve_read(alloc, switch, input, buf.as_mut_slice(), out, told)?;
+            let buf = buf.as_mut_slice();
+            let end = self.serve_read(rt, alloc, switch, input, buf, out, told)?;
             if let Some(end) = end {
                 return Ok(end);
             }

@@ -15,7 +15,8 @@ ghost use Rattle.cli_run.specs.Stopped.{GivesSome, Halts};
 ghost use Rattle.cli_run.specs.Traces.{Cuts, IsLive, Reports, log_of};
 
 use crate::error::ServeError;
-use crate::given::{last_above, text_above};
+use crate::given::{count_above, last_above, text_above};
+use crate::progress::Progress;
 use crate::told::{Form, Told};
 use cli_io::write_out;
 use flow_asm::Code;
@@ -55,8 +56,8 @@ const MAX_STEPS: usize = 2_002;
 /// written, unless it is refused.
 pub(crate) struct Switch<S: Alter> {
     pub(crate) plant: Plant<S>,
-    /// The id of the last transaction whose response was given.
-    pub(crate) answered: u64,
+    /// Which responses were given, and what was counted.
+    pub(crate) answered: Progress,
 }
 
 impl<S: Alter + Drop> Drop for Switch<S> {
@@ -175,8 +176,8 @@ impl<S: Alter> Switch<S> {
         self.serve_next(alloc)
     }
 
-    /// Writes the responses that were not given, those of transactions that ended since. Then the contexts of
-    /// all that ended are let go, so that a long run keeps none of them.
+    /// Writes the responses that were not given, those of transactions that ended since, and counts them. Then
+    /// the contexts of all that ended are let go, so that a long run keeps none of them.
     pub(crate) fn give<O: Write>(&mut self, alloc: Global, out: &mut O) -> Result<(), ServeError>
         requires rests { RestsGiven (point_of S.Store self.old) }
         ensures gives { OnOk result ((text : List ℕ)
@@ -188,9 +189,11 @@ impl<S: Alter> Switch<S> {
             (O.contents out.old) (O.contents out.new)) }
         ensures rest { OnOk result (IsAtRest (point_of S.Store self.new)) }
     {
-        let text = text_above(alloc, self.plant.ended(), self.answered)?;
+        let last = self.answered.last;
+        let text = text_above(alloc, self.plant.ended(), last)?;
         write_out(out, &text)?;
-        self.answered = last_above(self.plant.ended(), self.answered);
+        count_above(alloc, &mut self.answered.counts, self.plant.ended(), last)?;
+        self.answered.last = last_above(self.plant.ended(), last);
         let _given = self.plant.take_ended(alloc);
         Ok(())
     }

@@ -11,6 +11,7 @@ ghost use Rattle.cli_run.specs.declared.told.Form.TheVariants.{Text};
 ghost use Rattle.cli_run.specs.Traces.{Tells, log_of, passed_line};
 
 use crate::error::ServeError;
+use crate::stats::Stats;
 use cli_io::{WriteError, write_whole};
 use iso_codec::DecodeError;
 use std::alloc::{AllocError, Global};
@@ -26,7 +27,7 @@ pub enum Form {
     Json,
 }
 
-/// Standard error, where messages that are passed over are told and the trace goes. Where a write fails
+/// Standard error, where messages that are passed over are told, and where the trace and the numbers go. Where a write fails
 /// the run goes on, and its result is as if all had been written.
 #[derive(Drop)]
 pub struct Told<'a, E> {
@@ -35,6 +36,10 @@ pub struct Told<'a, E> {
     pub trace: Option<Form>,
     /// Whether a write failed: what was told then is not written, or not all of it.
     pub lost: bool,
+    /// The lines of numbers that are wanted.
+    pub stats: Option<Stats>,
+    /// How many messages were passed over.
+    pub passed: u64,
 }
 
 // The line of a message that is passed over.
@@ -57,6 +62,7 @@ impl<'a, E: Write> Told<'a, E> {
     {
         let cause = format!(in alloc; "{error}")?;
         let line = passed_line(alloc, number, cause.as_str())?;
+        self.passed = self.passed.saturating_add(1);
         match write_whole(self.err, line.as_bytes()) {
             Ok(()) => Ok(()),
             Err(_) => {

@@ -46,6 +46,7 @@ use std::process::ExitCode;
 use std::str;
 use std::sync::Wait;
 use std::thread::Threads;
+use std::time::Clock;
 
 fn cut_of(word: &str) -> Result<Cut, TestError> {
     match word {
@@ -81,7 +82,7 @@ fn run_turned(rt: &HostRuntime, cut: Cut) -> Result<(), TestError> {
     open_each(alloc, sql, cut, &mut rt.stdout())
 }
 
-fn run_words<T: Threads + Wait + Sync>(
+fn run_words<T: Threads + Wait + Clock + Sync>(
     threads: &T,
     rt: &HostRuntime,
     words: &[String],

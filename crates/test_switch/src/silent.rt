@@ -9,6 +9,7 @@ use std::alloc::Global;
 use std::io::{Read, Write};
 use std::sync::Wait;
 use std::thread::Threads;
+use std::time::Clock;
 use sw_book::Book;
 use sw_issuers::Issuer;
 use tx_journal::Journal;
@@ -24,7 +25,7 @@ fn issuers(alloc: Global) -> Issuers {
     }
 }
 
-fn serve<S: Alter + Drop, T: Threads + Wait + Sync, R: Read + Drop, O: Write, E: Write>(
+fn serve<S: Alter + Drop, T: Threads + Wait + Clock + Sync, R: Read + Drop, O: Write, E: Write>(
     threads: &T,
     alloc: Global,
     code: &Code,
@@ -50,7 +51,7 @@ fn serve<S: Alter + Drop, T: Threads + Wait + Sync, R: Read + Drop, O: Write, E:
 }
 
 /// Answers the requests of the program's input, over the journal in this file.
-pub fn run_silent<T: Threads + Wait + Sync>(
+pub fn run_silent<T: Threads + Wait + Clock + Sync>(
     threads: &T,
     rt: &HostRuntime,
     flow: &str,
@@ -68,6 +69,8 @@ pub fn run_silent<T: Threads + Wait + Sync>(
         err: &mut rt.stderr(),
         trace: None,
         lost: false,
+        stats: None,
+        passed: 0,
     };
     match serve(
         threads,

@@ -6,7 +6,8 @@ use Rattle.cli_run.specs.Advices.{AdviceStep}
 use Rattle.cli_run.specs.Ran.{Ran, all_lines}
 use Rattle.cli_run.specs.Requests.{ReadTo, requests}
 use Rattle.cli_run.specs.Rounds.{Round, RoundsFor}
-use Rattle.cli_run.specs.Traces.{Log, Tells, passed_over}
+use Rattle.cli_run.specs.Shown.{TellsAll}
+use Rattle.cli_run.specs.Traces.{Log, passed_over}
 use Rattle.cli_run.specs.declared.error.ServeError.{ServeError}
 use Rattle.cli_run.specs.declared.stream.StreamEnd.{StreamEnd}
 use Rattle.std.proofs.KnownBytes.{Keeps-refl}
@@ -17,7 +18,7 @@ use Rattle.cli_run.proofs.serving.run.Goals as goal
 abbrev RanBy : {R : Type 0} → Result StreamEnd ServeError → Option R → (R → Option (List ℕ)) → Bool → Flow → ℕ → Seen → AdviceStep → Option (List ℕ) → Option (List ℕ) → Log → Log → PlainSender → Type 0
 RanBy r input remaining threads f n j step a b k l sender =
     IfOk r (λ end. IfSome input (λ reader. (frames : List (List ℕ)) × ReadTo end (remaining reader) frames × (rounds : List Round) × RoundsFor threads (requests frames) rounds
-    × (ran : Ran f n j step sender rounds a b) × Tells (all_lines ran.serves) (passed_over frames) k l))
+    × (ran : Ran f n j step sender rounds a b) × TellsAll (all_lines ran.serves) (passed_over frames) ran.serves.end k l))
 
 of_sender : {R : Type 0} (r : Result StreamEnd ServeError) (input : Option R) (remaining : R → Option (List ℕ)) (threads : Bool) (f : Flow) (n : ℕ) (j : Seen) (step : AdviceStep) (a b : Option (List ℕ)) (k l : Log) (s t : PlainSender)
     → s ≡ t → RanBy r input remaining threads f n j step a b k l s → RanBy r input remaining threads f n j step a b k l t

@@ -3,7 +3,8 @@ use Rattle.sw_context.specs.Pairs.{Pairs}
 use Rattle.cli_run.specs.Points.{Point}
 use Rattle.cli_run.specs.Rounds.{answering}
 use Rattle.cli_run.specs.Traces.{Log, Reports, Tells}
-use Rattle.cli_run.proofs.Rounds.{on_ok, reports_none, reports_passed}
+use Rattle.cli_run.proofs.Rounds.{reports_none, reports_passed}
+use Rattle.cli_run.proofs.Shown.{reports_shown}
 use Rattle.cli_run.proofs.Stops.{halts_none, on_err_of}
 use Rattle.cli_run.proofs.stream.serve.Goals as goal
 
@@ -15,12 +16,12 @@ served_message xs ys n p q a b k l o is passed s =
 pub returns-in_err-request-clause-halts : goal.returns-in_err-request-clause-halts
 returns-in_err-request-clause-halts g c = on_err_of c.from_residual.result (halts_none _ _ _)
 
-pub returns-in-Some-clause-serves : goal.returns-in-Some-clause-serves
-returns-in-Some-clause-serves g c =
-    let one = rw c.in-Some.is at c.in_ok-request.ensures.request in
-    on_ok c.answer.result (λ s. served_message _ (c.in-Some.request ∷ []) _ _ _ _ _ _ _ _ one c.in_ok-request.ensures.told s) c.answer.ensures.serves
+pub returns-in_default-clause-serves : goal.returns-in_default-clause-serves
+returns-in_default-clause-serves g c =
+    let none = rw c.in_default.is at c.in_ok-request_in.ensures.request in
+    served_message _ [] _ _ _ _ _ _ _ _ none c.in_ok-request_in.ensures.told (reports_none _ _ _)
 
-pub returns-in-None-clause-serves : goal.returns-in-None-clause-serves
-returns-in-None-clause-serves g c =
-    let none = rw c.in-None.is at c.in_ok-request.ensures.request in
-    served_message _ [] _ _ _ _ _ _ _ _ none c.in_ok-request.ensures.told (reports_none _ _ _)
+pub returns-clause-serves : goal.returns-clause-serves
+returns-clause-serves g c =
+    let one = rw c.in-Some.is at c.in_ok-request_in.ensures.request in
+    reports_shown _ _ _ _ _ _ _ _ _ _ _ _ (served_message _ (c.in-Some.request ∷ []) _ _ _ _ _ _ _ _ one c.in_ok-request_in.ensures.told c.in_ok-answer.ensures.serves) c.show_since.ensures

@@ -9,6 +9,7 @@ use Rattle.tx_plant.specs.Plant.{Whole, seen, whole}
 use Rattle.plant_outcome.specs.Lives.{IsMade}
 use Rattle.cli_run.specs.declared.told.Form.TheVariants.{Text}
 use Rattle.cli_run.specs.Lines.{lines_in, written_as}
+use Rattle.cli_run.specs.Numbers.{begun_in}
 use Rattle.cli_run.specs.Requests.{requests}
 use Rattle.cli_run.proofs.Batched.{for_these, some_for}
 use Rattle.cli_run.proofs.Rounds.{if_ok, none_none, some_ok}
@@ -24,8 +25,9 @@ returns-in_default-clause-printed g c =
     let view : JournalView = c.in-Ok.ensures.opened.0 in
     let is : IsMade c.args.code.now c.args.self.sessions view (seen (kept g.S.Store c.args.self.journal)) made = record { opened = c.in-Ok.ensures.opened.1; engine = c.in-Ok.ensures.engine } in
     let first : c.opened.result.now.next_id ≡ made.core.world.start.view.next_id = ap (λ (v : JournalView). v.next_id) (c.opened.ensures ∙ ap (λ (w : World). w.start.view) c.engine.ensures) in
+    let begins : c.begin-answered.result ≡ begun_in made.core.world c.opened.result.now.next_id = c.begin-answered.ensures ∙ ap (λ (w : World). begun_in w c.opened.result.now.next_id) c.engine-2.ensures in
     let prints = ap (λ (w : World). written_as Text (lines_in w)) c.engine-in_default.ensures in
-    none_none _ c.args.self.input c.in_default.is (printed c.args.code.now c.args.self.sessions view (seen (kept g.S.Store c.args.self.journal)) made c.opened.result.now.next_id c.saturating_sub.result _ _ _ is first c.saturating_sub.ensures c.in_ok-recover.ensures.recovers (subst (λ (l : List ℕ). Appends (g.O.Write.contents c.args.out.now) (g.O.Write.contents c.print.new.out) l) prints c.in_ok-print.ensures.lines))
+    none_none _ c.args.self.input c.in_default.is (printed c.args.code.now c.args.self.sessions view (seen (kept g.S.Store c.args.self.journal)) made c.opened.result.now.next_id c.begin-answered.result _ _ _ is first begins c.in_ok-recover.ensures.recovers (subst (λ (l : List ℕ). Appends (g.O.Write.contents c.args.out.now) (g.O.Write.contents c.print.new.out) l) prints c.in_ok-print.ensures.lines))
 
 pub serve_to_end-served-requires-clause-rest : goal.serve_to_end-served-requires-clause-rest
 serve_to_end-served-requires-clause-rest g c =
@@ -34,7 +36,8 @@ serve_to_end-served-requires-clause-rest g c =
     let view : JournalView = c.in-Ok.ensures.opened.0 in
     let is : IsMade c.args.code.now c.args.self.sessions view (seen (kept g.S.Store c.args.self.journal)) made = record { opened = c.in-Ok.ensures.opened.1; engine = c.in-Ok.ensures.engine } in
     let first : c.opened.result.now.next_id ≡ made.core.world.start.view.next_id = ap (λ (v : JournalView). v.next_id) (c.opened.ensures ∙ ap (λ (w : World). w.start.view) c.engine.ensures) in
-    (begun_recovers c.args.code.now c.args.self.sessions view (seen (kept g.S.Store c.args.self.journal)) made c.opened.result.now.next_id c.saturating_sub.result _ is first c.saturating_sub.ensures c.in_ok-recover.ensures.recovers).rest
+    let begins : c.begin-answered.result ≡ begun_in made.core.world c.opened.result.now.next_id = c.begin-answered.ensures ∙ ap (λ (w : World). begun_in w c.opened.result.now.next_id) c.engine-2.ensures in
+    (begun_recovers c.args.code.now c.args.self.sessions view (seen (kept g.S.Store c.args.self.journal)) made c.opened.result.now.next_id c.begin-answered.result _ is first begins c.in_ok-recover.ensures.recovers).rest
 
 pub serve_to_end-served-requires-clause-empty : goal.serve_to_end-served-requires-clause-empty
 serve_to_end-served-requires-clause-empty g c =
@@ -43,7 +46,8 @@ serve_to_end-served-requires-clause-empty g c =
     let view : JournalView = c.in-Ok.ensures.opened.0 in
     let is : IsMade c.args.code.now c.args.self.sessions view (seen (kept g.S.Store c.args.self.journal)) made = record { opened = c.in-Ok.ensures.opened.1; engine = c.in-Ok.ensures.engine } in
     let first : c.opened.result.now.next_id ≡ made.core.world.start.view.next_id = ap (λ (v : JournalView). v.next_id) (c.opened.ensures ∙ ap (λ (w : World). w.start.view) c.engine.ensures) in
-    (begun_recovers c.args.code.now c.args.self.sessions view (seen (kept g.S.Store c.args.self.journal)) made c.opened.result.now.next_id c.saturating_sub.result _ is first c.saturating_sub.ensures c.in_ok-recover.ensures.recovers).empty
+    let begins : c.begin-answered.result ≡ begun_in made.core.world c.opened.result.now.next_id = c.begin-answered.ensures ∙ ap (λ (w : World). begun_in w c.opened.result.now.next_id) c.engine-2.ensures in
+    (begun_recovers c.args.code.now c.args.self.sessions view (seen (kept g.S.Store c.args.self.journal)) made c.opened.result.now.next_id c.begin-answered.result _ is first begins c.in_ok-recover.ensures.recovers).empty
 
 pub serve_together-requires-clause-rest : goal.serve_together-requires-clause-rest
 serve_together-requires-clause-rest g c =
@@ -52,7 +56,8 @@ serve_together-requires-clause-rest g c =
     let view : JournalView = c.in-Ok.ensures.opened.0 in
     let is : IsMade c.args.code.now c.args.self.sessions view (seen (kept g.S.Store c.args.self.journal)) made = record { opened = c.in-Ok.ensures.opened.1; engine = c.in-Ok.ensures.engine } in
     let first : c.opened.result.now.next_id ≡ made.core.world.start.view.next_id = ap (λ (v : JournalView). v.next_id) (c.opened.ensures ∙ ap (λ (w : World). w.start.view) c.engine.ensures) in
-    λ κs within. (begun_recovers c.args.code.now c.args.self.sessions view (seen (kept g.S.Store c.args.self.journal)) made c.opened.result.now.next_id c.saturating_sub.result _ is first c.saturating_sub.ensures c.in_ok-recover.ensures.recovers).rest
+    let begins : c.begin-answered.result ≡ begun_in made.core.world c.opened.result.now.next_id = c.begin-answered.ensures ∙ ap (λ (w : World). begun_in w c.opened.result.now.next_id) c.engine-2.ensures in
+    λ κs within. (begun_recovers c.args.code.now c.args.self.sessions view (seen (kept g.S.Store c.args.self.journal)) made c.opened.result.now.next_id c.begin-answered.result _ is first begins c.in_ok-recover.ensures.recovers).rest
 
 pub serve_together-requires-clause-empty : goal.serve_together-requires-clause-empty
 serve_together-requires-clause-empty g c =
@@ -61,7 +66,8 @@ serve_together-requires-clause-empty g c =
     let view : JournalView = c.in-Ok.ensures.opened.0 in
     let is : IsMade c.args.code.now c.args.self.sessions view (seen (kept g.S.Store c.args.self.journal)) made = record { opened = c.in-Ok.ensures.opened.1; engine = c.in-Ok.ensures.engine } in
     let first : c.opened.result.now.next_id ≡ made.core.world.start.view.next_id = ap (λ (v : JournalView). v.next_id) (c.opened.ensures ∙ ap (λ (w : World). w.start.view) c.engine.ensures) in
-    λ κs within. (begun_recovers c.args.code.now c.args.self.sessions view (seen (kept g.S.Store c.args.self.journal)) made c.opened.result.now.next_id c.saturating_sub.result _ is first c.saturating_sub.ensures c.in_ok-recover.ensures.recovers).empty
+    let begins : c.begin-answered.result ≡ begun_in made.core.world c.opened.result.now.next_id = c.begin-answered.ensures ∙ ap (λ (w : World). begun_in w c.opened.result.now.next_id) c.engine-2.ensures in
+    λ κs within. (begun_recovers c.args.code.now c.args.self.sessions view (seen (kept g.S.Store c.args.self.journal)) made c.opened.result.now.next_id c.begin-answered.result _ is first begins c.in_ok-recover.ensures.recovers).empty
 
 pub returns-then-threads-clause-ran : goal.returns-then-threads-clause-ran
 returns-then-threads-clause-ran g c =
@@ -70,7 +76,8 @@ returns-then-threads-clause-ran g c =
     let view : JournalView = c.in-Ok.ensures.opened.0 in
     let is : IsMade c.args.code.now c.args.self.sessions view (seen (kept g.S.Store c.args.self.journal)) made = record { opened = c.in-Ok.ensures.opened.1; engine = c.in-Ok.ensures.engine } in
     let first : c.opened.result.now.next_id ≡ made.core.world.start.view.next_id = ap (λ (v : JournalView). v.next_id) (c.opened.ensures ∙ ap (λ (w : World). w.start.view) c.engine.ensures) in
-    if_ok c.serve_together.result (λ end served. some_ok _ c.args.self.input c.in-Some.input c.in-Some.is (let (done, told) = ran c.args.code.now c.args.self.sessions view (seen (kept g.S.Store c.args.self.journal)) made c.opened.result.now.next_id c.saturating_sub.result _ _ _ _ _ _ _ _ _ is first c.saturating_sub.ensures c.in_ok-recover.ensures.recovers (served.4, served.5) in
+    let begins : c.begin-answered.result ≡ begun_in made.core.world c.opened.result.now.next_id = c.begin-answered.ensures ∙ ap (λ (w : World). begun_in w c.opened.result.now.next_id) c.engine-2.ensures in
+    if_ok c.serve_together.result (λ end served. some_ok _ c.args.self.input c.in-Some.input c.in-Some.is (let (done, told) = ran c.args.code.now c.args.self.sessions view (seen (kept g.S.Store c.args.self.journal)) made c.opened.result.now.next_id c.begin-answered.result _ _ _ _ _ _ _ _ _ is first begins c.in_ok-recover.ensures.recovers (served.4, served.5) in
     (served.0, served.1, served.2, for_these c.args.self.threads true (requests served.0) served.2 c.if-threads.true served.3, done, told))) c.serve_together.ensures.serves
 
 pub returns-then-threads-clause-stopped : goal.returns-then-threads-clause-stopped
@@ -80,7 +87,8 @@ returns-then-threads-clause-stopped g c =
     let view : JournalView = c.in-Ok.ensures.opened.0 in
     let is : IsMade c.args.code.now c.args.self.sessions view (seen (kept g.S.Store c.args.self.journal)) made = record { opened = c.in-Ok.ensures.opened.1; engine = c.in-Ok.ensures.engine } in
     let first : c.opened.result.now.next_id ≡ made.core.world.start.view.next_id = ap (λ (v : JournalView). v.next_id) (c.opened.ensures ∙ ap (λ (w : World). w.start.view) c.engine.ensures) in
-    on_err c.serve_together.result (λ some. stopped_some c.args.self.threads g.R.Read.remaining c.args.self.input c.in-Some.input c.in-Some.is c.args.code.now c.args.self.sessions view (seen (kept g.S.Store c.args.self.journal)) made c.opened.result.now.next_id c.saturating_sub.result _ _ _ is first c.saturating_sub.ensures c.in_ok-recover.ensures.recovers (some_for c.args.self.threads true _ _ _ _ c.if-threads.true some)) c.serve_together.ensures.stops
+    let begins : c.begin-answered.result ≡ begun_in made.core.world c.opened.result.now.next_id = c.begin-answered.ensures ∙ ap (λ (w : World). begun_in w c.opened.result.now.next_id) c.engine-2.ensures in
+    on_err c.serve_together.result (λ some. stopped_some c.args.self.threads g.R.Read.remaining c.args.self.input c.in-Some.input c.in-Some.is c.args.code.now c.args.self.sessions view (seen (kept g.S.Store c.args.self.journal)) made c.opened.result.now.next_id c.begin-answered.result _ _ _ is first begins c.in_ok-recover.ensures.recovers (some_for c.args.self.threads true _ _ _ _ c.if-threads.true some)) c.serve_together.ensures.stops
 
 pub returns-clause-ran : goal.returns-clause-ran
 returns-clause-ran g c =
@@ -89,8 +97,9 @@ returns-clause-ran g c =
     let view : JournalView = c.in-Ok.ensures.opened.0 in
     let is : IsMade c.args.code.now c.args.self.sessions view (seen (kept g.S.Store c.args.self.journal)) made = record { opened = c.in-Ok.ensures.opened.1; engine = c.in-Ok.ensures.engine } in
     let first : c.opened.result.now.next_id ≡ made.core.world.start.view.next_id = ap (λ (v : JournalView). v.next_id) (c.opened.ensures ∙ ap (λ (w : World). w.start.view) c.engine.ensures) in
-    through_both c.serve_to_end-served.result c.trace.result c.end_of.result c.end_of.ensures.served c.end_of.ensures.traced c.serve_to_end-served.ensures.serves c.trace.ensures (λ end served left. some_ok _ c.args.self.input c.in-Some.input c.in-Some.is (let last = told_last _ _ _ _ _ _ _ _ _ _ _ _ _ served.4 served.5 c.engine-2.ensures served.6 left in
-    let (done, told) = ran c.args.code.now c.args.self.sessions view (seen (kept g.S.Store c.args.self.journal)) made c.opened.result.now.next_id c.saturating_sub.result _ _ _ _ _ _ _ _ _ is first c.saturating_sub.ensures c.in_ok-recover.ensures.recovers last in
+    let begins : c.begin-answered.result ≡ begun_in made.core.world c.opened.result.now.next_id = c.begin-answered.ensures ∙ ap (λ (w : World). begun_in w c.opened.result.now.next_id) c.engine-2.ensures in
+    through_both c.serve_to_end-served.result c.trace.result c.end_of.result c.end_of.ensures.served c.end_of.ensures.traced c.serve_to_end-served.ensures.serves c.trace.ensures (λ end served left. some_ok _ c.args.self.input c.in-Some.input c.in-Some.is (let last = told_last _ _ _ _ _ _ _ _ _ _ _ _ _ _ served.4 served.5 c.engine-3.ensures served.6 left c.show.ensures in
+    let (done, told) = ran c.args.code.now c.args.self.sessions view (seen (kept g.S.Store c.args.self.journal)) made c.opened.result.now.next_id c.begin-answered.result _ _ _ _ _ _ _ _ _ is first begins c.in_ok-recover.ensures.recovers last in
     (served.0, served.1, served.2, for_these c.args.self.threads false (requests served.0) served.2 c.if-threads.false served.3, done, told)))
 
 pub returns-in-Err-clause-stopped : goal.returns-in-Err-clause-stopped
@@ -106,8 +115,9 @@ returns-in_err-print-clause-stopped g c =
     let view : JournalView = c.in-Ok.ensures.opened.0 in
     let is : IsMade c.args.code.now c.args.self.sessions view (seen (kept g.S.Store c.args.self.journal)) made = record { opened = c.in-Ok.ensures.opened.1; engine = c.in-Ok.ensures.engine } in
     let first : c.opened.result.now.next_id ≡ made.core.world.start.view.next_id = ap (λ (v : JournalView). v.next_id) (c.opened.ensures ∙ ap (λ (w : World). w.start.view) c.engine.ensures) in
+    let begins : c.begin-answered.result ≡ begun_in made.core.world c.opened.result.now.next_id = c.begin-answered.ensures ∙ ap (λ (w : World). begun_in w c.opened.result.now.next_id) c.engine-2.ensures in
     let prints = ap (λ (w : World). written_as Text (lines_in w)) c.engine-in_default.ensures in
-    on_err_of c.from_residual-in_err-print.result (inr (stops_none c.args.self.threads g.R.Read.remaining c.args.self.input c.in_default.is (unprinted c.args.code.now c.args.self.sessions view (seen (kept g.S.Store c.args.self.journal)) made c.opened.result.now.next_id c.saturating_sub.result _ _ _ is first c.saturating_sub.ensures c.in_ok-recover.ensures.recovers (subst (λ (l : List ℕ). AppendsBeginning (g.O.Write.contents c.args.out.now) (g.O.Write.contents c.print.new.out) l) prints c.in_err-print.ensures.beginning))))
+    on_err_of c.from_residual-in_err-print.result (inr (stops_none c.args.self.threads g.R.Read.remaining c.args.self.input c.in_default.is (unprinted c.args.code.now c.args.self.sessions view (seen (kept g.S.Store c.args.self.journal)) made c.opened.result.now.next_id c.begin-answered.result _ _ _ is first begins c.in_ok-recover.ensures.recovers (subst (λ (l : List ℕ). AppendsBeginning (g.O.Write.contents c.args.out.now) (g.O.Write.contents c.print.new.out) l) prints c.in_err-print.ensures.beginning))))
 
 pub returns-clause-stopped : goal.returns-clause-stopped
 returns-clause-stopped g c =
@@ -116,6 +126,7 @@ returns-clause-stopped g c =
     let view : JournalView = c.in-Ok.ensures.opened.0 in
     let is : IsMade c.args.code.now c.args.self.sessions view (seen (kept g.S.Store c.args.self.journal)) made = record { opened = c.in-Ok.ensures.opened.1; engine = c.in-Ok.ensures.engine } in
     let first : c.opened.result.now.next_id ≡ made.core.world.start.view.next_id = ap (λ (v : JournalView). v.next_id) (c.opened.ensures ∙ ap (λ (w : World). w.start.view) c.engine.ensures) in
+    let begins : c.begin-answered.result ≡ begun_in made.core.world c.opened.result.now.next_id = c.begin-answered.ensures ∙ ap (λ (w : World). begun_in w c.opened.result.now.next_id) c.engine-2.ensures in
     either_way c.serve_to_end-served.result c.end_of.result c.serve_to_end-served.ensures.serves c.serve_to_end-served.ensures.stops
-    (λ end served. inr (stops_some c.args.self.threads g.R.Read.remaining c.args.self.input c.in-Some.input c.in-Some.is (stopped c.args.self.threads c.args.code.now c.args.self.sessions view (seen (kept g.S.Store c.args.self.journal)) made c.opened.result.now.next_id c.saturating_sub.result _ _ _ _ is first c.saturating_sub.ensures c.in_ok-recover.ensures.recovers (served_all c.args.self.threads _ _ _ _ _ _ _ end served.0 served.2 served.1 (for_these c.args.self.threads false (requests served.0) served.2 c.if-threads.false served.3) served.4))))
-    (λ some. stopped_some c.args.self.threads g.R.Read.remaining c.args.self.input c.in-Some.input c.in-Some.is c.args.code.now c.args.self.sessions view (seen (kept g.S.Store c.args.self.journal)) made c.opened.result.now.next_id c.saturating_sub.result _ _ _ is first c.saturating_sub.ensures c.in_ok-recover.ensures.recovers (some_for c.args.self.threads false _ _ _ _ c.if-threads.false some))
+    (λ end served. inr (stops_some c.args.self.threads g.R.Read.remaining c.args.self.input c.in-Some.input c.in-Some.is (stopped c.args.self.threads c.args.code.now c.args.self.sessions view (seen (kept g.S.Store c.args.self.journal)) made c.opened.result.now.next_id c.begin-answered.result _ _ _ _ is first begins c.in_ok-recover.ensures.recovers (served_all c.args.self.threads _ _ _ _ _ _ _ end served.0 served.2 served.1 (for_these c.args.self.threads false (requests served.0) served.2 c.if-threads.false served.3) served.4))))
+    (λ some. stopped_some c.args.self.threads g.R.Read.remaining c.args.self.input c.in-Some.input c.in-Some.is c.args.code.now c.args.self.sessions view (seen (kept g.S.Store c.args.self.journal)) made c.opened.result.now.next_id c.begin-answered.result _ _ _ is first begins c.in_ok-recover.ensures.recovers (some_for c.args.self.threads false _ _ _ _ c.if-threads.false some))

@@ -12,7 +12,7 @@ pub returns-clause-serves : goal.returns-clause-serves
 returns-clause-serves g c =
     let (frames, read, serves) = c.in_ok-served.ensures.serves in
     let (all, end, tells) = all_served _ _ true frames _ _ _ _ _ _ _ _ _ _ _ _ _ c.in_ok-cut_told.ensures.cuts c.in_ok-cut_told.ensures.ready serves c.in_ok-closed.ensures.closes in
-    let (whole, told) = told_last _ _ _ _ _ _ _ _ _ _ _ _ _ all end c.engine.ensures tells c.in_ok-traced.ensures in
+    let (whole, told) = told_last _ _ _ _ _ _ _ _ _ _ _ _ _ _ all end c.engine.ensures tells c.in_ok-traced.ensures c.show.ensures in
     (frames, read, serves.rounds, serves.answers, whole, told)
 
 pub returns-in_err-served-clause-stops : goal.returns-in_err-served-clause-stops

@@ -1,0 +1,117 @@
+-- Lines of a run's numbers among what is told.
+-- for: stats::Told, stats::Switch, stream::serve, batches::answer_batches
+use Rattle.std.proofs.Common.{◌≡◌, ◌<◌, ℕ, ◌+◌, ◌^◌, Bool, true, false, List, [], ◌∷◌, ◌++◌, Option, refl, sym, ap, subst, ◌∙◌, add-zero, append-nil}
+use Rattle.std.specs.Io.KnownBytes.{Appends}
+use Rattle.cli_io.specs.Written.{AppendsBeginning}
+use Rattle.cli_io.proofs.Writing.{beginning_all, beginning_none}
+use Rattle.std.proofs.KnownBytes.{Appends-nil}
+use Rattle.sw_stats.specs.Line.{Numbers, stats_line}
+use Rattle.cli_run.specs.Points.{Point}
+use Rattle.cli_run.specs.Rounds.{Round}
+use Rattle.cli_run.specs.declared.told.Form.{Form}
+use Rattle.cli_run.specs.Lines.{Line}
+use Rattle.cli_run.specs.Shown.{Shows, ShowsIf, ShowsSince, if_shown, is_due}
+use Rattle.cli_run.specs.Traces.{Adds, AddsSome, Counted, Log, Reports, Tells}
+use Rattle.sw_context.specs.Pairs.{Pairs}
+use Rattle.cli_run.proofs.Batched.{AnswersAll}
+use Rattle.cli_run.proofs.Tracing.{lines_then, none_wanted, tells_none, true_not_false}
+
+-- one line
+
+shown_adds : (s : Bool) (n : Numbers) (time : ℕ) (a b : Option (List ℕ)) → Appends a b (if_shown s (stats_line n time)) → Adds s [] 0 a b
+shown_adds true n time a b written = record {
+  pieces = Counted n time ∷ [];
+  traced = refl;
+  count = refl;
+  quiet = λ not. true_not_false true refl not;
+  written = subst (Appends a b) (sym (append-nil (stats_line n time))) written;
+}
+shown_adds false n time a b written = record { pieces = []; traced = refl; count = refl; quiet = λ not. refl; written = written }
+
+shown_some : (s : Bool) (n : Numbers) (time : ℕ) (a b : Option (List ℕ)) → AppendsBeginning a b (if_shown s (stats_line n time)) → AddsSome s [] 0 a b
+shown_some true n time a b (first, rest, is, written) = record {
+  pieces = Counted n time ∷ [];
+  traced = refl;
+  count = refl;
+  quiet = λ not. true_not_false true refl not;
+  text = first;
+  begun = (first, rest, [], is, refl, sym (append-nil first));
+  written = written;
+}
+shown_some false n time a b (first, rest, is, written) = record {
+  pieces = [];
+  traced = refl;
+  count = refl;
+  quiet = λ not. refl;
+  text = first;
+  begun = nothing first rest is;
+  written = written;
+} where
+  nothing : (xs ys : List ℕ) → [] ≡ xs ++ ys → xs ≡ []
+  nothing [] ys none = refl
+  nothing (x ∷ xs) ys none = cc
+
+-- it tells no line of the trace, and passes no message over
+pub shown_tells : (n : Numbers) (a b : Log) → Shows n a b → Tells [] 0 a b
+shown_tells n a b s = record {
+  wanted = s.wanted;
+  stats = s.stats;
+  count = λ small. s.passed ∙ sym (add-zero a.passed);
+  before = s.before;
+  adds = λ h. subst (λ (l : List ℕ). Adds a.stats l 0 a.text b.text) (sym (none_wanted a.wanted)) (shown_adds a.stats n s.milliseconds a.text b.text (s.adds h));
+  some = subst (λ (l : List ℕ). AddsSome a.stats l 0 a.text b.text) (sym (none_wanted a.wanted)) (shown_some a.stats n s.milliseconds a.text b.text s.some);
+}
+
+since_tells : (due : Bool) (n : Numbers) (a b : Log) → ShowsIf due n a b → Tells [] 0 a b
+since_tells true n a b s = shown_tells n a b s
+since_tells false n a b same = subst (λ (l : Log). Tells [] 0 a l) (sym same) (tells_none a)
+
+-- after rounds
+pub reports_shown : (rounds : List Round) (k : ℕ) (every : Option ℕ) (before : ℕ) (n : Numbers) (p q : Point) (a b : Option (List ℕ)) (x y z : Log) → Reports rounds k p a x q b y → ShowsSince every before n y z → Reports rounds k p a x q b z
+reports_shown rounds k every before n p q a b x y z r s = record {
+  serves = r.serves;
+  tells = subst (λ (l : List Line). Tells l k x z) (append-nil r.serves.lines) (lines_then r.serves.lines [] k x y z r.tells (since_tells (is_due every before n.tally.requests) n y z s));
+}
+
+-- after a batch
+pub batch_shown : (xs : List Pairs) (every : Option ℕ) (before : ℕ) (n : Numbers) (p q : Point) (a b : Option (List ℕ)) (x y z : Log) → AnswersAll xs p a x q b y → ShowsSince every before n y z → AnswersAll xs p a x q b z
+batch_shown xs every before n p q a b x y z (rounds, answers, reports) s = (rounds, answers, reports_shown rounds 0 every before n p q a b x y z reports s)
+
+-- what a write tells
+
+pub not_shown : (n : Numbers) (w : Option Form) (s l : Bool) (k : ℕ) (t : Option (List ℕ)) → s ≡ false → Shows n (record { wanted = w; stats = s; passed = k; lost = l; text = t }) (record { wanted = w; stats = s; passed = k; lost = l; text = t })
+not_shown n w s l k t not = record {
+  milliseconds = 0;
+  wanted = refl;
+  stats = refl;
+  passed = refl;
+  before = λ h. h;
+  adds = λ h. subst (λ (b : Bool). Appends t t (if_shown b (stats_line n 0))) (sym not) (Appends-nil t);
+  some = subst (λ (b : Bool). AppendsBeginning t t (if_shown b (stats_line n 0))) (sym not) (beginning_none t []);
+}
+
+pub shown_whole : (n : Numbers) (time : ℕ) (line : List ℕ) (w : Option Form) (s l : Bool) (k : ℕ) (t u : Option (List ℕ)) → s ≡ true → line ≡ stats_line n time → Appends t u line
+    → Shows n (record { wanted = w; stats = s; passed = k; lost = l; text = t }) (record { wanted = w; stats = s; passed = k; lost = l; text = u })
+shown_whole n time line w s l k t u is same written =
+    let all : Appends t u (if_shown s (stats_line n time)) = subst (λ (b : Bool). Appends t u (if_shown b (stats_line n time))) (sym is) (subst (Appends t u) same written) in
+    record {
+      milliseconds = time;
+      wanted = refl;
+      stats = refl;
+      passed = refl;
+      before = λ h. h;
+      adds = λ h. all;
+      some = beginning_all t u (if_shown s (stats_line n time)) all;
+    }
+
+pub shown_part : (n : Numbers) (time : ℕ) (line : List ℕ) (w : Option Form) (s l o : Bool) (k : ℕ) (t u : Option (List ℕ)) → s ≡ true → o ≡ true → line ≡ stats_line n time → AppendsBeginning t u line
+    → Shows n (record { wanted = w; stats = s; passed = k; lost = l; text = t }) (record { wanted = w; stats = s; passed = k; lost = o; text = u })
+shown_part n time line w s l o k t u is lost same written = record {
+  milliseconds = time;
+  wanted = refl;
+  stats = refl;
+  passed = refl;
+  before = λ h. true_not_false o lost h;
+  adds = λ h. true_not_false o lost h;
+  some = subst (λ (b : Bool). AppendsBeginning t u (if_shown b (stats_line n time))) (sym is) (subst (AppendsBeginning t u) same written);
+}

@@ -1,0 +1,128 @@
+//! The lines of a run's numbers.
+
+ghost use Rattle.std.specs.Prelude.{◌≡◌};
+ghost use Rattle.cli_run.specs.Numbers.{given_since, numbers_at};
+ghost use Rattle.cli_run.specs.Points.{point_of};
+ghost use Rattle.cli_run.specs.Shown.{Shows, ShowsSince, every_of, is_due};
+ghost use Rattle.cli_run.specs.Traces.{log_of};
+
+use crate::switch::Switch;
+use crate::told::Told;
+use cli_io::write_whole;
+use sqlite::Alter;
+use std::alloc::Global;
+use std::io::Write;
+use std::time::{Clock, Instant};
+use sw_stats::{Beside, Counts};
+
+/// Which lines of numbers a run tells: one at its end, and more where `every` is given.
+#[derive(Clone, Copy)]
+pub struct Stats {
+    /// After how many requests a line is told too.
+    pub every: Option<u64>,
+    /// When the run began; `None` where the clock could not be read, and then the lines say 0 seconds.
+    pub started: Option<Instant>,
+}
+
+impl Stats {
+    /// Of a run that begins now.
+    pub fn begin<C: Clock>(rt: &C, every: Option<u64>) -> Stats
+        ensures { result.every ≡ every }
+    {
+        Stats {
+            every,
+            started: Instant::now(rt).ok(),
+        }
+    }
+
+    // The time since the run began.
+    fn milliseconds<C: Clock>(&self, rt: &C) -> u64 {
+        let Some(started) = self.started else {
+            return 0;
+        };
+        match started.elapsed(rt) {
+            Ok(time) => {
+                let whole = time.as_secs().saturating_mul(1_000);
+                whole.saturating_add(time.subsec_millis() as u64)
+            }
+            Err(_) => 0,
+        }
+    }
+}
+
+impl<'a, E: Write> Told<'a, E> {
+    // Whether a line is due after so many requests, where so many were answered before.
+    fn is_due(&self, before: u64, now: u64) -> bool
+        ensures { result ≡ is_due (every_of self.now.stats) before now }
+    {
+        match self.stats {
+            Some(Stats {
+                every: Some(every),
+                ..
+            }) => every > 0 && before / every < now / every,
+            _ => false,
+        }
+    }
+
+    // Tells the numbers of a run, where they are wanted. Where memory is refused the line is lost, as where
+    // a write fails.
+    fn show<C: Clock>(&mut self, rt: &C, alloc: Global, counts: &Counts, stored: u64)
+        ensures { Shows
+            (record { tally = counts.now; passed = self.old.passed; stored = stored })
+            (log_of E.contents self.old) (log_of E.contents self.new) }
+    {
+        let Some(stats) = self.stats else {
+            return;
+        };
+        let beside = Beside {
+            passed: self.passed,
+            stored,
+            milliseconds: stats.milliseconds(rt),
+        };
+        let Ok(line) = counts.line(alloc, beside) else {
+            self.lost = true;
+            return;
+        };
+        match write_whole(self.err, &line) {
+            Ok(()) => {}
+            Err(_) => self.lost = true,
+        }
+    }
+}
+
+impl<S: Alter> Switch<S> {
+    // How many advices members gave since the run began.
+    fn given_since(&self) -> u64
+        ensures { result ≡ given_since (point_of S.Store self.now) }
+    {
+        let stored = self.engine().advices().len() as u64;
+        let all = stored.saturating_add(self.answered.counts.delivered());
+        all.saturating_sub(self.answered.found)
+    }
+
+    /// Tells the numbers of the run so far, where they are wanted. Where standard error takes nothing, or memory
+    /// is refused, the line is lost, and nothing else changes.
+    pub(crate) fn show<C: Clock, E: Write>(&self, rt: &C, alloc: Global, told: &mut Told<'_, E>)
+        ensures { Shows (numbers_at (point_of S.Store self.now) told.old.passed)
+            (log_of E.contents told.old) (log_of E.contents told.new) }
+    {
+        told.show(rt, alloc, &self.answered.counts, self.given_since());
+    }
+
+    /// Tells them where a line is due, since so many requests were answered.
+    pub(crate) fn show_since<C: Clock, E: Write>(
+        &self,
+        rt: &C,
+        alloc: Global,
+        before: u64,
+        told: &mut Told<'_, E>,
+    )
+        ensures { ShowsSince (every_of told.old.stats) before
+            (numbers_at (point_of S.Store self.now) told.old.passed)
+            (log_of E.contents told.old) (log_of E.contents told.new) }
+    {
+        if told.is_due(before, self.answered.counts.requests()) {
+            self.show(rt, alloc, told);
+        }
+    }
+}
