@@ -56,10 +56,12 @@ impl<'a, E: Write> Told<'a, E> {
         ensures { result ≡ is_due (every_of self.now.stats) before now }
     {
         match self.stats {
-            Some(Stats {
-                every: Some(every),
-                ..
-            }) => every > 0 && before / every < now / every,
+            Some(
+                Stats {
+                    every: Some(every),
+                    ..
+                },
+            ) => every > 0 && before / every < now / every,
             _ => false,
         }
     }
