@@ -1,2 +1,2 @@
-mod Entries
 mod Items
+mod Listed

@@ -1,5 +1,5 @@
 use Rattle.cli_journal.specs.Entries.{entry_text}
-use Rattle.cli_journal.proofs.Entries.{entry_more}
+use Rattle.cli_journal.proofs.Listed.{entry_more}
 use Rattle.cli_journal.proofs.entries.push_entries.Goals as goal
 
 pub loop-index-preserved : goal.loop-index-preserved

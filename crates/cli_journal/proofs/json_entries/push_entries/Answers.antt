@@ -1,5 +1,5 @@
 use Rattle.cli_journal.specs.Json.{entry_line}
-use Rattle.cli_journal.proofs.Entries.{entry_more}
+use Rattle.cli_journal.proofs.Listed.{entry_more}
 use Rattle.cli_journal.proofs.json_entries.push_entries.Goals as goal
 
 pub loop-index-preserved : goal.loop-index-preserved
