@@ -17,3 +17,4 @@ mod Below
 mod Reporting
 mod Batched
 mod Shown
+mod Counting

@@ -1,13 +1,10 @@
 -- Advices sent one after the other.
 -- for: advices::send_advice, advices::send_advices
-use Rattle.std.proofs.Common.{◌≡◌, ◌<◌, ◌≤◌, ℕ, ◌+◌, Bool, true, List, [], ◌∷◌, ◌++◌, length, map, take, get_or, refl, sym, ap, subst, ◌∙◌}
+use Rattle.std.proofs.Common.{◌≡◌, ◌<◌, ◌≤◌, ℕ, ◌+◌, Bool, List, [], ◌∷◌, ◌++◌, length, map, take, get_or, refl, sym, ap, subst, ◌∙◌}
 use Rattle.std.proofs.lemmas.List.{map-append, take_all, take_more}
 use Rattle.sw_issuers.specs.Sending.{PlainSender}
 use Rattle.cli_run.specs.Points.{Point}
-use Rattle.tx_plant.specs.declared.turn.Outcome.{Outcome}
-use Rattle.tx_plant.specs.declared.turn.Turn.TheVariants as turn
-use Rattle.cli_run.specs.Advices.{Acks, AdviceStep, Sends, SendsAll, one_delivered}
-use Rattle.cli_run.specs.Rounds.{Does}
+use Rattle.cli_run.specs.Advices.{AdviceStep, Sends, SendsAll}
 use Rattle.cli_run.specs.Stored.{plain}
 use Rattle.cli_run.specs.declared.advices.Stored.{Stored}
 
@@ -28,11 +25,3 @@ pub sends_whole : (step : AdviceStep) (is_old : ℕ → Bool) (items : List Stor
 sends_whole step is_old items n bs s t p q le are h =
     let all : map plain (take n items) ≡ bs = ap (map plain) (take_all n items le) ∙ are in
     subst (λ (l : List ((ℕ × ℕ) × List ℕ)). SendsAll step is_old l s p t q) all h
-
--- an advice that was accepted
-pub sent_one : (step : AdviceStep) (is_old : ℕ → Bool) (a : (ℕ × ℕ) × List ℕ) (s t : PlainSender) (p w q : Point) (o : Outcome) (accepted : Bool) → accepted ≡ true → step a.1 (is_old a.0.0) s accepted t → Does (turn.Ack a.0.0 a.0.1) o p w → q ≡ one_delivered w → Sends step is_old a s p t q
-sent_one step is_old a s t p w q o accepted yes sent does same = record {
-  accepted = accepted;
-  sent = sent;
-  acks = subst (λ (b : Bool). Acks b a.0 p q) (sym yes) (o, w, does, same);
-}

@@ -10,11 +10,11 @@ use Rattle.cli_run.specs.Points.{Point}
 use Rattle.cli_run.specs.Rounds.{Round}
 use Rattle.cli_run.specs.declared.told.Form.{Form}
 use Rattle.cli_run.specs.Lines.{Line}
-use Rattle.cli_run.specs.Shown.{Shows, ShowsIf, ShowsSince, if_shown, is_due}
+use Rattle.cli_run.specs.Shown.{Shows, if_shown}
 use Rattle.cli_run.specs.Traces.{Adds, AddsSome, Counted, Log, Reports, Tells}
 use Rattle.sw_context.specs.Pairs.{Pairs}
 use Rattle.cli_run.proofs.Batched.{AnswersAll}
-use Rattle.cli_run.proofs.Tracing.{lines_then, none_wanted, tells_none, true_not_false}
+use Rattle.cli_run.proofs.Tracing.{lines_then, none_wanted, true_not_false}
 
 -- one line
 
@@ -62,20 +62,16 @@ shown_tells n a b s = record {
   some = subst (λ (l : List ℕ). AddsSome a.stats l 0 a.text b.text) (sym (none_wanted a.wanted)) (shown_some a.stats n s.milliseconds a.text b.text s.some);
 }
 
-since_tells : (due : Bool) (n : Numbers) (a b : Log) → ShowsIf due n a b → Tells [] 0 a b
-since_tells true n a b s = shown_tells n a b s
-since_tells false n a b same = subst (λ (l : Log). Tells [] 0 a l) (sym same) (tells_none a)
-
 -- after rounds
-pub reports_shown : (rounds : List Round) (k : ℕ) (every : Option ℕ) (before : ℕ) (n : Numbers) (p q : Point) (a b : Option (List ℕ)) (x y z : Log) → Reports rounds k p a x q b y → ShowsSince every before n y z → Reports rounds k p a x q b z
-reports_shown rounds k every before n p q a b x y z r s = record {
+pub reports_shown : (rounds : List Round) (k : ℕ) (p q : Point) (a b : Option (List ℕ)) (x y z : Log) → Reports rounds k p a x q b y → Tells [] 0 y z → Reports rounds k p a x q b z
+reports_shown rounds k p q a b x y z r s = record {
   serves = r.serves;
-  tells = subst (λ (l : List Line). Tells l k x z) (append-nil r.serves.lines) (lines_then r.serves.lines [] k x y z r.tells (since_tells (is_due every before n.tally.requests) n y z s));
+  tells = subst (λ (l : List Line). Tells l k x z) (append-nil r.serves.lines) (lines_then r.serves.lines [] k x y z r.tells s);
 }
 
 -- after a batch
-pub batch_shown : (xs : List Pairs) (every : Option ℕ) (before : ℕ) (n : Numbers) (p q : Point) (a b : Option (List ℕ)) (x y z : Log) → AnswersAll xs p a x q b y → ShowsSince every before n y z → AnswersAll xs p a x q b z
-batch_shown xs every before n p q a b x y z (rounds, answers, reports) s = (rounds, answers, reports_shown rounds 0 every before n p q a b x y z reports s)
+pub batch_shown : (xs : List Pairs) (p q : Point) (a b : Option (List ℕ)) (x y z : Log) → AnswersAll xs p a x q b y → Tells [] 0 y z → AnswersAll xs p a x q b z
+batch_shown xs p q a b x y z (rounds, answers, reports) s = (rounds, answers, reports_shown rounds 0 p q a b x y z reports s)
 
 -- what a write tells
 

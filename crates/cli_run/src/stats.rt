@@ -1,10 +1,10 @@
 //! The lines of a run's numbers.
 
-ghost use Rattle.std.specs.Prelude.{◌≡◌};
+ghost use Rattle.std.specs.Prelude.{◌≡◌, []};
 ghost use Rattle.cli_run.specs.Numbers.{given_since, numbers_at};
 ghost use Rattle.cli_run.specs.Points.{point_of};
 ghost use Rattle.cli_run.specs.Shown.{Shows, ShowsSince, every_of, is_due};
-ghost use Rattle.cli_run.specs.Traces.{log_of};
+ghost use Rattle.cli_run.specs.Traces.{Tells, log_of};
 
 use crate::switch::Switch;
 use crate::told::Told;
@@ -112,6 +112,7 @@ impl<S: Alter> Switch<S> {
     }
 
     /// Tells them where a line is due, since so many requests were answered.
+    #[tactic(auto, using(crate::proofs::Shown::shown_tells, crate::proofs::Tracing::tells_none))]
     pub(crate) fn show_since<C: Clock, E: Write>(
         &self,
         rt: &C,
@@ -119,9 +120,10 @@ impl<S: Alter> Switch<S> {
         before: u64,
         told: &mut Told<'_, E>,
     )
-        ensures { ShowsSince (every_of told.old.stats) before
+        ensures since { ShowsSince (every_of told.old.stats) before
             (numbers_at (point_of S.Store self.now) told.old.passed)
             (log_of E.contents told.old) (log_of E.contents told.new) }
+        ensures tells { Tells [] 0 (log_of E.contents told.old) (log_of E.contents told.new) }
     {
         if told.is_due(before, self.answered.counts.requests()) {
             self.show(rt, alloc, told);

@@ -38,7 +38,7 @@ returns-in-Some g c =
 pub loop-preserved : goal.loop-preserved
 loop-preserved g c =
     let (more, adds, serves, ends) = c.in_ok-end.ensures.serves in
-    let len : length c.as_mut_slice.result.now ≡ c.loop.buf.len = c.as_mut_slice.ensures.len in
+    let len : length c.as_mut_slice-buf.result.now ≡ c.loop.buf.len = c.as_mut_slice-buf.ensures.len in
     let some : 0 < c.loop.buf.len = omega (arith, c.loop.invariant.room, c.loop.buf.ok.0) in
     let le : c.loop.buf.len ≤ length c.serve_read.new.buf = omega (arith, len, c.in_ok-end.ensures.room) in
     let room = still_room c.loop.buf.len c.serve_read.new.buf (drop (length c.serve_read.new.buf) c.loop.buf.items) some le in
