@@ -7,4 +7,4 @@ use Rattle.cli_run.proofs.told.next_line.Goals as goal
 pub returns-in-Some-clause-line : goal.returns-in-Some-clause-line
 returns-in-Some-clause-line c =
     rw c.in-Text.is (ap (λ (v : Vec ℕ). Some v.items) c.into_bytes.ensures.value
-    ∙ (sym (ap (option_map (λ (s : String Global). string_bytes s)) c.in-Some.is) ∙ c.in_ok-next.ensures.line))
+    ∙ (sym (ap (option_map (λ (s : String Global). string_bytes s)) c.in-Some.is) ∙ c.in_ok-line-in-Text.ensures.line))
