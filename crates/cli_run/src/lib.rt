@@ -24,6 +24,6 @@ pub use error::ServeError;
 pub use issuers::Issuers;
 pub use laws::runs_keep_the_law;
 pub use serving::{Setup, run};
-pub use stream::StreamEnd;
 pub use stats::Stats;
+pub use stream::StreamEnd;
 pub use told::{Told, write_lines};

@@ -330,13 +330,7 @@ fn boxed<P: Unjoined>(alloc: Global, participant: P) -> Result<Box<Bystander<P>>
 /// Standard error that takes nothing is no error of the run: its result is as if all had been written there.
 ///
 /// The stations are made here; no caller has one of them.
-pub fn run<
-    S: Alter + Drop,
-    T: Threads + Wait + Clock + Sync,
-    R: Read + Drop,
-    O: Write,
-    E: Write,
->(
+pub fn run<S: Alter + Drop, T: Threads + Wait + Clock + Sync, R: Read + Drop, O: Write, E: Write>(
     rt: &T,
     alloc: Global,
     code: &Code,

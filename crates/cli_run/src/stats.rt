@@ -56,10 +56,12 @@ impl<'a, E: Write> Told<'a, E> {
         ensures { result ≡ is_due (every_of self.now.stats) before now }
     {
         match self.stats {
-            Some(Stats {
-                every: Some(every),
-                ..
-            }) => every > 0 && before / every < now / every,
+            Some(
+                Stats {
+                    every: Some(every),
+                    ..
+                },
+            ) => every > 0 && before / every < now / every,
             _ => false,
         }
     }
@@ -110,7 +112,7 @@ impl<S: Alter> Switch<S> {
     }
 
     /// Tells them where a line is due, since so many requests were answered.
-    #[tactic(auto, using(crate::proofs::Shown::shown_tells, crate::proofs::Tracing::tells_none))]
+    #[tactic(auto, using(crate::proofs::Tracing::tells_none))]
     pub(crate) fn show_since<C: Clock, E: Write>(
         &self,
         rt: &C,
