@@ -112,7 +112,7 @@ impl<S: Alter> Switch<S> {
     }
 
     /// Tells them where a line is due, since so many requests were answered.
-    #[tactic(auto, using(crate::proofs::Shown::shown_tells, crate::proofs::Tracing::tells_none))]
+    #[tactic(auto, using(crate::proofs::Tracing::tells_none))]
     pub(crate) fn show_since<C: Clock, E: Write>(
         &self,
         rt: &C,
