@@ -30,14 +30,13 @@ use Rattle.cli_step.proofs.Adding.{on_err, on_ok}
 use Rattle.cli_step.proofs.Joining.{Known, if_some}
 use Rattle.cli_step.specs.Doing.{Point}
 use Rattle.cli_step.specs.Errors.{at_line, error_of_read, error_of_write}
-use Rattle.cli_step.specs.Prompts.{Answers, AnswersBy, AreFirst, HasBadSessions, HeadAnswers, HeadPrompted, HeadTalks, Heading, IsFaultOf, IsHeadLine, IsHeadLineBy, IsLeft, IsPrompted, IsRunOrTold, IsScriptHeadLine, IsTold, IsUnopened, OpenedAt, OpenedOver, Prompted, Scene, Talked, TalkedOver, Talks, heading, is_of_sessions, scene}
+use Rattle.cli_step.specs.Prompts.{Answers, AnswersBy, AreFirst, HasBadSessions, HeadAnswers, HeadPrompted, HeadTalks, Heading, IsFaultOf, IsHeadLine, IsHeadLineBy, IsLeft, IsPrompted, IsRunOrTold, IsTold, IsUnopened, OpenedAt, OpenedOver, Prompted, Scene, Talked, TalkedOver, Talks, heading, is_of_sessions, scene}
 use Rattle.cli_step.specs.PromptWords.{prompt_word_of}
 use Rattle.cli_step.specs.Runs.{Begun, Grows, IsLineFailed, IsOfJournal, IsWriting, Means, RunsLine}
 use Rattle.cli_step.specs.declared.error.ActionError.{ActionError}
 use Rattle.cli_step.specs.declared.error.ActionError.TheVariants as act
 use Rattle.cli_step.specs.declared.error.StepError.{StepError}
 use Rattle.cli_step.specs.declared.opening.HeadLine.{HeadLine}
-use Rattle.cli_step.specs.declared.opening.HeadLine.TheVariants as head
 use Rattle.cli_step.specs.declared.prompt_words.PromptWord.{PromptWord}
 use Rattle.cli_step.specs.declared.error.StepError.TheVariants as error
 
@@ -359,8 +358,3 @@ pub not_for_settings : (file flow : Option Flow) (settings : List ℕ) (n : ℕ)
     → IsUnstated flow settings n cause → IsUnopened file settings
 not_for_settings file flow settings n cause same is_refusal unstated =
     inl (n, cause, is_refusal, subst (λ (f : Option Flow). IsUnstated f settings n cause) same unstated)
-
-pub refused_head : (has_file : Bool) (n : ℕ) (line : List ℕ) (told cause : ScriptError) → told ≡ cause → cause ≢ script.OutOfMemory
-    → IsNextSetting has_file n line (Err cause) → IsScriptHeadLine has_file line (head.Refused told)
-refused_head has_file n line told cause same is_refusal next =
-    subst (λ (e : ScriptError). IsScriptHeadLine has_file line (head.Refused e)) (sym same) (is_refusal, (n, next.1))

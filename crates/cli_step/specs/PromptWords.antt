@@ -39,16 +39,11 @@ abbrev pub session_line : World → ℕ → Text
 session_line w s = codes "session " ++ decimal s ++ codes ": " ++ where_line w s
 
 -- `queue Q, shelf H, written M of N`
-abbrev pub totals_text : ℕ → ℕ → ℕ → ℕ → Text
-totals_text q h m n = codes "queue " ++ decimal q ++ codes ", shelf " ++ decimal h ++ codes ", written " ++ decimal m ++ codes " of " ++ decimal n
-
--- how many entries the history has
-abbrev pub entry_count : World → ℕ
-entry_count w = length (entries w.flow w.start w.past)
-
--- how many contexts are queued and on the shelf, and how many entries are written of those that there are
 abbrev pub totals_line : World → Text
-totals_line w = totals_text (length (queue w.flow w.start w.past)) (length (shelf w.flow w.start w.past)) w.mark (entry_count w)
+totals_line w = codes "queue " ++ decimal (length (queue w.flow w.start w.past))
+    ++ codes ", shelf " ++ decimal (length (shelf w.flow w.start w.past))
+    ++ codes ", written " ++ decimal w.mark
+    ++ codes " of " ++ decimal (length (entries w.flow w.start w.past))
 
 -- `info`: where each session stands, and the totals
 abbrev pub info_text : World → Text

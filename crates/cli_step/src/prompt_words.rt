@@ -2,10 +2,10 @@
 
 ghost use Rattle.std.specs.Prelude.{◌≡◌, ◌++◌, Some, IfOk, OnOk, option_map, string_bytes};
 ghost use Rattle.cli_script.specs.Scripts.{line_of};
-ghost use Rattle.cli_step.specs.PromptWords.{each_session, entry_count, info_text, list_text};
-ghost use Rattle.cli_step.specs.PromptWords.{prompt_word_of, prompt_word_text, session_line, step_line};
-ghost use Rattle.cli_step.specs.PromptWords.{totals_line, totals_text};
+ghost use Rattle.cli_step.specs.PromptWords.{each_session, info_text, list_text, prompt_word_of};
+ghost use Rattle.cli_step.specs.PromptWords.{prompt_word_text, session_line, step_line, totals_line};
 ghost use Rattle.cli_step.specs.Said.{whole_line};
+ghost use Rattle.cli_step.specs.Totals.{entry_count, totals_text};
 
 use crate::said::where_line;
 use crate::shown::push_line;

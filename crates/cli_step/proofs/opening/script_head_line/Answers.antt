@@ -1,4 +1,5 @@
-use Rattle.cli_step.proofs.Prompting.{placed, refused_head}
+use Rattle.cli_step.proofs.HeadLines.{refused_head}
+use Rattle.cli_step.proofs.Prompting.{placed}
 use Rattle.cli_step.proofs.opening.script_head_line.Goals as goal
 
 pub returns-in-Ok-Some-clause-is : goal.returns-in-Ok-Some-clause-is
