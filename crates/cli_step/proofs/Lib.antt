@@ -1,6 +1,7 @@
 mod Adding
 mod Counted
 mod Gathering
+mod HeadLines
 mod Joining
 mod Playing
 mod Prompting

@@ -7,3 +7,4 @@ pub mod Runs
 pub mod Errors
 pub mod PromptWords
 pub mod Prompts
+pub mod Totals

@@ -50,6 +50,7 @@ fn script_head_line(
     requires { before + length line.now < 2 ^ 64 }
     ensures is { IfOk result (IsScriptHeadLine has_file line.now) }
     ensures fault { IfErr result (IsFaultOf ⊤) }
+    ensures head_fault { IfErr result (IsFaultOf SomeIsMade) }
 {
     match next_setting(alloc, has_file, before, line) {
         Ok(Some(_)) => Ok(HeadLine::Setting),
@@ -68,6 +69,7 @@ fn head_line(
     requires { before + length line.now < 2 ^ 64 }
     ensures is { IfOk result (IsHeadLine has_file line.now) }
     ensures fault { IfErr result (IsFaultOf ⊤) }
+    ensures head_fault { IfErr result (IsFaultOf SomeIsMade) }
 {
     match prompt_word_at(line) {
         Some(PromptWord::Help) => Ok(HeadLine::Help),

@@ -6,7 +6,8 @@ ghost use Rattle.std.specs.Io.KnownBytes.{Appends};
 ghost use Rattle.cli_lines.specs.Lines.{IsNextLine, lines_given, room, to_come};
 ghost use Rattle.tx_trace.specs.Follow.{Follows};
 ghost use Rattle.cli_step.specs.Doing.{point_of, world_of};
-ghost use Rattle.cli_step.specs.Prompts.{Answers, IsFaultOf, IsRunOrTold, IsTold, Talked, prompt, scene};
+ghost use Rattle.cli_step.specs.Prompts.{Answers, IsFaultOf, IsRunOrTold, IsTold, SomeIsMade};
+ghost use Rattle.cli_step.specs.Prompts.{Talked, prompt, scene};
 ghost use Rattle.cli_script.specs.declared.error.ScriptError.TheVariants as script;
 ghost use Rattle.cli_step.specs.PromptWords.{prompt_word_text};
 ghost use Rattle.cli_step.specs.Runs.{Grows};
@@ -41,6 +42,7 @@ pub fn ask<R: Read, W: Write>(
     ensures room { IfOk result (λ o. IfSome o (λ line.
         room lines.new + length line.items ≤ room lines.old)) }
     ensures fault { IfErr result (IsFaultOf ⊤) }
+    ensures head_fault { IfErr result (IsFaultOf SomeIsMade) }
 {
     write_out(out, b"cardswitch> ")?;
     Ok(lines.next(alloc)?)
@@ -51,6 +53,7 @@ pub fn leave<W: Write>(out: &mut W) -> Result<(), StepError>
     ensures left { OnOk result (Appends (W.contents out.old) (W.contents out.new) (10 ∷ [])) }
     ensures grows { Grows (W.contents out.old) (W.contents out.new) }
     ensures fault { IfErr result (IsFaultOf ⊤) }
+    ensures head_fault { IfErr result (IsFaultOf SomeIsMade) }
 {
     Ok(write_out(out, b"\n")?)
 }
@@ -73,6 +76,7 @@ pub fn tell<E: Write>(alloc: Global, cause: &StepError, err: &mut E) -> Result<(
     ensures told { OnOk result (IsTold (E.contents err.old) (E.contents err.new)) }
     ensures grows { Grows (E.contents err.old) (E.contents err.new) }
     ensures fault { IfErr result (IsFaultOf ⊤) }
+    ensures head_fault { IfErr result (IsFaultOf SomeIsMade) }
 {
     let hint = hint(cause);
     let text = format!(in alloc; "{cause}{hint}\n")?;
@@ -101,6 +105,7 @@ pub fn refusal(error: ScriptError) -> Result<ScriptError, StepError>
     ensures same { IfOk result (λ e. e ≡ error) }
     ensures refused { IfOk result (λ _. error ≢ script.OutOfMemory) }
     ensures fault { IfErr result (IsFaultOf ⊤) }
+    ensures head_fault { IfErr result (IsFaultOf SomeIsMade) }
 {
     match error {
         ScriptError::OutOfMemory => Err(StepError::OutOfMemory),

@@ -1,16 +1,18 @@
 //! The lines that a prompt has beside those of a script, and what they show.
 
-ghost use Rattle.std.specs.Prelude.{◌≡◌, ◌++◌, IfOk, OnOk, option_map, string_bytes};
+ghost use Rattle.std.specs.Prelude.{◌≡◌, ◌++◌, Some, IfOk, OnOk, option_map, string_bytes};
 ghost use Rattle.cli_script.specs.Scripts.{line_of};
 ghost use Rattle.cli_step.specs.PromptWords.{each_session, info_text, list_text, prompt_word_of};
 ghost use Rattle.cli_step.specs.PromptWords.{prompt_word_text, session_line, step_line, totals_line};
 ghost use Rattle.cli_step.specs.Said.{whole_line};
+ghost use Rattle.cli_step.specs.Totals.{entry_count, totals_text};
 
 use crate::said::where_line;
 use crate::shown::push_line;
 use cli_lines::line_end;
 use flow_load::image;
 use std::alloc::{AllocError, Global};
+use std::fmt;
 use tx_engine::Engine;
 use tx_trace::whereis;
 
@@ -57,6 +59,28 @@ list                       shows the steps of the flow, and where the sessions s
 info                       shows each session, the queue, the shelf and what is written
 help                       shows these lines
 ";
+
+/// `queue Q, shelf H, written M of N`
+#[derive(Drop)]
+struct TotalsText {
+    queue: usize,
+    shelf: usize,
+    written: usize,
+    entries: usize,
+}
+
+impl fmt::Display for TotalsText {
+    ghost output = { λ t. Some (totals_text t.queue t.shelf t.written t.entries) };
+
+    fn fmt<W: fmt::Write>(&self, f: &mut fmt::Formatter<W>) -> fmt::Result {
+        let (queue, shelf) = (self.queue, self.shelf);
+        let (written, entries) = (self.written, self.entries);
+        write!(
+            f,
+            "queue {queue}, shelf {shelf}, written {written} of {entries}"
+        )
+    }
+}
 
 // What this word is; `None` where it is none.
 fn prompt_word_of(word: &[u8]) -> Option<PromptWord>
@@ -123,15 +147,24 @@ fn session_line(alloc: Global, engine: &Engine, s: usize) -> Result<String, Allo
     Ok(line)
 }
 
+// How many entries the history has.
+fn entry_count(engine: &Engine) -> usize
+    ensures { result ≡ entry_count engine.now }
+{
+    engine.history().len()
+}
+
 // The last line of `info`.
 fn totals_line(alloc: Global, engine: &Engine) -> Result<String, AllocError>
     ensures { IfOk result (λ line. string_bytes line ≡ totals_line engine.now) }
 {
-    let queue = engine.queued();
-    let shelf = engine.shelved();
-    let written = engine.mark();
-    let entries = engine.history().len();
-    format!(in alloc; "queue {queue}, shelf {shelf}, written {written} of {entries}")
+    let totals = TotalsText {
+        queue: engine.queued(),
+        shelf: engine.shelved(),
+        written: engine.mark(),
+        entries: entry_count(engine),
+    };
+    format!(in alloc; "{totals}")
 }
 
 // The text of `info`.

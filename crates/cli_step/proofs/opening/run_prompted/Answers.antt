@@ -46,3 +46,21 @@ returns-clause-prompted g c =
     let next = rw c.in_default.is at c.in_ok-line.ensures.next in
     on_ok c.leave.result (λ left. head_left c.args.file (to_come g.R.Read.remaining c.args.lines.now) (to_come g.R.Read.remaining old.lines) (to_come g.R.Read.remaining c.ask.new.lines) _ _ b asked _ _ old.invariant.talked next (record { settings = refl; out = c.in_ok-line.ensures.asked; err = refl }) left refl)
     c.leave.ensures.left
+
+pub returns-in_err-line-clause-grows_out : goal.returns-in_err-line-clause-grows_out
+returns-in_err-line-clause-grows_out g c = grows_then _ _ _ c.loop-settings.invariant.grows_out c.ask.ensures.grows
+
+pub returns-in_err-answer_head-clause-grows_out : goal.returns-in_err-answer_head-clause-grows_out
+returns-in_err-answer_head-clause-grows_out g c = grows_then _ _ _ (grows_then _ _ _ c.loop-settings.invariant.grows_out c.ask.ensures.grows) c.answer_head.ensures.grows_out
+
+pub returns-in_err-answer_head-clause-grows_err : goal.returns-in_err-answer_head-clause-grows_err
+returns-in_err-answer_head-clause-grows_err g c = grows_then _ _ _ c.loop-settings.invariant.grows_err c.answer_head.ensures.grows_err
+
+pub returns-then-branch-clause-grows_out : goal.returns-then-branch-clause-grows_out
+returns-then-branch-clause-grows_out g c = grows_then _ _ _ (grows_then _ _ _ c.loop-settings.invariant.grows_out c.ask.ensures.grows) c.answer_head.ensures.grows_out
+
+pub returns-then-branch-clause-grows_err : goal.returns-then-branch-clause-grows_err
+returns-then-branch-clause-grows_err g c = grows_then _ _ _ c.loop-settings.invariant.grows_err c.answer_head.ensures.grows_err
+
+pub returns-clause-grows_out : goal.returns-clause-grows_out
+returns-clause-grows_out g c = grows_then _ _ _ (grows_then _ _ _ c.loop-settings.invariant.grows_out c.ask.ensures.grows) c.leave.ensures.grows

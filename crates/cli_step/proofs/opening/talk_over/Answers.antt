@@ -51,3 +51,9 @@ returns-in_err-talk-clause-fault g c =
     let opened = c.in-Ok-new.ensures.opened in
     let error = err_from_is_err_and c.from_residual-in_err-talk.result c.from_residual-in_err-talk.ensures.1 in
     rw (error.1, error.2) (fault_more (λ _. (_, record { journal = _; fresh = c.in-Ok.ensures.whole; view = opened.0; opened = opened.1; seated = c.in-Ok-new.ensures.seated })) c.in_err-talk.field-0.0 c.in_err-talk.ensures.fault)
+
+pub returns-in_err-talk-clause-grows_out : goal.returns-in_err-talk-clause-grows_out
+returns-in_err-talk-clause-grows_out g c = grows_then _ _ _ c.answer.ensures.grows_out c.talk.ensures.grows_out
+
+pub returns-in_err-talk-clause-grows_err : goal.returns-in_err-talk-clause-grows_err
+returns-in_err-talk-clause-grows_err g c = grows_then _ _ _ c.answer.ensures.grows_err c.talk.ensures.grows_err

@@ -1,8 +1,7 @@
 use Rattle.std.specs.Bool.{⊤}
-use Rattle.std.proofs.Common.{sym}
 use Rattle.cli_step.proofs.Adding.{on_ok}
 use Rattle.cli_step.proofs.Joining.{grows_none}
-use Rattle.cli_step.proofs.Playing.{all_ok, if_err}
+use Rattle.cli_step.proofs.Playing.{if_err}
 use Rattle.cli_step.proofs.Prompting.{does, line_fault, line_grows, refuses}
 use Rattle.cli_step.specs.Doing.{point_of}
 use Rattle.cli_step.proofs.prompt.run_or_tell.Goals as goal
@@ -26,15 +25,9 @@ pub returns-in-Ok-Some-clause-fault : goal.returns-in-Ok-Some-clause-fault
 returns-in-Ok-Some-clause-fault g c =
     if_err c.run_line.result (λ e failed. line_fault c.in-Ok-Some.action _ _ _ _ e failed) c.run_line.ensures.failed
 
-pub returns-in-Err-clause-answers : goal.returns-in-Err-clause-answers
-returns-in-Err-clause-answers g c =
+pub returns-in_ok-refusal-in-Err-clause-answers : goal.returns-in_ok-refusal-in-Err-clause-answers
+returns-in_ok-refusal-in-Err-clause-answers g c =
     let p = point_of g.S.Store c.args.plant.now in
     let next = rw c.in-Err.is at c.next.ensures.next in
     on_ok c.tell.result (λ told. refuses c.new-actions.result c.next.new.self c.args.line.now c.in-Err.error p (g.W.Write.contents c.args.out.now) (g.E.Write.contents c.args.err.now) (g.E.Write.contents c.tell.new.err) c.new-actions.ensures.rest next c.in_ok-refusal-in-Err.ensures.refused told)
     c.tell.ensures.told
-
-pub returns-in-Err-clause-follows : goal.returns-in-Err-clause-follows
-returns-in-Err-clause-follows g c = all_ok c.tell.result c.requires.follows
-
-pub returns-in-Err-clause-grows_out : goal.returns-in-Err-clause-grows_out
-returns-in-Err-clause-grows_out g c = grows_none _

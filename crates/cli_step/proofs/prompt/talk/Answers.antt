@@ -41,3 +41,15 @@ returns-clause-talked g c =
     let next = rw c.in_default.is at c.in_ok-line.ensures.next in
     on_ok c.leave.result (λ left. talked (to_come g.R.Read.remaining c.args.lines.now) (to_come g.R.Read.remaining old.lines) (to_come g.R.Read.remaining c.ask.new.lines) a b end old.invariant.talked next (g.W.Write.contents c.ask.new.out, c.in_ok-line.ensures.asked, left) refl refl)
     c.leave.ensures.left
+
+pub returns-in_err-line-clause-grows_out : goal.returns-in_err-line-clause-grows_out
+returns-in_err-line-clause-grows_out g c = grows_then _ _ _ c.loop-line.invariant.grows_out c.ask.ensures.grows
+
+pub returns-in_err-answer-clause-grows_out : goal.returns-in_err-answer-clause-grows_out
+returns-in_err-answer-clause-grows_out g c = grows_then _ _ _ (grows_then _ _ _ c.loop-line.invariant.grows_out c.ask.ensures.grows) c.answer.ensures.grows_out
+
+pub returns-in_err-answer-clause-grows_err : goal.returns-in_err-answer-clause-grows_err
+returns-in_err-answer-clause-grows_err g c = grows_then _ _ _ c.loop-line.invariant.grows_err c.answer.ensures.grows_err
+
+pub returns-clause-grows_out : goal.returns-clause-grows_out
+returns-clause-grows_out g c = grows_then _ _ _ (grows_then _ _ _ c.loop-line.invariant.grows_out c.ask.ensures.grows) c.leave.ensures.grows

@@ -1,4 +1,5 @@
 use Rattle.std.specs.Bool.{⊤}
+use Rattle.cli_step.specs.Prompts.{SomeIsMade}
 use Rattle.std.proofs.KnownBytes.{Appends-trans}
 use Rattle.std.proofs.lemmas.Result.{err_from_is_err_and}
 use Rattle.cli_step.proofs.Joining.{grows_none, grows_then}
@@ -30,3 +31,13 @@ returns-clause-told g c = (_, Appends-trans _ _ _ _ _ c.in_ok-write_whole.ensure
 
 pub returns-clause-grows : goal.returns-clause-grows
 returns-clause-grows g c = (_, Appends-trans _ _ _ _ _ c.in_ok-write_whole.ensures.written c.in_ok-write_out.ensures.written)
+
+pub returns-in_err-write_whole-clause-head_fault : goal.returns-in_err-write_whole-clause-head_fault
+returns-in_err-write_whole-clause-head_fault g c =
+    let error = err_from_is_err_and c.from_residual-in_err-write_whole.result c.from_residual-in_err-write_whole.ensures.1 in
+    rw (error.1, error.2) (write_fault SomeIsMade c.in_err-write_whole.field-0.0)
+
+pub returns-in_err-write_out-clause-head_fault : goal.returns-in_err-write_out-clause-head_fault
+returns-in_err-write_out-clause-head_fault g c =
+    let error = err_from_is_err_and c.from_residual-in_err-write_out.result c.from_residual-in_err-write_out.ensures.1 in
+    rw (error.1, error.2) (write_fault SomeIsMade c.in_err-write_out.field-0.0)
