@@ -10,13 +10,14 @@ use Rattle.cli_io.specs.declared.error.WriteError.{WriteError}
 use Rattle.cli_io.specs.declared.error.WriteError.TheVariants as write
 use Rattle.cli_options.specs.declared.choice.JournalOptions.{JournalOptions}
 use Rattle.journal_rows.specs.declared.error.BadRow.{BadRow}
+use Rattle.journal_copy.specs.declared.rest.Rest.{Rest}
 use Rattle.tx_history.specs.declared.journal.JournalView.{JournalView}
 use Rattle.tx_journal.specs.declared.error.JournalError.TheVariants as journal
 use Rattle.cli_run.specs.declared.error.ServeError.{ServeError}
 use Rattle.cli_run.specs.declared.error.ServeError.TheVariants as serve
 use Rattle.cardswitch.specs.Errors.{error_of_write}
 use Rattle.cardswitch.specs.Looking.{IsFoundFault, IsLookFault, IsLooked, IsRowFault, IsRowTold, IsSeenAs, IsSight}
-use Rattle.cardswitch.specs.Looking.{error_of_row, masking_by, seen_text, shown_text}
+use Rattle.cardswitch.specs.Looking.{error_of_row, masking_by, seen_text, shown_text, text_of}
 use Rattle.cardswitch.specs.declared.looking.Sight.{Sight}
 use Rattle.cardswitch.specs.declared.error.RunError.{RunError}
 use Rattle.cardswitch.specs.declared.error.RunError.TheVariants as error
@@ -60,21 +61,21 @@ unwritten o before after s write.OutOfMemory sight beginning = inr (s, sight, be
 unwritten o before after s (write.Failed f) sight beginning = (s, sight, beginning)
 
 -- all was written, of a journal without a row at fault
-whole_by : (o : JournalOptions) (before after : Option (List ℕ)) (layout : ℕ) (out : List BadRow) (view : JournalView) → IsSeenAs None layout out view
-    → Appends before after (shown_text o layout out view) → IsLooked o before after
-whole_by o before after layout out view sight written =
-    (layout, view, sight.1, subst (λ (rows : List BadRow). Appends before after (shown_text o layout rows view)) sight.0 written)
+whole_by : (o : JournalOptions) (before after : Option (List ℕ)) (shown : Rest) → IsSeenAs None shown
+    → Appends before after (text_of o shown) → IsLooked o before after
+whole_by o before after shown sight written =
+    (shown.layout, shown.view, sight.1, subst (λ (rows : List BadRow). Appends before after (shown_text o shown.layout rows shown.view)) sight.0 written)
 
 pub whole : (o : JournalOptions) (before after : Option (List ℕ)) (s : Sight) → s.fault ≡ None → IsSight s → Appends before after (seen_text o s) → IsLooked o before after
 whole o before after s none sight written =
-    whole_by o before after s.layout s.left_out.items s.view (subst (λ (f : Option BadRow). IsSeenAs f s.layout s.left_out.items s.view) none sight) written
+    whole_by o before after s.shown (subst (λ (f : Option BadRow). IsSeenAs f s.shown) none sight) written
 
 -- all was written beside rows at fault
 pub beside : (o : JournalOptions) (before after : Option (List ℕ)) (s : Sight) (bad : BadRow) → s.fault ≡ Some bad → IsSight s → Appends before after (seen_text o s)
     → IsLookFault o before after (error_of_row bad)
 beside o before after s bad some sight written =
-    let seen : IsSeenAs (Some bad) s.layout s.left_out.items s.view = subst (λ (f : Option BadRow). IsSeenAs f s.layout s.left_out.items s.view) some sight in
-    (seen.0, inr (s.layout, s.left_out.items, s.view, seen, written))
+    let seen : IsSeenAs (Some bad) s.shown = subst (λ (f : Option BadRow). IsSeenAs f s.shown) some sight in
+    (seen.0, inr (s.shown, seen, written))
 
 -- ---- what is printed, by the options
 

@@ -41,16 +41,18 @@ IsCopyFault bad = (db : List ℕ) × (log : List ℕ) × HoldsFault (image_of db
 
 -- a copy of a journal is shown whole where no row is at fault; else the first one is known, and the journal without such
 -- rows is shown
-abbrev pub IsSeenAs : Option BadRow → ℕ → List BadRow → JournalView → Type 0
-IsSeenAs None layout out view = (out ≡ []) × IsCopied layout view
-IsSeenAs (Some bad) layout out view = IsCopyFault bad × ((rest : Rest) × IsSomeRest rest
-    × (rest.layout ≡ layout) × (rest.left_out.items ≡ out) × (rest.view ≡ view))
+abbrev pub IsSeenAs : Option BadRow → Rest → Type 0
+IsSeenAs None shown = (shown.left_out.items ≡ []) × IsCopied shown.layout shown.view
+IsSeenAs (Some bad) shown = IsCopyFault bad × IsSomeRest shown
 
 abbrev pub IsSight : Sight → Type 0
-IsSight s = IsSeenAs s.fault s.layout s.left_out.items s.view
+IsSight s = IsSeenAs s.fault s.shown
+
+abbrev pub text_of : JournalOptions → Rest → List ℕ
+text_of o shown = shown_text o shown.layout shown.left_out.items shown.view
 
 abbrev pub seen_text : JournalOptions → Sight → List ℕ
-seen_text o s = shown_text o s.layout s.left_out.items s.view
+seen_text o s = text_of o s.shown
 
 abbrev pub error_of_row : BadRow → RunError
 error_of_row bad = error.Serve (serve.Journal (journal.BadRow bad))
@@ -64,8 +66,7 @@ IsLooked o before after =
 -- the text of one with rows at fault was written
 abbrev pub IsLookedBeside : JournalOptions → BadRow → Option (List ℕ) → Option (List ℕ) → Type 0
 IsLookedBeside o bad before after =
-    (layout : ℕ) × (out : List BadRow) × (view : JournalView) × IsSeenAs (Some bad) layout out view
-    × Appends before after (shown_text o layout out view)
+    (shown : Rest) × IsSeenAs (Some bad) shown × Appends before after (text_of o shown)
 
 -- a beginning of either was written
 abbrev pub IsLookedInPart : JournalOptions → Option (List ℕ) → Option (List ℕ) → Type 0

@@ -5,7 +5,7 @@ ghost use Rattle.std.specs.Io.KnownBytes.{Appends};
 ghost use Rattle.cli_io.specs.Written.{AppendsBeginning};
 ghost use Rattle.journal_copy.specs.Found.{IfBadRow, IfRest};
 ghost use Rattle.cardswitch.specs.Looking.{IsCopyFault, IsFoundFault, IsLookFault, IsLooked, IsSight};
-ghost use Rattle.cardswitch.specs.Looking.{error_of_row, masking_by, seen_text};
+ghost use Rattle.cardswitch.specs.Looking.{error_of_row, masking_by, seen_text, shown_text};
 
 use crate::error::{JournalFault, RunError};
 use crate::journals::refusal;
@@ -40,24 +40,11 @@ fn uncopied(alloc: Global, path: &str, error: CopyError) -> RunError
     }
 }
 
-/// What is shown of a journal, and the first row at fault, if one is.
-struct Sight {
-    layout: u64,
-    left_out: Vec<BadRow>,
-    view: JournalView,
-    fault: Option<BadRow>,
-}
-
-// Written out, so that no caller proves again how its parts are dropped.
-impl Drop for Sight {
-    fn drop(self) {
-        let Sight {
-            layout: _,
-            left_out: _,
-            view: _,
-            fault: _,
-        } = self;
-    }
+/// What is shown of a journal: all of it, or, where rows are at fault, the first of them and all else.
+#[derive(Drop)]
+enum Sight {
+    Whole(Found),
+    Beside { bad: BadRow, rest: Rest },
 }
 
 // The error of a row at fault, as `run` tells it.
@@ -82,19 +69,7 @@ fn in_part(alloc: Global, path: &str, error: LookError) -> Result<Sight, RunErro
         LookError::BadRow {
             bad,
             rest: Some(rest),
-        } => {
-            let Rest {
-                layout,
-                left_out,
-                view,
-            } = rest;
-            Ok(Sight {
-                layout,
-                left_out,
-                view,
-                fault: Some(bad),
-            })
-        }
+        } => Ok(Sight::Beside { bad, rest }),
     }
 }
 
@@ -108,17 +83,34 @@ fn sight_of<F: Files>(alloc: Global, files: &F, path: &str) -> Result<Sight, Run
         Err(error) => return Err(uncopied(alloc, path, error)),
     };
     match look(alloc, copy.db.as_slice(), copy.log.as_slice()) {
-        Ok(Found { layout, view }) => Ok(Sight {
-            layout,
-            left_out: Vec::new(alloc),
-            view,
-            fault: None,
-        }),
+        Ok(found) => Ok(Sight::Whole(found)),
         Err(error) => in_part(alloc, path, error),
     }
 }
 
-// Writes what is printed of a journal, after an error a beginning of it.
+// Writes what is printed of a journal without these rows at fault, after an error a beginning of it.
+fn print_rows<O: Write>(
+    alloc: Global,
+    options: &JournalOptions<'_>,
+    layout: u64,
+    left_out: &[BadRow],
+    view: &JournalView,
+    out: &mut O,
+) -> Result<(), WriteError>
+    ensures written { OnOk result (Appends (O.contents out.old) (O.contents out.new)
+        (shown_text options.now layout left_out.now view.now)) }
+    ensures beginning { AppendsBeginning (O.contents out.old) (O.contents out.new)
+        (shown_text options.now layout left_out.now view.now) }
+{
+    let masking = masking_by(options.clear);
+    let json = options.json;
+    if json {
+        return show_json(alloc, masking, layout, left_out, view, out);
+    }
+    show(alloc, masking, layout, left_out, view, out)
+}
+
+// Writes what is printed of a journal.
 fn print<O: Write>(
     alloc: Global,
     options: &JournalOptions<'_>,
@@ -130,13 +122,13 @@ fn print<O: Write>(
     ensures beginning { AppendsBeginning (O.contents out.old) (O.contents out.new)
         (seen_text options.now sight.now) }
 {
-    let masking = masking_by(options.clear);
-    let left_out = sight.left_out.as_slice();
-    let json = options.json;
-    if json {
-        return show_json(alloc, masking, sight.layout, left_out, &sight.view, out);
+    match sight {
+        Sight::Whole(found) => print_rows(alloc, options, found.layout, &[], &found.view, out),
+        Sight::Beside { rest, .. } => {
+            let left_out = rest.left_out.as_slice();
+            print_rows(alloc, options, rest.layout, left_out, &rest.view, out)
+        }
     }
-    show(alloc, masking, sight.layout, left_out, &sight.view, out)
 }
 
 /// Prints what the journal of the file at a path holds, and changes nothing. Of a journal with rows
@@ -153,8 +145,8 @@ pub fn look_into<F: Files, O: Write>(
 {
     let sight = sight_of(alloc, files, options.path)?;
     print(alloc, options, &sight, out)?;
-    match sight.fault {
-        Some(bad) => Err(bad_row(bad)),
-        None => Ok(()),
+    match sight {
+        Sight::Whole(_) => Ok(()),
+        Sight::Beside { bad, .. } => Err(bad_row(bad)),
     }
 }
