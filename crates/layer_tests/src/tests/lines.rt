@@ -311,11 +311,7 @@ fn joined(alloc: Global, pieces: &[&str]) -> Result<String, AllocError> {
 }
 
 /// The line of JSON after the first entries, so many of them.
-fn json_after(
-    alloc: Global,
-    engine: &Engine,
-    count: usize,
-) -> Result<Option<Vec<u8>>, AllocError> {
+fn json_after(alloc: Global, engine: &Engine, count: usize) -> Result<Option<Vec<u8>>, AllocError> {
     let mut tracer = Tracer::new(alloc, engine);
     if count > 0 {
         let _before = tracer.line_at(alloc, engine, count)?;
@@ -336,7 +332,10 @@ fn json_of_every_kind_of_entry(rt: HostRuntime) -> Result<(), Fail> {
     let engine = played(alloc)?;
     for (index, pieces) in JSON_LINES.into_iter().enumerate() {
         let wanted = joined(alloc, pieces)?;
-        assert!(rt; is_json(alloc, &engine, index, wanted.as_str())?, "{wanted}");
+        assert!(rt;
+            is_json(alloc, &engine, index, wanted.as_str())?,
+            "{wanted}"
+        );
     }
     assert!(rt; json_after(alloc, &engine, 18)?.is_none());
     Ok(())
