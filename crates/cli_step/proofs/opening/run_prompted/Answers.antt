@@ -10,6 +10,7 @@ use Rattle.cli_step.proofs.opening.run_prompted.Goals as goal
 
 pub loop-settings-init : goal.loop-settings-init
 loop-settings-init g c = record {
+  same = c.in_ok-steps.ensures;
   talked = head_first c.args.file (to_come g.R.Read.remaining c.args.lines.now) c.new-settings.result.items (g.W.Write.contents c.args.out.now) (g.E.Write.contents c.args.err.now) c.new-settings.ensures.items;
   grows_out = grows_none (g.W.Write.contents c.args.out.now);
   grows_err = grows_none (g.E.Write.contents c.args.err.now);
@@ -23,9 +24,10 @@ loop-settings-preserved g c =
     let after = heading c.answer_head.new.settings.items (g.W.Write.contents c.answer_head.new.out) (g.E.Write.contents c.answer_head.new.err) in
     let next = rw c.in-Some.is at c.in_ok-line.ensures.next in
     let line = rw c.as_slice.ensures.value at (c.in_ok-answer_head.ensures.head c.if-branch.false) in
-    let answers = subst (λ (f : Option Flow). HeadAnswers f c.in-Some.line.items asked after) c.in_ok-file.ensures line in
+    let answers = subst (λ (f : Option Flow). HeadAnswers f c.in-Some.line.items asked after) old.invariant.same line in
     let stays = c.in_ok-answer_head.ensures.stays c.if-branch.false in
     record {
+      same = old.invariant.same;
       talked = rw stays (head_on c.args.file (to_come g.R.Read.remaining c.args.lines.now) (to_come g.R.Read.remaining old.lines) (to_come g.R.Read.remaining c.ask.new.lines) c.in-Some.line.items (heading [] (g.W.Write.contents c.args.out.now) (g.E.Write.contents c.args.err.now)) b asked after old.invariant.talked next (record { settings = refl; out = c.in_ok-line.ensures.asked; err = refl }) answers);
       grows_out = grows_then _ b.out after.out old.invariant.grows_out (grows_then b.out asked.out after.out c.ask.ensures.grows c.answer_head.ensures.grows_out);
       grows_err = grows_then _ b.err after.err old.invariant.grows_err c.answer_head.ensures.grows_err;
@@ -38,7 +40,7 @@ returns-then-branch-clause-prompted g c =
     let asked = heading old.settings.items (g.W.Write.contents c.ask.new.out) (g.E.Write.contents old.err) in
     let next = rw c.in-Some.is at c.in_ok-line.ensures.next in
     let line = rw c.as_slice.ensures.value at (c.in_ok-answer_head.ensures.opened c.if-branch.true) in
-    let opened = subst (λ (f : Option Flow). IfSome (to_come g.R.Read.remaining c.ask.new.lines) (λ others. OpenedAt f old.settings.items c.in-Some.line.items others (g.W.Write.contents c.ask.new.out) (g.E.Write.contents old.err) (g.W.Write.contents c.answer_head.new.out) (g.E.Write.contents c.answer_head.new.err))) c.in_ok-file.ensures line in
+    let opened = subst (λ (f : Option Flow). IfSome (to_come g.R.Read.remaining c.ask.new.lines) (λ others. OpenedAt f old.settings.items c.in-Some.line.items others (g.W.Write.contents c.ask.new.out) (g.E.Write.contents old.err) (g.W.Write.contents c.answer_head.new.out) (g.E.Write.contents c.answer_head.new.err))) old.invariant.same line in
     head_opened c.args.file (to_come g.R.Read.remaining c.args.lines.now) (to_come g.R.Read.remaining old.lines) (to_come g.R.Read.remaining c.ask.new.lines) c.in-Some.line.items _ _ b asked _ _ old.invariant.talked next (record { settings = refl; out = c.in_ok-line.ensures.asked; err = refl }) opened
 
 pub returns-clause-prompted : goal.returns-clause-prompted
