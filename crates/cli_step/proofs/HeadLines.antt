@@ -17,9 +17,9 @@ refused_head has_file n line told cause same is_refusal next =
 -- a flow that is not opened at a line, and told
 
 pub told_head : {W : Type 0} (contents : W → Option (List ℕ)) (file : Option Flow) (line settings : List ℕ) (out out_after : W) (err err_after : Option (List ℕ))
-    {Same : Type 0} (r : Result Bool StepError) → IsHeadLine (is_some file) line head.Opens → IfOk r (λ opened. opened ≡ false → IsUnopened file settings)
+    (Same : Type 0) (r : Result Bool StepError) → IsHeadLine (is_some file) line head.Opens → IfOk r (λ opened. opened ≡ false → IsUnopened file settings)
     → IfOk r (λ opened. opened ≡ false → IsTold err err_after) → IfOk r (λ opened. opened ≡ false → Same × (out_after ≡ out))
     → IfOk r (λ opened. opened ≡ false → HeadAnswers file line (heading settings (contents out) err) (heading settings (contents out_after) err_after))
-told_head contents file line settings out out_after err err_after (Ok opened) is unopened told stays = λ closed.
+told_head contents file line settings out out_after err err_after Same (Ok opened) is unopened told stays = λ closed.
     (head.Opens, is, (unopened closed, record { settings = refl; out = ap contents (stays closed).1; err = told closed }))
-told_head contents file line settings out out_after err err_after (Err e) is unopened told stays = tt
+told_head contents file line settings out out_after err err_after Same (Err e) is unopened told stays = tt

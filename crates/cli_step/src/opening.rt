@@ -340,12 +340,12 @@ pub fn run_prompted<R: Read, W: Write, E: Write>(
     ensures grows_err { Grows (E.contents err.old) (E.contents err.new) }
     ensures fault { IfErr result (IsFaultOf SomeIsMade) }
 {
-    let file = code_of(alloc, file)?;
+    let steps = code_of(alloc, file)?;
     let mut settings = Vec::new(alloc);
     while let Some(line) = ask(alloc, lines, out)? {
         if answer_head(
             alloc,
-            &file,
+            &steps,
             &mut settings,
             line.as_slice(),
             lines,

@@ -14,6 +14,6 @@ pub returns-in-Ok-clause-refused : goal.returns-in-Ok-clause-refused
 returns-in-Ok-clause-refused g c =
     not_for_sessions c.args.file.now c.in_ok-flow.flow c.args.settings.now c.in-Ok.opening c.open_over.result c.in_ok-flow.ensures (rw c.in-Ok.is at c.open_settings.ensures.stated) c.open_over.ensures.refused
 
-pub returns-in-Err-clause-refused : goal.returns-in-Err-clause-refused
-returns-in-Err-clause-refused g c =
+pub returns-in_ok-refusal-in-Err-clause-refused : goal.returns-in_ok-refusal-in-Err-clause-refused
+returns-in_ok-refusal-in-Err-clause-refused g c =
     not_for_settings c.args.file.now c.in_ok-flow.flow c.args.settings.now _ c.in-Err.error c.in_ok-flow.ensures c.in_ok-refusal-in-Err.ensures.refused (rw c.in-Err.is at c.open_settings.ensures.refused)

@@ -1,4 +1,4 @@
-use Rattle.std.specs.Prelude.{[]}
+use Rattle.std.specs.Prelude.{◌≡◌, []}
 use Rattle.cli_lines.specs.Lines.{room, to_come}
 use Rattle.cli_step.proofs.Prompting.{HeadTalksTo}
 use Rattle.cli_step.specs.Prompts.{heading}
@@ -7,6 +7,7 @@ use Rattle.cli_step.proofs.opening.run_prompted.Given as goal
 
 abbrev pub invariant-loop-settings : goal.invariant-loop-settings
 invariant-loop-settings g l = record {
+  same : l.steps ≡ l.fn.file;
   talked : HeadTalksTo l.fn.file (to_come g.R.Read.remaining l.fn.lines) (to_come g.R.Read.remaining l.lines)
       (heading [] (g.W.Write.contents l.fn.out) (g.E.Write.contents l.fn.err))
       (heading l.settings.items (g.W.Write.contents l.out) (g.E.Write.contents l.err));

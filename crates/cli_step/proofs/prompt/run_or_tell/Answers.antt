@@ -10,7 +10,7 @@ pub returns-in-Ok-Some-clause-answers : goal.returns-in-Ok-Some-clause-answers
 returns-in-Ok-Some-clause-answers g c =
     let p = point_of g.S.Store c.args.plant.now in
     let q = point_of g.S.Store c.run_line.new.plant in
-    let next = rw c.in-Ok-Some.is at c.next.ensures.next in
+    let next = rw (c.in-Ok-Some.is, c.in-Ok-Some.field-0-is) at c.next.ensures.next in
     on_ok c.run_line.result (λ ran. does c.new-actions.result c.next.new.self c.args.line.now c.in-Ok-Some.action p q (g.W.Write.contents c.args.out.now) (g.W.Write.contents c.run_line.new.out) (g.E.Write.contents c.args.err.now) c.new-actions.ensures.rest next ran)
     c.run_line.ensures.ran
 
