@@ -1,5 +1,5 @@
 -- Journals that were not shown whole.
--- for: looking::look_into, looking::print
+-- for: looking::look_into, looking::print_rows
 use Rattle.std.proofs.Common.{◌≡◌, ◌∙◌, ℕ, Bool, true, false, cond, List, Option, None, Some, Result, OnOk, ap, inl, inr, refl, subst, sym}
 use Rattle.std.specs.Io.KnownBytes.{Appends}
 use Rattle.cli_decode.specs.declared.masking.Masking.{Masking}
@@ -10,15 +10,17 @@ use Rattle.cli_io.specs.declared.error.WriteError.{WriteError}
 use Rattle.cli_io.specs.declared.error.WriteError.TheVariants as write
 use Rattle.cli_options.specs.declared.choice.JournalOptions.{JournalOptions}
 use Rattle.journal_rows.specs.declared.error.BadRow.{BadRow}
+use Rattle.journal_copy.specs.declared.found.Found.{Found}
 use Rattle.journal_copy.specs.declared.rest.Rest.{Rest}
 use Rattle.tx_history.specs.declared.journal.JournalView.{JournalView}
 use Rattle.tx_journal.specs.declared.error.JournalError.TheVariants as journal
 use Rattle.cli_run.specs.declared.error.ServeError.{ServeError}
 use Rattle.cli_run.specs.declared.error.ServeError.TheVariants as serve
 use Rattle.cardswitch.specs.Errors.{error_of_write}
-use Rattle.cardswitch.specs.Looking.{IsFoundFault, IsLookFault, IsLooked, IsRowFault, IsRowTold, IsSeenAs, IsSight}
-use Rattle.cardswitch.specs.Looking.{error_of_row, masking_by, seen_text, shown_text, text_of}
+use Rattle.cardswitch.specs.Looking.{IsFoundFault, IsLookFault, IsLooked, IsRowFault, IsRowTold, IsSight}
+use Rattle.cardswitch.specs.Looking.{error_of_row, masking_by, seen_text, shown_text}
 use Rattle.cardswitch.specs.declared.looking.Sight.{Sight}
+use Rattle.cardswitch.specs.declared.looking.Sight.TheVariants.{Beside, Whole}
 use Rattle.cardswitch.specs.declared.error.RunError.{RunError}
 use Rattle.cardswitch.specs.declared.error.RunError.TheVariants as error
 
@@ -61,21 +63,20 @@ unwritten o before after s write.OutOfMemory sight beginning = inr (s, sight, be
 unwritten o before after s (write.Failed f) sight beginning = (s, sight, beginning)
 
 -- all was written, of a journal without a row at fault
-whole_by : (o : JournalOptions) (before after : Option (List ℕ)) (shown : Rest) → IsSeenAs None shown
-    → Appends before after (text_of o shown) → IsLooked o before after
-whole_by o before after shown sight written =
-    (shown.layout, shown.view, sight.1, subst (λ (rows : List BadRow). Appends before after (shown_text o shown.layout rows shown.view)) sight.0 written)
-
-pub whole : (o : JournalOptions) (before after : Option (List ℕ)) (s : Sight) → s.fault ≡ None → IsSight s → Appends before after (seen_text o s) → IsLooked o before after
-whole o before after s none sight written =
-    whole_by o before after s.shown (subst (λ (f : Option BadRow). IsSeenAs f s.shown) none sight) written
+pub whole : (o : JournalOptions) (before after : Option (List ℕ)) (s : Sight) (found : Found) → s ≡ Whole found → IsSight s
+    → Appends before after (seen_text o s) → IsLooked o before after
+whole o before after s found is sight written =
+    let copied : IsSight (Whole found) = subst (λ (s : Sight). IsSight s) is sight in
+    let text : Appends before after (seen_text o (Whole found)) = subst (λ (s : Sight). Appends before after (seen_text o s)) is written in
+    (found.layout, found.view, copied, text)
 
 -- all was written beside rows at fault
-pub beside : (o : JournalOptions) (before after : Option (List ℕ)) (s : Sight) (bad : BadRow) → s.fault ≡ Some bad → IsSight s → Appends before after (seen_text o s)
-    → IsLookFault o before after (error_of_row bad)
-beside o before after s bad some sight written =
-    let seen : IsSeenAs (Some bad) s.shown = subst (λ (f : Option BadRow). IsSeenAs f s.shown) some sight in
-    (seen.0, inr (s.shown, seen, written))
+pub beside : (o : JournalOptions) (before after : Option (List ℕ)) (s : Sight) (bad : BadRow) (rest : Rest) → s ≡ Beside bad rest → IsSight s
+    → Appends before after (seen_text o s) → IsLookFault o before after (error_of_row bad)
+beside o before after s bad rest is sight written =
+    let seen : IsSight (Beside bad rest) = subst (λ (s : Sight). IsSight s) is sight in
+    let text : Appends before after (seen_text o (Beside bad rest)) = subst (λ (s : Sight). Appends before after (seen_text o s)) is written in
+    (seen.0, inr (seen.0, (rest, seen.1, text)))
 
 -- ---- what is printed, by the options
 

@@ -17,6 +17,7 @@ use Rattle.cli_run.specs.declared.error.ServeError.{ServeError}
 use Rattle.cli_run.specs.declared.error.ServeError.TheVariants as serve
 use Rattle.cardswitch.specs.declared.error.RunError.{RunError}
 use Rattle.cardswitch.specs.declared.looking.Sight.{Sight}
+use Rattle.cardswitch.specs.declared.looking.Sight.TheVariants.{Beside, Whole}
 use Rattle.cardswitch.specs.declared.error.RunError.TheVariants as error
 
 -- all is masked but with `--clear`
@@ -41,18 +42,16 @@ IsCopyFault bad = (db : List ℕ) × (log : List ℕ) × HoldsFault (image_of db
 
 -- a copy of a journal is shown whole where no row is at fault; else the first one is known, and the journal without such
 -- rows is shown
-abbrev pub IsSeenAs : Option BadRow → Rest → Type 0
-IsSeenAs None shown = (shown.left_out.items ≡ []) × IsCopied shown.layout shown.view
-IsSeenAs (Some bad) shown = IsCopyFault bad × IsSomeRest shown
-
 abbrev pub IsSight : Sight → Type 0
-IsSight s = IsSeenAs s.fault s.shown
+IsSight (Whole found) = IsCopied found.layout found.view
+IsSight (Beside bad rest) = IsCopyFault bad × IsSomeRest rest
 
 abbrev pub text_of : JournalOptions → Rest → List ℕ
-text_of o shown = shown_text o shown.layout shown.left_out.items shown.view
+text_of o rest = shown_text o rest.layout rest.left_out.items rest.view
 
 abbrev pub seen_text : JournalOptions → Sight → List ℕ
-seen_text o s = text_of o s.shown
+seen_text o (Whole found) = shown_text o found.layout [] found.view
+seen_text o (Beside bad rest) = text_of o rest
 
 abbrev pub error_of_row : BadRow → RunError
 error_of_row bad = error.Serve (serve.Journal (journal.BadRow bad))
@@ -66,7 +65,7 @@ IsLooked o before after =
 -- the text of one with rows at fault was written
 abbrev pub IsLookedBeside : JournalOptions → BadRow → Option (List ℕ) → Option (List ℕ) → Type 0
 IsLookedBeside o bad before after =
-    (shown : Rest) × IsSeenAs (Some bad) shown × Appends before after (text_of o shown)
+    IsCopyFault bad × ((rest : Rest) × IsSomeRest rest × Appends before after (text_of o rest))
 
 -- a beginning of either was written
 abbrev pub IsLookedInPart : JournalOptions → Option (List ℕ) → Option (List ℕ) → Type 0

@@ -11,3 +11,7 @@ pub returns-in_err-print-clause-failed : goal.returns-in_err-print-clause-failed
 returns-in_err-print-clause-failed g c =
     let error = err_from_is_err_and c.from_residual-in_err-print.result c.from_residual-in_err-print.ensures.1 in
     rw (error.1, error.2) (unwritten c.args.options.now _ _ c.in_ok-sight.sight c.in_err-print.field-0.0 c.in_ok-sight.ensures.sight c.print.ensures.beginning)
+
+pub returns-clause-failed : goal.returns-clause-failed
+returns-clause-failed g c =
+    rw c.bad_row.ensures (beside c.args.options.now _ _ c.in_ok-sight.sight c.in-Beside.bad c.in-Beside.rest c.in-Beside.is c.in_ok-sight.ensures.sight c.in_ok-print.ensures.written)
