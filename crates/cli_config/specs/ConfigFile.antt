@@ -81,16 +81,20 @@ abbrev pub stated : Members → Option TableError → Result config.Config Table
 stated top None = Ok (config_of top)
 stated top (Some e) = Err e
 
--- what a text reads as: nothing where it is no TOML, else its configuration or its first fault
+-- what a document states: its configuration, or its first fault
+abbrev pub states : Members → Result config.Config TableError
+states top = stated top (first_fault top)
+
+-- what a text reads as: nothing where it is no TOML
 unfoldable pub reading : List ℕ → Option (Result config.Config TableError)
-reading text = option_map (λ top. stated top (first_fault top)) (parse_document text)
+reading text = option_map states (parse_document text)
 
 -- what a function over a document answers is what that states, unless memory ran out
 abbrev pub Gives : Result config.Config ConfigError → Result config.Config TableError → Type 0
-Gives (Ok c) states = states ≡ Ok c
-Gives (Err OutOfMemory) states = ⊤
-Gives (Err (Toml t)) states = ⊥
-Gives (Err (Table e)) states = states ≡ Err e
+Gives (Ok c) told = told ≡ Ok c
+Gives (Err OutOfMemory) told = ⊤
+Gives (Err (Toml t)) told = ⊥
+Gives (Err (Table e)) told = told ≡ Err e
 
 -- the text is a configuration file of the configuration
 abbrev pub IsConfigFile : config.Config → List ℕ → Type 0

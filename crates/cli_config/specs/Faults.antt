@@ -107,11 +107,20 @@ bad_value ms k = option_and_then (misfit (wants k)) (value_at k ms)
 abbrev pub missing : TablePath → Members → Key → Option TableError
 missing p ms k = refused_if (is_missing ms k) (Missing k p)
 
+abbrev pub missing_in : TablePath → Members → Option TableError
+missing_in p ms = first_of (map (missing p ms) (keys_of p.section))
+
 abbrev pub bad : TablePath → Members → Key → Option TableError
 bad p ms k = option_map (λ d. BadValue k p (found_of d)) (bad_value ms k)
 
+abbrev pub bad_in : TablePath → Members → Option TableError
+bad_in p ms = first_of (map (bad p ms) (keys_of p.section))
+
 abbrev pub excludes : TablePath → Members → Key → Option TableError
 excludes p ms k = if stands ms k then option_map (λ other. Excludes k other p) (excluded_in ms k) else None
+
+abbrev pub excludes_in : TablePath → Members → Option TableError
+excludes_in p ms = first_of (map (excludes p ms) (keys_of p.section))
 
 abbrev pub unknown : TablePath → Members → Option TableError
 unknown p ms = option_map (λ name. Unknown name p) (unknown_key p.section ms)
@@ -119,11 +128,7 @@ unknown p ms = option_map (λ name. Unknown name p) (unknown_key p.section ms)
 -- A table by itself, without the tables in it: the least unknown key, then the least missing one, then the
 -- least with a bad value, then the least that excludes another.
 abbrev pub table_fault : TablePath → Members → Option TableError
-table_fault p ms =
-    or_else (unknown p ms)
-    (or_else (first_of (map (missing p ms) (keys_of p.section)))
-    (or_else (first_of (map (bad p ms) (keys_of p.section)))
-    (first_of (map (excludes p ms) (keys_of p.section)))))
+table_fault p ms = or_else (unknown p ms) (or_else (missing_in p ms) (or_else (bad_in p ms) (excludes_in p ms)))
 
 abbrev pub fault_in : Section → ℕ → Members → Option TableError
 fault_in p n ms = table_fault (record { section = p; number = n }) ms

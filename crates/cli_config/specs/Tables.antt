@@ -41,13 +41,16 @@ tables_below (array ds) = tables_in ds
 tables_below (table ms) = ms ∷ []
 tables_below d = []
 
-abbrev pub tables_at : Option Data → List Members
-tables_at None = []
-tables_at (Some d) = tables_below d
+abbrev pub tables_if : Option Data → List Members
+tables_if None = []
+tables_if (Some d) = tables_below d
+
+abbrev pub tables_at : Key → Members → List Members
+tables_at k top = tables_if (value_at k top)
 
 abbrev pub tables_under : Option Key → Members → List Members
 tables_under None top = top ∷ []
-tables_under (Some k) top = tables_at (value_at k top)
+tables_under (Some k) top = tables_at k top
 
 -- the tables of a section of a document, in its order
 abbrev pub tables_of : Section → Members → List Members

@@ -1,6 +1,6 @@
 //! The first fault of the tables of a document.
 
-ghost use Rattle.std.specs.Prelude.{◌≡◌, map, option_map, string_bytes, IfOk};
+ghost use Rattle.std.specs.Prelude.{◌≡◌, option_map, map, string_bytes, IfOk};
 ghost use Rattle.std.specs.List.{list_all};
 ghost use Rattle.std.specs.Char.{is_ascii_digit};
 ghost use Rattle.sw_base.specs.Refusals.{first_at, first_of};
@@ -113,7 +113,8 @@ fn is_known(section: Section, name: &str) -> bool
 
 // A table's keys ascend, so the first is the least.
 fn unknown_key(section: Section, table: &Table) -> Option<&String>
-    ensures { option_map (λ k. string_bytes k.now) result ≡ spec.unknown_key section (table_view table.now) }
+    ensures { option_map (λ k. string_bytes k.now) result
+        ≡ spec.unknown_key section (table_view table.now) }
 {
     for (name, _value) in table.iter() {
         if !is_known(section, name.as_str()) {
@@ -157,7 +158,7 @@ fn bad_value(table: &Table, key: Key) -> Option<&Value>
 }
 
 fn missing(path: TablePath, table: &Table) -> Option<TableError>
-    ensures { result ≡ first_of (map (spec.missing path (table_view table.now)) (keys.keys_of path.section)) }
+    ensures { result ≡ spec.missing_in path (table_view table.now) }
 {
     for key in path.section.keys() {
         if is_missing(table, *key) {
@@ -168,8 +169,7 @@ fn missing(path: TablePath, table: &Table) -> Option<TableError>
 }
 
 fn bad(alloc: Global, path: TablePath, table: &Table) -> Result<Option<TableError>, AllocError>
-    ensures { IfOk result (λ f.
-        f ≡ first_of (map (spec.bad path (table_view table.now)) (keys.keys_of path.section))) }
+    ensures { IfOk result (λ f. f ≡ spec.bad_in path (table_view table.now)) }
 {
     for key in path.section.keys() {
         if let Some(value) = bad_value(table, *key) {
@@ -180,7 +180,7 @@ fn bad(alloc: Global, path: TablePath, table: &Table) -> Result<Option<TableErro
 }
 
 fn excludes(path: TablePath, table: &Table) -> Option<TableError>
-    ensures { result ≡ first_of (map (spec.excludes path (table_view table.now)) (keys.keys_of path.section)) }
+    ensures { result ≡ spec.excludes_in path (table_view table.now) }
 {
     for key in path.section.keys() {
         if stands(table, *key) {

@@ -107,7 +107,7 @@ fn tables_below(alloc: Global, value: &Value) -> Result<Vec<&Table>, AllocError>
 }
 
 fn tables_at(alloc: Global, top: &Table, key: Key) -> Result<Vec<&Table>, AllocError>
-    ensures { IfOk result (λ ts. spec.views ts.items ≡ spec.tables_at (spec.value_at key (table_view top.now))) }
+    ensures { IfOk result (λ ts. spec.views ts.items ≡ spec.tables_at key (table_view top.now)) }
 {
     match value_at(top, key) {
         Some(value) => tables_below(alloc, value),
@@ -121,7 +121,8 @@ pub(crate) fn tables_of(
     section: Section,
     top: &Table,
 ) -> Result<Vec<&Table>, AllocError>
-    ensures { IfOk result (λ ts. spec.views ts.items ≡ spec.tables_of section (table_view top.now)) }
+    ensures { IfOk result (λ ts.
+        spec.views ts.items ≡ spec.tables_of section (table_view top.now)) }
 {
     match section.key() {
         Some(key) => tables_at(alloc, top, key),

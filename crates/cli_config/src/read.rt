@@ -3,7 +3,6 @@
 ghost use Rattle.std.specs.Prelude.{◌≡◌, map, option_map, IfOk, IfErr};
 ghost use Rattle.toml.specs.View.{table_view};
 ghost use Rattle.cli_config.specs.Tables.{text_at, views};
-ghost use Rattle.cli_config.specs.Faults as of_tables;
 ghost use Rattle.cli_config.specs.ConfigFile as spec;
 
 use crate::config::{Config, Host, Limits, Route, RunOptions, Wire};
@@ -163,7 +162,7 @@ fn config_of(alloc: Global, top: &Table) -> Result<Config, AllocError>
 }
 
 fn read_document(alloc: Global, top: &Table) -> Result<Config, ConfigError>
-    ensures { spec.Gives result (spec.stated (table_view top.now) (of_tables.first_fault (table_view top.now))) }
+    ensures { spec.Gives result (spec.states (table_view top.now)) }
 {
     match first_fault(alloc, top)? {
         Some(fault) => Err(ConfigError::Table(fault)),
