@@ -11,7 +11,7 @@ use sw_parts::Link;
 
 /// A link to an issuer. Contracts see a tag, and then the state of the simulated issuer, of
 /// which they keep all that they know; of a host they know nothing.
-pub enum IssuerLink<C: Clock + Drop> {
+pub enum IssuerLink<C: Clock + Drop = HostRuntime> {
     /// The simulated issuer.
     Simulated(Issuer),
     /// An issuer's host.

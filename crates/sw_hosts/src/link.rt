@@ -42,7 +42,7 @@ struct Awaited {
 ///
 /// Contracts see of a link that it has no state: what comes over a wire is no promise of anybody, and
 /// a key is compared again by whoever receives.
-pub struct HostLink<C: Clock + Drop> {
+pub struct HostLink<C: Clock + Drop = HostRuntime> {
     alloc: Global,
     clock: C,
     shared: Arc<Shared>,

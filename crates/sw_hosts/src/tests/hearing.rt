@@ -9,7 +9,7 @@ use std::time::{Duration, Instant};
 use sw_parts::Link;
 
 // Whether the link receives this message.
-fn hears(link: &mut HostLink<HostRuntime>, message: &[u8]) -> Result<bool, Fail> {
+fn hears(link: &mut HostLink, message: &[u8]) -> Result<bool, Fail> {
     Ok(match link.receive()? {
         Some(bytes) => bytes.as_slice() == message,
         None => false,
@@ -17,7 +17,7 @@ fn hears(link: &mut HostLink<HostRuntime>, message: &[u8]) -> Result<bool, Fail>
 }
 
 // Whether the link receives nothing, and says so within a second, long before the deadline.
-fn hears_nothing(rt: HostRuntime, link: &mut HostLink<HostRuntime>) -> Result<bool, Fail> {
+fn hears_nothing(rt: HostRuntime, link: &mut HostLink) -> Result<bool, Fail> {
     let start = Instant::now(&rt)?;
     let heard = link.receive()?;
     Ok(heard.is_none() && start.elapsed(&rt)? < Duration::from_secs(1))
@@ -28,7 +28,7 @@ fn hears_nothing(rt: HostRuntime, link: &mut HostLink<HostRuntime>) -> Result<bo
 #[test]
 fn a_late_answer_is_dropped(rt: HostRuntime) -> Result<(), Fail> {
     let timeout = Duration::from_secs(1);
-    let mut wired = wire_up(rt, rt.alloc(), timeout)?;
+    let mut wired = wire_up(rt, rt, timeout)?;
     let mut link = wired.host.link(rt)?;
     let start = Instant::now(&rt)?;
     link.send(REQUEST)?;
@@ -58,7 +58,7 @@ fn what_breaks_is_opened_again(rt: HostRuntime) -> Result<(), Fail> {
         responses,
         to,
         from,
-    } = wire_up(rt, rt.alloc(), Duration::from_secs(10))?;
+    } = wire_up(rt, rt, Duration::from_secs(10))?;
     let mut link = host.link(rt)?;
     let mut wired = Wired {
         host,

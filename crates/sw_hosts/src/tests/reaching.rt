@@ -63,7 +63,7 @@ fn nobody_is_asked_too_often(rt: HostRuntime) -> Result<(), Fail> {
 // in the outbox.
 #[test]
 fn a_full_outbox_reaches_nobody(rt: HostRuntime) -> Result<(), Fail> {
-    let wired = wire_up(rt, rt.alloc(), Duration::from_secs(30))?;
+    let wired = wire_up(rt, rt, Duration::from_secs(30))?;
     let mut link = wired.host.link(rt)?;
     let start = Instant::now(&rt)?;
     let long = [b'0'; 9_999];

@@ -5,7 +5,7 @@ use crate::tests::wires::{REQUEST, wire_up};
 use std::alloc::Global;
 use std::io::Write;
 use std::test::Fail;
-use std::time::{Clock, Duration};
+use std::time::Duration;
 use sw_context::Context;
 use sw_issuers::Issuer;
 use sw_participant::{Act, Bystander, Call, Station};
@@ -15,10 +15,7 @@ use sw_parts::QueryIssuer;
 const REFUSAL: &[u8] = b"00360110002000000280000000004205TERM0001";
 
 // The context of the request, once a station has asked over the link.
-fn asked_over<C: Clock + Drop + Send + 'static>(
-    alloc: Global,
-    link: IssuerLink<C>,
-) -> Result<Context, Fail> {
+fn asked_over(alloc: Global, link: IssuerLink) -> Result<Context, Fail> {
     let mut context = Context::new(alloc);
     context.put("request", REQUEST)?;
     let participant = Box::new(alloc, Bystander::new(QueryIssuer::new(alloc, link)))?;
@@ -37,12 +34,12 @@ fn asked_over<C: Clock + Drop + Send + 'static>(
 #[test]
 fn a_station_asks_an_issuer(rt: HostRuntime) -> Result<(), Fail> {
     let alloc = rt.alloc();
-    let mut wired = wire_up(rt, rt.alloc(), Duration::from_secs(10))?;
+    let mut wired = wire_up(rt, rt, Duration::from_secs(10))?;
     wired.responses.write_all(REFUSAL)?;
     let context = asked_over(alloc, IssuerLink::Host(wired.host.link(rt)?))?;
     assert!(rt; context.get("rc") == Some(b"05".as_slice()));
     assert!(rt; wired.reads(REQUEST)?);
-    let simulated: IssuerLink<HostRuntime> = IssuerLink::Simulated(Issuer::new(alloc, false));
+    let simulated: IssuerLink = IssuerLink::Simulated(Issuer::new(alloc, false));
     let context = asked_over(alloc, simulated)?;
     assert!(rt; context.get("rc") == Some(b"00".as_slice()));
     Ok(())

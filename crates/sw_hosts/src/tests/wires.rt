@@ -2,10 +2,8 @@
 
 use crate::{Host, ReadPath, WritePath};
 use std::alloc::{AllocError, Global};
-use std::fs::File;
 use std::io::{PipeReader, PipeWriter, Read, Write, pipe};
 use std::os::fd::AsRawFd;
-use std::rt::Files;
 use std::sync::Wait;
 use std::test::Fail;
 use std::thread::Threads;
@@ -36,16 +34,18 @@ fn path_of(alloc: Global, end: &impl AsRawFd) -> Result<String, AllocError> {
     format!(in alloc; "/proc/self/fd/{number}")
 }
 
-/// A host over two pipes, which it opens as often as it likes.
-pub fn wire_up<R: Threads + Wait + Clock + Files<File = File> + Copy + Send + 'static>(
+/// A host over two pipes, which it opens as often as it likes. The runtime comes twice: once for its
+/// threads, and once for its files, of which a thread can only take a type that is named.
+pub fn wire_up<R: Threads + Wait + Clock + Copy + Send + 'static>(
     rt: R,
-    alloc: Global,
+    files: HostRuntime,
     timeout: Duration,
 ) -> Result<Wired, Fail> {
-    let (requests, to) = pipe(&rt)?;
-    let (from, responses) = pipe(&rt)?;
-    let writer = WritePath::new(rt, path_of(alloc, &to)?);
-    let reader = ReadPath::new(rt, path_of(alloc, &from)?);
+    let alloc = files.alloc();
+    let (requests, to) = pipe(&files)?;
+    let (from, responses) = pipe(&files)?;
+    let writer = WritePath::new(files, path_of(alloc, &to)?);
+    let reader = ReadPath::new(files, path_of(alloc, &from)?);
     let host = Host::start(&rt, alloc, writer, reader, timeout)?;
     Ok(Wired {
         host,
