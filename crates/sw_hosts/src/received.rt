@@ -1,0 +1,55 @@
+//! What a host sent.
+
+ghost use Rattle.std.specs.Prelude.{◌≡◌, IfOk, option_map, Some};
+ghost use Rattle.sw_hosts.specs.Keyed.{key_in};
+
+use iso_codec::{DecodeError, decode};
+use std::alloc::Global;
+use sw_mux::{Key, key_of};
+use sw_participant::NoMemory;
+
+/// A message that has a key.
+pub struct Received {
+    pub key: Key,
+    pub bytes: Vec<u8>,
+    ghost keyed: { key_in bytes.items ≡ Some key.bytes },
+}
+
+// Written out, so that no caller proves again how its parts are dropped.
+impl Drop for Received {
+    fn drop(self) {
+        let Received { key: _, bytes: _ } = self;
+    }
+}
+
+/// The key of the message that these are the bytes of; none where they are no message, or one
+/// without a key.
+pub fn key_in(alloc: Global, bytes: &[u8]) -> Result<Option<Key>, NoMemory>
+    ensures { IfOk result (λ key. option_map (λ k. k.bytes) key ≡ key_in bytes.now) }
+{
+    match decode(alloc, bytes) {
+        Ok(message) => Ok(key_of(&message)),
+        Err(DecodeError::OutOfMemory) => Err(NoMemory),
+        Err(_) => Ok(None),
+    }
+}
+
+impl Received {
+    /// The message of these bytes, which has this key.
+    pub fn new(key: Key, bytes: Vec<u8>) -> Received
+        requires { key_in bytes.items ≡ Some key.bytes }
+        ensures key { result.key ≡ key }
+        ensures bytes { result.bytes ≡ bytes }
+    {
+        Received { key, bytes }
+    }
+
+    /// Its bytes.
+    pub fn into_bytes(self) -> Vec<u8>
+        ensures bytes { result.items ≡ self.bytes.items }
+        ensures keyed { key_in result.items ≡ Some self.key.bytes }
+    {
+        let Received { key: _, bytes } = self;
+        bytes
+    }
+}
