@@ -33,6 +33,8 @@ pub enum Options<'a> {
     /// prints its lines.
     Recover {
         flow: &'a str,
+        /// The path of the configuration file, if there is one.
+        config: Option<&'a str>,
         /// The path of the journal's file.
         journal: &'a str,
     },
@@ -73,12 +75,14 @@ pub struct JournalOptions<'a> {
 pub struct RunOptions<'a> {
     /// The path of the flow file.
     pub flow: &'a str,
-    /// The path of the journal's file; without it the journal is in memory.
+    /// The path of the configuration file, if there is one.
+    pub config: Option<&'a str>,
+    /// The path of the journal's file, where it is given.
     pub journal: Option<&'a str>,
-    /// How many sessions the engine has; default 1.
-    pub sessions: u64,
-    /// What a card may spend, in minor units of its currency; default 10,000.
-    pub limit: u64,
+    /// How many sessions the engine has, where it is given.
+    pub sessions: Option<u64>,
+    /// What a card may spend, in minor units of its currency, where it is given.
+    pub limit: Option<u64>,
     /// Whether the sessions run as threads.
     pub threads: bool,
     /// In which form the trace is printed on standard error, if it is.
