@@ -4,8 +4,8 @@
     tests/hosts.py [WORD] [--program PATH]
 
 Each case is a row of `docs/HOSTS.md`: what the host does, and what the switch then answers, stores and sends. The hosts are played here,
-frame by frame; one case runs `examples/hosts/host.py`, and one has socat carry the frames over a connection on the loopback, where socat
-is installed. WORD picks the cases whose name has these letters. The last line counts; the status is 1 where something is wrong.
+frame by frame; one case runs `examples/hosts/host.py`, and one `examples/hosts/try.sh`, in which socat carries the frames over connections
+on the loopback, where it is installed. WORD picks the cases whose name has these letters. The last line counts; the status is 1 where something is wrong.
 """
 
 import argparse
@@ -367,6 +367,15 @@ def worked_host(program, room):
                 it.wait()
 
 
+def behind_socat(program, room):
+    """`examples/hosts/try.sh`: the same over connections on the loopback."""
+    if shutil.which("socat") is None:
+        print("skipped: no socat carries frames")
+    script = os.path.join(EXAMPLES, "hosts", "try.sh")
+    came = subprocess.run([script, program], cwd=room, stdout=subprocess.PIPE, stderr=subprocess.PIPE, timeout=SECONDS * 2, check=False)
+    wanted(f"what it prints ({came.stderr.decode(errors='replace')})", came.stdout, b"the same responses\n")
+
+
 CASES = [
     approved,
     declined,
@@ -379,6 +388,7 @@ CASES = [
     switch_killed,
     beside_a_silent_host,
     worked_host,
+    behind_socat,
 ]
 
 

@@ -10,6 +10,7 @@ use Rattle.clap.specs.declared.builder.Command.TheViews.{out-Command}
 use Rattle.cli_options.specs.declared.choice.Options.{Options}
 use Rattle.cli_options.specs.declared.choice.Options.TheVariants.{Asm, Decode, Encode, Graph, Journal, List as ListImage, Recover, Run, Step}
 use Rattle.cli_options.specs.declared.choice.JournalOptions.{JournalOptions}
+use Rattle.cli_options.specs.declared.choice.RecoverOptions.{RecoverOptions}
 use Rattle.cli_options.specs.declared.choice.RunOptions.{RunOptions}
 use Rattle.cli_options.specs.declared.choice.TraceForm.{TraceForm}
 use Rattle.cli_options.specs.declared.choice.TraceForm.TheVariants as form
@@ -143,6 +144,12 @@ pub record AreRunOptions (rows : List Row) (o : RunOptions) : Type 0 where
   pub trace : trace_in (first_of (codes "trace") rows) ≡ Some o.trace
   pub stats : stats_in (first_of (codes "stats") rows) ≡ Some o.stats
 
+-- the same of `recover`
+pub record AreRecoverOptions (rows : List Row) (o : RecoverOptions) : Type 0 where
+  pub flow : Some o.flow.now ≡ first_of (codes "flow") rows
+  pub config : text_of o.config ≡ first_of (codes "config") rows
+  pub journal : Some o.journal.now ≡ first_of (codes "journal") rows
+
 -- the same of `journal`
 pub record AreJournalOptions (rows : List Row) (o : JournalOptions) : Type 0 where
   pub path : Some o.path.now ≡ first_of (codes "path") rows
@@ -159,9 +166,7 @@ AreOptionsAt name rows (Graph flow dot) =
     (name ≡ codes "graph") × (Some flow.now ≡ first_of (codes "flow") rows) × (dot ≡ is_set (first_of (codes "dot") rows))
 AreOptionsAt name rows (Decode mask) = (name ≡ codes "decode") × (mask ≡ is_set (first_of (codes "mask") rows))
 AreOptionsAt name rows Encode = name ≡ codes "encode"
-AreOptionsAt name rows (Recover flow config journal) =
-    (name ≡ codes "recover") × (Some flow.now ≡ first_of (codes "flow") rows)
-    × (text_of config ≡ first_of (codes "config") rows) × (Some journal.now ≡ first_of (codes "journal") rows)
+AreOptionsAt name rows (Recover o) = (name ≡ codes "recover") × AreRecoverOptions rows o
 AreOptionsAt name rows (Journal o) = (name ≡ codes "journal") × AreJournalOptions rows o
 AreOptionsAt name rows (Run o) = (name ≡ codes "run") × AreRunOptions rows o
 

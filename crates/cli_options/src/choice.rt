@@ -31,13 +31,7 @@ pub enum Options<'a> {
     Encode,
     /// `recover`: finishes what a journal has unfinished, by the flow of the flow file at a path, and
     /// prints its lines.
-    Recover {
-        flow: &'a str,
-        /// The path of the configuration file, if there is one.
-        config: Option<&'a str>,
-        /// The path of the journal's file.
-        journal: &'a str,
-    },
+    Recover(RecoverOptions<'a>),
     /// `journal`: prints what a journal's file holds.
     Journal(JournalOptions<'a>),
     /// `run`: answers the requests in frames from standard input, by the flow of the flow file at a path.
@@ -57,6 +51,17 @@ impl<'a> Options<'a> {
             other => other,
         }
     }
+}
+
+/// What `recover` is given.
+#[derive(Clone, Copy)]
+pub struct RecoverOptions<'a> {
+    /// The path of the flow file.
+    pub flow: &'a str,
+    /// The path of the configuration file, if there is one.
+    pub config: Option<&'a str>,
+    /// The path of the journal's file.
+    pub journal: &'a str,
 }
 
 /// What `journal` is given.

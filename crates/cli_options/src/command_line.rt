@@ -6,7 +6,7 @@ ghost use Rattle.cli_options.specs.CommandLine.{is_set, number_in, stats_in, tex
 ghost use Rattle.cli_options.specs.Refusal.{IsAccepted, IsBadForm, IsBadNumber, IsRefusalAt};
 ghost use Rattle.cli_options.specs.Refusal.{IsRefusalOf, IsRunRefusal};
 
-use crate::choice::{JournalOptions, Options, RunOptions, StatsLines, TraceForm};
+use crate::choice::{JournalOptions, Options, RecoverOptions, RunOptions, StatsLines, TraceForm};
 use crate::error::OptionsError;
 use crate::table::switch_command;
 use clap::ArgMatches;
@@ -148,11 +148,11 @@ fn options_at<'a>(name: &str, found: &ArgMatches<'a>) -> Result<Options<'a>, Opt
         }),
         "encode" => Ok(Options::Encode),
         "recover" => match (text_at(found, "flow"), text_at(found, "journal")) {
-            (Some(flow), Some(journal)) => Ok(Options::Recover {
+            (Some(flow), Some(journal)) => Ok(Options::Recover(RecoverOptions {
                 flow,
                 config: text_at(found, "config"),
                 journal,
-            }),
+            })),
             _ => Err(OptionsError::NoSubcommand),
         },
         "journal" => match text_at(found, "path") {
