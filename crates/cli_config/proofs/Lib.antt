@@ -1,0 +1,2 @@
+mod EarlierTables
+mod LeastKey

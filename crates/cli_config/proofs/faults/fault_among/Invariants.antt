@@ -1,0 +1,8 @@
+use Rattle.std.proofs.Common.{◌≡◌, drop}
+use Rattle.sw_base.specs.Refusals.{first_at}
+use Rattle.cli_config.specs.Tables.{views}
+use Rattle.cli_config.specs.Faults.{fault_in}
+use Rattle.cli_config.proofs.faults.fault_among.Given as goal
+
+abbrev pub invariant-loop-number : goal.invariant-loop-number
+invariant-loop-number l = first_at (fault_in l.section) l.number (views (drop l.number l.tables)) ≡ first_at (fault_in l.section) 0 (views l.tables)

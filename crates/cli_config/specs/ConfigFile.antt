@@ -1,0 +1,108 @@
+-- The configuration that a text states, or its first fault.
+use Rattle.std.specs.Prelude.{◌≡◌, ⊤, ℕ, List, map, Option, Some, None, option_map, unwrap_or, Result, Ok, Err}
+use Rattle.toml.specs.Data.{Data, boolean, Members}
+use Rattle.toml.specs.Parse.{parse_document}
+use Rattle.toml.specs.Errors.{IsWithin}
+use Rattle.cli_config.specs.declared.config.Config as config
+use Rattle.cli_config.specs.declared.config.Host as host
+use Rattle.cli_config.specs.declared.config.Wire.{Wire}
+use Rattle.cli_config.specs.declared.config.Wire.TheVariants as wire
+use Rattle.cli_config.specs.declared.config.Route as route
+use Rattle.cli_config.specs.declared.config.Limits as limits
+use Rattle.cli_config.specs.declared.config.RunOptions as run
+use Rattle.cli_config.specs.declared.error.ConfigError.{ConfigError}
+use Rattle.cli_config.specs.declared.error.ConfigError.TheVariants.{OutOfMemory, Toml, Table}
+use Rattle.cli_config.specs.declared.error.TableError.{TableError}
+use Rattle.cli_config.specs.declared.keys.Section.TheVariants as section
+use Rattle.cli_config.specs.declared.keys.Key.{Key}
+use Rattle.cli_config.specs.declared.keys.Key.TheVariants as key
+use Rattle.cli_config.specs.Tables.{flag_at, number_at, table_at, tables_of, text_at, value_at}
+use Rattle.cli_config.specs.Faults.{first_fault}
+
+-- a text at a key, where one stands there
+abbrev pub text_if : Key → Members → Option (List ℕ)
+text_if k ms = option_map (λ d. text_at k ms) (value_at k ms)
+
+-- a query waits ten seconds where the file does not say
+abbrev pub streams_of : Members → Wire
+streams_of ms = wire.Streams (text_at key.To ms) (text_at key.From ms) (unwrap_or (number_at key.TimeoutMs ms) 10000) (number_at key.EchoS ms)
+
+-- how a host without a fault is reached, by what stands at `simulated`: true, or "silent"
+abbrev pub wire_by : Option Data → Members → Wire
+wire_by None ms = streams_of ms
+wire_by (Some (boolean b)) ms = wire.Simulated
+wire_by (Some d) ms = wire.Silent
+
+abbrev pub wire_of : Members → Wire
+wire_of ms = wire_by (value_at key.Simulated ms) ms
+
+abbrev pub host_of : Members → host.Host
+host_of ms = record { name = text_at key.Name ms; wire = wire_of ms }
+
+abbrev pub route_of : Members → route.Route
+route_of ms = record { prefix = text_at key.Prefix ms; group = text_at key.Group ms }
+
+abbrev pub limits_in : Option Members → limits.Limits
+limits_in None = record { per_card = None; stand_in = None }
+limits_in (Some ms) = record { per_card = number_at key.PerCard ms; stand_in = number_at key.StandIn ms }
+
+abbrev pub run_in : Option Members → run.RunOptions
+run_in None = record { sessions = None; journal = None; threads = None; advices = None }
+run_in (Some ms) = record {
+  sessions = number_at key.Sessions ms;
+  journal = text_if key.Journal ms;
+  threads = flag_at key.Threads ms;
+  advices = number_at key.Advices ms;
+}
+
+abbrev pub limits_of : Members → limits.Limits
+limits_of top = limits_in (table_at key.Limits top)
+
+abbrev pub run_of : Members → run.RunOptions
+run_of top = run_in (table_at key.Run top)
+
+-- the hosts and the routes, where the file has their key
+abbrev pub hosts_of : Members → Option (List host.Host)
+hosts_of top = option_map (λ d. map host_of (tables_of section.Host top)) (value_at key.Host top)
+
+abbrev pub routes_of : Members → Option (List route.Route)
+routes_of top = option_map (λ d. map route_of (tables_of section.Route top)) (value_at key.Route top)
+
+-- the configuration of a document without a fault
+abbrev pub config_of : Members → config.Config
+config_of top = record {
+  hosts = hosts_of top;
+  routes = routes_of top;
+  limits = limits_of top;
+  run = run_of top;
+}
+
+abbrev pub stated : Members → Option TableError → Result config.Config TableError
+stated top None = Ok (config_of top)
+stated top (Some e) = Err e
+
+-- what a document states: its configuration, or its first fault
+abbrev pub states : Members → Result config.Config TableError
+states top = stated top (first_fault top)
+
+-- what a text reads as: nothing where it is no TOML
+unfoldable pub reading : List ℕ → Option (Result config.Config TableError)
+reading text = option_map states (parse_document text)
+
+-- what a function over a document answers is what that states, unless memory ran out
+abbrev pub Gives : Result config.Config ConfigError → Result config.Config TableError → Type 0
+Gives (Ok c) told = told ≡ Ok c
+Gives (Err OutOfMemory) told = ⊤
+Gives (Err (Toml t)) told = ⊥
+Gives (Err (Table e)) told = told ≡ Err e
+
+-- the text is a configuration file of the configuration
+abbrev pub IsConfigFile : config.Config → List ℕ → Type 0
+IsConfigFile c text = reading text ≡ Some (Ok c)
+
+-- What a refusal says of a text: nothing where memory ran out, else its first fault. That a text is no
+-- TOML comes with a span of it.
+abbrev pub Refuses : List ℕ → ConfigError → Type 0
+Refuses text OutOfMemory = ⊤
+Refuses text (Toml t) = (parse_document text ≡ None) × IsWithin text t
+Refuses text (Table e) = reading text ≡ Some (Err e)

@@ -1,0 +1,61 @@
+-- The tables of a document, and what stands in them.
+use Rattle.std.specs.Prelude.{◌≡◌, ℕ, ℤ, pos, negsuc, Bool, List, [], ◌∷◌, map, String, Option, Some, None, unwrap_or, option_and_then}
+use Rattle.std.specs.Borrow.{Bor}
+use Rattle.std.specs.BTreeMap.{BTreeMap}
+use Rattle.std.specs.declared.alloc.Global.{Global}
+use Rattle.toml.specs.Data.{Data, array, table, Items, no_items, item, Members, get_member, as_str, as_bool, as_integer, as_table}
+use Rattle.toml.specs.View.{table_view}
+use Rattle.toml.specs.declared.value.Value.{Value}
+use Rattle.cli_config.specs.declared.keys.Section.{Section}
+use Rattle.cli_config.specs.declared.keys.Key.{Key}
+use Rattle.cli_config.specs.Keys.{key_of, spelling}
+
+abbrev pub value_at : Key → Members → Option Data
+value_at k ms = get_member (spelling k) ms
+
+-- What stands at a key of a table without a fault. (Other tables have a value here too, which is never read.)
+abbrev pub text_at : Key → Members → List ℕ
+text_at k ms = unwrap_or (option_and_then as_str (value_at k ms)) []
+
+abbrev pub whole : ℤ → Option ℕ
+whole (pos n) = Some n
+whole (negsuc n) = None
+
+abbrev pub number_at : Key → Members → Option ℕ
+number_at k ms = option_and_then whole (option_and_then as_integer (value_at k ms))
+
+abbrev pub flag_at : Key → Members → Option Bool
+flag_at k ms = option_and_then as_bool (value_at k ms)
+
+abbrev pub table_at : Key → Members → Option Members
+table_at k ms = option_and_then as_table (value_at k ms)
+
+abbrev pub tables_in : Items → List Members
+tables_in no_items = []
+tables_in (item (table ms) ds) = ms ∷ tables_in ds
+tables_in (item d ds) = tables_in ds
+
+-- the tables of an array, or a table by itself
+abbrev pub tables_below : Data → List Members
+tables_below (array ds) = tables_in ds
+tables_below (table ms) = ms ∷ []
+tables_below d = []
+
+abbrev pub tables_if : Option Data → List Members
+tables_if None = []
+tables_if (Some d) = tables_below d
+
+abbrev pub tables_at : Key → Members → List Members
+tables_at k top = tables_if (value_at k top)
+
+abbrev pub tables_under : Option Key → Members → List Members
+tables_under None top = top ∷ []
+tables_under (Some k) top = tables_at k top
+
+-- the tables of a section of a document, in its order
+abbrev pub tables_of : Section → Members → List Members
+tables_of p top = tables_under (key_of p) top
+
+-- what some tables hold
+abbrev pub views : List (Bor (BTreeMap (String Global) Value)) → List Members
+views ts = map (λ t. table_view t.now) ts

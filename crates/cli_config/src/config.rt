@@ -1,0 +1,103 @@
+//! What a configuration file states.
+
+use sw_participant::{Sequence, Text};
+
+/// A configuration. `None` is what the file leaves to the program.
+#[derive(Drop)]
+pub struct Config {
+    /// The hosts in the file's order; no two have one name.
+    pub hosts: Option<Sequence<Host>>,
+    /// The routes in the file's order; no two have one prefix.
+    pub routes: Option<Sequence<Route>>,
+    pub limits: Limits,
+    pub run: RunOptions,
+}
+
+/// An issuer.
+pub struct Host {
+    /// 1 to 26 bytes of `a-z A-Z 0-9 _ - .`, so that `query_NAME` is a participant's name.
+    pub name: Text,
+    pub wire: Wire,
+}
+
+// Written out, so that no caller proves again how its parts are dropped.
+impl Drop for Host {
+    fn drop(self) {
+        let Host { name: _, wire: _ } = self;
+    }
+}
+
+/// How a host is reached.
+pub enum Wire {
+    /// By no stream: the program answers in its place.
+    Simulated,
+    /// By no stream, and nothing answers.
+    Silent,
+    /// By two streams of frames, each opened by a path that is not empty.
+    Streams {
+        /// What frames are written to.
+        to: Text,
+        /// What frames are read from.
+        from: Text,
+        /// How many milliseconds a query waits for its answer, 1 to 600,000.
+        timeout_ms: u64,
+        /// How many seconds a host is idle until an echo test is sent to it, 1 to 86,400; `None`
+        /// where none is.
+        echo_s: Option<u64>,
+    },
+}
+
+// Written out, so that no caller proves again how its parts are dropped.
+impl Drop for Wire {
+    fn drop(self) {
+        match self {
+            Wire::Simulated | Wire::Silent => {}
+            Wire::Streams {
+                to: _,
+                from: _,
+                timeout_ms: _,
+                echo_s: _,
+            } => {}
+        }
+    }
+}
+
+/// Which cards' requests go to which group of the flow.
+pub struct Route {
+    /// What the card number begins with, 1 to 19 digits.
+    pub prefix: Text,
+    /// The group's name.
+    pub group: Text,
+}
+
+// Written out, so that no caller proves again how its parts are dropped.
+impl Drop for Route {
+    fn drop(self) {
+        let Route {
+            prefix: _,
+            group: _,
+        } = self;
+    }
+}
+
+/// Amounts, in minor units.
+#[derive(Clone, Copy)]
+pub struct Limits {
+    /// What a card may spend, at most 999,999,999,999,999.
+    pub per_card: Option<u64>,
+    /// Up to which amount the switch approves in a silent issuer's place, at most 999,999,999,999.
+    pub stand_in: Option<u64>,
+}
+
+/// How the program runs.
+#[derive(Drop)]
+pub struct RunOptions {
+    /// How many sessions there are, 1 to 16.
+    pub sessions: Option<u64>,
+    /// The path of the journal, not empty.
+    pub journal: Option<Text>,
+    /// Whether the sessions run as threads.
+    pub threads: Option<bool>,
+    /// How many stored advices are sent between two batches, 0 to 256; with 0 all are sent at the end.
+    pub advices: Option<u64>,
+}

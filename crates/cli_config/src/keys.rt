@@ -1,0 +1,225 @@
+//! The tables of a configuration file and the keys that stand in them.
+
+ghost use Rattle.std.specs.Prelude.{◌≡◌};
+ghost use Rattle.cli_config.specs.Keys as spec;
+
+use std::fmt;
+
+/// A section of a configuration file: its tables of one kind.
+#[derive(Clone, Copy, PartialEq, Eq)]
+pub enum Section {
+    /// The table that the whole file is.
+    Top,
+    /// A table of the array `host`.
+    Host,
+    /// A table of the array `route`.
+    Route,
+    /// The table `limits`.
+    Limits,
+    /// The table `run`.
+    Run,
+}
+
+/// A table of a configuration file.
+#[derive(Clone, Copy, PartialEq, Eq)]
+pub struct TablePath {
+    pub section: Section,
+    /// The number of a host or a route, from 0; 0 in the other sections.
+    pub number: usize,
+}
+
+/// A key of a configuration file.
+#[derive(Clone, Copy, PartialEq, Eq)]
+pub enum Key {
+    Host,
+    Limits,
+    Route,
+    Run,
+    EchoS,
+    From,
+    Name,
+    Simulated,
+    TimeoutMs,
+    To,
+    Group,
+    Prefix,
+    PerCard,
+    StandIn,
+    Advices,
+    Journal,
+    Sessions,
+    Threads,
+}
+
+/// What may stand at a key.
+#[derive(Clone, Copy, PartialEq, Eq)]
+pub enum Want {
+    /// An array whose members are all tables, written inline or by headers; it may be empty.
+    Tables,
+    /// A table, written inline or by a header.
+    Table,
+    /// A string of 1 to so many bytes of `a-z A-Z 0-9 _ - .`.
+    Name(usize),
+    /// A string of 1 to so many decimal digits.
+    Digits(usize),
+    /// A string that is not empty.
+    Path,
+    /// `true`, or the string `silent`.
+    Simulation,
+    /// `true` or `false`.
+    Flag,
+    /// An integer from the first to the second, both included.
+    Number(u64, u64),
+}
+
+impl Section {
+    /// All sections, in the order of their faults.
+    pub(crate) fn all() -> &'static [Section]
+        ensures { result.now ≡ spec.sections }
+    {
+        &[
+            Section::Top,
+            Section::Host,
+            Section::Route,
+            Section::Limits,
+            Section::Run,
+        ]
+    }
+
+    /// The key of the top table at which the section stands; the top table itself has none.
+    pub(crate) fn key(self) -> Option<Key>
+        ensures { result ≡ spec.key_of self }
+    {
+        match self {
+            Section::Top => None,
+            Section::Host => Some(Key::Host),
+            Section::Route => Some(Key::Route),
+            Section::Limits => Some(Key::Limits),
+            Section::Run => Some(Key::Run),
+        }
+    }
+
+    /// The keys of its tables, ascending by their spelling.
+    pub(crate) fn keys(self) -> &'static [Key]
+        ensures { result.now ≡ spec.keys_of self }
+    {
+        match self {
+            Section::Top => &[Key::Host, Key::Limits, Key::Route, Key::Run],
+            Section::Host => &[
+                Key::EchoS,
+                Key::From,
+                Key::Name,
+                Key::Simulated,
+                Key::TimeoutMs,
+                Key::To,
+            ],
+            Section::Route => &[Key::Group, Key::Prefix],
+            Section::Limits => &[Key::PerCard, Key::StandIn],
+            Section::Run => &[Key::Advices, Key::Journal, Key::Sessions, Key::Threads],
+        }
+    }
+}
+
+impl Key {
+    /// The key as a file spells it.
+    pub fn as_str(self) -> &'static str
+        ensures { result.now ≡ spec.spelling self }
+    {
+        match self {
+            Key::Host => "host",
+            Key::Limits => "limits",
+            Key::Route => "route",
+            Key::Run => "run",
+            Key::EchoS => "echo_s",
+            Key::From => "from",
+            Key::Name => "name",
+            Key::Simulated => "simulated",
+            Key::TimeoutMs => "timeout_ms",
+            Key::To => "to",
+            Key::Group => "group",
+            Key::Prefix => "prefix",
+            Key::PerCard => "per_card",
+            Key::StandIn => "stand_in",
+            Key::Advices => "advices",
+            Key::Journal => "journal",
+            Key::Sessions => "sessions",
+            Key::Threads => "threads",
+        }
+    }
+
+    /// What may stand at it.
+    pub fn wants(self) -> Want
+        ensures { result ≡ spec.wants self }
+    {
+        match self {
+            Key::Host | Key::Route => Want::Tables,
+            Key::Limits | Key::Run => Want::Table,
+            Key::Name => Want::Name(26),
+            Key::Group => Want::Name(32),
+            Key::Prefix => Want::Digits(19),
+            Key::From | Key::To | Key::Journal => Want::Path,
+            Key::Simulated => Want::Simulation,
+            Key::Threads => Want::Flag,
+            Key::EchoS => Want::Number(1, 86_400),
+            Key::TimeoutMs => Want::Number(1, 600_000),
+            Key::PerCard => Want::Number(0, 999_999_999_999_999),
+            Key::StandIn => Want::Number(0, 999_999_999_999),
+            Key::Advices => Want::Number(0, 256),
+            Key::Sessions => Want::Number(1, 16),
+        }
+    }
+
+    /// Whether its table must have it, or else the key that it excludes.
+    pub(crate) fn is_required(self) -> bool
+        ensures { result ≡ spec.is_required self }
+    {
+        matches!(
+            self,
+            Key::From | Key::Name | Key::To | Key::Group | Key::Prefix
+        )
+    }
+
+    /// The key that may not stand beside it.
+    pub(crate) fn excluded(self) -> Option<Key>
+        ensures { result ≡ spec.excluded self }
+    {
+        match self {
+            Key::EchoS | Key::From | Key::TimeoutMs | Key::To => Some(Key::Simulated),
+            _ => None,
+        }
+    }
+}
+
+impl fmt::Display for Key {
+    fn fmt<W: fmt::Write>(&self, f: &mut fmt::Formatter<W>) -> fmt::Result {
+        f.write_str(self.as_str())
+    }
+}
+
+impl fmt::Display for Want {
+    fn fmt<W: fmt::Write>(&self, f: &mut fmt::Formatter<W>) -> fmt::Result {
+        match *self {
+            Want::Tables => f.write_str("an array of tables"),
+            Want::Table => f.write_str("a table"),
+            Want::Name(most) => write!(f, "1 to {most} of a-z A-Z 0-9 _ - ."),
+            Want::Digits(most) => write!(f, "1 to {most} digits"),
+            Want::Path => f.write_str("a path that is not empty"),
+            Want::Simulation => f.write_str("true or \"silent\""),
+            Want::Flag => f.write_str("true or false"),
+            Want::Number(least, most) => write!(f, "an integer from {least} to {most}"),
+        }
+    }
+}
+
+impl fmt::Display for TablePath {
+    fn fmt<W: fmt::Write>(&self, f: &mut fmt::Formatter<W>) -> fmt::Result {
+        let number = self.number;
+        match self.section {
+            Section::Top => f.write_str("top table"),
+            Section::Host => write!(f, "host {number}"),
+            Section::Route => write!(f, "route {number}"),
+            Section::Limits => f.write_str("limits"),
+            Section::Run => f.write_str("run"),
+        }
+    }
+}

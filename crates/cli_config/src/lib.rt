@@ -1,0 +1,45 @@
+//! Configuration files: what the switch is started with, written as TOML.
+//!
+//! ```toml
+//! [[host]]
+//! name = "alpha"
+//! to = "/run/alpha.to"
+//! from = "/run/alpha.from"
+//! timeout_ms = 2000
+//!
+//! [[route]]
+//! prefix = "4"
+//! group = "alpha"
+//!
+//! [limits]
+//! per_card = 10000
+//!
+//! [run]
+//! journal = "journal.db"
+//! ```
+//!
+//! Every table may be absent, and so may most keys: a [`Config`] says `None` of what the file leaves
+//! to the program. [`Key`] says what may stand at each key.
+//!
+//! Promised here: [`read_config`] answers exactly the configuration that a text states, or its first
+//! fault, with the key and the table that it stands in. The faults come in this order:
+//!
+//! 1. The text is no TOML.
+//! 2. A table has a fault of its own: the top table, then each host, each route, `limits`, `run`. In a
+//!    table the least unknown key comes first, then the least missing one, then the least with a value
+//!    that may not stand there, then the least that excludes `simulated`.
+//! 3. A host has the name of an earlier one.
+//! 4. A route has the prefix of an earlier one.
+#![tactic(auto)]
+
+mod config;
+mod error;
+mod faults;
+mod keys;
+mod look;
+mod read;
+
+pub use config::{Config, Host, Limits, Route, RunOptions, Wire};
+pub use error::{ConfigError, Found, TableError};
+pub use keys::{Key, Section, TablePath, Want};
+pub use read::read_config;

@@ -1,0 +1,131 @@
+//! What stands in the tables of a document.
+
+ghost use Rattle.std.specs.Prelude.{◌≡◌, Some, option_map, option_copied, [], ◌∷◌, IfOk, find};
+ghost use Rattle.toml.specs.Data.{get_member};
+ghost use Rattle.toml.specs.View.{view, table_view, array_view};
+ghost use Rattle.cli_config.specs.Keys.{spelling};
+ghost use Rattle.cli_config.specs.Tables as spec;
+
+use crate::keys::{Key, Section};
+use std::alloc::{AllocError, Global};
+use toml::value::Array;
+use toml::{Table, Value};
+
+/// The value at a key.
+pub(crate) fn value_at(table: &Table, key: Key) -> Option<&Value>
+    ensures { option_map (λ v. view v.now) result ≡ spec.value_at key (table_view table.now) }
+{
+    table.get(key.as_str())
+}
+
+/// The string at a key, empty where there is none.
+pub(crate) fn text_at(table: &Table, key: Key) -> &str
+    ensures { result.now ≡ spec.text_at key (table_view table.now) }
+{
+    match value_at(table, key) {
+        Some(value) => match value.as_str() {
+            Some(text) => text,
+            None => "",
+        },
+        None => "",
+    }
+}
+
+fn whole(number: i64) -> Option<u64>
+    ensures { result ≡ spec.whole number }
+{
+    if number < 0 {
+        None
+    } else {
+        Some(number as u64)
+    }
+}
+
+/// The number at a key, `None` where there is none or a negative one.
+pub(crate) fn number_at(table: &Table, key: Key) -> Option<u64>
+    ensures { result ≡ spec.number_at key (table_view table.now) }
+{
+    match value_at(table, key) {
+        Some(value) => match value.as_integer() {
+            Some(number) => whole(number),
+            None => None,
+        },
+        None => None,
+    }
+}
+
+/// The flag at a key.
+pub(crate) fn flag_at(table: &Table, key: Key) -> Option<bool>
+    ensures { result ≡ spec.flag_at key (table_view table.now) }
+{
+    match value_at(table, key) {
+        Some(value) => value.as_bool(),
+        None => None,
+    }
+}
+
+/// The table at a key.
+pub(crate) fn table_at(table: &Table, key: Key) -> Option<&Table>
+    ensures { option_map (λ t. table_view t.now) result ≡ spec.table_at key (table_view table.now) }
+{
+    match value_at(table, key) {
+        Some(value) => value.as_table(),
+        None => None,
+    }
+}
+
+fn one(alloc: Global, table: &Table) -> Result<Vec<&Table>, AllocError>
+    ensures { IfOk result (λ ts. spec.views ts.items ≡ table_view table.now ∷ []) }
+{
+    let mut tables = Vec::new(alloc);
+    tables.push(table)?;
+    Ok(tables)
+}
+
+fn tables_in(alloc: Global, array: &Array) -> Result<Vec<&Table>, AllocError>
+    ensures { IfOk result (λ ts. spec.views ts.items ≡ spec.tables_in (array_view array.now)) }
+{
+    let mut tables = Vec::new(alloc);
+    for value in array {
+        if let Some(table) = value.as_table() {
+            tables.push(table)?;
+        }
+    }
+    Ok(tables)
+}
+
+fn tables_below(alloc: Global, value: &Value) -> Result<Vec<&Table>, AllocError>
+    ensures { IfOk result (λ ts. spec.views ts.items ≡ spec.tables_below (view value.now)) }
+{
+    if let Some(table) = value.as_table() {
+        return one(alloc, table);
+    }
+    match value.as_array() {
+        Some(array) => tables_in(alloc, array),
+        None => Ok(Vec::new(alloc)),
+    }
+}
+
+fn tables_at(alloc: Global, top: &Table, key: Key) -> Result<Vec<&Table>, AllocError>
+    ensures { IfOk result (λ ts. spec.views ts.items ≡ spec.tables_at key (table_view top.now)) }
+{
+    match value_at(top, key) {
+        Some(value) => tables_below(alloc, value),
+        None => Ok(Vec::new(alloc)),
+    }
+}
+
+/// The tables of a section, in the order of the document.
+pub(crate) fn tables_of(
+    alloc: Global,
+    section: Section,
+    top: &Table,
+) -> Result<Vec<&Table>, AllocError>
+    ensures { IfOk result (λ ts.
+        spec.views ts.items ≡ spec.tables_of section (table_view top.now)) }
+{
+    match section.key() {
+        Some(key) => tables_at(alloc, top, key),
+        None => one(alloc, top),
+    }
+}
