@@ -1,0 +1,15 @@
+-- The states of a direction as a word, and when it may be ordered to be opened.
+use Rattle.std.specs.Prelude.{ℕ, ◌-◌, Bool, true, nat_le, Option, Some, None}
+use Rattle.sw_hosts.specs.declared.direction.DirectionState.{DirectionState}
+use Rattle.sw_hosts.specs.declared.direction.DirectionState.TheVariants.{Closed, Opening, Open}
+use Rattle.sw_hosts.specs.declared.moment.Moment.{Moment}
+
+abbrev pub word_of : DirectionState → ℕ
+word_of Closed = 0
+word_of Opening = 1
+word_of Open = 2
+
+-- a second after the last order, and at once where there was none
+abbrev pub is_due : Option Moment → ℕ → Bool
+is_due None now = true
+is_due (Some last) now = nat_le 1000000 (now - last.micros)

@@ -1,0 +1,24 @@
+-- A link to an issuer that is simulated, or has a host.
+use Rattle.std.specs.Prelude.{◌≡◌, ℕ, zero, suc, List, [], ◌∷◌, Option}
+use Rattle.sw_parts.specs.Queries.{Sending, Receiving}
+use Rattle.sw_issuers.specs.declared.issuer.Issuer.{Issuer}
+use Rattle.sw_hosts.specs.declared.issuer_link.IssuerLink.{IssuerLink}
+use Rattle.sw_hosts.specs.declared.issuer_link.IssuerLink.TheVariants.{Simulated, Host}
+
+-- the tag of an issuer's host, of which nothing is known
+abbrev pub host_state : List ℕ
+host_state = 1 ∷ []
+
+-- a tag, and after it the state of an issuer that is simulated
+abbrev pub state_of : {C : Type 0} → (Issuer → List ℕ) → IssuerLink C → List ℕ
+state_of state (Simulated issuer) = 0 ∷ state issuer
+state_of state (Host link) = host_state
+
+-- the simulated issuer does what it may, and stays one; a host stays one
+abbrev pub SendsBy : Sending → Sending
+SendsBy sends (zero ∷ s) message t = (u : List ℕ) × (t ≡ 0 ∷ u) × sends s message u
+SendsBy sends _ message t = t ≡ host_state
+
+abbrev pub ReceivesBy : Receiving → Receiving
+ReceivesBy receives (zero ∷ s) message t = (u : List ℕ) × (t ≡ 0 ∷ u) × receives s message u
+ReceivesBy receives _ message t = t ≡ host_state

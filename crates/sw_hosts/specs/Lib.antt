@@ -1,0 +1,6 @@
+pub mod Boxes
+pub mod Directions
+pub mod Issuers
+pub mod Keyed
+pub mod Moments
+pub mod Timely

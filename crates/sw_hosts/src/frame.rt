@@ -1,0 +1,19 @@
+//! A frame that goes to a host.
+
+use crate::moment::Moment;
+
+/// The frame of a message, and the moment from which nobody waits for its answer.
+pub struct Frame {
+    pub bytes: Vec<u8>,
+    pub deadline: Moment,
+}
+
+// Written out, so that no caller proves again how its parts are dropped.
+impl Drop for Frame {
+    fn drop(self) {
+        let Frame {
+            bytes: _,
+            deadline: _,
+        } = self;
+    }
+}

@@ -1,0 +1,63 @@
+//! A host and its threads.
+
+use crate::counts::Counts;
+use crate::link::HostLink;
+use crate::opener::{OpenReader, OpenWriter};
+use crate::shared::Shared;
+use crate::threads::{keep_reading, keep_writing};
+use std::alloc::{AllocError, Global};
+use std::sync::{Arc, Wait};
+use std::thread::{self, Threads};
+use std::time::{Clock, Duration};
+
+/// An issuer's host, which is reached over a direction to it and one from it.
+///
+/// Two threads of its own open them, write and read; neither is ever joined. What still waits there
+/// when the program ends is cut off, and nothing of it is owed: a frame was sent once it was
+/// written, and of an answer that was not taken no promise was made.
+pub struct Host {
+    alloc: Global,
+    shared: Arc<Shared>,
+}
+
+// Written out, so that no caller proves again how its parts are dropped.
+impl Drop for Host {
+    fn drop(self) {
+        let Host {
+            alloc: _,
+            shared: _,
+        } = self;
+    }
+}
+
+impl Host {
+    /// Starts the threads of a host, with both directions closed: the first message that is sent has
+    /// them opened. `timeout` is how long the answer to a message is waited for. Refused where no
+    /// memory or no thread is to be had.
+    pub fn start<
+        R: Threads + Wait + Clock + Clone + Drop + Send + 'static,
+        W: OpenWriter + Send + 'static,
+        I: OpenReader + Send + 'static,
+    >(rt: &R, alloc: Global, to: W, from: I, timeout: Duration) -> Result<Host, AllocError> {
+        let shared = Arc::new(alloc, Shared::new(alloc, timeout)?)?;
+        let (rt_to, shared_to) = (rt.clone()?, Arc::try_clone(&shared)?);
+        thread::spawn(rt, move || keep_writing(&rt_to, &shared_to, to))?;
+        let (rt_from, shared_from) = (rt.clone()?, Arc::try_clone(&shared)?);
+        thread::spawn(
+            rt,
+            move || keep_reading(&rt_from, alloc, &shared_from, from),
+        )?;
+        Ok(Host { alloc, shared })
+    }
+
+    /// A link to the host. All links of a host share its directions and its inbox, so only one of them
+    /// may wait for an answer at a time: what the others wait for is dropped as late.
+    pub fn link<C: Clock + Drop>(&self, clock: C) -> Result<HostLink<C>, AllocError> {
+        Ok(HostLink::new(self.alloc, clock, Arc::try_clone(&self.shared)?))
+    }
+
+    /// What was lost so far.
+    pub fn counts(&self) -> Counts {
+        self.shared.counters.counts()
+    }
+}

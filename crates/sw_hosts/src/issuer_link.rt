@@ -1,0 +1,53 @@
+//! A link to an issuer, which is simulated or has a host.
+
+ghost use Rattle.std.specs.Prelude.{◌≡◌};
+ghost use Rattle.sw_hosts.specs.Issuers.{state_of, SendsBy, ReceivesBy};
+
+use crate::link::HostLink;
+use std::time::Clock;
+use sw_issuers::Issuer;
+use sw_participant::NoMemory;
+use sw_parts::Link;
+
+/// A link to an issuer. Contracts see a tag, and then the state of the simulated issuer, of
+/// which they keep all that they know; of a host they know nothing.
+pub enum IssuerLink<C: Clock + Drop = HostRuntime> {
+    /// The simulated issuer.
+    Simulated(Issuer),
+    /// An issuer's host.
+    Host(HostLink<C>),
+}
+
+// Written out, so that no caller proves again how its parts are dropped.
+impl<C: Clock + Drop> Drop for IssuerLink<C> {
+    fn drop(self) {
+        match self {
+            IssuerLink::Simulated(_) => {}
+            IssuerLink::Host(_) => {}
+        }
+    }
+}
+
+impl<C: Clock + Drop> Link for IssuerLink<C> {
+    ghost state = { λ link. state_of ⟦<Issuer as Link>⟧.state link };
+
+    ghost sends = { λ s message t. SendsBy ⟦<Issuer as Link>⟧.sends s message t };
+
+    ghost receives = { λ s message t. ReceivesBy ⟦<Issuer as Link>⟧.receives s message t };
+
+    ghost starves = { λ s. ⊥ };
+
+    fn send(&mut self, message: &[u8]) -> Result<(), NoMemory> {
+        match self {
+            IssuerLink::Simulated(issuer) => issuer.send(message),
+            IssuerLink::Host(link) => link.send(message),
+        }
+    }
+
+    fn receive(&mut self) -> Result<Option<Vec<u8>>, NoMemory> {
+        match self {
+            IssuerLink::Simulated(issuer) => issuer.receive(),
+            IssuerLink::Host(link) => link.receive(),
+        }
+    }
+}

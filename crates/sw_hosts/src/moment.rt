@@ -1,0 +1,71 @@
+//! Moments, and the short sleeps between two looks.
+
+ghost use Rattle.std.specs.Prelude.{◌≡◌, ◌≤◌, ◌*◌, min, nat_le};
+ghost use Rattle.sw_hosts.specs.Moments.{later};
+
+use std::thread;
+use std::time::{Clock, Duration};
+
+/// How long the first sleep takes, in microseconds.
+const SHORTEST: u64 = 50;
+
+/// How long a sleep takes at most, in microseconds.
+const LONGEST: u64 = 1_000;
+
+/// A moment, in microseconds since the start of the clock.
+#[derive(Clone, Copy)]
+pub struct Moment {
+    pub micros: u64,
+}
+
+impl Moment {
+    /// The moment that it is now. Where the clock cannot be read it is past every deadline.
+    pub fn now(clock: &impl Clock) -> Moment {
+        match clock.monotonic() {
+            Ok(time) => Moment {
+                micros: micros_of(time),
+            },
+            Err(_) => Moment { micros: u64::MAX },
+        }
+    }
+
+    /// The moment that is so much later; the last moment there is, where none is.
+    pub fn after(self, time: Duration) -> Moment
+        ensures { result.micros ≡ later self.micros time }
+    {
+        Moment {
+            micros: self.micros.saturating_add(micros_of(time)),
+        }
+    }
+
+    /// Whether the deadline has come.
+    pub fn is_past(self, deadline: Moment) -> bool
+        ensures { result ≡ nat_le deadline.micros self.micros }
+    {
+        deadline.micros <= self.micros
+    }
+}
+
+fn micros_of(time: Duration) -> u64
+    ensures { result ≡ later 0 time }
+{
+    u64::try_from(time.as_micros()).unwrap_or(u64::MAX)
+}
+
+/// The sleeps of whoever looks again and again: each takes twice as long as the one before it, up
+/// to a millisecond.
+#[derive(Drop)]
+pub struct Naps {
+    micros: u64,
+}
+
+impl Naps {
+    pub fn new() -> Naps {
+        Naps { micros: SHORTEST }
+    }
+
+    pub fn sleep(&mut self, clock: &impl Clock) {
+        thread::sleep(clock, Duration::from_micros(self.micros));
+        self.micros = self.micros.saturating_mul(2).min(LONGEST);
+    }
+}

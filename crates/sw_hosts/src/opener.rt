@@ -1,0 +1,72 @@
+//! How the directions of a host are opened.
+
+use std::fs::{File, OpenOptions};
+use std::io::{self, Read, Write};
+use std::rt::Files;
+
+/// Opens the direction to a host, each time that it is ordered to.
+pub trait OpenWriter: Drop {
+    /// Where the frames are written.
+    type Writer: Write + Drop + Send + 'static;
+
+    /// Opens it anew. It may wait as long as it likes: only the host's own thread calls it.
+    fn open(&mut self) -> io::Result<Self::Writer>;
+}
+
+/// Opens the direction from a host, each time that it is ordered to.
+pub trait OpenReader: Drop {
+    /// Where the frames are read.
+    type Reader: Read + Drop + Send + 'static;
+
+    /// Opens it anew. It may wait as long as it likes: only the host's own thread calls it.
+    fn open(&mut self) -> io::Result<Self::Reader>;
+}
+
+/// A path that is opened for writing, as a named pipe. Nothing is created there, and nothing cut
+/// off.
+#[derive(Drop)]
+pub struct WritePath<R: Files<File = File> + Drop> {
+    rt: R,
+    path: String,
+}
+
+impl<R: Files<File = File> + Drop> WritePath<R> {
+    /// This path.
+    pub fn new(rt: R, path: String) -> WritePath<R> {
+        WritePath { rt, path }
+    }
+}
+
+impl<R: Files<File = File> + Drop> OpenWriter for WritePath<R> {
+    type Writer = File;
+
+    fn open(&mut self) -> io::Result<File> {
+        let mut options = OpenOptions::new();
+        options.write(true);
+        self.rt.open_file(&options, self.path.as_str())
+    }
+}
+
+/// A path that is opened for reading, as a named pipe.
+#[derive(Drop)]
+pub struct ReadPath<R: Files<File = File> + Drop> {
+    rt: R,
+    path: String,
+}
+
+impl<R: Files<File = File> + Drop> ReadPath<R> {
+    /// This path.
+    pub fn new(rt: R, path: String) -> ReadPath<R> {
+        ReadPath { rt, path }
+    }
+}
+
+impl<R: Files<File = File> + Drop> OpenReader for ReadPath<R> {
+    type Reader = File;
+
+    fn open(&mut self) -> io::Result<File> {
+        let mut options = OpenOptions::new();
+        options.read(true);
+        self.rt.open_file(&options, self.path.as_str())
+    }
+}

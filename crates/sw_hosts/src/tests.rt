@@ -1,0 +1,6 @@
+//! Hosts at the other end of pipes, which each test plays itself.
+
+mod hearing;
+mod reaching;
+mod stations;
+mod wires;
