@@ -1,6 +1,6 @@
 -- The keys of a table ascend, so the first key that passes a test is the least that does.
 -- for: faults::unknown_key
-use Rattle.std.proofs.Common.{◌≡◌, ℕ, Bool, true, false, inl, inr, List, [], ◌∷◌, Option, Some, None, String, Global, Less, string_bytes, refl, sym, ap, ◌∙◌, subst, if◌then◌else◌}
+use Rattle.std.proofs.Common.{◌≡◌, ℕ, Bool, true, false, inl, inr, List, [], ◌∷◌, Option, Some, None, String, Global, Less, string_bytes, refl, ap, ◌∙◌, subst, if◌then◌else◌}
 use Rattle.std.specs.String.{string_cmp}
 use Rattle.std.specs.Ordering.{is_lt, nat_cmp, ordering_reverse}
 use Rattle.std.specs.Cmp.Lexicographic.{slice_cmp}

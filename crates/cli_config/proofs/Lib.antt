@@ -1,2 +1,5 @@
+mod CheckedConfig
+mod Doubles
 mod EarlierTables
 mod LeastKey
+mod NoFault

@@ -9,7 +9,7 @@ use Rattle.cli_config.specs.declared.config.Wire.{Wire}
 use Rattle.cli_config.specs.declared.config.Wire.TheVariants as wire
 use Rattle.cli_config.specs.declared.config.Route as route
 use Rattle.cli_config.specs.declared.config.Limits as limits
-use Rattle.cli_config.specs.declared.config.RunOptions as run
+use Rattle.cli_config.specs.declared.config.RunTable as run
 use Rattle.cli_config.specs.declared.error.ConfigError.{ConfigError}
 use Rattle.cli_config.specs.declared.error.ConfigError.TheVariants.{OutOfMemory, Toml, Table}
 use Rattle.cli_config.specs.declared.error.TableError.{TableError}
@@ -46,7 +46,7 @@ abbrev pub limits_in : Option Members → limits.Limits
 limits_in None = record { per_card = None; stand_in = None }
 limits_in (Some ms) = record { per_card = number_at key.PerCard ms; stand_in = number_at key.StandIn ms }
 
-abbrev pub run_in : Option Members → run.RunOptions
+abbrev pub run_in : Option Members → run.RunTable
 run_in None = record { sessions = None; journal = None; threads = None; advices = None }
 run_in (Some ms) = record {
   sessions = number_at key.Sessions ms;
@@ -58,7 +58,7 @@ run_in (Some ms) = record {
 abbrev pub limits_of : Members → limits.Limits
 limits_of top = limits_in (table_at key.Limits top)
 
-abbrev pub run_of : Members → run.RunOptions
+abbrev pub run_of : Members → run.RunTable
 run_of top = run_in (table_at key.Run top)
 
 -- the hosts and the routes, where the file has their key

@@ -10,7 +10,7 @@ pub struct Config {
     /// The routes in the file's order; no two have one prefix.
     pub routes: Option<Sequence<Route>>,
     pub limits: Limits,
-    pub run: RunOptions,
+    pub run: RunTable,
 }
 
 /// An issuer.
@@ -91,7 +91,7 @@ pub struct Limits {
 
 /// How the program runs.
 #[derive(Drop)]
-pub struct RunOptions {
+pub struct RunTable {
     /// How many sessions there are, 1 to 16.
     pub sessions: Option<u64>,
     /// The path of the journal, not empty.

@@ -3,9 +3,10 @@
 ghost use Rattle.std.specs.Prelude.{◌≡◌, map, option_map, IfOk, IfErr};
 ghost use Rattle.toml.specs.View.{table_view};
 ghost use Rattle.cli_config.specs.Tables.{text_at, views};
+ghost use Rattle.cli_config.specs.Checked.{IsChecked};
 ghost use Rattle.cli_config.specs.ConfigFile as spec;
 
-use crate::config::{Config, Host, Limits, Route, RunOptions, Wire};
+use crate::config::{Config, Host, Limits, Route, RunTable, Wire};
 use crate::error::ConfigError;
 use crate::faults::first_fault;
 use crate::keys::{Key, Section};
@@ -128,17 +129,17 @@ fn limits_of(top: &Table) -> Limits
     }
 }
 
-fn run_of(alloc: Global, top: &Table) -> Result<RunOptions, AllocError>
+fn run_of(alloc: Global, top: &Table) -> Result<RunTable, AllocError>
     ensures { IfOk result (λ r. r ≡ spec.run_of (table_view top.now)) }
 {
     match table_at(top, Key::Run) {
-        Some(table) => Ok(RunOptions {
+        Some(table) => Ok(RunTable {
             sessions: number_at(table, Key::Sessions),
             journal: text_if(alloc, table, Key::Journal)?,
             threads: flag_at(table, Key::Threads),
             advices: number_at(table, Key::Advices),
         }),
-        None => Ok(RunOptions {
+        None => Ok(RunTable {
             sessions: None,
             journal: None,
             threads: None,
@@ -162,7 +163,8 @@ fn config_of(alloc: Global, top: &Table) -> Result<Config, AllocError>
 }
 
 fn read_document(alloc: Global, top: &Table) -> Result<Config, ConfigError>
-    ensures { spec.Gives result (spec.states (table_view top.now)) }
+    ensures states { spec.Gives result (spec.states (table_view top.now)) }
+    ensures checked { IfOk result (λ c. IsChecked c) }
 {
     match first_fault(alloc, top)? {
         Some(fault) => Err(ConfigError::Table(fault)),
@@ -177,6 +179,7 @@ fn read_document(alloc: Global, top: &Table) -> Result<Config, ConfigError>
 #[tactic(auto, unfolding(crate::specs::ConfigFile::reading))]
 pub fn read_config(alloc: Global, text: &str) -> Result<Config, ConfigError>
     ensures config { IfOk result (λ c. spec.IsConfigFile c text.now) }
+    ensures checked { IfOk result (λ c. IsChecked c) }
     ensures refused { IfErr result (spec.Refuses text.now) }
 {
     match toml::table_from_str(alloc, text) {

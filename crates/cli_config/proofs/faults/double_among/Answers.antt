@@ -1,4 +1,4 @@
-use Rattle.std.proofs.Common.{◌≡◌, ◌∙◌, Some, ap, sym}
+use Rattle.std.proofs.Common.{◌∙◌, Some, ap, sym}
 use Rattle.cli_config.proofs.EarlierTables.{double_here, double_later}
 use Rattle.cli_config.specs.declared.error.TableError.TheVariants.{Double}
 use Rattle.cli_config.proofs.faults.double_among.Goals as goal

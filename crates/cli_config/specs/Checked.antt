@@ -1,0 +1,43 @@
+-- What every configuration is that a file states.
+use Rattle.std.specs.Prelude.{◌≡◌, ⊤, ℕ, ◌≤◌, true, List, length, map, IfSome}
+use Rattle.std.specs.Char.{is_ascii_digit}
+use Rattle.std.specs.List.{AllByRecursion, IsDistinct, list_all}
+use Rattle.std.specs.Str.{bytes_eq}
+use Rattle.sw_context.specs.Names.{is_name}
+use Rattle.cli_config.specs.declared.config.Config.{Config}
+use Rattle.cli_config.specs.declared.config.Host.{Host}
+use Rattle.cli_config.specs.declared.config.Wire.{Wire}
+use Rattle.cli_config.specs.declared.config.Wire.TheVariants as wire
+use Rattle.cli_config.specs.declared.config.Route.{Route}
+
+abbrev pub IsIn : (least most n : ℕ) → Type 0
+IsIn least most n = (least ≤ n) × (n ≤ most)
+
+abbrev pub IsPath : List ℕ → Type 0
+IsPath text = 1 ≤ length text
+
+abbrev pub IsWire : Wire → Type 0
+IsWire (wire.Streams to from timeout echo) = (IsPath to × IsPath from) × (IsIn 1 600000 timeout × IfSome echo (IsIn 1 86400))
+IsWire w = ⊤
+
+-- the name has room for `query_` before it
+abbrev pub IsHost : Host → Type 0
+IsHost h = ((is_name h.name ≡ true) × (length h.name ≤ 26)) × IsWire h.wire
+
+abbrev pub IsRoute : Route → Type 0
+IsRoute r = (IsIn 1 19 (length r.prefix) × (list_all is_ascii_digit r.prefix ≡ true)) × (is_name r.group ≡ true)
+
+abbrev pub AreHosts : List Host → Type 0
+AreHosts hs = AllByRecursion IsHost hs × IsDistinct bytes_eq (map (λ (h : Host). h.name) hs)
+
+abbrev pub AreRoutes : List Route → Type 0
+AreRoutes rs = AllByRecursion IsRoute rs × IsDistinct bytes_eq (map (λ (r : Route). r.prefix) rs)
+
+pub record IsChecked (c : Config) : Type 0 where
+  pub hosts : IfSome c.hosts AreHosts
+  pub routes : IfSome c.routes AreRoutes
+  pub per_card : IfSome c.limits.per_card (IsIn 0 999999999999999)
+  pub stand_in : IfSome c.limits.stand_in (IsIn 0 999999999999)
+  pub sessions : IfSome c.run.sessions (IsIn 1 16)
+  pub journal : IfSome c.run.journal IsPath
+  pub advices : IfSome c.run.advices (IsIn 0 256)
