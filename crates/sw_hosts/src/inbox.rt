@@ -1,9 +1,9 @@
 //! What a host sent and no link has taken yet.
 
-ghost use Rattle.std.specs.Prelude.{◌≡◌, ◌≤◌, ◌∷◌, ◌++◌, [], length, nat_le, IfOk};
+ghost use Rattle.std.specs.Prelude.{◌≡◌, ◌≤◌, ◌∷◌, ◌++◌, [], length, nat_le, IfOk, IfSome};
 ghost use Rattle.std.specs.VecDeque.{deque_len, deque_capacity};
 ghost use Rattle.sw_hosts.specs.Boxes.{first_of, after_first, before_first, newest};
-ghost use Rattle.sw_hosts.specs.Keyed.{has_key};
+ghost use Rattle.sw_hosts.specs.Wanted.{has_key};
 
 use crate::received::Received;
 use std::alloc::{AllocError, Global};
@@ -56,6 +56,7 @@ impl Inbox {
     /// Takes the first message with the key. Those before it are dropped; all of them are, where none
     /// has the key.
     pub fn take(&mut self, key: &Key) -> Taken
+        ensures keyed { IfSome result.message (λ m. m.key.bytes ≡ key.now.bytes) }
         ensures taken { result.message ≡ first_of (has_key key.now.bytes) self.old.held.items }
         ensures left { self.new.held.items ≡ after_first (has_key key.now.bytes) self.old.held.items }
         ensures dropped { result.dropped

@@ -1,6 +1,8 @@
 //! A link to a host.
 
-ghost use Rattle.std.specs.Prelude.{◌≡◌, []};
+ghost use Rattle.std.specs.Prelude.{◌≡◌, [], IfOk, IfSome, OnOk, OnErr, Some, option_map};
+ghost use Rattle.sw_hosts.specs.Framing.{IsFrameOf};
+ghost use Rattle.sw_hosts.specs.Keyed.{key_in, Answers, WaitsFor};
 
 use crate::direction::DirectionState;
 use crate::frame::Frame;
@@ -78,7 +80,9 @@ fn locked<'a, T, C: Clock>(clock: &C, mutex: &'a Mutex<T>) -> Option<MutexGuard<
 }
 
 // The frame of a message; none where it is too long for one.
-fn frame_of(alloc: Global, message: &[u8]) -> Result<Option<Vec<u8>>, NoMemory> {
+fn frame_of(alloc: Global, message: &[u8]) -> Result<Option<Vec<u8>>, NoMemory>
+    ensures { IfOk result (λ frame. IsFrameOf message.now frame) }
+{
     match frame(alloc, message) {
         Ok(bytes) => Ok(Some(bytes)),
         Err(FrameError::OutOfMemory) => Err(NoMemory),
@@ -144,8 +148,30 @@ impl<C: Clock + Drop> HostLink<C> {
         self.hand_over(Frame { bytes, deadline })
     }
 
+    // Sends a message, and notes what is waited for from now on.
+    fn send_message(&mut self, message: &[u8]) -> Result<(), NoMemory>
+        ensures waits { OnOk result (WaitsFor (key_in message.now)
+            (option_map (λ a. a.key.bytes) self.new.awaited)) }
+        ensures kept { OnErr result (self.new.awaited ≡ self.old.awaited) }
+    {
+        let key = key_in(self.alloc, message)?;
+        let frame = frame_of(self.alloc, message)?;
+        self.awaited = None;
+        let Some(bytes) = frame else {
+            return Ok(());
+        };
+        let now = Moment::now(&self.clock);
+        let deadline = now.after(self.shared.timeout);
+        if self.send_frame(bytes, now, deadline) {
+            self.awaited = key.map(|key| Awaited { key, deadline });
+        }
+        Ok(())
+    }
+
     // The first message with the key that is in the inbox; those before it are late.
-    fn look(&self, key: &Key) -> Option<Vec<u8>> {
+    fn look(&self, key: &Key) -> Option<Vec<u8>>
+        ensures { IfSome result (λ v. key_in v.items ≡ Some key.now.bytes) }
+    {
         let taken = locked(&self.clock, &self.shared.inbox)?.take(key);
         self.shared.counters.add_late(taken.dropped);
         Some(taken.message?.into_bytes())
@@ -158,7 +184,10 @@ impl<C: Clock + Drop> HostLink<C> {
 
     // Waits for the answer. Whether a direction is closed is asked before the inbox is looked into: what
     // the host sent before it closed is there by then.
-    fn await_answer(&self) -> Option<Vec<u8>> {
+    fn await_answer(&self) -> Option<Vec<u8>>
+        ensures { IfSome result (λ v.
+            Answers (option_map (λ a. a.key.bytes) self.now.awaited) v.items) }
+    {
         let awaited = self.awaited?;
         let mut naps = Naps::new();
         for _ in 0..u64::MAX {
@@ -186,18 +215,7 @@ impl<C: Clock + Drop> Link for HostLink<C> {
     ghost starves = { λ s. ⊥ };
 
     fn send(&mut self, message: &[u8]) -> Result<(), NoMemory> {
-        let key = key_in(self.alloc, message)?;
-        let frame = frame_of(self.alloc, message)?;
-        self.awaited = None;
-        let Some(bytes) = frame else {
-            return Ok(());
-        };
-        let now = Moment::now(&self.clock);
-        let deadline = now.after(self.shared.timeout);
-        if self.send_frame(bytes, now, deadline) {
-            self.awaited = key.map(|key| Awaited { key, deadline });
-        }
-        Ok(())
+        self.send_message(message)
     }
 
     fn receive(&mut self) -> Result<Option<Vec<u8>>, NoMemory> {

@@ -3,7 +3,7 @@
 ghost use Rattle.std.specs.Prelude.{◌≡◌, ◌≤◌, ◌∷◌, ◌++◌, [], length, nat_le, not, IfOk, if◌then◌else◌};
 ghost use Rattle.std.specs.VecDeque.{deque_len, deque_capacity};
 ghost use Rattle.sw_hosts.specs.Boxes.{first_of, after_first, before_first};
-ghost use Rattle.sw_hosts.specs.Timely.{is_timely};
+ghost use Rattle.sw_hosts.specs.Wanted.{is_timely};
 
 use crate::frame::Frame;
 use crate::moment::Moment;

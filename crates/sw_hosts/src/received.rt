@@ -1,6 +1,6 @@
 //! What a host sent.
 
-ghost use Rattle.std.specs.Prelude.{◌≡◌, IfOk, option_map};
+ghost use Rattle.std.specs.Prelude.{◌≡◌, IfOk, option_map, Some};
 ghost use Rattle.sw_hosts.specs.Keyed.{key_in};
 
 use iso_codec::{DecodeError, decode};
@@ -8,10 +8,11 @@ use std::alloc::Global;
 use sw_mux::{Key, key_of};
 use sw_participant::NoMemory;
 
-/// A message with its key.
+/// A message that has a key.
 pub struct Received {
     pub key: Key,
     pub bytes: Vec<u8>,
+    ghost keyed: { key_in bytes.items ≡ Some key.bytes },
 }
 
 // Written out, so that no caller proves again how its parts are dropped.
@@ -34,9 +35,19 @@ pub fn key_in(alloc: Global, bytes: &[u8]) -> Result<Option<Key>, NoMemory>
 }
 
 impl Received {
+    /// The message of these bytes, which has this key.
+    pub fn new(key: Key, bytes: Vec<u8>) -> Received
+        requires { key_in bytes.items ≡ Some key.bytes }
+        ensures key { result.key ≡ key }
+        ensures bytes { result.bytes ≡ bytes }
+    {
+        Received { key, bytes }
+    }
+
     /// Its bytes.
     pub fn into_bytes(self) -> Vec<u8>
-        ensures { result.items ≡ self.bytes.items }
+        ensures bytes { result.items ≡ self.bytes.items }
+        ensures keyed { key_in result.items ≡ Some self.key.bytes }
     {
         let Received { key: _, bytes } = self;
         bytes

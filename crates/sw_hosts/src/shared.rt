@@ -71,7 +71,7 @@ impl Shared {
             self.counters.add_unreadable();
             return;
         };
-        if self.inbox.lock(rt).put(Received { key, bytes }) {
+        if self.inbox.lock(rt).put(Received::new(key, bytes)) {
             self.counters.add_late(1);
         }
     }

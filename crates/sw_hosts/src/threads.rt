@@ -1,5 +1,8 @@
 //! What the threads of a host do.
 
+ghost use Rattle.std.specs.Prelude.{OnOk};
+ghost use Rattle.std.specs.Io.KnownBytes.{Appends};
+
 use crate::direction::DirectionState;
 use crate::opener::{OpenReader, OpenWriter};
 use crate::shared::Shared;
@@ -43,7 +46,9 @@ fn write_frames<R: Wait + Clock, W: Write + Drop>(rt: &R, shared: &Shared, write
     }
 }
 
-fn write_whole<W: Write>(writer: &mut W, bytes: &[u8]) -> io::Result<()> {
+fn write_whole<W: Write>(writer: &mut W, bytes: &[u8]) -> io::Result<()>
+    ensures { OnOk result (Appends (W.contents writer.old) (W.contents writer.new) bytes.now) }
+{
     writer.write_all(bytes)?;
     writer.flush()
 }

@@ -1,7 +1,7 @@
 use Rattle.std.proofs.Common.{◌≡◌, ◌≤◌, ◌+◌}
 use Rattle.std.specs.VecDeque.{deque_len, deque_capacity}
 use Rattle.sw_hosts.specs.Boxes.{first_of, after_first, before_first}
-use Rattle.sw_hosts.specs.Keyed.{has_key}
+use Rattle.sw_hosts.specs.Wanted.{has_key}
 use Rattle.sw_hosts.proofs.inbox.Inbox.take.Given as goal
 
 abbrev pub invariant-loop-message : goal.invariant-loop-message

@@ -1,7 +1,7 @@
 use Rattle.std.proofs.Common.{◌≡◌, ◌≤◌, ◌+◌}
 use Rattle.std.specs.VecDeque.{deque_len, deque_capacity}
 use Rattle.sw_hosts.specs.Boxes.{first_of, after_first, before_first}
-use Rattle.sw_hosts.specs.Timely.{is_timely}
+use Rattle.sw_hosts.specs.Wanted.{is_timely}
 use Rattle.sw_hosts.proofs.outbox.Outbox.next.Given as goal
 
 abbrev pub invariant-loop-frame : goal.invariant-loop-frame
