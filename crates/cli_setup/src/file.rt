@@ -6,7 +6,7 @@ ghost use Rattle.cli_setup.specs.Errors.{RefusesBytes, RefusesConfig, StatesConf
 ghost use Rattle.cli_setup.specs.Plans.{no_config};
 
 use crate::error::ConfigFileError;
-use cli_config::{Config, Limits, RunOptions, read_config};
+use cli_config::{Config, Limits, RunTable, read_config};
 use cli_io::{Input, read_input};
 use std::alloc::Global;
 use std::fs::{File, Files};
@@ -23,7 +23,7 @@ fn no_config() -> Config
             per_card: None,
             stand_in: None,
         },
-        run: RunOptions {
+        run: RunTable {
             sessions: None,
             journal: None,
             threads: None,
