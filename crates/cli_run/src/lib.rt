@@ -9,21 +9,24 @@
 
 mod advices;
 mod batches;
+mod defaults;
 mod error;
 mod given;
-mod issuers;
 mod laws;
 mod progress;
 mod serving;
+mod setup;
+mod standard_error;
 mod stats;
 mod stream;
 mod switch;
-mod told;
+mod unsuited;
 
+pub use defaults::{DEFAULT_STAND_IN, default_advised, default_queried, default_routes};
 pub use error::ServeError;
-pub use issuers::Issuers;
 pub use laws::runs_keep_the_law;
-pub use serving::{Setup, run};
+pub use serving::run;
+pub use setup::{NamedLink, Setup, SwitchLink};
+pub use standard_error::{Form, StandardError, write_lines};
 pub use stats::Stats;
 pub use stream::StreamEnd;
-pub use told::{Form, Told, write_lines};

@@ -17,7 +17,7 @@ ghost use Rattle.cli_run.specs.declared.stream.StreamEnd.TheVariants.{Unread};
 
 use crate::error::ServeError;
 use crate::switch::Switch;
-use crate::told::Told;
+use crate::standard_error::StandardError;
 use cli_io::ReadError;
 use iso_codec::{DecodeError, decode};
 use sqlite::Alter;
@@ -86,12 +86,12 @@ pub(crate) fn request_in<E: Write>(
     alloc: Global,
     number: u64,
     message: &[u8],
-    told: &mut Told<'_, E>,
+    stderr: &mut StandardError<'_, E>,
 ) -> Result<Option<Context>, ServeError>
     ensures request { IfOk result (λ request. option_to_list request
         ≡ map request_of (if_read (read message.now) message.now)) }
-    ensures told { OnOk result (Tells [] (if_passed (read message.now))
-        (log_of E.contents told.old) (log_of E.contents told.new)) }
+    ensures tells { OnOk result (Tells [] (if_passed (read message.now))
+        (log_of E.contents stderr.old) (log_of E.contents stderr.new)) }
 {
     match decode(alloc, message) {
         Ok(_) => {
@@ -103,7 +103,7 @@ pub(crate) fn request_in<E: Write>(
         }
         Err(DecodeError::OutOfMemory) => Err(ServeError::OutOfMemory),
         Err(error) => {
-            told.pass_over(alloc, number, &error)?;
+            stderr.pass_over(alloc, number, &error)?;
             Ok(None)
         }
     }
@@ -117,24 +117,24 @@ fn serve<S: Alter, C: Clock, O: Write, E: Write>(
     number: u64,
     message: &[u8],
     out: &mut O,
-    told: &mut Told<'_, E>,
+    stderr: &mut StandardError<'_, E>,
 ) -> Result<(), ServeError>
     requires ready { IsReady (point_of S.Store switch.old) }
     ensures serves { OnOk result (Reports (answering
         (map request_of (if_read (read message.now) message.now))) (if_passed (read message.now))
-        (point_of S.Store switch.old) (O.contents out.old) (log_of E.contents told.old)
-        (point_of S.Store switch.new) (O.contents out.new) (log_of E.contents told.new)) }
+        (point_of S.Store switch.old) (O.contents out.old) (log_of E.contents stderr.old)
+        (point_of S.Store switch.new) (O.contents out.new) (log_of E.contents stderr.new)) }
     ensures halts { OnErr result (Halts (answering
         (map request_of (if_read (read message.now) message.now)))
         (point_of S.Store switch.old) (O.contents out.old) (O.contents out.new)) }
     ensures ready { OnOk result (IsReady (point_of S.Store switch.new)) }
 {
-    let Some(request) = request_in(alloc, number, message, told)? else {
+    let Some(request) = request_in(alloc, number, message, stderr)? else {
         return Ok(());
     };
     let before = switch.answered.counts.requests();
-    switch.answer(alloc, request, told, out)?;
-    switch.show_since(rt, alloc, before, told);
+    switch.answer(alloc, request, stderr, out)?;
+    switch.show_since(rt, alloc, before, stderr);
     Ok(())
 }
 
@@ -146,20 +146,20 @@ fn serve_messages<S: Alter, C: Clock, O: Write, E: Write>(
     count: &mut u64,
     list: &[Vec<u8>],
     out: &mut O,
-    told: &mut Told<'_, E>,
+    stderr: &mut StandardError<'_, E>,
 ) -> Result<(), ServeError>
     requires ready { IsReady (point_of S.Store switch.old) }
     ensures serves { OnOk result (Reports (answering (requests (messages list.now)))
         (passed_over (messages list.now))
-        (point_of S.Store switch.old) (O.contents out.old) (log_of E.contents told.old)
-        (point_of S.Store switch.new) (O.contents out.new) (log_of E.contents told.new)) }
+        (point_of S.Store switch.old) (O.contents out.old) (log_of E.contents stderr.old)
+        (point_of S.Store switch.new) (O.contents out.new) (log_of E.contents stderr.new)) }
     ensures halts { OnErr result (Halts (answering (requests (messages list.now)))
         (point_of S.Store switch.old) (O.contents out.old) (O.contents out.new)) }
     ensures ready { OnOk result (IsReady (point_of S.Store switch.new)) }
 {
     for message in list {
         *count = count.saturating_add(1);
-        serve(rt, alloc, switch, *count, message, out, told)?;
+        serve(rt, alloc, switch, *count, message, out, stderr)?;
     }
     Ok(())
 }
@@ -248,7 +248,7 @@ impl Requests {
         input: &mut R,
         buf: &mut [u8],
         out: &mut O,
-        told: &mut Told<'_, E>,
+        stderr: &mut StandardError<'_, E>,
     ) -> Result<Option<StreamEnd>, ServeError>
         requires ready { IsReady (point_of S.Store switch.old) }
         requires room { 0 < length buf.old }
@@ -259,16 +259,16 @@ impl Requests {
             × ReadsOn (R.remaining input.old) self.old.framer more
             (R.remaining input.new) self.new.framer
             × ReportsFor false more
-            (point_of S.Store switch.old) (O.contents out.old) (log_of E.contents told.old)
-            (point_of S.Store switch.new) (O.contents out.new) (log_of E.contents told.new)
+            (point_of S.Store switch.old) (O.contents out.old) (log_of E.contents stderr.old)
+            (point_of S.Store switch.new) (O.contents out.new) (log_of E.contents stderr.new)
             × IfSome end (λ e. EndsAs e self.new.framer (R.remaining input.new))) }
         ensures halts { OnErr result (HaltsOn false (R.remaining input.old) self.old.framer
             (point_of S.Store switch.old) (O.contents out.old) (O.contents out.new)) }
         ensures ready { OnOk result (IsReady (point_of S.Store switch.new)) }
     {
-        switch.cut_told(alloc, told)?;
+        switch.cut_traced(alloc, stderr)?;
         let Piece { messages, end } = self.read(alloc, input, buf)?;
-        serve_messages(rt, alloc, switch, &mut self.count, &messages, out, told)?;
+        serve_messages(rt, alloc, switch, &mut self.count, &messages, out, stderr)?;
         Ok(end)
     }
 
@@ -280,15 +280,15 @@ impl Requests {
         switch: &mut Switch<S>,
         input: &mut R,
         out: &mut O,
-        told: &mut Told<'_, E>,
+        stderr: &mut StandardError<'_, E>,
     ) -> Result<StreamEnd, ServeError>
         requires ready { IsReady (point_of S.Store switch.old) }
         requires fresh { self.old.framer ≡ blank }
         ensures serves { IfOk result (λ end. (frames : List (List ℕ))
             × ReadTo end (R.remaining input.old) frames
             × ReportsFor false frames
-            (point_of S.Store switch.old) (O.contents out.old) (log_of E.contents told.old)
-            (point_of S.Store switch.new) (O.contents out.new) (log_of E.contents told.new)) }
+            (point_of S.Store switch.old) (O.contents out.old) (log_of E.contents stderr.old)
+            (point_of S.Store switch.new) (O.contents out.new) (log_of E.contents stderr.new)) }
         ensures stops { OnErr result (StopsWithin false (R.remaining input.old)
             (point_of S.Store switch.old) (O.contents out.old) (O.contents out.new)) }
         ensures ready { OnOk result (IsReady (point_of S.Store switch.new)) }
@@ -297,7 +297,7 @@ impl Requests {
         // More reads than any run makes.
         for _ in 0..u64::MAX {
             let buf = buf.as_mut_slice();
-            let end = self.serve_read(rt, alloc, switch, input, buf, out, told)?;
+            let end = self.serve_read(rt, alloc, switch, input, buf, out, stderr)?;
             if let Some(end) = end {
                 return Ok(end);
             }

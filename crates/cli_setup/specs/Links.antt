@@ -39,7 +39,7 @@ pub record AreLinksOf (ls : LinkStates) (links : Links) : Type 0 where
   pub queried : map named_state links.queried.items ≡ ls
   pub advised : link_states shown_link links.advised.items ≡ ls
 
--- a link to this host is added to both lists
-pub record AddsLink (h : Host) (before after : Links) : Type 0 where
-  pub queried : map named_state after.queried.items ≡ map named_state before.queried.items ++ host_link h ∷ []
-  pub advised : link_states shown_link after.advised.items ≡ link_states shown_link before.advised.items ++ host_link h ∷ []
+-- a link is added to both lists
+pub record AddsLink (l : List ℕ × List ℕ) (before after : Links) : Type 0 where
+  pub queried : map named_state after.queried.items ≡ map named_state before.queried.items ++ l ∷ []
+  pub advised : link_states shown_link after.advised.items ≡ link_states shown_link before.advised.items ++ l ∷ []

@@ -1,19 +1,19 @@
 //! The routes of a run, and the links to its hosts.
 
-ghost use Rattle.std.specs.Prelude.{◌≡◌, IfOk, OnOk};
+ghost use Rattle.std.specs.Prelude.{◌≡◌, [], IfOk, OnOk};
 ghost use Rattle.cli_config.specs.declared.config.Wire.TheVariants.{Simulated};
-ghost use Rattle.cli_setup.specs.Links.{AddsLink, AreLinksOf, shown_link, side_state, wire_state};
+ghost use Rattle.cli_setup.specs.Links.{AddsLink, AreLinksOf, host_link, shown_link, side_state, wire_state};
 ghost use Rattle.cli_setup.specs.Plans.{links_of, own_links, routes_of, routing_of};
 
 use cli_config::{Config, Host, Route, Wire};
-use cli_run::{NamedLink, SwitchLink, default_advised, default_queried, default_routes};
+use cli_run::{NamedLink, SwitchLink, default_routes};
 use std::alloc::{AllocError, Global};
 use std::sync::Wait;
 use std::thread::Threads;
 use std::time::{Clock, Duration};
 use sw_hosts::{IssuerLink, ReadPath, WritePath};
 use sw_issuers::{GroupLink, Issuer};
-use sw_participant::Sequence;
+use sw_participant::{Sequence, Text};
 use sw_parts::Routing;
 
 fn routing(route: &Route) -> Result<Routing, AllocError>
@@ -105,7 +105,9 @@ pub(crate) struct Links {
 }
 
 impl Links {
-    fn new(alloc: Global) -> Links {
+    fn new(alloc: Global) -> Links
+        ensures { AreLinksOf [] result }
+    {
         Links {
             queried: Vec::new(alloc),
             advised: Vec::new(alloc),
@@ -121,7 +123,7 @@ impl Links {
         side: &Side,
     ) -> Result<(), AllocError>
         requires { side_state side.now ≡ wire_state host.now.wire }
-        ensures { OnOk result (AddsLink host.now self.old self.new) }
+        ensures { OnOk result (AddsLink (host_link host.now) self.old self.new) }
     {
         self.queried.push(NamedLink {
             name: host.name.copy()?,
@@ -130,6 +132,21 @@ impl Links {
         self.advised.push(GroupLink {
             group: host.name.copy()?,
             link: side.link(alloc, rt)?,
+        })?;
+        Ok(())
+    }
+
+    // Adds the links to a simulated issuer.
+    fn add_simulated(&mut self, alloc: Global, name: &str) -> Result<(), AllocError>
+        ensures { OnOk result (AddsLink (name.now, wire_state Simulated) self.old self.new) }
+    {
+        self.queried.push(NamedLink {
+            name: Text::from_str(alloc, name)?,
+            link: simulated(alloc),
+        })?;
+        self.advised.push(GroupLink {
+            group: Text::from_str(alloc, name)?,
+            link: simulated(alloc),
         })?;
         Ok(())
     }
@@ -145,14 +162,14 @@ fn simulated(alloc: Global) -> SwitchLink
 fn own_links(alloc: Global) -> Result<Links, AllocError>
     ensures { IfOk result (AreLinksOf own_links) }
 {
-    Ok(Links {
-        queried: default_queried(alloc, simulated(alloc), simulated(alloc))?,
-        advised: default_advised(alloc, simulated(alloc), simulated(alloc))?,
-    })
+    let mut links = Links::new(alloc);
+    links.add_simulated(alloc, "alpha")?;
+    links.add_simulated(alloc, "beta")?;
+    Ok(links)
 }
 
 /// The links to the hosts of the configuration, or to the switch's own.
-pub(crate) fn links<T: Threads + Wait + Clock + Clone + Drop + Send + 'static>(
+pub(crate) fn links_to_hosts<T: Threads + Wait + Clock + Clone + Drop + Send + 'static>(
     threads: &T,
     alloc: Global,
     rt: &HostRuntime,

@@ -6,7 +6,7 @@ ghost use Rattle.cli_setup.specs.Plans.{IsSetUp, journal_of, limit_of, sessions_
 ghost use Rattle.cli_setup.specs.declared.error.SetupError.TheVariants.{BadLimit};
 
 use crate::error::SetupError;
-use crate::links::{Links, links, routes, unasked};
+use crate::links::{Links, links_to_hosts, routes, unasked};
 use cli_config::Config;
 use cli_options::choice::RunOptions;
 use cli_run::{DEFAULT_STAND_IN, Setup, SwitchLink};
@@ -89,7 +89,7 @@ pub fn setup<T: Threads + Wait + Clock + Clone + Drop + Send + 'static>(
 {
     let book = book(alloc, limit(options, config))?;
     let routes = routes(alloc, config)?;
-    let Links { queried, advised } = links(threads_of_hosts, alloc, rt, config)?;
+    let Links { queried, advised } = links_to_hosts(threads_of_hosts, alloc, rt, config)?;
     Ok(Setup {
         book,
         stand_in: stand_in(config),

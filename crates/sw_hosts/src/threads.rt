@@ -86,6 +86,10 @@ fn read_messages<R: Wait, I: Read + Drop>(rt: &R, alloc: Global, shared: &Shared
             return;
         };
         deliver_all(rt, alloc, shared, messages);
+        // Frames that came before a bad length are given all the same.
+        if framer.failed() {
+            return;
+        }
     }
 }
 
