@@ -8,7 +8,7 @@ use Rattle.std.proofs.KnownBytes.{Appends-nil}
 use Rattle.sw_stats.specs.Line.{Numbers, stats_line}
 use Rattle.cli_run.specs.Points.{Point}
 use Rattle.cli_run.specs.Rounds.{Round}
-use Rattle.cli_run.specs.declared.told.Form.{Form}
+use Rattle.cli_run.specs.declared.standard_error.Form.{Form}
 use Rattle.cli_run.specs.Lines.{Line}
 use Rattle.cli_run.specs.Shown.{Shows, if_shown}
 use Rattle.cli_run.specs.Traces.{Adds, AddsSome, Counted, Log, Reports, Tells}

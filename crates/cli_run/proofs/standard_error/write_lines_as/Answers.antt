@@ -4,7 +4,7 @@ use Rattle.cli_run.proofs.Doings.{entries_length}
 use Rattle.cli_run.proofs.Printing.{all_lines, counted_next, first_lines, more_lines, none_missing, part_line, some_lines}
 use Rattle.cli_io.proofs.Writing.{beginning_all}
 use Rattle.cli_run.specs.Lines.{lines_in, written_as}
-use Rattle.cli_run.proofs.told.write_lines_as.Goals as goal
+use Rattle.cli_run.proofs.standard_error.write_lines_as.Goals as goal
 
 pub loop-number-init : goal.loop-number-init
 loop-number-init g c =

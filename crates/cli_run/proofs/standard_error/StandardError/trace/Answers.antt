@@ -1,7 +1,7 @@
 use Rattle.std.proofs.Common.{refl}
 use Rattle.cli_run.specs.Lines.{lines_in}
 use Rattle.cli_run.proofs.Tracing.{lines_lost, lines_told, unwanted}
-use Rattle.cli_run.proofs.told.Told.trace.Goals as goal
+use Rattle.cli_run.proofs.standard_error.StandardError.trace.Goals as goal
 
 pub returns-in_default : goal.returns-in_default
 returns-in_default g c = unwanted (lines_in c.args.engine.now) _ _ _ _ _ c.in_default.is

@@ -2,7 +2,7 @@ use Rattle.std.proofs.Common.{◌≡◌, length}
 use Rattle.std.specs.Io.KnownBytes.{Appends}
 use Rattle.tx_trace.specs.Follow.{Follows, count_of, earlier}
 use Rattle.cli_run.specs.Lines.{lines_of, written_as}
-use Rattle.cli_run.proofs.told.write_lines_as.Given as goal
+use Rattle.cli_run.proofs.standard_error.write_lines_as.Given as goal
 
 abbrev pub invariant-loop-number : goal.invariant-loop-number
 invariant-loop-number g l = record {

@@ -1,6 +1,6 @@
 use Rattle.std.proofs.Common.{[], ◌∷◌}
 use Rattle.cli_io.proofs.Writing.{beginning_behind, beginning_front}
-use Rattle.cli_run.proofs.told.write_line.Goals as goal
+use Rattle.cli_run.proofs.standard_error.write_line.Goals as goal
 
 pub returns-in_err-write_whole-clause-beginning : goal.returns-in_err-write_whole-clause-beginning
 returns-in_err-write_whole-clause-beginning g c =

@@ -7,7 +7,7 @@ ghost use Rattle.cli_io.specs.Written.{AppendsBeginning};
 ghost use Rattle.tx_trace.specs.Follow.{Follows, count_of};
 ghost use Rattle.tx_trace.specs.Lines.{at_number};
 ghost use Rattle.cli_run.specs.Lines.{in_form, line_at, lines_in, written_as};
-ghost use Rattle.cli_run.specs.declared.told.Form.TheVariants.{Text};
+ghost use Rattle.cli_run.specs.declared.standard_error.Form.TheVariants.{Text};
 ghost use Rattle.cli_run.specs.Traces.{Tells, log_of, passed_line};
 
 use crate::error::ServeError;
@@ -27,14 +27,14 @@ pub enum Form {
     Json,
 }
 
-/// Standard error, where messages that are passed over are told, and where the trace and the numbers go. Where a write fails
-/// the run goes on, and its result is as if all had been written.
+/// Standard error, to which a run writes a line for each message that is passed over, the trace and the numbers.
+/// Where a write fails the run goes on, and its result is as if all had been written.
 #[derive(Drop)]
-pub struct Told<'a, E> {
+pub struct StandardError<'a, E> {
     pub err: &'a mut E,
     /// In which form the lines of the trace are wanted, if they are.
     pub trace: Option<Form>,
-    /// Whether a write failed: what was told then is not written, or not all of it.
+    /// Whether a write failed: what was to be written then is not, or not all of it.
     pub lost: bool,
     /// The lines of numbers that are wanted.
     pub stats: Option<Stats>,
@@ -49,8 +49,8 @@ fn passed_line(alloc: Global, number: u64, cause: &str) -> Result<String, AllocE
     format!(in alloc; "cardswitch: message {number} is passed over: {cause}\n")
 }
 
-impl<'a, E: Write> Told<'a, E> {
-    /// Tells that a message is passed over. Out of memory is the only error.
+impl<'a, E: Write> StandardError<'a, E> {
+    /// Writes that a message is passed over. Out of memory is the only error.
     pub(crate) fn pass_over(
         &mut self,
         alloc: Global,
