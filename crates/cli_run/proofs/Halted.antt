@@ -1,6 +1,6 @@
 -- A whole run that ends with an error.
 -- for: serving::Over::run, serving::Switch::serve_together
-use Rattle.std.proofs.Common.{◌≡◌, ◌⊎◌, ℕ, ◌-◌, Bool, List, Option, Some, None, sym, subst, inl, inr}
+use Rattle.std.proofs.Common.{◌≡◌, ◌⊎◌, ℕ, Bool, List, Option, Some, None, sym, subst, inl, inr}
 use Rattle.std.specs.Prelude.{option_map}
 use Rattle.std.specs.Io.KnownBytes.{Keeps}
 use Rattle.cli_io.specs.Written.{AppendsBeginning}

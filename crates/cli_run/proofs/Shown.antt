@@ -1,6 +1,6 @@
 -- Lines of a run's numbers among what is told.
 -- for: stats::Told, stats::Switch, stream::serve, batches::answer_batches
-use Rattle.std.proofs.Common.{◌≡◌, ◌<◌, ℕ, ◌+◌, ◌^◌, Bool, true, false, List, [], ◌∷◌, ◌++◌, Option, refl, sym, ap, subst, ◌∙◌, add-zero, append-nil}
+use Rattle.std.proofs.Common.{◌≡◌, ℕ, Bool, true, false, List, [], ◌∷◌, ◌++◌, Option, refl, sym, subst, ◌∙◌, add-zero, append-nil}
 use Rattle.std.specs.Io.KnownBytes.{Appends}
 use Rattle.cli_io.specs.Written.{AppendsBeginning}
 use Rattle.cli_io.proofs.Writing.{beginning_all, beginning_none}

@@ -1,6 +1,6 @@
 -- What is told, one after the other.
 -- for: standard_error::Told, switch::Switch, stream::Requests, serving::Switch
-use Rattle.std.proofs.Common.{◌≡◌, ◌<◌, ℕ, ◌+◌, Bool, true, false, List, [], ◌∷◌, ◌++◌, length, map, take, drop, get_or, ◌≤◌, min, ◌-◌, ◌^◌, Option, Some, None, Result, Ok, Err, refl, sym, ap, subst, arith, ◌∙◌, add-zero, add_assoc, zero-add, append-nil, append_assoc, take-append-drop}
+use Rattle.std.proofs.Common.{◌≡◌, ◌<◌, ℕ, ◌+◌, Bool, true, false, List, [], ◌∷◌, ◌++◌, length, take, get_or, min, ◌-◌, ◌^◌, Option, Some, None, Result, Ok, Err, refl, sym, ap, subst, arith, ◌∙◌, add-zero, zero-add, append-nil, append_assoc}
 use Rattle.std.specs.Global.{Vec}
 use Rattle.std.specs.Io.KnownBytes.{Appends}
 use Rattle.std.proofs.KnownBytes.{Appends-nil, Appends-trans}

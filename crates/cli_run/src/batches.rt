@@ -1,6 +1,7 @@
 //! Requests in batches, each run by all sessions at once.
 
-ghost use Rattle.std.specs.Prelude.{◌≡◌, ◌≤◌, ◌∷◌, ◌++◌, option_to_list, List, ℕ, [], IfOk, OnErr, OnOk, length, vec_len, true};
+ghost use Rattle.std.specs.Prelude.{◌≡◌, ◌≤◌, ◌∷◌, ◌++◌, List, ℕ, [], IfOk, OnErr, OnOk, true};
+ghost use Rattle.std.specs.Prelude.{length, option_to_list, vec_len};
 ghost use Rattle.sw_frame.specs.Feeds.{messages};
 ghost use Rattle.sw_frame.specs.Stream.{blank};
 ghost use Rattle.cli_run.specs.Points.{IsReady, RestsGiven, point_of};
@@ -10,9 +11,9 @@ ghost use Rattle.cli_run.specs.Stopped.{HaltsToward, StopsWithin, Unfinished};
 ghost use Rattle.cli_run.specs.Traces.{Finishes, Reports, ReportsFor, Tells, log_of, passed_over};
 
 use crate::error::ServeError;
+use crate::standard_error::StandardError;
 use crate::stream::{PIECE, Piece, Requests, StreamEnd, request_in};
 use crate::switch::{MAX_BATCH, Switch};
-use crate::standard_error::StandardError;
 use cli_io::ReadError;
 use sqlite::Alter;
 use std::alloc::Global;
@@ -23,7 +24,7 @@ use std::time::Clock;
 use sw_context::Context;
 
 impl<S: Alter + Drop> Switch<S> {
-    // Gives the responses of a batch, runs what is on the shelf, and tells the lines of the trace.
+    // Gives the responses of a batch, runs what is on the shelf, and writes the lines of the trace.
     fn finish<O: Write, E: Write>(
         &mut self,
         alloc: Global,
@@ -64,7 +65,7 @@ impl<S: Alter + Drop> Switch<S> {
         self.finish(alloc, out, stderr)
     }
 
-    // Answers requests as one batch. Where it ends with an error, the lines of the batch are told all the
+    // Answers requests as one batch. Where it ends with an error, the lines of the batch are written all the
     // same, if it was run.
     fn answer_together<T: Threads + Wait + Sync, O: Write, E: Write>(
         self,
@@ -96,7 +97,7 @@ impl<S: Alter + Drop> Switch<S> {
     }
 
     // Answers requests that came at once: two or more as one batch, and one alone. Where it ends with an
-    // error, the lines of the history are told all the same, unless a batch was given up.
+    // error, the lines of the history are written all the same, unless a batch was given up.
     fn answer_batch<T: Threads + Wait + Sync, O: Write, E: Write>(
         self,
         rt: &T,
@@ -167,8 +168,8 @@ fn requests_in<E: Write>(
     Ok(found)
 }
 
-// Answers the requests among some messages, in batches. After each the numbers of the run are told where that is
-// due.
+// Answers the requests among some messages, in batches. After each the numbers of the run are written where
+// that is due.
 fn answer_batches<S: Alter + Drop, T: Threads + Wait + Clock + Sync, O: Write, E: Write>(
     rt: &T,
     alloc: Global,

@@ -2,9 +2,12 @@
 //!
 //! [`run`] makes a plant of the switch's participants over a journal. It recovers what the journal has
 //! unfinished, then answers each request as it comes: its response is written and flushed once the last
-//! entry of its transaction is written. Behind the last request the shelf is released and drained, and the
-//! stored advices are sent to the issuers. Where they are wanted, lines with the numbers of the run go to standard
-//! error.
+//! entry of its transaction is written. After the last request the shelf is released and drained, and the
+//! stored advices are sent to the issuers. Where they are wanted, lines with the numbers of the run go to
+//! standard error.
+//!
+//! The links, the routes and the limits come from the caller ([`Setup`]); [`default_routes`] and its like are
+//! those of the switch without a configuration.
 #![tactic(auto)]
 
 mod advices;

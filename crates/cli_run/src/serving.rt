@@ -150,7 +150,7 @@ impl<S: Alter> Switch<S> {
 
 impl<S: Alter + Drop> Switch<S> {
     // Answers the requests of an input in batches, each run by all sessions at once, then what is on the
-    // shelf, and sends the stored advices. The lines of the trace are told behind each batch, and at the end, the
+    // shelf, and sends the stored advices. The lines of the trace are written after each batch, and at the end, the
     // numbers of the run last.
     fn serve_together<
         T: Threads + Wait + Clock + Sync,
@@ -307,19 +307,20 @@ fn boxed<P: Unjoined>(alloc: Global, participant: P) -> Result<Box<Bystander<P>>
 /// Recovers what the journal has unfinished. Without an input the lines of that are printed, and that is all.
 /// Else it answers the requests of an input as they come, then what is on the shelf, and sends the stored
 /// advices. The lines of the trace of a transaction are written before the next request is offered, the rest at
-/// the end, also where it ends early. Where the stream of frames is refused, what came before is answered, and all is done.
+/// the end, also where it ends early. Where the stream of frames is refused, what came before is answered, and all
+/// is done.
 ///
 /// With threads the requests are answered in batches of those that have come, at most 256 at once; the lines
-/// of the trace are written behind each batch. Those of a batch that was given up are lost.
+/// of the trace are written after each batch. Those of a batch that was given up are lost.
 ///
-/// The numbers of the run, where `stderr` wants them, are told after each so many requests, with threads after a
+/// The numbers of the run, where `stderr` wants them, are written after each so many requests, with threads after a
 /// batch, and last.
 ///
 /// Standard error that takes nothing is no error of the run: its result is as if all had been written there.
 ///
-/// Its participants are those of the setup: one for each link that is queried, and the seven others. A setup or a flow
-/// that does not suit them is refused, and nothing is done: a link whose name makes no participant's name, a participant of
-/// the flow that the switch does not have, and two links of one name, in this order.
+/// The switch has seven participants, and one more for each link that is queried. Refused are, before anything is
+/// done: the first link whose name makes no participant's name (`BadLinkName`), then the first participant of the
+/// flow that the switch does not have (`NoStation`), then the first name that two links have (`DoubleStation`).
 ///
 /// The stations are made here; no caller has one of them.
 pub fn run<S: Alter + Drop, T: Threads + Wait + Clock + Sync, R: Read + Drop, O: Write, E: Write>(

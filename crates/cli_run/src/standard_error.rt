@@ -27,14 +27,14 @@ pub enum Form {
     Json,
 }
 
-/// Standard error, where messages that are passed over are told, and where the trace and the numbers go. Where a write fails
-/// the run goes on, and its result is as if all had been written.
+/// Standard error, to which a run writes a line for each message that is passed over, the trace and the numbers.
+/// Where a write fails the run goes on, and its result is as if all had been written.
 #[derive(Drop)]
 pub struct StandardError<'a, E> {
     pub err: &'a mut E,
     /// In which form the lines of the trace are wanted, if they are.
     pub trace: Option<Form>,
-    /// Whether a write failed: what was told then is not written, or not all of it.
+    /// Whether a write failed: what was to be written then is not, or not all of it.
     pub lost: bool,
     /// The lines of numbers that are wanted.
     pub stats: Option<Stats>,
@@ -50,7 +50,7 @@ fn passed_line(alloc: Global, number: u64, cause: &str) -> Result<String, AllocE
 }
 
 impl<'a, E: Write> StandardError<'a, E> {
-    /// Tells that a message is passed over. Out of memory is the only error.
+    /// Writes that a message is passed over. Out of memory is the only error.
     pub(crate) fn pass_over(
         &mut self,
         alloc: Global,

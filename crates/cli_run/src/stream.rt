@@ -16,8 +16,8 @@ ghost use Rattle.cli_run.specs.Traces.{Reports, ReportsFor, Tells, if_passed, lo
 ghost use Rattle.cli_run.specs.declared.stream.StreamEnd.TheVariants.{Unread};
 
 use crate::error::ServeError;
-use crate::switch::Switch;
 use crate::standard_error::StandardError;
+use crate::switch::Switch;
 use cli_io::ReadError;
 use iso_codec::{DecodeError, decode};
 use sqlite::Alter;
@@ -81,7 +81,7 @@ impl Drop for Requests {
     }
 }
 
-// The context of a request; a message that cannot be read is told by its number and passed over.
+// The context of a request; a message that cannot be read is passed over, and its number is written.
 pub(crate) fn request_in<E: Write>(
     alloc: Global,
     number: u64,
@@ -109,7 +109,7 @@ pub(crate) fn request_in<E: Write>(
     }
 }
 
-// Answers a message, if it can be read, and tells the numbers of the run where that is due.
+// Answers a message, if it can be read, and writes the numbers of the run where that is due.
 fn serve<S: Alter, C: Clock, O: Write, E: Write>(
     rt: &C,
     alloc: Global,
@@ -238,8 +238,8 @@ impl Requests {
         Ok(Piece { messages, end })
     }
 
-    // Reads once, and answers the messages that are whole then; the lines of the trace are told before. It
-    // tells how the stream ended, if it did.
+    // Reads once, and answers the messages that are whole then; the lines of the trace are written before.
+    // Its result is how the stream ended, if it did.
     fn serve_read<S: Alter, C: Clock, R: Read, O: Write, E: Write>(
         &mut self,
         rt: &C,
@@ -306,7 +306,7 @@ impl Requests {
     }
 }
 
-// A read failed. Want of memory ends the run, any other error the stream.
+// A read failed. Out of memory ends the run, any other error the stream.
 fn unread(alloc: Global, error: io::Error) -> Result<Piece, ServeError>
     ensures none { IfOk result (λ piece. messages piece.messages.items ≡ []) }
     ensures unread { IfOk result (λ piece. (e : ReadError) × (piece.end ≡ Some (Unread e))) }

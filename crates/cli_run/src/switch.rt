@@ -34,7 +34,7 @@ use tx_pool::{Open, Pool};
 const MANY_ENTRIES: usize = 8_192;
 
 // From how many entries on a history is cut between two transactions. With the trace it is cut each time: so
-// all lines of a transaction are told before the next one is offered, each once.
+// all lines of a transaction are written before the next one is offered, each once.
 fn entries_kept(trace: Option<Form>) -> usize
     ensures bound { result ≤ 524288 }
     ensures live { is_some trace ≡ true → result ≡ 1 }
@@ -171,8 +171,8 @@ impl<S: Alter> Switch<S> {
         Ok(())
     }
 
-    // Cuts a history between two transactions, where it is long or its lines are wanted; these are told
-    // before. With the trace no line is left to tell then.
+    // Cuts a history between two transactions, where it is long or its lines are wanted; these are written
+    // before. With the trace no line is left to write then.
     fn cut_between<E: Write>(
         &mut self,
         alloc: Global,
@@ -196,8 +196,8 @@ impl<S: Alter> Switch<S> {
         Ok(())
     }
 
-    /// Cuts a history whose lines are wanted, or that is long; these are told before. So lines of the trace
-    /// are told before an input is waited for.
+    /// Cuts a history whose lines are wanted, or that is long; these are written before. So lines of the trace
+    /// are written before an input is waited for.
     pub(crate) fn cut_traced<E: Write>(
         &mut self,
         alloc: Global,

@@ -85,11 +85,7 @@ fn decide(most: u64, amount: &[u8], stan: &[u8], context: &mut Context) -> Resul
     Ok(REFUSES)
 }
 
-fn stand_in(
-    most: u64,
-    request: &Option<Message>,
-    context: &mut Context,
-) -> Result<u8, NoMemory>
+fn stand_in(most: u64, request: &Option<Message>, context: &mut Context) -> Result<u8, NoMemory>
     ensures stood_in { IfOk result (λ byte.
         StandsInBy most request.now context.old byte context.new) }
     ensures kept { OnErr result (context.new ≡ context.old) }

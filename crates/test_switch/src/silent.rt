@@ -2,8 +2,10 @@
 
 use crate::error::TestError;
 use cli_flows::open_flow;
-use cli_run::{DEFAULT_STAND_IN, default_advised, default_queried, default_routes};
-use cli_run::{ServeError, Setup, StandardError, StreamEnd, SwitchLink, run};
+use cli_run::{
+    DEFAULT_STAND_IN, ServeError, Setup, StandardError, StreamEnd, SwitchLink, default_advised,
+    default_queried, default_routes, run,
+};
 use flow_asm::{Code, assemble};
 use sqlite::{Alter, Connection};
 use std::alloc::Global;
@@ -19,18 +21,15 @@ use tx_journal::Journal;
 /// What a card may spend.
 const LIMIT: u64 = 10_000;
 
-// A link to a simulated issuer.
-fn link(alloc: Global, silent: bool) -> SwitchLink {
-    IssuerLink::Simulated(Issuer::new(alloc, silent))
-}
-
 // The setup of the switch, with an issuer alpha that is silent.
 fn setup(alloc: Global) -> Result<Setup<SwitchLink>, ServeError> {
     let Ok(book) = Book::new(alloc, LIMIT) else {
         return Err(ServeError::OutOfMemory);
     };
-    let queried = default_queried(alloc, link(alloc, true), link(alloc, false))?;
-    let advised = default_advised(alloc, link(alloc, true), link(alloc, false))?;
+    let (silent, other) = (Issuer::new(alloc, true), Issuer::new(alloc, false));
+    let queried = default_queried(alloc, silent, other)?;
+    let (silent, other) = (Issuer::new(alloc, true), Issuer::new(alloc, false));
+    let advised = default_advised(alloc, silent, other)?;
     Ok(Setup {
         book,
         stand_in: DEFAULT_STAND_IN,
@@ -53,7 +52,16 @@ fn serve<S: Alter + Drop, T: Threads + Wait + Clock + Sync, R: Read + Drop, O: W
 ) -> Result<StreamEnd, ServeError> {
     let setup = setup(alloc)?;
     match Journal::open(alloc, conn) {
-        Ok(journal) => run(threads, alloc, code, journal, setup, Some(input), out, stderr),
+        Ok(journal) => run(
+            threads,
+            alloc,
+            code,
+            journal,
+            setup,
+            Some(input),
+            out,
+            stderr,
+        ),
         Err((cause, _)) => Err(ServeError::from(cause)),
     }
 }

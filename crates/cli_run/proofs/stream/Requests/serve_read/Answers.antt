@@ -2,7 +2,6 @@ use Rattle.std.proofs.Common.{false}
 use Rattle.sw_frame.specs.Feeds.{messages}
 use Rattle.cli_run.specs.Points.{point_of}
 use Rattle.cli_run.specs.Requests.{requests}
-use Rattle.cli_run.specs.Traces.{log_of}
 use Rattle.cli_run.proofs.Reporting.{for_trimmed}
 use Rattle.cli_run.proofs.Stops.{halts_reads, halts_unread, on_err_of, toward_trimmed}
 use Rattle.cli_run.proofs.stream.Requests.serve_read.Goals as goal

@@ -1,4 +1,4 @@
-use Rattle.std.proofs.Common.{◌≡◌, [], false, ap, refl, subst}
+use Rattle.std.proofs.Common.{◌≡◌, [], false, refl, subst}
 use Rattle.tx_engine.specs.World.{World}
 use Rattle.cli_run.specs.Lines.{lines_in}
 use Rattle.cli_run.specs.Points.{is_long}

@@ -1,5 +1,4 @@
 use Rattle.std.proofs.Common.{true, inl, inr}
-use Rattle.cli_run.specs.Points.{point_of}
 use Rattle.cli_run.proofs.Reporting.{for_serves}
 use Rattle.cli_run.proofs.Runs.{all_served, told_last}
 use Rattle.cli_run.proofs.Stops.{drains_all, on_err_of}
