@@ -5,13 +5,14 @@ ghost use Rattle.cli_run.specs.Links.{query_name, sender_with};
 
 use std::alloc::{AllocError, Global};
 use sw_book::Book;
-use sw_issuers::{GroupLink, Issuer, Sender};
+use sw_hosts::IssuerLink;
+use sw_issuers::{GroupLink, Sender};
 use sw_participant::{Sequence, Text};
 use sw_parts::{Link, Routing};
 
 /// The links of the switch. (Only `run` names this type: it makes boxes of the participants that ask over
 /// links, and a box of what is generic in its link gets no proof.)
-pub type SwitchLink = Issuer;
+pub type SwitchLink = IssuerLink<HostRuntime>;
 
 /// A link to an issuer, with a name.
 #[derive(Drop)]

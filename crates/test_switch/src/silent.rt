@@ -21,15 +21,18 @@ use tx_journal::Journal;
 /// What a card may spend.
 const LIMIT: u64 = 10_000;
 
+// A link to a simulated issuer.
+fn link(alloc: Global, silent: bool) -> SwitchLink {
+    IssuerLink::Simulated(Issuer::new(alloc, silent))
+}
+
 // The setup of the switch, with an issuer alpha that is silent.
 fn setup(alloc: Global) -> Result<Setup<SwitchLink>, ServeError> {
     let Ok(book) = Book::new(alloc, LIMIT) else {
         return Err(ServeError::OutOfMemory);
     };
-    let (silent, other) = (Issuer::new(alloc, true), Issuer::new(alloc, false));
-    let queried = default_queried(alloc, silent, other)?;
-    let (silent, other) = (Issuer::new(alloc, true), Issuer::new(alloc, false));
-    let advised = default_advised(alloc, silent, other)?;
+    let queried = default_queried(alloc, link(alloc, true), link(alloc, false))?;
+    let advised = default_advised(alloc, link(alloc, true), link(alloc, false))?;
     Ok(Setup {
         book,
         stand_in: DEFAULT_STAND_IN,
