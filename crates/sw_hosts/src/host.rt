@@ -17,7 +17,7 @@ use std::time::{Clock, Duration};
 /// written, and of an answer that was not taken no promise was made.
 pub struct Host {
     alloc: Global,
-    shared: Arc<Shared>,
+    pub(crate) shared: Arc<Shared>,
 }
 
 // Written out, so that no caller proves again how its parts are dropped.

@@ -1,6 +1,7 @@
 //! What a host sent and no link has taken yet.
 
-ghost use Rattle.std.specs.Prelude.{◌≡◌, ◌≤◌, ◌∷◌, ◌++◌, [], length, nat_le, IfOk, IfSome};
+ghost use Rattle.std.specs.Prelude.{◌≡◌, ◌≤◌, ◌∷◌, ◌++◌, [], length};
+ghost use Rattle.std.specs.Prelude.{nat_le, IfOk, IfSome};
 ghost use Rattle.std.specs.VecDeque.{deque_len, deque_capacity};
 ghost use Rattle.sw_hosts.specs.Boxes.{first_of, after_first, before_first, newest};
 ghost use Rattle.sw_hosts.specs.Wanted.{has_key};
@@ -58,7 +59,8 @@ impl Inbox {
     pub fn take(&mut self, key: &Key) -> Taken
         ensures keyed { IfSome result.message (λ m. m.key.bytes ≡ key.now.bytes) }
         ensures taken { result.message ≡ first_of (has_key key.now.bytes) self.old.held.items }
-        ensures left { self.new.held.items ≡ after_first (has_key key.now.bytes) self.old.held.items }
+        ensures left { self.new.held.items
+            ≡ after_first (has_key key.now.bytes) self.old.held.items }
         ensures dropped { result.dropped
             ≡ before_first (has_key key.now.bytes) self.old.held.items }
     {

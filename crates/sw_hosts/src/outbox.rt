@@ -1,6 +1,7 @@
 //! What goes to a host.
 
-ghost use Rattle.std.specs.Prelude.{◌≡◌, ◌≤◌, ◌∷◌, ◌++◌, [], length, nat_le, not, IfOk, if◌then◌else◌};
+ghost use Rattle.std.specs.Prelude.{◌≡◌, ◌≤◌, ◌∷◌, ◌++◌, [], length};
+ghost use Rattle.std.specs.Prelude.{nat_le, not, IfOk, if◌then◌else◌};
 ghost use Rattle.std.specs.VecDeque.{deque_len, deque_capacity};
 ghost use Rattle.sw_hosts.specs.Boxes.{first_of, after_first, before_first};
 ghost use Rattle.sw_hosts.specs.Wanted.{is_timely};
@@ -55,11 +56,12 @@ impl Outbox {
         true
     }
 
-    /// Takes the first frame whose deadline has not come by now. Those before it are dropped; all of
-    /// them are, where each is too late.
+    /// Takes the first frame whose deadline has not come by now. Those before it are dropped; all of them
+    /// are, where each is too late.
     pub fn next(&mut self, now: Moment) -> Next
         ensures taken { result.frame ≡ first_of (is_timely now.micros) self.old.held.items }
-        ensures left { self.new.held.items ≡ after_first (is_timely now.micros) self.old.held.items }
+        ensures left { self.new.held.items
+            ≡ after_first (is_timely now.micros) self.old.held.items }
         ensures dropped { result.dropped ≡ before_first (is_timely now.micros) self.old.held.items }
     {
         let mut dropped = 0;

@@ -16,18 +16,18 @@ fn hears(link: &mut HostLink, message: &[u8]) -> Result<bool, Fail> {
     })
 }
 
-// Whether the link receives nothing, and says so within a second, long before the deadline.
+// Whether the link receives nothing, and says so within five seconds, long before the deadline.
 fn hears_nothing(rt: HostRuntime, link: &mut HostLink) -> Result<bool, Fail> {
     let start = Instant::now(&rt)?;
     let heard = link.receive()?;
-    Ok(heard.is_none() && start.elapsed(&rt)? < Duration::from_secs(1))
+    Ok(heard.is_none() && start.elapsed(&rt)? < Duration::from_secs(5))
 }
 
 // The first request gets no answer in time, and its response comes with that of the next one, behind
 // a message that is none and one without a key.
 #[test]
 fn a_late_answer_is_dropped(rt: HostRuntime) -> Result<(), Fail> {
-    let timeout = Duration::from_secs(1);
+    let timeout = Duration::from_secs(2);
     let mut wired = wire_up(rt, rt, timeout)?;
     let mut link = wired.host.link(rt)?;
     let start = Instant::now(&rt)?;
@@ -52,21 +52,8 @@ fn a_late_answer_is_dropped(rt: HostRuntime) -> Result<(), Fail> {
 // opened again a second after the last order, and not before.
 #[test]
 fn what_breaks_is_opened_again(rt: HostRuntime) -> Result<(), Fail> {
-    let Wired {
-        host,
-        requests,
-        responses,
-        to,
-        from,
-    } = wire_up(rt, rt, Duration::from_secs(10))?;
-    let mut link = host.link(rt)?;
-    let mut wired = Wired {
-        host,
-        requests,
-        responses,
-        to,
-        from,
-    };
+    let mut wired = wire_up(rt, rt, Duration::from_secs(10))?;
+    let mut link = wired.host.link(rt)?;
     link.send(REQUEST)?;
     assert!(rt; wired.reads(REQUEST)?);
     wired.responses.write_all(b"no length")?;

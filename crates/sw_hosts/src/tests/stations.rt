@@ -1,10 +1,11 @@
 //! A station that asks an issuer over a link, boxed as a plant has it.
 
 use crate::IssuerLink;
-use crate::tests::wires::{REQUEST, wire_up};
+use crate::tests::wires::{REQUEST, Wired, wire_up};
 use std::alloc::Global;
-use std::io::Write;
+use std::io::{PipeReader, PipeWriter, Read, Write};
 use std::test::Fail;
+use std::thread;
 use std::time::Duration;
 use sw_context::Context;
 use sw_issuers::Issuer;
@@ -29,16 +30,29 @@ fn asked_over(alloc: Global, link: IssuerLink) -> Result<Context, Fail> {
     Ok(context)
 }
 
-// The host has written its response before the request comes: it is read once the direction is opened, and
-// that is after what is late was dropped.
+// What the host does: it reads the request, and writes its response.
+fn refuses(requests: PipeReader, responses: PipeWriter) -> bool {
+    let (mut requests, mut responses) = (requests, responses);
+    let mut frame = [0; 38];
+    requests.read_exact(&mut frame).is_ok()
+        && &frame[4..] == REQUEST
+        && responses.write_all(REFUSAL).is_ok()
+}
+
 #[test]
 fn a_station_asks_an_issuer(rt: HostRuntime) -> Result<(), Fail> {
     let alloc = rt.alloc();
-    let mut wired = wire_up(rt, rt, Duration::from_secs(10))?;
-    wired.responses.write_all(REFUSAL)?;
-    let context = asked_over(alloc, IssuerLink::Host(wired.host.link(rt)?))?;
+    let Wired {
+        host,
+        requests,
+        responses,
+        to: _to,
+        from: _from,
+    } = wire_up(rt, rt, Duration::from_secs(10))?;
+    let there = thread::spawn(&rt, move || refuses(requests, responses))?;
+    let context = asked_over(alloc, IssuerLink::Host(host.link(rt)?))?;
     assert!(rt; context.get("rc") == Some(b"05".as_slice()));
-    assert!(rt; wired.reads(REQUEST)?);
+    assert!(rt; there.join(&rt));
     let simulated: IssuerLink = IssuerLink::Simulated(Issuer::new(alloc, false));
     let context = asked_over(alloc, simulated)?;
     assert!(rt; context.get("rc") == Some(b"00".as_slice()));

@@ -1,12 +1,15 @@
 //! A host whose two directions are pipes, with the other ends of these, and the messages.
 
+use crate::direction::DirectionState;
+use crate::moment::Moment;
+use crate::shared::Shared;
 use crate::{Host, ReadPath, WritePath};
 use std::alloc::{AllocError, Global};
 use std::io::{PipeReader, PipeWriter, Read, Write, pipe};
 use std::os::fd::AsRawFd;
 use std::sync::Wait;
 use std::test::Fail;
-use std::thread::Threads;
+use std::thread::{self, Threads};
 use std::time::{Clock, Duration};
 
 /// A request with STAN 42 (fields 11 and 41), and its response.
@@ -34,7 +37,21 @@ fn path_of(alloc: Global, end: &impl AsRawFd) -> Result<String, AllocError> {
     format!(in alloc; "/proc/self/fd/{number}")
 }
 
-/// A host over two pipes, which it opens as often as it likes. The runtime comes twice: once for its
+// Has both directions opened before a test begins: a message waits for that for 100 milliseconds alone,
+// and a machine may be busy for longer.
+fn open<C: Clock>(clock: &C, shared: &Shared) {
+    let now = Moment::now(clock);
+    let _ = (shared.to.order(now), shared.from.order(now));
+    for _ in 0..10_000 {
+        let is_open = shared.to.state() == DirectionState::Open;
+        if is_open && shared.from.state() == DirectionState::Open {
+            return;
+        }
+        thread::sleep(clock, Duration::from_millis(1));
+    }
+}
+
+/// A host over two open pipes, each of which it opens again as often as it likes. The runtime comes twice: once for its
 /// threads, and once for its files, of which a thread can only take a type that is named.
 pub fn wire_up<R: Threads + Wait + Clock + Copy + Send + 'static>(
     rt: R,
@@ -47,6 +64,7 @@ pub fn wire_up<R: Threads + Wait + Clock + Copy + Send + 'static>(
     let writer = WritePath::new(files, path_of(alloc, &to)?);
     let reader = ReadPath::new(files, path_of(alloc, &from)?);
     let host = Host::start(&rt, alloc, writer, reader, timeout)?;
+    open(&files, &host.shared);
     Ok(Wired {
         host,
         requests,
