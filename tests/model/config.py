@@ -52,7 +52,6 @@ TOP = {
     "run": (TABLE, False, False),
 }
 HOST = {
-    "echo_s": (integers(1, 86_400), False, True),
     "from": (PATH, True, True),
     "name": (names(26), True, False),
     "simulated": (SIMULATION, False, False),
@@ -68,7 +67,6 @@ LIMITS = {
     "stand_in": (integers(0, 999_999_999_999), False, False),
 }
 RUN = {
-    "advices": (integers(0, 256), False, False),
     "journal": (PATH, False, False),
     "sessions": (integers(1, 16), False, False),
     "threads": (FLAG, False, False),
@@ -139,7 +137,7 @@ def wire_of(host):
     if "simulated" in host:
         return "simulated" if host["simulated"] is True else "silent"
     wire = {key: host[key] for key in ("to", "from")}
-    return wire | {"timeout_ms": host.get("timeout_ms", TIMEOUT_MS), "echo_s": host.get("echo_s")}
+    return wire | {"timeout_ms": host.get("timeout_ms", TIMEOUT_MS)}
 
 
 def stated(document):

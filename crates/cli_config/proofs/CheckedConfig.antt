@@ -45,13 +45,10 @@ module _ (n : ℕ) (ms : Members) where
   wire_checked : (o : Option Data) → value_at key.Simulated ms ≡ o → NoneMissing host_path ms → NoneBad host_path ms → IsWire (wire_by o ms)
   wire_checked None is m b =
       let apart : (if is_some (value_at key.Simulated ms) then Some key.Simulated else None) ≡ None = ap (λ (o : Option Data). if is_some o then Some key.Simulated else None) is in
-      let from = text_fits want.Path paths_are_texts (value_at key.From ms) (is_there host_path ms key.From m.1.0 refl apart) (is_fit host_path ms key.From b.1.0) in
-      let to = text_fits want.Path paths_are_texts (value_at key.To ms) (is_there host_path ms key.To m.1.1.1.1.1.0 refl apart) (is_fit host_path ms key.To b.1.1.1.1.1.0) in (
+      let from = text_fits want.Path paths_are_texts (value_at key.From ms) (is_there host_path ms key.From m.0 refl apart) (is_fit host_path ms key.From b.0) in
+      let to = text_fits want.Path paths_are_texts (value_at key.To ms) (is_there host_path ms key.To m.1.1.1.1.0 refl apart) (is_fit host_path ms key.To b.1.1.1.1.0) in (
         (long_enough (text_at key.To ms) to, long_enough (text_at key.From ms) from),
-        (
-          default_fits 1 600000 10000 (number_at key.TimeoutMs ms) (omega arith, omega arith) (number_fits 1 600000 (value_at key.TimeoutMs ms) (is_fit host_path ms key.TimeoutMs b.1.1.1.1.0)),
-          number_fits 1 86400 (value_at key.EchoS ms) (is_fit host_path ms key.EchoS b.0),
-        ),
+        default_fits 1 600000 10000 (number_at key.TimeoutMs ms) (omega arith, omega arith) (number_fits 1 600000 (value_at key.TimeoutMs ms) (is_fit host_path ms key.TimeoutMs b.1.1.1.0)),
       )
   wire_checked (Some (boolean x)) is m b = tt
   wire_checked (Some (string s)) is m b = tt
@@ -65,7 +62,7 @@ module _ (n : ℕ) (ms : Members) where
   host_checked h =
       let m = none_missing host_path ms h in
       let b = none_bad host_path ms h in
-      let name = text_fits (want.Name 26) (names_are_texts 26) (value_at key.Name ms) (is_there host_path ms key.Name m.1.1.0 refl refl) (is_fit host_path ms key.Name b.1.1.0) in
+      let name = text_fits (want.Name 26) (names_are_texts 26) (value_at key.Name ms) (is_there host_path ms key.Name m.1.0 refl refl) (is_fit host_path ms key.Name b.1.0) in
       (name_parts 26 (text_at key.Name ms) name, wire_checked (value_at key.Simulated ms) refl m b)
 
   abbrev route_path : TablePath
@@ -133,13 +130,13 @@ limits_checked ms h =
     (number_fits 0 999999999999999 (value_at key.PerCard ms) (is_fit limits_path ms key.PerCard b.0), number_fits 0 999999999999 (value_at key.StandIn ms) (is_fit limits_path ms key.StandIn b.1.0))
 
 abbrev IsRun : Option Members → Type 0
-IsRun o = IfSome (run_in o).sessions (IsIn 1 16) × (IfSome (run_in o).journal IsPath × IfSome (run_in o).advices (IsIn 0 256))
+IsRun o = IfSome (run_in o).sessions (IsIn 1 16) × IfSome (run_in o).journal IsPath
 
 run_checked : (ms : Members) → table_fault run_path ms ≡ None → IsRun (Some ms)
 run_checked ms h =
     let b = none_bad run_path ms h in (
-      number_fits 1 16 (value_at key.Sessions ms) (is_fit run_path ms key.Sessions b.1.1.0),
-      (path_fits (value_at key.Journal ms) (is_fit run_path ms key.Journal b.1.0), number_fits 0 256 (value_at key.Advices ms) (is_fit run_path ms key.Advices b.0)),
+      number_fits 1 16 (value_at key.Sessions ms) (is_fit run_path ms key.Sessions b.1.0),
+      path_fits (value_at key.Journal ms) (is_fit run_path ms key.Journal b.0),
     )
 
 pub config_checked : (top : Members) → first_fault top ≡ None → IsChecked (config_of top)
@@ -148,13 +145,12 @@ config_checked top h =
     let s = none_of (section_fault top) sections (left_none _ _ h) in
     let doubles = right_none _ _ h in
     let limits = only_table section.Limits AreLimits (tt, tt) limits_checked (value_at key.Limits top) s.1.1.1.0 in
-    let run = only_table section.Run IsRun (tt, (tt, tt)) run_checked (value_at key.Run top) s.1.1.1.1.0 in
+    let run = only_table section.Run IsRun (tt, tt) run_checked (value_at key.Run top) s.1.1.1.1.0 in
     record {
       hosts = if_there (value_at key.Host top) _ AreHosts (hosts_checked (tables_of section.Host top) s.1.0 (left_none (double_of section.Host key.Name top) (double_of section.Route key.Prefix top) doubles));
       routes = if_there (value_at key.Route top) _ AreRoutes (routes_checked (tables_of section.Route top) s.1.1.0 (right_none (double_of section.Host key.Name top) (double_of section.Route key.Prefix top) doubles));
       per_card = limits.0;
       stand_in = limits.1;
       sessions = run.0;
-      journal = run.1.0;
-      advices = run.1.1;
+      journal = run.1;
     }

@@ -17,7 +17,7 @@ abbrev pub IsPath : List ℕ → Type 0
 IsPath text = 1 ≤ length text
 
 abbrev pub IsWire : Wire → Type 0
-IsWire (wire.Streams to from timeout echo) = (IsPath to × IsPath from) × (IsIn 1 600000 timeout × IfSome echo (IsIn 1 86400))
+IsWire (wire.Streams to from timeout) = (IsPath to × IsPath from) × IsIn 1 600000 timeout
 IsWire w = ⊤
 
 -- the name has room for `query_` before it
@@ -40,4 +40,3 @@ pub record IsChecked (c : Config) : Type 0 where
   pub stand_in : IfSome c.limits.stand_in (IsIn 0 999999999999)
   pub sessions : IfSome c.run.sessions (IsIn 1 16)
   pub journal : IfSome c.run.journal IsPath
-  pub advices : IfSome c.run.advices (IsIn 0 256)

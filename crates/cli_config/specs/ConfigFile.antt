@@ -25,7 +25,7 @@ text_if k ms = option_map (λ d. text_at k ms) (value_at k ms)
 
 -- a query waits ten seconds where the file does not say
 abbrev pub streams_of : Members → Wire
-streams_of ms = wire.Streams (text_at key.To ms) (text_at key.From ms) (unwrap_or (number_at key.TimeoutMs ms) 10000) (number_at key.EchoS ms)
+streams_of ms = wire.Streams (text_at key.To ms) (text_at key.From ms) (unwrap_or (number_at key.TimeoutMs ms) 10000)
 
 -- how a host without a fault is reached, by what stands at `simulated`: true, or "silent"
 abbrev pub wire_by : Option Data → Members → Wire
@@ -47,12 +47,11 @@ limits_in None = record { per_card = None; stand_in = None }
 limits_in (Some ms) = record { per_card = number_at key.PerCard ms; stand_in = number_at key.StandIn ms }
 
 abbrev pub run_in : Option Members → run.RunTable
-run_in None = record { sessions = None; journal = None; threads = None; advices = None }
+run_in None = record { sessions = None; journal = None; threads = None }
 run_in (Some ms) = record {
   sessions = number_at key.Sessions ms;
   journal = text_if key.Journal ms;
   threads = flag_at key.Threads ms;
-  advices = number_at key.Advices ms;
 }
 
 abbrev pub limits_of : Members → limits.Limits

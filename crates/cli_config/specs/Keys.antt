@@ -22,17 +22,16 @@ sections = section.Top ∷ section.Host ∷ section.Route ∷ section.Limits ∷
 -- ascending by their spelling
 abbrev pub keys_of : Section → List Key
 keys_of section.Top = key.Host ∷ key.Limits ∷ key.Route ∷ key.Run ∷ []
-keys_of section.Host = key.EchoS ∷ key.From ∷ key.Name ∷ key.Simulated ∷ key.TimeoutMs ∷ key.To ∷ []
+keys_of section.Host = key.From ∷ key.Name ∷ key.Simulated ∷ key.TimeoutMs ∷ key.To ∷ []
 keys_of section.Route = key.Group ∷ key.Prefix ∷ []
 keys_of section.Limits = key.PerCard ∷ key.StandIn ∷ []
-keys_of section.Run = key.Advices ∷ key.Journal ∷ key.Sessions ∷ key.Threads ∷ []
+keys_of section.Run = key.Journal ∷ key.Sessions ∷ key.Threads ∷ []
 
 abbrev pub spelling : Key → List ℕ
 spelling key.Host = codes "host"
 spelling key.Limits = codes "limits"
 spelling key.Route = codes "route"
 spelling key.Run = codes "run"
-spelling key.EchoS = codes "echo_s"
 spelling key.From = codes "from"
 spelling key.Name = codes "name"
 spelling key.Simulated = codes "simulated"
@@ -42,7 +41,6 @@ spelling key.Group = codes "group"
 spelling key.Prefix = codes "prefix"
 spelling key.PerCard = codes "per_card"
 spelling key.StandIn = codes "stand_in"
-spelling key.Advices = codes "advices"
 spelling key.Journal = codes "journal"
 spelling key.Sessions = codes "sessions"
 spelling key.Threads = codes "threads"
@@ -53,7 +51,6 @@ wants key.Host = want.Tables
 wants key.Limits = want.Table
 wants key.Route = want.Tables
 wants key.Run = want.Table
-wants key.EchoS = want.Number 1 86400
 wants key.From = want.Path
 wants key.Name = want.Name 26
 wants key.Simulated = want.Simulation
@@ -63,7 +60,6 @@ wants key.Group = want.Name 32
 wants key.Prefix = want.Digits 19
 wants key.PerCard = want.Number 0 999999999999999
 wants key.StandIn = want.Number 0 999999999999
-wants key.Advices = want.Number 0 256
 wants key.Journal = want.Path
 wants key.Sessions = want.Number 1 16
 wants key.Threads = want.Flag
@@ -79,7 +75,6 @@ is_required k = false
 
 -- the key that may not stand beside it
 abbrev pub excluded : Key → Option Key
-excluded key.EchoS = Some key.Simulated
 excluded key.From = Some key.Simulated
 excluded key.TimeoutMs = Some key.Simulated
 excluded key.To = Some key.Simulated

@@ -41,9 +41,6 @@ pub enum Wire {
         from: Text,
         /// How many milliseconds a query waits for its answer, 1 to 600,000.
         timeout_ms: u64,
-        /// How many seconds a host is idle until an echo test is sent to it, 1 to 86,400; `None`
-        /// where none is.
-        echo_s: Option<u64>,
     },
 }
 
@@ -56,7 +53,6 @@ impl Drop for Wire {
                 to: _,
                 from: _,
                 timeout_ms: _,
-                echo_s: _,
             } => {}
         }
     }
@@ -98,6 +94,4 @@ pub struct RunTable {
     pub journal: Option<Text>,
     /// Whether the sessions run as threads.
     pub threads: Option<bool>,
-    /// How many stored advices are sent between two batches, 0 to 256; with 0 all are sent at the end.
-    pub advices: Option<u64>,
 }

@@ -35,7 +35,6 @@ pub enum Key {
     Limits,
     Route,
     Run,
-    EchoS,
     From,
     Name,
     Simulated,
@@ -45,7 +44,6 @@ pub enum Key {
     Prefix,
     PerCard,
     StandIn,
-    Advices,
     Journal,
     Sessions,
     Threads,
@@ -106,7 +104,6 @@ impl Section {
         match self {
             Section::Top => &[Key::Host, Key::Limits, Key::Route, Key::Run],
             Section::Host => &[
-                Key::EchoS,
                 Key::From,
                 Key::Name,
                 Key::Simulated,
@@ -115,7 +112,7 @@ impl Section {
             ],
             Section::Route => &[Key::Group, Key::Prefix],
             Section::Limits => &[Key::PerCard, Key::StandIn],
-            Section::Run => &[Key::Advices, Key::Journal, Key::Sessions, Key::Threads],
+            Section::Run => &[Key::Journal, Key::Sessions, Key::Threads],
         }
     }
 }
@@ -130,7 +127,6 @@ impl Key {
             Key::Limits => "limits",
             Key::Route => "route",
             Key::Run => "run",
-            Key::EchoS => "echo_s",
             Key::From => "from",
             Key::Name => "name",
             Key::Simulated => "simulated",
@@ -140,7 +136,6 @@ impl Key {
             Key::Prefix => "prefix",
             Key::PerCard => "per_card",
             Key::StandIn => "stand_in",
-            Key::Advices => "advices",
             Key::Journal => "journal",
             Key::Sessions => "sessions",
             Key::Threads => "threads",
@@ -160,11 +155,9 @@ impl Key {
             Key::From | Key::To | Key::Journal => Want::Path,
             Key::Simulated => Want::Simulation,
             Key::Threads => Want::Flag,
-            Key::EchoS => Want::Number(1, 86_400),
             Key::TimeoutMs => Want::Number(1, 600_000),
             Key::PerCard => Want::Number(0, 999_999_999_999_999),
             Key::StandIn => Want::Number(0, 999_999_999_999),
-            Key::Advices => Want::Number(0, 256),
             Key::Sessions => Want::Number(1, 16),
         }
     }
@@ -184,7 +177,7 @@ impl Key {
         ensures { result ≡ spec.excluded self }
     {
         match self {
-            Key::EchoS | Key::From | Key::TimeoutMs | Key::To => Some(Key::Simulated),
+            Key::From | Key::TimeoutMs | Key::To => Some(Key::Simulated),
             _ => None,
         }
     }

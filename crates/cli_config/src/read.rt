@@ -42,7 +42,6 @@ fn streams_of(alloc: Global, table: &Table) -> Result<Wire, AllocError>
         to,
         from,
         timeout_ms: number_at(table, Key::TimeoutMs).unwrap_or(TIMEOUT_MS),
-        echo_s: number_at(table, Key::EchoS),
     })
 }
 
@@ -137,13 +136,11 @@ fn run_of(alloc: Global, top: &Table) -> Result<RunTable, AllocError>
             sessions: number_at(table, Key::Sessions),
             journal: text_if(alloc, table, Key::Journal)?,
             threads: flag_at(table, Key::Threads),
-            advices: number_at(table, Key::Advices),
         }),
         None => Ok(RunTable {
             sessions: None,
             journal: None,
             threads: None,
-            advices: None,
         }),
     }
 }
