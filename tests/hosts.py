@@ -35,7 +35,7 @@ name = "alpha"
 to = "alpha.to"
 from = "alpha.from"
 timeout_ms = 1500
-{echo}
+
 [[host]]
 name = "beta"
 {beta}
@@ -167,10 +167,10 @@ class Run:
 
 
 @contextlib.contextmanager
-def switch(program, room, *words, echo="", beta="simulated = true"):
+def switch(program, room, *words, beta="simulated = true"):
     """A run and the host of `alpha`, which listens."""
     with open(os.path.join(room, "config.toml"), "w", encoding="utf-8") as file:
-        file.write(CONFIG.format(echo=echo, beta=beta))
+        file.write(CONFIG.format(beta=beta))
     wire = Wire(room, "alpha")
     wire.listen()
     run = Run(program, room, *words)

@@ -21,8 +21,7 @@ def host(random):
     made = {"name": random.choice(NAMES)}
     if random.random() < 0.5:
         return made | {"simulated": random.choice([True, "silent"])}
-    more = {"timeout_ms": random.choice([1, 2000, 600_000]), "echo_s": random.choice([1, 30, 86_400])}
-    return made | {"to": "none.to", "from": "none.from"} | some(random, more)
+    return made | {"to": "none.to", "from": "none.from"} | some(random, {"timeout_ms": random.choice([1, 2000, 600_000])})
 
 
 def route(random):
@@ -35,7 +34,7 @@ def document(random):
         "host": [host(random) for _ in range(random.choice([0, 1, 2, 3]))],
         "route": [route(random) for _ in range(random.choice([0, 1, 2, 3]))],
         "limits": some(random, {"per_card": random.choice([0, 10_000, 999_999_999_999_999]), "stand_in": random.choice([0, 999_999_999_999])}),
-        "run": some(random, {"sessions": random.randint(1, 16), "threads": random.random() < 0.5, "advices": random.choice([0, 4, 256])}),
+        "run": some(random, {"sessions": random.randint(1, 16), "threads": random.random() < 0.5}),
     }
     return some(random, made)
 

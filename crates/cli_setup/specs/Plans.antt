@@ -20,7 +20,7 @@ no_config = record {
   hosts = None;
   routes = None;
   limits = record { per_card = None; stand_in = None };
-  run = record { sessions = None; journal = None; threads = None; advices = None };
+  run = record { sessions = None; journal = None; threads = None };
 }
 
 -- what a card may spend, 10,000 minor units where nothing states it
@@ -38,10 +38,6 @@ sessions_of o c = unwrap_or (option_or o.sessions c.run.sessions) 1
 -- whether the sessions run as threads
 abbrev pub threads_of : RunOptions → Config → Bool
 threads_of o c = o.threads || unwrap_or c.run.threads false
-
--- how many stored advices are sent between two batches
-abbrev pub advices_of : Config → ℕ
-advices_of c = unwrap_or c.run.advices 0
 
 -- the path of the journal, if it is in a file
 abbrev pub journal_of : RunOptions → Config → Option (List ℕ)

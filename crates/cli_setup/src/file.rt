@@ -27,7 +27,6 @@ fn no_config() -> Config
             sessions: None,
             journal: None,
             threads: None,
-            advices: None,
         },
     }
 }

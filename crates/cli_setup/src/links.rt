@@ -74,7 +74,6 @@ impl Side {
                 to,
                 from,
                 timeout_ms,
-                echo_s: _,
             } => {
                 let to = WritePath::new(*rt, to.copy()?.into_string());
                 let from = ReadPath::new(*rt, from.copy()?.into_string());
