@@ -1,6 +1,6 @@
 //! The subcommands `run` and `recover`: the switch with its own participants, over a journal.
 
-ghost use Rattle.std.specs.Prelude.{◌≡◌, ◌<◌, IfErr, IfNone, IfOk, IfSome, OnOk, option_map};
+ghost use Rattle.std.specs.Prelude.{◌≡◌, ◌<◌, IfErr, IfNone, IfOk, IfSome, OnOk, false, option_map};
 ghost use Rattle.flow_model.specs.Check.{IsChecked};
 ghost use Rattle.flow_model.specs.declared.flow.Flow.{Flow};
 ghost use Rattle.tx_journal.specs.Kept.{kept};
