@@ -1,6 +1,6 @@
 -- What `run` and `recover` have done, of their parts.
 -- for: requests::config_for, requests::answer_by, requests::answer_requests, requests::recover
-use Rattle.std.proofs.Common.{◌≡◌, ◌<◌, ◌≤◌, ⊤, ℕ, List, Option, Some, None, Result, Ok, Err, IfErr, IfOk, OnOk, Bor, arith, refl, sym, subst}
+use Rattle.std.proofs.Common.{◌≡◌, ◌≤◌, ℕ, List, Option, Some, None, Result, Ok, Err, IfErr, IfOk, OnOk, Bor, arith, refl, sym, subst}
 use Rattle.sqlite_trees.specs.declared.store.Store.{Ghosts}
 use Rattle.sqlite_trees.specs.declared.memory.MemStore.{MemStore}
 use Rattle.sqlite.specs.Steps.{over_memory}
@@ -10,12 +10,13 @@ use Rattle.sw_hosts.specs.declared.issuer_link.IssuerLink.{IssuerLink}
 use Rattle.tx_journal.specs.Kept.{Kept, kept}
 use Rattle.tx_plant.specs.Plant.{Seen, seen}
 use Rattle.cli_config.specs.declared.config.Config.{Config}
+use Rattle.cli_options.specs.declared.choice.RecoverOptions.{RecoverOptions}
 use Rattle.cli_options.specs.declared.choice.RunOptions.{RunOptions}
 use Rattle.cli_run.specs.Ran.{Printed}
 use Rattle.cli_run.specs.declared.setup.Setup.{Setup}
 use Rattle.cli_setup.specs.Plans.{IsSetUp, journal_of, limit_of, no_config, plain_setup}
 use Rattle.cardswitch.specs.Journals.{IsFound, IsNewJournal, IsOfFile}
-use Rattle.cardswitch.specs.Runs.{Answered, AnsweredBy, IfTaken, IsConfigAt, IsConfigFault, IsFlowFault, IsOpenFault, IsRunFault, IsRunFaultBy, IsServeFault, Recovered, Served, sender_of_setup}
+use Rattle.cardswitch.specs.Runs.{Answered, AnsweredBy, IfTaken, IsConfigAt, IsConfigFault, IsFlowFault, IsOpenFault, IsRecoverFault, IsRunFault, IsRunFaultBy, IsServeFault, Recovered, Served, sender_of_setup}
 use Rattle.cardswitch.specs.declared.error.RunError.{RunError}
 use Rattle.cardswitch.specs.declared.error.RunError.TheVariants as error
 
@@ -58,16 +59,25 @@ answered_in_memory files flow o c setup journal unread before after r set_up non
     answered_over files flow o c setup (seen (kept over_memory journal)) unread before after r set_up
     (subst (λ (x : Option (List ℕ)). IsFound files x (seen (kept over_memory journal))) none (journal, opened, refl)) h
 
+-- of a flow and a configuration that were taken: all facts, where the run is done
+both : {F C E : Type 0} (P : F → Type 0) (Q : C → Type 0) (S : F → C → Type 0) (K : Type 0) (code : Result F E) (config : Result C E) (r : Result (Unit {0}) E)
+    → IfOk code P → IfOk config Q → IfErr code (λ e. (r ≡ Err e) × K) → IfOk code (λ f. IfErr config (λ e. (r ≡ Err e) × K))
+    → IfOk code (λ f. IfOk config (λ c. OnOk r (S f c))) → OnOk r ((f : F) × P f × (c : C) × Q c × S f c)
+both P Q S K code config (Err e) checked stated refuses denies h = tt
+both P Q S K (Err f) config (Ok done) checked stated refuses denies h = let differ : Ok done ≡ Err f = refuses.0 in cc
+both P Q S K (Ok f) (Err e) (Ok done) checked stated refuses denies h = let differ : Ok done ≡ Err e = denies.0 in cc
+both P Q S K (Ok f) (Ok c) (Ok done) checked stated refuses denies h = (f, checked, c, stated, h)
+
 -- the flow that was taken is checked, and the requests were answered by it and by the configuration
 pub answered_requests : {S : Type 0} (files : Ghosts S) (code : Result Flow RunError) (config : Result Config RunError) (o : RunOptions) (unread before after : Option (List ℕ)) (r : Result (Unit {0}) RunError)
     → IfOk code (λ f. IsChecked f) → IfOk config (IsConfigAt o.config)
     → IfErr code (λ e. (r ≡ Err e) × (after ≡ before)) → IfOk code (λ f. IfErr config (λ e. (r ≡ Err e) × (after ≡ before)))
     → IfTaken code config (λ f c. OnOk r (AnsweredBy files f o c unread before after))
     → OnOk r ((f : Flow) × IsChecked f × Answered files f o unread before after)
-answered_requests files code config o unread before after (Err e) checked stated no_flow no_config h = tt
-answered_requests files (Err f) config o unread before after (Ok done) checked stated no_flow no_config h = let differ : Ok done ≡ Err f = no_flow.0 in cc
-answered_requests files (Ok f) (Err e) o unread before after (Ok done) checked stated no_flow no_config h = let differ : Ok done ≡ Err e = no_config.0 in cc
-answered_requests files (Ok f) (Ok c) o unread before after (Ok done) checked stated no_flow no_config h = (f, checked, record { config = c; stated = stated; answered = h })
+answered_requests files code config o unread before after r checked stated refuses denies h =
+    on_ok ((f : Flow) × IsChecked f × (c : Config) × IsConfigAt o.config c × AnsweredBy files f o c unread before after) _ r
+    (λ all. (all.0, all.1, record { config = all.2; stated = all.3; answered = all.4 }))
+    (both (λ f. IsChecked f) (IsConfigAt o.config) (λ f c. AnsweredBy files f o c unread before after) (after ≡ before) code config r checked stated refuses denies h)
 
 -- without a file nothing is stated
 none_stated : (path : Option (Bor (List ℕ))) → IsConfigAt path no_config
@@ -116,20 +126,21 @@ run_refused o c before after (error.Step e) stated fault = absurd fault
 run_refused o c before after (error.Input e) stated fault = absurd fault
 run_refused o c before after (error.Text e) stated fault = absurd fault
 
+same_error : (e f : RunError) → ◌≡◌ {A = Result (Unit {0}) RunError} (Err e) (Err f) → f ≡ e
+same_error e f same = cc
+
 -- the first fault of a run, of its flow file, of its configuration file, and of what these leave
 pub refused : (code : Result Flow RunError) (config : Result Config RunError) (o : RunOptions) (before after : Option (List ℕ)) (r : Result (Unit {0}) RunError)
     → IfErr code (IsFlowFault o.flow.now) → IfErr config (IsConfigFault o.config) → IfOk config (IsConfigAt o.config)
     → IfErr code (λ e. (r ≡ Err e) × (after ≡ before)) → IfOk code (λ f. IfErr config (λ e. (r ≡ Err e) × (after ≡ before)))
     → IfTaken code config (λ f c. IfErr r (IsRunFaultBy o c before after))
     → IfErr r (IsRunFault o before after)
-refused code config o before after (Ok done) flow_fault config_fault stated no_flow no_config h = tt
-refused (Err f) config o before after (Err e) flow_fault config_fault stated no_flow no_config h =
-    let same : Err e ≡ Err f = no_flow.0 in
-    flow_refused o before after e (subst (λ (x : RunError). IsFlowFault o.flow.now x) cc flow_fault) no_flow.1
-refused (Ok f) (Err g) o before after (Err e) flow_fault config_fault stated no_flow no_config h =
-    let same : Err e ≡ Err g = no_config.0 in
-    config_refused o before after e (subst (λ (x : RunError). IsConfigFault o.config x) cc config_fault) no_config.1
-refused (Ok f) (Ok c) o before after (Err e) flow_fault config_fault stated no_flow no_config h = run_refused o c before after e stated h
+refused code config o before after (Ok done) flow_fault config_fault stated refuses denies h = tt
+refused (Err f) config o before after (Err e) flow_fault config_fault stated refuses denies h =
+    flow_refused o before after e (subst (IsFlowFault o.flow.now) (same_error e f refuses.0) flow_fault) refuses.1
+refused (Ok f) (Err g) o before after (Err e) flow_fault config_fault stated refuses denies h =
+    config_refused o before after e (subst (IsConfigFault o.config) (same_error e g denies.0) config_fault) denies.1
+refused (Ok f) (Ok c) o before after (Err e) flow_fault config_fault stated refuses denies h = run_refused o c before after e stated h
 
 served_fault : (o : RunOptions) (c : Config) (before after : Option (List ℕ)) (e : RunError) → limit_of o c ≤ 999999999999999 → IsServeFault e → IsRunFaultBy o c before after e
 served_fault o c before after (error.Serve e) limit h = (limit, h)
@@ -166,6 +177,25 @@ unopened o c path before after (error.Write e) limit named same h = absurd h
 unopened o c path before after (error.Step e) limit named same h = absurd h
 unopened o c path before after (error.Input e) limit named same h = absurd h
 unopened o c path before after (error.Text e) limit named same h = absurd h
+
+recover_fault : (o : RecoverOptions) (before after : Option (List ℕ)) (e : RunError) → IsServeFault e → IsRecoverFault o before after e
+recover_fault o before after (error.Serve e) h = h
+recover_fault o before after error.OutOfMemory h = tt
+recover_fault o before after (error.FlowFile path cause) h = absurd h
+recover_fault o before after (error.ConfigFile path cause) h = absurd h
+recover_fault o before after error.BadLimit h = absurd h
+recover_fault o before after (error.JournalFile path cause) h = absurd h
+recover_fault o before after error.Refused h = absurd h
+recover_fault o before after (error.Read e) h = absurd h
+recover_fault o before after (error.Write e) h = absurd h
+recover_fault o before after (error.Step e) h = absurd h
+recover_fault o before after (error.Input e) h = absurd h
+recover_fault o before after (error.Text e) h = absurd h
+
+-- a recovery that is refused once its journal is open
+pub unrecovered : (o : RecoverOptions) (before after : Option (List ℕ)) (r : Result (Unit {0}) RunError) → IfErr r IsServeFault → IfErr r (IsRecoverFault o before after)
+unrecovered o before after (Ok u) h = tt
+unrecovered o before after (Err e) h = recover_fault o before after e h
 
 pub recovered : {S : Type 0} (files : Ghosts S) (flow : Flow) (sessions : ℕ) (path : List ℕ) (journal : Kept S) (before after : Option (List ℕ)) (r : Result (Unit {0}) RunError)
     → IsChecked flow → sessions ≡ 1 → IsOfFile files path journal

@@ -158,16 +158,16 @@ fn answer_by<
     let code = code?;
     let config = config?;
     let setup = setup(threads, alloc, rt, options, &config)?;
+    let path = journal_path(alloc, options, &config)?;
     let mut stderr = stderr_by(threads, options, err);
-    let stderr = &mut stderr;
-    match journal_path(options, &config) {
+    match path {
         Some(path) => {
-            let journal = open_file(alloc, rt, path)?;
-            serve(threads, alloc, &code, journal, setup, Some(input), out, stderr)
+            let journal = open_file(alloc, rt, path.as_str())?;
+            serve(threads, alloc, &code, journal, setup, Some(input), out, &mut stderr)
         }
         None => {
             let journal = open_in_memory(alloc)?;
-            serve(threads, alloc, &code, journal, setup, Some(input), out, stderr)
+            serve(threads, alloc, &code, journal, setup, Some(input), out, &mut stderr)
         }
     }
 }

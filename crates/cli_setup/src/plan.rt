@@ -1,20 +1,20 @@
 //! What a run is set up with.
 
 ghost use Rattle.std.specs.Prelude.{◌≡◌, ◌<◌, ◌≤◌, [], Err, IfErr, IfOk, OnOk};
-ghost use Rattle.cli_options.specs.CommandLine.{text_of};
 ghost use Rattle.cli_setup.specs.Plans.{IsSetUp, journal_of, limit_of, sessions_of, stand_in_of, threads_of};
-ghost use Rattle.cli_setup.specs.declared.error.SetupError.TheVariants.{BadLimit};
+ghost use Rattle.cli_setup.specs.declared.error.SetupError.TheVariants.{BadLimit, OutOfMemory};
 
 use crate::error::SetupError;
 use crate::links::{Links, links_to_hosts, routes, unasked};
 use cli_config::Config;
 use cli_options::choice::RunOptions;
 use cli_run::{DEFAULT_STAND_IN, Setup, SwitchLink};
-use std::alloc::Global;
+use std::alloc::{AllocError, Global};
 use std::sync::Wait;
 use std::thread::Threads;
 use std::time::Clock;
 use sw_book::Book;
+use sw_participant::Text;
 
 /// What a card may spend in one run, in minor units, where nothing states it.
 const LIMIT: u64 = 10_000;
@@ -22,16 +22,20 @@ const LIMIT: u64 = 10_000;
 /// The greatest limit: that of a book, of which `Book::new` says only that it takes every smaller one.
 const MOST_LIMIT: u64 = 999_999_999_999_999;
 
-/// The path of the journal, if it is in a file.
-pub fn journal_path<'a>(options: &RunOptions<'a>, config: &'a Config) -> Option<&'a str>
-    ensures { text_of result ≡ journal_of options.now config.now }
+/// The path of the journal, if it is in a file. Out of memory is the only refusal.
+pub fn journal_path(
+    alloc: Global,
+    options: &RunOptions<'_>,
+    config: &Config,
+) -> Result<Option<Text>, AllocError>
+    ensures { IfOk result (λ path. path ≡ journal_of options.now config.now) }
 {
     if let Some(path) = options.journal {
-        return Some(path);
+        return Ok(Some(Text::from_str(alloc, path)?));
     }
     match &config.run.journal {
-        Some(path) => Some(path.as_str()),
-        None => None,
+        Some(path) => Ok(Some(path.copy()?)),
+        None => Ok(None),
     }
 }
 
@@ -105,6 +109,7 @@ pub fn setup<T: Threads + Wait + Clock + Clone + Drop + Send + 'static>(
 /// is sent on, since a recovery asks no host and sends no advice.
 pub fn recovery(alloc: Global, config: &Config) -> Result<Setup<SwitchLink>, SetupError>
     ensures one { IfOk result (λ setup. setup.sessions ≡ 1) }
+    ensures refused { IfErr result (λ e. e ≡ OutOfMemory) }
 {
     let book = book(alloc, LIMIT)?;
     let routes = routes(alloc, config)?;
