@@ -163,11 +163,29 @@ fn answer_by<
     match path {
         Some(path) => {
             let journal = open_file(alloc, rt, path.as_str())?;
-            serve(threads, alloc, &code, journal, setup, Some(input), out, &mut stderr)
+            serve(
+                threads,
+                alloc,
+                &code,
+                journal,
+                setup,
+                Some(input),
+                out,
+                &mut stderr,
+            )
         }
         None => {
             let journal = open_in_memory(alloc)?;
-            serve(threads, alloc, &code, journal, setup, Some(input), out, &mut stderr)
+            serve(
+                threads,
+                alloc,
+                &code,
+                journal,
+                setup,
+                Some(input),
+                out,
+                &mut stderr,
+            )
         }
     }
 }
@@ -225,5 +243,14 @@ pub fn recover<T: Threads + Wait + Clock + Sync, O: Write>(
         passed: 0,
     };
     let input: Option<Empty> = None;
-    serve(threads, alloc, &code, journal, setup, input, out, &mut stderr)
+    serve(
+        threads,
+        alloc,
+        &code,
+        journal,
+        setup,
+        input,
+        out,
+        &mut stderr,
+    )
 }

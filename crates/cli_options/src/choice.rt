@@ -8,25 +8,17 @@ ghost use Rattle.cli_options.specs.CommandLine.{at_terminal};
 pub enum Options<'a> {
     /// `step`: a script of transactions comes from standard input. With `--flow` its flow is that of
     /// the flow file at this path. With `--prompt` each line is asked for by a prompt.
-    Step {
-        flow: Option<&'a str>,
-        prompt: bool,
-    },
+    Step { flow: Option<&'a str>, prompt: bool },
     /// `asm`: a flow file from standard input is printed as the image of its steps.
     Asm,
     /// `list`: an image from standard input is printed as a flow file.
     List,
     /// `graph`: prints a picture of the flow in the flow file at a path, for Mermaid, or with `--dot` for
     /// Graphviz.
-    Graph {
-        flow: &'a str,
-        dot: bool,
-    },
+    Graph { flow: &'a str, dot: bool },
     /// `decode`: prints the fields of the messages in frames from standard input, with `--mask` without what
     /// sensitive fields hold.
-    Decode {
-        mask: bool,
-    },
+    Decode { mask: bool },
     /// `encode`: writes the frames of the messages whose text, as `decode` prints it, comes from standard input.
     Encode,
     /// `recover`: finishes what a journal has unfinished, by the flow of the flow file at a path, and
