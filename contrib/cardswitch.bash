@@ -10,7 +10,7 @@ _cardswitch() {
         before=${COMP_WORDS[COMP_CWORD - 2]} sign==
     fi
     case $before$sign in
-        --flow | --flow= | --journal | --journal=)
+        --flow | --flow= | --config | --config= | --journal | --journal=)
             mapfile -t COMPREPLY < <(compgen -f -- "$word")
             return ;;
         --sessions | --sessions=)
@@ -35,8 +35,8 @@ _cardswitch() {
             asm | list | encode) words="--help" ;;
             graph) words="--flow --dot --help" ;;
             decode) words="--mask --help" ;;
-            recover) words="--flow --journal --help" ;;
-            run) words="--flow --journal --sessions --limit --threads --trace --stats --help" ;;
+            recover) words="--flow --config --journal --help" ;;
+            run) words="--flow --config --journal --sessions --limit --threads --trace --stats --help" ;;
             journal)
                 words="--json --clear --help"
                 [[ $word == -* ]] || mapfile -t files < <(compgen -f -- "$word") ;;

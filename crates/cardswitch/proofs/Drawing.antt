@@ -18,6 +18,7 @@ pub no_flow : (dot : Bool) (path : List ℕ) (before : Option (List ℕ)) (e : R
 no_flow dot path before (error.FlowFile p cause) h = (h, refl)
 no_flow dot path before error.OutOfMemory h = inl refl
 no_flow dot path before error.BadLimit h = absurd h
+no_flow dot path before (error.ConfigFile p cause) h = absurd h
 no_flow dot path before (error.JournalFile p cause) h = absurd h
 no_flow dot path before error.Refused h = absurd h
 no_flow dot path before (error.Read e) h = absurd h

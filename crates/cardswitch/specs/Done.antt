@@ -38,8 +38,8 @@ IsEncodedText unread written written_now = IfSome unread (λ bytes. IsEncoded by
 -- what is said of the bytes that were to be read and those that are written, `files` being the store over files
 abbrev pub IsDone : {S : Type 0} → Ghosts S → Options → Option (List ℕ) → Option (List ℕ) → Option (List ℕ) → Type 0
 IsDone files (Step flow prompt) unread written written_now = IsSteppedBy prompt flow unread written written_now
-IsDone files (Recover flow journal) unread written written_now =
-    (f : Flow) × IsChecked f × Recovered files f journal.now written written_now
+IsDone files (Recover o) unread written written_now =
+    (f : Flow) × IsChecked f × Recovered files f o.journal.now written written_now
 IsDone files (Run o) unread written written_now =
     (f : Flow) × IsChecked f × Answered files f o unread written written_now
 IsDone files (Journal o) unread written written_now = IsLooked o written written_now
@@ -85,8 +85,7 @@ IsEncodeFault unread written written_now _ = ⊥
 -- what an error says of the bytes that were to be read and those that are written
 abbrev pub IsErrorOf : Options → Option (List ℕ) → Option (List ℕ) → Option (List ℕ) → RunError → Type 0
 IsErrorOf (Step flow prompt) unread written written_now e = IsStepFaultBy prompt flow written written_now e
-IsErrorOf (Recover flow journal) unread written written_now e =
-    IsRecoverFault flow.now journal.now written written_now e
+IsErrorOf (Recover o) unread written written_now e = IsRecoverFault o written written_now e
 IsErrorOf (Run o) unread written written_now e = IsRunFault o written written_now e
 IsErrorOf (Journal o) unread written written_now e = IsLookFault o written written_now e
 IsErrorOf Asm unread written written_now e = IsAsmError unread written written_now e

@@ -10,11 +10,13 @@ use Rattle.cli_io.specs.declared.error.ReadError.{ReadError}
 use Rattle.cli_io.specs.declared.error.ReadError.TheVariants as read
 use Rattle.cli_io.specs.declared.error.WriteError.{WriteError}
 use Rattle.cli_io.specs.declared.error.WriteError.TheVariants as write
+use Rattle.cli_setup.specs.declared.error.SetupError.{SetupError}
+use Rattle.cli_setup.specs.declared.error.SetupError.TheVariants as setup
 use Rattle.cli_step.specs.declared.error.StepError.{StepError}
 use Rattle.cli_step.specs.declared.error.StepError.TheVariants as step
 use Rattle.cardswitch.specs.declared.error.JournalFault.TheVariants as fault
 use Rattle.cardswitch.specs.declared.error.RunError.{RunError}
-use Rattle.cardswitch.specs.declared.error.RunError.TheVariants.{Input, JournalFile, OutOfMemory}
+use Rattle.cardswitch.specs.declared.error.RunError.TheVariants.{BadLimit, Input, JournalFile, OutOfMemory}
 use Rattle.cardswitch.specs.declared.error.RunError.TheVariants.{Read, Serve, Step, Text, Write}
 use Rattle.cli_run.specs.declared.error.ServeError.{ServeError}
 use Rattle.cli_run.specs.declared.error.ServeError.TheVariants as serve
@@ -46,6 +48,10 @@ error_of_step e = Step e
 abbrev pub error_of_serve : ServeError → RunError
 error_of_serve serve.OutOfMemory = OutOfMemory
 error_of_serve e = Serve e
+
+abbrev pub error_of_setup : SetupError → RunError
+error_of_setup setup.OutOfMemory = OutOfMemory
+error_of_setup setup.BadLimit = BadLimit
 
 abbrev pub error_of_stream : StreamError → RunError
 error_of_stream (stream.Read e) = Read e

@@ -1,6 +1,5 @@
 -- The journal that a run finds.
 use Rattle.std.specs.Prelude.{◌≡◌, ◌≢◌, ◌≤◌, ℕ, false, List, Option, Some, None, codes, IsTrue}
-use Rattle.std.specs.Borrow.{Bor}
 use Rattle.sqlite_trees.specs.declared.store.Store.{Ghosts}
 use Rattle.sqlite_trees.specs.declared.memory.MemStore.{MemStore}
 use Rattle.sqlite_trees.specs.View.{doubt}
@@ -39,7 +38,7 @@ pub record IsNewJournal (j : Kept MemStore) : Type 0 where
 abbrev pub IsFoundAt : {S : Type 0} → Ghosts S → List ℕ → Seen → Type 0
 IsFoundAt {S} files path found = (j : Kept S) × IsOfFile files path j × (found ≡ seen (kept files j))
 
--- the journal that `--journal` names, or a new one in memory
-abbrev pub IsFound : {S : Type 0} → Ghosts S → Option (Bor (List ℕ)) → Seen → Type 0
+-- the journal of the file at a path, or without one a new one in memory
+abbrev pub IsFound : {S : Type 0} → Ghosts S → Option (List ℕ) → Seen → Type 0
 IsFound files None found = (j : Kept MemStore) × IsNewJournal j × (found ≡ seen (kept over_memory j))
-IsFound files (Some path) found = IsFoundAt files path.now found
+IsFound files (Some path) found = IsFoundAt files path found

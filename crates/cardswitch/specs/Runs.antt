@@ -1,46 +1,46 @@
 -- What `run` and `recover` have done, and why they end early. What a file holds no clause can say; the flow of a flow
 -- file is one that is checked.
-use Rattle.std.specs.Prelude.{◌≡◌, ◌≢◌, ◌<◌, ◌≤◌, ⊤, ℕ, Bool, false, List, [], Option, None, Some}
+use Rattle.std.specs.Prelude.{◌≡◌, ◌≢◌, ◌<◌, ◌≤◌, ⊤, ℕ, Bool, List, Option, None, Some, Result, IfOk}
+use Rattle.std.specs.Borrow.{Bor}
 use Rattle.sqlite_trees.specs.declared.store.Store.{Ghosts}
 use Rattle.flow_model.specs.declared.flow.Flow.{Flow}
-use Rattle.sw_issuers.specs.Issuing.{Receives, Sends, shown_issuer}
+use Rattle.sw_hosts.specs.Issuers.{ReceivesBy, SendsBy}
+use Rattle.sw_issuers.specs.Issuing.{Receives, Sends}
 use Rattle.sw_issuers.specs.Sending.{PlainSender, SendsAdvice}
 use Rattle.tx_plant.specs.Plant.{Seen}
 use Rattle.cli_options.specs.CommandLine.{text_of}
+use Rattle.cli_config.specs.declared.config.Config.{Config}
+use Rattle.cli_options.specs.declared.choice.RecoverOptions.{RecoverOptions}
 use Rattle.cli_options.specs.declared.choice.RunOptions.{RunOptions}
 use Rattle.cli_options.specs.declared.choice.TraceForm.{TraceForm}
 use Rattle.cli_options.specs.declared.choice.TraceForm.TheVariants as option
 use Rattle.cli_options.specs.declared.choice.StatsLines.{StatsLines}
 use Rattle.cli_options.specs.declared.choice.StatsLines.TheVariants.{AtEnd, Every, Off}
 use Rattle.cli_run.specs.Advices.{AdviceStep}
-use Rattle.cli_run.specs.Links.{sender_of}
 use Rattle.cli_run.specs.Ran.{Printed, Ran}
 use Rattle.cli_run.specs.Requests.{ReadTo, requests}
 use Rattle.cli_run.specs.Rounds.{Round, RoundsFor}
-use Rattle.cli_run.specs.declared.serving.Setup.{Setup}
-use Rattle.cli_run.specs.declared.told.Form.{Form}
-use Rattle.cli_run.specs.declared.told.Form.TheVariants as form
+use Rattle.cli_run.specs.declared.standard_error.Form.{Form}
+use Rattle.cli_run.specs.declared.standard_error.Form.TheVariants as form
 use Rattle.cli_run.specs.declared.stream.StreamEnd.TheVariants.{Whole}
 use Rattle.cli_run.specs.declared.error.ServeError.TheVariants as serve
+use Rattle.cli_setup.specs.Plans.{PlainSetup, journal_of, limit_of, no_config, setup_of}
 use Rattle.cardswitch.specs.Journals.{IsFound, IsFoundAt}
 use Rattle.cardswitch.specs.declared.error.RunError.{RunError}
 use Rattle.cardswitch.specs.declared.error.RunError.TheVariants as error
 
--- how the simulated issuers take an advice
-abbrev pub issuer_step : AdviceStep
-issuer_step = SendsAdvice Sends Receives (λ s. ⊥) (Unit {0})
+-- how the other ends of the links take an advice: the simulated issuers as they do, and of hosts nothing is known
+abbrev pub link_step : AdviceStep
+link_step = SendsAdvice (SendsBy Sends) (ReceivesBy Receives) (λ s. ⊥) (Unit {0})
 
--- what sends advices, over new links to the two issuers, which answer
-abbrev pub new_sender : PlainSender
-new_sender = sender_of (shown_issuer false []) (shown_issuer false [])
+-- what sends the stored advices of a run that is set up so
+abbrev pub sender_of_setup : PlainSetup → PlainSender
+sender_of_setup setup = record { routes = setup.routes; links = setup.advised }
 
--- What a run is set up with: a new book with this limit, which a card may have, and nothing in it; and so many sessions, as
--- threads or not.
-pub record IsSetUp (limit count : ℕ) (as_threads : Bool) (setup : Setup) : Type 0 where
-  pub within : limit ≤ 999999999999999
-  pub book : setup.book ≡ record { limit = limit; items = [] }
-  pub sessions : setup.sessions ≡ count
-  pub threads : setup.threads ≡ as_threads
+-- The configuration of the file at a path. What a file holds no clause can say; without one nothing is stated.
+abbrev pub IsConfigAt : Option (Bor (List ℕ)) → Config → Type 0
+IsConfigAt None c = c ≡ no_config
+IsConfigAt (Some path) c = ⊤
 
 -- the form of the trace's lines that the options name
 abbrev pub form_of : TraceForm → Form
@@ -60,16 +60,25 @@ pub record Served (threads : Bool) (flow : Flow) (sessions : ℕ) (j : Seen) (se
   pub reads : ReadTo Whole unread frames
   pub rounds : List Round
   pub answers : RoundsFor threads (requests frames) rounds
-  pub ran : Ran flow sessions j issuer_step sender rounds before after
+  pub ran : Ran flow sessions j link_step sender rounds before after
 
--- `run` has answered the requests of its input by this flow, over the journal that it found, set up as its options say
+-- `run` has answered the requests of its input by this flow and this configuration, over the journal that it found, set up as
+-- its options and the configuration say
+pub record AnsweredBy {S : Type 0} (files : Ghosts S) (flow : Flow) (o : RunOptions) (c : Config)
+    (unread before after : Option (List ℕ)) : Type 0 where
+  pub setup : PlainSetup
+  pub within : limit_of o c ≤ 999999999999999
+  pub is_set_up : setup ≡ setup_of o c
+  pub journal : Seen
+  pub found : IsFound files (journal_of o c) journal
+  pub served : Served setup.threads flow setup.sessions journal (sender_of_setup setup) unread before after
+
+-- the same, with the configuration of the file that `--config` names
 pub record Answered {S : Type 0} (files : Ghosts S) (flow : Flow) (o : RunOptions)
     (unread before after : Option (List ℕ)) : Type 0 where
-  pub setup : Setup
-  pub is_set_up : IsSetUp o.limit o.sessions o.threads setup
-  pub journal : Seen
-  pub found : IsFound files o.journal journal
-  pub served : Served setup.threads flow setup.sessions journal new_sender unread before after
+  pub config : Config
+  pub stated : IsConfigAt o.config config
+  pub answered : AnsweredBy files flow o config unread before after
 
 -- `recover` has finished what the journal of the file has unfinished, and printed its lines
 pub record Recovered {S : Type 0} (files : Ghosts S) (flow : Flow) (path : List ℕ)
@@ -83,6 +92,16 @@ abbrev pub IsFlowFault : List ℕ → RunError → Type 0
 IsFlowFault path (error.FlowFile p cause) = p ≡ path
 IsFlowFault path error.OutOfMemory = ⊤
 IsFlowFault path _ = ⊥
+
+-- why no configuration is taken of the file that `--config` names
+abbrev pub IsConfigFault : Option (Bor (List ℕ)) → RunError → Type 0
+IsConfigFault path (error.ConfigFile p cause) = text_of path ≡ Some p
+IsConfigFault path error.OutOfMemory = ⊤
+IsConfigFault path _ = ⊥
+
+-- a fact of what both files state, where both are taken
+abbrev pub IfTaken : {E : Type 0} → Result Flow E → Result Config E → (Flow → Config → Type 0) → Type 0
+IfTaken code config P = IfOk code (λ flow. IfOk config (λ c. P flow c))
 
 -- the journal is refused, or what is done with it
 abbrev pub IsServeFault : RunError → Type 0
@@ -100,18 +119,24 @@ abbrev pub IsFileFault : List ℕ → Option (List ℕ) → Option (List ℕ) �
 IsFileFault path before after (error.JournalFile p cause) = (p ≡ path) × (after ≡ before)
 IsFileFault path before after e = IsServeFault e
 
--- The faults of `run`, the first of which it tells: its flow file, its limit, its journal's file, and what is done with the
--- journal. Nothing is written before that, nor under a limit that is too great.
+-- The faults of `run` by this configuration, the first of which it reports: its limit, its journal's file, and what is done
+-- with the journal. Nothing is written before that, nor under a limit that is too great.
+abbrev pub IsRunFaultBy : RunOptions → Config → Option (List ℕ) → Option (List ℕ) → RunError → Type 0
+IsRunFaultBy o c before after error.BadLimit = (999999999999999 < limit_of o c) × (after ≡ before)
+IsRunFaultBy o c before after (error.JournalFile path cause) =
+    (limit_of o c ≤ 999999999999999) × (journal_of o c ≡ Some path) × (after ≡ before)
+IsRunFaultBy o c before after (error.Serve e) = (limit_of o c ≤ 999999999999999) × (e ≢ serve.OutOfMemory)
+IsRunFaultBy o c before after error.OutOfMemory = 999999999999999 < limit_of o c → after ≡ before
+IsRunFaultBy o c before after _ = ⊥
+
+-- The faults of `run`: its flow file, its configuration file, and those that its configuration leaves.
 abbrev pub IsRunFault : RunOptions → Option (List ℕ) → Option (List ℕ) → RunError → Type 0
 IsRunFault o before after (error.FlowFile path cause) = (path ≡ o.flow.now) × (after ≡ before)
-IsRunFault o before after error.BadLimit = (999999999999999 < o.limit) × (after ≡ before)
-IsRunFault o before after (error.JournalFile path cause) =
-    (o.limit ≤ 999999999999999) × (text_of o.journal ≡ Some path) × (after ≡ before)
-IsRunFault o before after (error.Serve e) = (o.limit ≤ 999999999999999) × (e ≢ serve.OutOfMemory)
-IsRunFault o before after error.OutOfMemory = 999999999999999 < o.limit → after ≡ before
-IsRunFault o before after _ = ⊥
+IsRunFault o before after (error.ConfigFile path cause) = (text_of o.config ≡ Some path) × (after ≡ before)
+IsRunFault o before after e = (c : Config) × IsConfigAt o.config c × IsRunFaultBy o c before after e
 
 -- the same of `recover`, which has no limit of its own
-abbrev pub IsRecoverFault : List ℕ → List ℕ → Option (List ℕ) → Option (List ℕ) → RunError → Type 0
-IsRecoverFault flow journal before after (error.FlowFile path cause) = (path ≡ flow) × (after ≡ before)
-IsRecoverFault flow journal before after e = IsFileFault journal before after e
+abbrev pub IsRecoverFault : RecoverOptions → Option (List ℕ) → Option (List ℕ) → RunError → Type 0
+IsRecoverFault o before after (error.FlowFile path cause) = (path ≡ o.flow.now) × (after ≡ before)
+IsRecoverFault o before after (error.ConfigFile path cause) = (text_of o.config ≡ Some path) × (after ≡ before)
+IsRecoverFault o before after e = IsFileFault o.journal.now before after e

@@ -1,7 +1,7 @@
 //! Why a run of the program ends early, and with which exit status.
 ghost use Rattle.std.specs.Prelude.{◌≡◌};
 ghost use Rattle.cardswitch.specs.Errors.{error_of_encode, error_of_flows, error_of_read, error_of_serve, error_of_step};
-ghost use Rattle.cardswitch.specs.Errors.{error_of_stream, error_of_write, run_status};
+ghost use Rattle.cardswitch.specs.Errors.{error_of_setup, error_of_stream, error_of_write, run_status};
 ghost use Rattle.cardswitch.specs.declared.error.RunError.TheVariants.{OutOfMemory};
 
 use cli_decode::StreamError;
@@ -9,6 +9,7 @@ use cli_encode::{EncodeError, TextError};
 use cli_flows::FlowsError;
 use cli_io::{ReadError, WriteError};
 use cli_run::ServeError;
+use cli_setup::{ConfigFileError, SetupError};
 use cli_step::StepError;
 use std::alloc::{AllocError, AllocFailed};
 use std::{fmt, io};
@@ -70,6 +71,9 @@ pub enum RunError {
     /// The flow file at the path is not taken.
     #[error("{}: {cause}", .path.as_str())]
     FlowFile { path: Text, cause: FlowsError },
+    /// The configuration file at the path is not taken.
+    #[error("{}: {cause}", .path.as_str())]
+    ConfigFile { path: Text, cause: ConfigFileError },
     /// The standard input is no flow file or no image.
     #[error("standard input: {0}")]
     Input(FlowsError),
@@ -196,6 +200,17 @@ impl From<FlowsError> for RunError {
             FlowsError::Write(error) => RunError::Write(error),
             FlowsError::OutOfMemory => RunError::OutOfMemory,
             other => RunError::Input(other),
+        }
+    }
+}
+
+impl From<SetupError> for RunError {
+    ghost from_gives = { λ e f. f ≡ error_of_setup e };
+
+    fn from(error: SetupError) -> RunError {
+        match error {
+            SetupError::OutOfMemory => RunError::OutOfMemory,
+            SetupError::BadLimit => RunError::BadLimit,
         }
     }
 }

@@ -34,7 +34,12 @@ use std::time::Clock;
 /// Runs a subcommand, and gives the exit status: 0 where it is done, or else that of the error, which
 /// is told. What it prints goes to `out`, and the error's text to `err`. Files that the options name
 /// are opened through `rt`, and sessions run as threads by `threads`.
-pub fn run<T: Threads + Wait + Clock + Sync, R: Read + Drop, O: Write, E: Write>(
+pub fn run<
+    T: Threads + Wait + Clock + Sync + Clone + Drop + Send + 'static,
+    R: Read + Drop,
+    O: Write,
+    E: Write,
+>(
     threads: &T,
     alloc: Global,
     rt: &HostRuntime,
@@ -139,7 +144,12 @@ fn encode<R: Read + Drop, O: Write>(alloc: Global, input: R, out: &mut O) -> Res
     Ok(encode_stream(alloc, &mut Input::new(input), out)?)
 }
 
-fn run_subcommand<T: Threads + Wait + Clock + Sync, R: Read + Drop, O: Write, E: Write>(
+fn run_subcommand<
+    T: Threads + Wait + Clock + Sync + Clone + Drop + Send + 'static,
+    R: Read + Drop,
+    O: Write,
+    E: Write,
+>(
     options: &Options<'_>,
     threads: &T,
     alloc: Global,
@@ -161,7 +171,7 @@ fn run_subcommand<T: Threads + Wait + Clock + Sync, R: Read + Drop, O: Write, E:
         Options::Graph { flow, dot } => graph(alloc, rt, flow, *dot, out),
         Options::Decode { mask } => decode(alloc, *mask, input, out),
         Options::Encode => encode(alloc, input, out),
-        Options::Recover { flow, journal } => recover(threads, alloc, rt, flow, journal, out),
+        Options::Recover(options) => recover(threads, alloc, rt, options, out),
         Options::Journal(options) => look_into(alloc, rt, options, out),
         Options::Run(options) => { answer_requests(threads, alloc, rt, options, input, out, err) }
     }

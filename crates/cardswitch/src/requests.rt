@@ -1,21 +1,24 @@
 //! The subcommands `run` and `recover`: the switch with its own participants, over a journal.
 
-ghost use Rattle.std.specs.Prelude.{◌≡◌, ◌<◌, ◌≤◌, [], IfErr, IfNone, IfOk, IfSome, OnOk, false, option_map};
+ghost use Rattle.std.specs.Prelude.{◌≡◌, ◌<◌, IfErr, IfNone, IfOk, IfSome, OnOk, false, option_map};
 ghost use Rattle.flow_model.specs.Check.{IsChecked};
 ghost use Rattle.flow_model.specs.declared.flow.Flow.{Flow};
 ghost use Rattle.tx_journal.specs.Kept.{kept};
 ghost use Rattle.tx_plant.specs.Plant.{seen};
-ghost use Rattle.cli_run.specs.Links.{sender_of};
 ghost use Rattle.cli_run.specs.Ran.{Printed};
-ghost use Rattle.cardswitch.specs.Runs.{Answered, IsFlowFault, IsRecoverFault, IsRunFault};
-ghost use Rattle.cardswitch.specs.Runs.{IsServeFault, IsSetUp, Recovered, Served, form_of, new_sender};
+ghost use Rattle.cli_setup.specs.Plans.{limit_of, plain_setup};
+ghost use Rattle.cardswitch.specs.Runs.{Answered, AnsweredBy, IfTaken, IsConfigAt, IsConfigFault};
+ghost use Rattle.cardswitch.specs.Runs.{IsFlowFault, IsRecoverFault, IsRunFault, IsRunFaultBy};
+ghost use Rattle.cardswitch.specs.Runs.{IsServeFault, Recovered, Served, form_of, sender_of_setup};
 ghost use Rattle.cardswitch.specs.Runs.{wanted};
 
 use crate::error::RunError;
 use crate::flow_file::flow_at;
 use crate::journals::{open_file, open_in_memory};
-use cli_options::choice::{RunOptions, StatsLines, TraceForm};
-use cli_run::{Form, Issuers, Setup, Stats, Told, run};
+use cli_config::Config;
+use cli_options::choice::{RecoverOptions, RunOptions, StatsLines, TraceForm};
+use cli_run::{Form, Setup, StandardError, Stats, SwitchLink, run};
+use cli_setup::{ConfigFileError, config_at, journal_path, recovery, setup};
 use flow_asm::{Code, assemble};
 use sqlite::Alter;
 use sqlite_std_file::File;
@@ -26,50 +29,8 @@ use std::io::{Empty, Read, Write};
 use std::sync::Wait;
 use std::thread::Threads;
 use std::time::Clock;
-use sw_book::Book;
-use sw_issuers::Issuer;
-use sw_parts::Link;
+use sw_participant::Text;
 use tx_journal::Journal;
-
-/// The limit of `recover`, whose book answers no request.
-const LIMIT: u64 = 10_000;
-
-/// The greatest limit: that of a book, of which `Book::new` says only that it takes every smaller one.
-const MOST_LIMIT: u64 = 999_999_999_999_999;
-
-// The two simulated issuers, with nothing on their links.
-fn issuers(alloc: Global) -> Issuers
-    ensures { sender_of (⟦<Issuer as Link>⟧.state result.alpha)
-        (⟦<Issuer as Link>⟧.state result.beta) ≡ new_sender }
-{
-    Issuers {
-        alpha: Issuer::new(alloc, false),
-        beta: Issuer::new(alloc, false),
-    }
-}
-
-// What a run is set up with: a new book with a limit, new links, and so many sessions. (That the participants have
-// this book no contract of `run` can say, since they are boxed; so this one says which book it is.)
-fn setup(alloc: Global, limit: u64, sessions: usize, threads: bool) -> Result<Setup, RunError>
-    ensures set_up { IfOk result (IsSetUp limit sessions threads) }
-    ensures sender { IfOk result (λ s. sender_of (⟦<Issuer as Link>⟧.state s.advised.alpha)
-        (⟦<Issuer as Link>⟧.state s.advised.beta) ≡ new_sender) }
-    ensures refused { IfErr result (λ e. (e ≡ RunError.BadLimit) × (999999999999999 < limit)) }
-{
-    if limit > MOST_LIMIT {
-        return Err(RunError::BadLimit);
-    }
-    match Book::new(alloc, limit) {
-        Ok(book) => Ok(Setup {
-            book,
-            queried: issuers(alloc),
-            advised: issuers(alloc),
-            sessions,
-            threads,
-        }),
-        Err(_) => unreachable!(),
-    }
-}
 
 // Runs over a journal.
 fn serve<S: Alter + Drop, T: Threads + Wait + Clock + Sync, R: Read + Drop, O: Write, E: Write>(
@@ -77,21 +38,19 @@ fn serve<S: Alter + Drop, T: Threads + Wait + Clock + Sync, R: Read + Drop, O: W
     alloc: Global,
     code: &Code,
     journal: Journal<S>,
-    setup: Setup,
+    setup: Setup<SwitchLink>,
     input: Option<R>,
     out: &mut O,
-    told: &mut Told<'_, E>,
+    stderr: &mut StandardError<'_, E>,
 ) -> Result<(), RunError>
-    requires { sender_of (⟦<Issuer as Link>⟧.state setup.advised.alpha)
-        (⟦<Issuer as Link>⟧.state setup.advised.beta) ≡ new_sender }
     ensures served { OnOk result (IfSome input (λ reader. Served setup.threads code.now setup.sessions
-        (seen (kept S.Store journal)) new_sender
+        (seen (kept S.Store journal)) (sender_of_setup (plain_setup setup))
         (R.remaining reader) (O.contents out.old) (O.contents out.new))) }
     ensures printed { OnOk result (IfNone input (Printed code.now setup.sessions
         (seen (kept S.Store journal)) (O.contents out.old) (O.contents out.new))) }
     ensures failed { IfErr result IsServeFault }
 {
-    Ok(run(threads, alloc, code, journal, setup, input, out, told)?.into_result()?)
+    Ok(run(threads, alloc, code, journal, setup, input, out, stderr)?.into_result()?)
 }
 
 // The steps of the flow in the file at a path.
@@ -101,6 +60,25 @@ fn code_at(alloc: Global, rt: &HostRuntime, path: &str) -> Result<Code, RunError
 {
     let flow = flow_at(alloc, rt, path)?;
     Ok(assemble(alloc, &flow)?)
+}
+
+// The configuration of the file that `--config` names.
+fn config_for(alloc: Global, rt: &HostRuntime, path: Option<&str>) -> Result<Config, RunError>
+    ensures stated { IfOk result (IsConfigAt path.entry) }
+    ensures failed { IfErr result (IsConfigFault path.entry) }
+{
+    let cause = match config_at(alloc, rt, path) {
+        Ok(config) => return Ok(config),
+        Err(ConfigFileError::OutOfMemory) => return Err(RunError::OutOfMemory),
+        Err(cause) => cause,
+    };
+    match path {
+        Some(path) => Err(RunError::ConfigFile {
+            path: Text::from_str(alloc, path)?,
+            cause,
+        }),
+        None => Err(RunError::OutOfMemory),
+    }
 }
 
 // The form of the trace's lines, by that of the options.
@@ -124,14 +102,18 @@ fn stats_by<C: Clock>(rt: &C, lines: StatsLines) -> Option<Stats>
     }
 }
 
-// What a run tells: the trace and the numbers where the options want them.
-fn told_by<'a, C: Clock, E>(rt: &C, options: &RunOptions<'_>, err: &'a mut E) -> Told<'a, E>
+// Where a run writes beside its responses: the trace and the numbers, where the options want them.
+fn stderr_by<'a, C: Clock, E>(
+    rt: &C,
+    options: &RunOptions<'_>,
+    err: &'a mut E,
+) -> StandardError<'a, E>
     ensures trace { result.trace ≡ option_map form_of options.now.trace }
     ensures stats { option_map (λ s. s.every) result.stats ≡ wanted options.now.stats }
     ensures none_lost { result.lost ≡ false }
     ensures none_passed { result.passed ≡ 0 }
 {
-    Told {
+    StandardError {
         err,
         trace: match options.trace {
             Some(form) => Some(form_of(form)),
@@ -143,13 +125,19 @@ fn told_by<'a, C: Clock, E>(rt: &C, options: &RunOptions<'_>, err: &'a mut E) ->
     }
 }
 
-// Answers the requests of an input by a flow. (The flow comes as what became of its file, so that contracts can say that
-// its fault is the first.)
-fn answer_by<T: Threads + Wait + Clock + Sync, R: Read + Drop, O: Write, E: Write>(
+// Answers the requests of an input by a flow and a configuration. (Both come as what became of their files, so that
+// contracts can say whose fault is the first.)
+fn answer_by<
+    T: Threads + Wait + Clock + Sync + Clone + Drop + Send + 'static,
+    R: Read + Drop,
+    O: Write,
+    E: Write,
+>(
     threads: &T,
     alloc: Global,
     rt: &HostRuntime,
     code: Result<Code, RunError>,
+    config: Result<Config, RunError>,
     options: &RunOptions<'_>,
     input: R,
     out: &mut O,
@@ -157,24 +145,24 @@ fn answer_by<T: Threads + Wait + Clock + Sync, R: Read + Drop, O: Write, E: Writ
 ) -> Result<(), RunError>
     ensures no_flow { IfErr code (λ e. (result ≡ Err e)
         × (O.contents out.new ≡ O.contents out.old)) }
-    ensures bad_limit { IfOk code (λ _. 999999999999999 < options.now.limit
+    ensures no_config { IfOk code (λ _. IfErr config (λ e. (result ≡ Err e)
+        × (O.contents out.new ≡ O.contents out.old))) }
+    ensures bad_limit { IfTaken code config (λ _ c. 999999999999999 < limit_of options.now c
         → (result ≡ Err RunError.BadLimit) × (O.contents out.new ≡ O.contents out.old)) }
-    ensures answered { IfOk code (λ flow. OnOk result (Answered ⟦<FileStore<File> as Store>⟧
-        flow options.now (R.remaining input) (O.contents out.old) (O.contents out.new))) }
-    ensures failed { IfOk code (λ _. IfErr result
-        (IsRunFault options.now (O.contents out.old) (O.contents out.new))) }
+    ensures answered { IfTaken code config (λ flow c. OnOk result
+        (AnsweredBy ⟦<FileStore<File> as Store>⟧ flow options.now c
+        (R.remaining input) (O.contents out.old) (O.contents out.new))) }
+    ensures failed { IfTaken code config (λ _ c. IfErr result
+        (IsRunFaultBy options.now c (O.contents out.old) (O.contents out.new))) }
 {
     let code = code?;
-    let setup = setup(
-        alloc,
-        options.limit,
-        options.sessions as usize,
-        options.threads,
-    )?;
-    let mut told = told_by(threads, options, err);
-    match options.journal {
+    let config = config?;
+    let setup = setup(threads, alloc, rt, options, &config)?;
+    let path = journal_path(alloc, options, &config)?;
+    let mut stderr = stderr_by(threads, options, err);
+    match path {
         Some(path) => {
-            let journal = open_file(alloc, rt, path)?;
+            let journal = open_file(alloc, rt, path.as_str())?;
             serve(
                 threads,
                 alloc,
@@ -183,7 +171,7 @@ fn answer_by<T: Threads + Wait + Clock + Sync, R: Read + Drop, O: Write, E: Writ
                 setup,
                 Some(input),
                 out,
-                &mut told,
+                &mut stderr,
             )
         }
         None => {
@@ -196,14 +184,19 @@ fn answer_by<T: Threads + Wait + Clock + Sync, R: Read + Drop, O: Write, E: Writ
                 setup,
                 Some(input),
                 out,
-                &mut told,
+                &mut stderr,
             )
         }
     }
 }
 
-/// Answers the requests of an input, over a journal in memory or in the file that the options name.
-pub fn answer_requests<T: Threads + Wait + Clock + Sync, R: Read + Drop, O: Write, E: Write>(
+/// Answers the requests of an input, over a journal in memory or in the file that the options or the configuration name.
+pub fn answer_requests<
+    T: Threads + Wait + Clock + Sync + Clone + Drop + Send + 'static,
+    R: Read + Drop,
+    O: Write,
+    E: Write,
+>(
     threads: &T,
     alloc: Global,
     rt: &HostRuntime,
@@ -219,7 +212,8 @@ pub fn answer_requests<T: Threads + Wait + Clock + Sync, R: Read + Drop, O: Writ
         (IsRunFault options.now (O.contents out.old) (O.contents out.new)) }
 {
     let code = code_at(alloc, rt, options.flow);
-    answer_by(threads, alloc, rt, code, options, input, out, err)
+    let config = config_for(alloc, rt, options.config);
+    answer_by(threads, alloc, rt, code, config, options, input, out, err)
 }
 
 /// Finishes what the journal in a file has unfinished, and prints the lines.
@@ -227,21 +221,21 @@ pub fn recover<T: Threads + Wait + Clock + Sync, O: Write>(
     threads: &T,
     alloc: Global,
     rt: &HostRuntime,
-    flow: &str,
-    journal: &str,
+    options: &RecoverOptions<'_>,
     out: &mut O,
 ) -> Result<(), RunError>
     ensures recovered { OnOk result ((f : Flow) × IsChecked f
-        × Recovered ⟦<FileStore<File> as Store>⟧ f journal.now
+        × Recovered ⟦<FileStore<File> as Store>⟧ f options.now.journal.now
         (O.contents out.old) (O.contents out.new)) }
     ensures failed { IfErr result
-        (IsRecoverFault flow.now journal.now (O.contents out.old) (O.contents out.new)) }
+        (IsRecoverFault options.now (O.contents out.old) (O.contents out.new)) }
 {
-    let code = code_at(alloc, rt, flow)?;
-    let setup = setup(alloc, LIMIT, 1, false)?;
-    let journal = open_file(alloc, rt, journal)?;
+    let code = code_at(alloc, rt, options.flow)?;
+    let config = config_for(alloc, rt, options.config)?;
+    let setup = recovery(alloc, &config)?;
+    let journal = open_file(alloc, rt, options.journal)?;
     let mut sink = std::io::sink();
-    let mut told = Told {
+    let mut stderr = StandardError {
         err: &mut sink,
         trace: None,
         lost: false,
@@ -249,5 +243,14 @@ pub fn recover<T: Threads + Wait + Clock + Sync, O: Write>(
         passed: 0,
     };
     let input: Option<Empty> = None;
-    serve(threads, alloc, &code, journal, setup, input, out, &mut told)
+    serve(
+        threads,
+        alloc,
+        &code,
+        journal,
+        setup,
+        input,
+        out,
+        &mut stderr,
+    )
 }

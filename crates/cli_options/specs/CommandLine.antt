@@ -10,6 +10,7 @@ use Rattle.clap.specs.declared.builder.Command.TheViews.{out-Command}
 use Rattle.cli_options.specs.declared.choice.Options.{Options}
 use Rattle.cli_options.specs.declared.choice.Options.TheVariants.{Asm, Decode, Encode, Graph, Journal, List as ListImage, Recover, Run, Step}
 use Rattle.cli_options.specs.declared.choice.JournalOptions.{JournalOptions}
+use Rattle.cli_options.specs.declared.choice.RecoverOptions.{RecoverOptions}
 use Rattle.cli_options.specs.declared.choice.RunOptions.{RunOptions}
 use Rattle.cli_options.specs.declared.choice.TraceForm.{TraceForm}
 use Rattle.cli_options.specs.declared.choice.TraceForm.TheVariants as form
@@ -74,17 +75,17 @@ decode_app = with_rule (new_app (codes "decode")) (flag_rule (codes "mask"))
 abbrev pub encode_app : App
 encode_app = new_app (codes "encode")
 
--- `recover --flow PATH --journal PATH`
+-- `recover --flow PATH [--config PATH] --journal PATH`
 abbrev pub recover_app : App
-recover_app = with_rule (with_rule (new_app (codes "recover")) (needed_rule (codes "flow"))) (needed_rule (codes "journal"))
+recover_app = with_rule (with_rule (with_rule (new_app (codes "recover")) (needed_rule (codes "flow"))) (option_rule (codes "config"))) (needed_rule (codes "journal"))
 
 -- `journal PATH [--json] [--clear]`
 abbrev pub journal_app : App
 journal_app = with_rule (with_rule (with_rule (new_app (codes "journal")) (word_rule (codes "path"))) (flag_rule (codes "json"))) (flag_rule (codes "clear"))
 
--- `run --flow PATH [--journal PATH] [--sessions N] [--limit N] [--threads] [--trace[=FORM]] [--stats [N]]`
+-- `run --flow PATH [--config PATH] [--journal PATH] [--sessions N] [--limit N] [--threads] [--trace[=FORM]] [--stats [N]]`
 abbrev pub run_app : App
-run_app = with_rule (with_rule (with_rule (with_rule (with_rule (with_rule (with_rule (new_app (codes "run")) (needed_rule (codes "flow"))) (option_rule (codes "journal"))) (option_rule (codes "sessions"))) (option_rule (codes "limit"))) (flag_rule (codes "threads"))) (optional_rule (codes "trace") (codes "text"))) (optional_rule (codes "stats") (codes "end"))
+run_app = with_rule (with_rule (with_rule (with_rule (with_rule (with_rule (with_rule (with_rule (new_app (codes "run")) (needed_rule (codes "flow"))) (option_rule (codes "config"))) (option_rule (codes "journal"))) (option_rule (codes "sessions"))) (option_rule (codes "limit"))) (flag_rule (codes "threads"))) (optional_rule (codes "trace") (codes "text"))) (optional_rule (codes "stats") (codes "end"))
 
 -- the program itself: it has a version, and wants a subcommand
 abbrev pub program_app : App
@@ -105,9 +106,9 @@ abbrev pub bounded : ℕ → Option ℕ
 bounded n = if nat_lt n (2 ^ 63) then Some n else None
 
 -- the number of an option, which may be left out
-abbrev pub number_in : ℕ → Option Text → Option ℕ
-number_in default None = Some default
-number_in default (Some word) = option_and_then bounded (number_spelled word)
+abbrev pub number_in : Option Text → Option (Option ℕ)
+number_in None = Some None
+number_in (Some word) = option_map Some (option_and_then bounded (number_spelled word))
 
 -- whether a flag was given
 abbrev pub is_set : Option Text → Bool
@@ -135,12 +136,19 @@ stats_in (Some word) = stats_by word
 -- the options of `run`, whose own options are in the rows
 pub record AreRunOptions (rows : List Row) (o : RunOptions) : Type 0 where
   pub flow : Some o.flow.now ≡ first_of (codes "flow") rows
+  pub config : text_of o.config ≡ first_of (codes "config") rows
   pub journal : text_of o.journal ≡ first_of (codes "journal") rows
-  pub sessions : number_in 1 (first_of (codes "sessions") rows) ≡ Some o.sessions
-  pub limit : number_in 10000 (first_of (codes "limit") rows) ≡ Some o.limit
+  pub sessions : number_in (first_of (codes "sessions") rows) ≡ Some o.sessions
+  pub limit : number_in (first_of (codes "limit") rows) ≡ Some o.limit
   pub threads : o.threads ≡ is_set (first_of (codes "threads") rows)
   pub trace : trace_in (first_of (codes "trace") rows) ≡ Some o.trace
   pub stats : stats_in (first_of (codes "stats") rows) ≡ Some o.stats
+
+-- the same of `recover`
+pub record AreRecoverOptions (rows : List Row) (o : RecoverOptions) : Type 0 where
+  pub flow : Some o.flow.now ≡ first_of (codes "flow") rows
+  pub config : text_of o.config ≡ first_of (codes "config") rows
+  pub journal : Some o.journal.now ≡ first_of (codes "journal") rows
 
 -- the same of `journal`
 pub record AreJournalOptions (rows : List Row) (o : JournalOptions) : Type 0 where
@@ -158,7 +166,7 @@ AreOptionsAt name rows (Graph flow dot) =
     (name ≡ codes "graph") × (Some flow.now ≡ first_of (codes "flow") rows) × (dot ≡ is_set (first_of (codes "dot") rows))
 AreOptionsAt name rows (Decode mask) = (name ≡ codes "decode") × (mask ≡ is_set (first_of (codes "mask") rows))
 AreOptionsAt name rows Encode = name ≡ codes "encode"
-AreOptionsAt name rows (Recover flow journal) = (name ≡ codes "recover") × (Some flow.now ≡ first_of (codes "flow") rows) × (Some journal.now ≡ first_of (codes "journal") rows)
+AreOptionsAt name rows (Recover o) = (name ≡ codes "recover") × AreRecoverOptions rows o
 AreOptionsAt name rows (Journal o) = (name ≡ codes "journal") × AreJournalOptions rows o
 AreOptionsAt name rows (Run o) = (name ≡ codes "run") × AreRunOptions rows o
 

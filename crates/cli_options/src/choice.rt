@@ -8,34 +8,22 @@ ghost use Rattle.cli_options.specs.CommandLine.{at_terminal};
 pub enum Options<'a> {
     /// `step`: a script of transactions comes from standard input. With `--flow` its flow is that of
     /// the flow file at this path. With `--prompt` each line is asked for by a prompt.
-    Step {
-        flow: Option<&'a str>,
-        prompt: bool,
-    },
+    Step { flow: Option<&'a str>, prompt: bool },
     /// `asm`: a flow file from standard input is printed as the image of its steps.
     Asm,
     /// `list`: an image from standard input is printed as a flow file.
     List,
     /// `graph`: prints a picture of the flow in the flow file at a path, for Mermaid, or with `--dot` for
     /// Graphviz.
-    Graph {
-        flow: &'a str,
-        dot: bool,
-    },
+    Graph { flow: &'a str, dot: bool },
     /// `decode`: prints the fields of the messages in frames from standard input, with `--mask` without what
     /// sensitive fields hold.
-    Decode {
-        mask: bool,
-    },
+    Decode { mask: bool },
     /// `encode`: writes the frames of the messages whose text, as `decode` prints it, comes from standard input.
     Encode,
     /// `recover`: finishes what a journal has unfinished, by the flow of the flow file at a path, and
     /// prints its lines.
-    Recover {
-        flow: &'a str,
-        /// The path of the journal's file.
-        journal: &'a str,
-    },
+    Recover(RecoverOptions<'a>),
     /// `journal`: prints what a journal's file holds.
     Journal(JournalOptions<'a>),
     /// `run`: answers the requests in frames from standard input, by the flow of the flow file at a path.
@@ -57,6 +45,17 @@ impl<'a> Options<'a> {
     }
 }
 
+/// What `recover` is given.
+#[derive(Clone, Copy)]
+pub struct RecoverOptions<'a> {
+    /// The path of the flow file.
+    pub flow: &'a str,
+    /// The path of the configuration file, if there is one.
+    pub config: Option<&'a str>,
+    /// The path of the journal's file.
+    pub journal: &'a str,
+}
+
 /// What `journal` is given.
 #[derive(Clone, Copy)]
 pub struct JournalOptions<'a> {
@@ -73,12 +72,14 @@ pub struct JournalOptions<'a> {
 pub struct RunOptions<'a> {
     /// The path of the flow file.
     pub flow: &'a str,
-    /// The path of the journal's file; without it the journal is in memory.
+    /// The path of the configuration file, if there is one.
+    pub config: Option<&'a str>,
+    /// The path of the journal's file, where it is given.
     pub journal: Option<&'a str>,
-    /// How many sessions the engine has; default 1.
-    pub sessions: u64,
-    /// What a card may spend, in minor units of its currency; default 10,000.
-    pub limit: u64,
+    /// How many sessions the engine has, where it is given.
+    pub sessions: Option<u64>,
+    /// What a card may spend, in minor units of its currency, where it is given.
+    pub limit: Option<u64>,
     /// Whether the sessions run as threads.
     pub threads: bool,
     /// In which form the trace is printed on standard error, if it is.

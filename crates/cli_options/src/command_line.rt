@@ -6,7 +6,7 @@ ghost use Rattle.cli_options.specs.CommandLine.{is_set, number_in, stats_in, tex
 ghost use Rattle.cli_options.specs.Refusal.{IsAccepted, IsBadForm, IsBadNumber, IsRefusalAt};
 ghost use Rattle.cli_options.specs.Refusal.{IsRefusalOf, IsRunRefusal};
 
-use crate::choice::{JournalOptions, Options, RunOptions, StatsLines, TraceForm};
+use crate::choice::{JournalOptions, Options, RecoverOptions, RunOptions, StatsLines, TraceForm};
 use crate::error::OptionsError;
 use crate::table::switch_command;
 use clap::ArgMatches;
@@ -52,16 +52,16 @@ fn is_set(text: Option<&str>) -> bool
     }
 }
 
-/// The number of the option `--name`, or `default` where it was not given.
-fn number_in(name: &'static str, text: Option<&str>, default: u64) -> Result<u64, OptionsError>
-    ensures found { IfOk result (λ n. number_in default (text_of text.entry) ≡ Some n) }
-    ensures refused { IfErr result (λ e. IsBadNumber e × (number_in default (text_of text.entry) ≡ None)) }
+/// The number of the option `--name`; `None` where it was not given.
+fn number_in(name: &'static str, text: Option<&str>) -> Result<Option<u64>, OptionsError>
+    ensures found { IfOk result (λ n. number_in (text_of text.entry) ≡ Some n) }
+    ensures refused { IfErr result (λ e. IsBadNumber e × (number_in (text_of text.entry) ≡ None)) }
 {
     let Some(text) = text else {
-        return Ok(default);
+        return Ok(None);
     };
     match read_number(text) {
-        Some(number) if number < BOUND => Ok(number),
+        Some(number) if number < BOUND => Ok(Some(number)),
         _ => Err(OptionsError::BadNumber {
             name,
             expected: "decimal digits, of a number below 2^63",
@@ -114,9 +114,10 @@ fn run_options<'a>(found: &ArgMatches<'a>) -> Result<RunOptions<'a>, OptionsErro
     };
     Ok(RunOptions {
         flow,
+        config: text_at(found, "config"),
         journal: text_at(found, "journal"),
-        sessions: number_in("sessions", text_at(found, "sessions"), 1)?,
-        limit: number_in("limit", text_at(found, "limit"), 10_000)?,
+        sessions: number_in("sessions", text_at(found, "sessions"))?,
+        limit: number_in("limit", text_at(found, "limit"))?,
         threads: is_set(text_at(found, "threads")),
         trace: trace_in(text_at(found, "trace"))?,
         stats: stats_in(text_at(found, "stats"))?,
@@ -147,7 +148,11 @@ fn options_at<'a>(name: &str, found: &ArgMatches<'a>) -> Result<Options<'a>, Opt
         }),
         "encode" => Ok(Options::Encode),
         "recover" => match (text_at(found, "flow"), text_at(found, "journal")) {
-            (Some(flow), Some(journal)) => Ok(Options::Recover { flow, journal }),
+            (Some(flow), Some(journal)) => Ok(Options::Recover(RecoverOptions {
+                flow,
+                config: text_at(found, "config"),
+                journal,
+            })),
             _ => Err(OptionsError::NoSubcommand),
         },
         "journal" => match text_at(found, "path") {

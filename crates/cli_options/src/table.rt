@@ -110,6 +110,12 @@ const COMMANDS: [CommandRow<'static>; 9] = [
                 is_required: true,
             },
             OptionRow {
+                name: "config",
+                given: Given::Value("PATH"),
+                help: "The configuration file of the runs on that journal",
+                is_required: false,
+            },
+            OptionRow {
                 name: "journal",
                 given: Given::Value("PATH"),
                 help: "The journal's file",
@@ -150,6 +156,12 @@ const COMMANDS: [CommandRow<'static>; 9] = [
                 given: Given::Value("PATH"),
                 help: "The flow file",
                 is_required: true,
+            },
+            OptionRow {
+                name: "config",
+                given: Given::Value("PATH"),
+                help: "The configuration file: hosts, routes, limits; options of the command line come first",
+                is_required: false,
             },
             OptionRow {
                 name: "journal",

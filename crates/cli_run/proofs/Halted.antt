@@ -1,6 +1,6 @@
 -- A whole run that ends with an error.
 -- for: serving::Over::run, serving::Switch::serve_together
-use Rattle.std.proofs.Common.{◌≡◌, ◌⊎◌, ℕ, ◌-◌, Bool, List, Option, Some, None, sym, subst, inl, inr}
+use Rattle.std.proofs.Common.{◌≡◌, ◌⊎◌, ℕ, Bool, List, Option, Some, None, sym, subst, inl, inr}
 use Rattle.std.specs.Prelude.{option_map}
 use Rattle.std.specs.Io.KnownBytes.{Keeps}
 use Rattle.cli_io.specs.Written.{AppendsBeginning}
@@ -11,7 +11,7 @@ use Rattle.tx_plant.specs.Plant.{Seen, Whole}
 use Rattle.plant_outcome.specs.Lives.{IsMade}
 use Rattle.cli_run.specs.declared.stream.StreamEnd.{StreamEnd}
 use Rattle.cli_run.specs.Advices.{AdviceStep}
-use Rattle.cli_run.specs.declared.told.Form.TheVariants.{Text}
+use Rattle.cli_run.specs.declared.standard_error.Form.TheVariants.{Text}
 use Rattle.cli_run.specs.Lines.{lines_in, written_as}
 use Rattle.cli_run.specs.declared.progress.Progress.{Progress}
 use Rattle.cli_run.specs.Numbers.{begun_in}

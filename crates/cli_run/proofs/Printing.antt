@@ -1,5 +1,5 @@
 -- The lines of the first entries of a history.
--- for: told::write_lines
+-- for: standard_error::write_lines
 use Rattle.std.proofs.Common.{◌≡◌, ◌<◌, ◌≤◌, ℕ, ◌+◌, Bool, true, false, List, [], ◌∷◌, ◌++◌, length, Option, Some, None, refl, sym, ap, subst, ◌∙◌, append_assoc, append-nil}
 use Rattle.std.specs.Prelude.{if◌then◌else◌, is_some, nat_lt, option_map}
 use Rattle.std.specs.Io.KnownBytes.{Appends}
@@ -13,7 +13,7 @@ use Rattle.tx_history.specs.History.{Start}
 use Rattle.tx_trace.specs.Follow.{earlier}
 use Rattle.tx_trace.specs.Lines.{at_number}
 use Rattle.tx_trace.proofs.Earlier.{earlier_all, earlier_none, nth}
-use Rattle.cli_run.specs.declared.told.Form.{Form}
+use Rattle.cli_run.specs.declared.standard_error.Form.{Form}
 use Rattle.cli_run.specs.Lines.{Line, in_form, line_at, lines_of, written_as}
 
 -- the line of each entry in this form

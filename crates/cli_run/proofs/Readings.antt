@@ -1,6 +1,6 @@
 -- What is read of a stream of frames, and which of its messages are requests.
 -- for: stream::serve, stream::serve_messages, stream::Requests
-use Rattle.std.proofs.Common.{◌≡◌, ◌<◌, ◌≤◌, ℕ, ◌+◌, List, [], ◌∷◌, ◌++◌, length, map, take, drop, take-append-drop, get_or, Option, Result, Ok, Err, refl, sym, ap, subst, arith, ◌∙◌, inl, append_assoc, append-nil}
+use Rattle.std.proofs.Common.{◌≡◌, ◌<◌, ◌≤◌, ℕ, ◌+◌, List, [], ◌∷◌, ◌++◌, length, map, take, drop, take-append-drop, get_or, Option, Result, Ok, Err, refl, sym, ap, arith, ◌∙◌, inl, append_assoc, append-nil}
 use Rattle.std.proofs.KnownBytes.{Consumes-kept, Consumes-nil, Consumes-trans}
 use Rattle.std.proofs.lemmas.List.{length-append, length-take-le, map-append, take_more}
 use Rattle.std.specs.Io.KnownBytes.{Consumes, Keeps}

@@ -1,6 +1,6 @@
 -- The messages of frames that were answered, or passed over.
 -- for: stream::Requests, batches::Requests, batches::answer_batches
-use Rattle.std.proofs.Common.{◌≡◌, ◌<◌, ℕ, ◌+◌, Bool, false, List, [], ◌∷◌, ◌++◌, length, map, take, get_or, Option, refl, sym, subst, zero-add}
+use Rattle.std.proofs.Common.{◌≡◌, ◌<◌, ℕ, ◌+◌, Bool, false, List, [], ◌∷◌, ◌++◌, length, map, take, get_or, Option, sym, subst, zero-add}
 use Rattle.std.specs.Global.{Vec}
 use Rattle.sw_context.specs.Pairs.{Pairs}
 use Rattle.sw_frame.specs.Feeds.{messages}

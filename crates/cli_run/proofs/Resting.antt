@@ -1,6 +1,6 @@
 -- Turns by which no session goes on leave a switch at rest.
 -- for: switch::Switch, serving::Switch, advices::send_advices
-use Rattle.std.proofs.Common.{◌≡◌, ◌<◌, ◌≤◌, ℕ, ◌+◌, Bool, true, false, List, [], ◌∷◌, ◌++◌, drop, length, Option, Some, None, Ok, refl, sym, ap, subst, arith, ◌∙◌, ◌⊎◌, inl, inr}
+use Rattle.std.proofs.Common.{◌≡◌, ◌<◌, ◌≤◌, ℕ, ◌+◌, false, List, [], ◌∷◌, ◌++◌, drop, length, Option, Some, None, Ok, refl, sym, ap, subst, arith, ◌∙◌, ◌⊎◌, inl, inr}
 use Rattle.std.proofs.lemmas.List.{drop_all, length-append, length-drop}
 use Rattle.sw_context.specs.Pairs.{Pairs}
 use Rattle.sw_context.specs.Spelling.{bytes_of}

@@ -10,7 +10,7 @@ use Rattle.tx_engine.specs.World.{World}
 use Rattle.tx_plant.specs.Plant.{Seen, Whole}
 use Rattle.plant_outcome.specs.Lives.{IsMade}
 use Rattle.cli_run.specs.Advices.{AdviceStep, SendsAll, stored_at}
-use Rattle.cli_run.specs.declared.told.Form.TheVariants.{Text}
+use Rattle.cli_run.specs.declared.standard_error.Form.TheVariants.{Text}
 use Rattle.cli_run.specs.Lines.{lines_in, written_as}
 use Rattle.cli_run.specs.Points.{IsAtRest, IsReady, Point, world_at}
 use Rattle.cli_run.specs.Ran.{Begins, Closes, Printed, Ran, ServesAll, all_lines, lines_cut, made_at}
@@ -48,8 +48,8 @@ pub ran : (f : Flow) (n : ℕ) (view : JournalView) (j : Seen) (made : Whole) (f
     → IsMade f n view j made → first ≡ made.core.world.start.view.next_id → id ≡ begun_in made.core.world first → FirstRecovers (record { plant = made; answered = id }) r
     → ServesTold step rounds r sender a b passed k l first → (ran : Ran f n j step sender rounds a b) × TellsAll (all_lines ran.serves) passed ran.serves.end k l
 unfolding begun
-ran f n view j made first id r step sender rounds a b passed k l is first_at before recovers told =
-    let (serves, tells) = subst (ServesTold step rounds r sender a b passed k l) (first_is f n view j made first is first_at) told in
+ran f n view j made first id r step sender rounds a b passed k l is first_at before recovers is_told =
+    let (serves, tells) = subst (ServesTold step rounds r sender a b passed k l) (first_is f n view j made first is first_at) is_told in
     (record { recovered = r; begins = begun f n view j made first id r is first_at before recovers; serves = serves }, tells)
 
 -- the lines that were left were told, and the numbers last
@@ -81,8 +81,8 @@ begun_recovers f n view j made first id r is first_at before recovers = (begun f
 
 -- what holds of what was served and told holds of the result
 pub through_both : {T E : Type 0} {P Q : T → Type 0} {R : Type 0} (s : Result T E) (t : Result (Unit {0}) E) (r : Result T E) → IfOk r (λ x. s ≡ Ok x) → OnOk r (t ≡ Ok tt) → IfOk s P → OnOk t R → ((x : T) → P x → R → Q x) → IfOk r Q
-through_both {T} {E} {P} {Q} {R} s t (Ok x) is told h k f = f x (subst (λ (z : Result T E). IfOk z P) is h) (subst (λ (z : Result (Unit {0}) E). OnOk z R) told k)
-through_both s t (Err e) is told h k f = tt
+through_both {T} {E} {P} {Q} {R} s t (Ok x) is first h k f = f x (subst (λ (z : Result T E). IfOk z P) is h) (subst (λ (z : Result (Unit {0}) E). OnOk z R) first k)
+through_both s t (Err e) is first h k f = tt
 
 -- the end of a run, and what it told
 

@@ -1,6 +1,6 @@
 -- Lines of a run's numbers among what is told.
 -- for: stats::Told, stats::Switch, stream::serve, batches::answer_batches
-use Rattle.std.proofs.Common.{◌≡◌, ◌<◌, ℕ, ◌+◌, ◌^◌, Bool, true, false, List, [], ◌∷◌, ◌++◌, Option, refl, sym, ap, subst, ◌∙◌, add-zero, append-nil}
+use Rattle.std.proofs.Common.{◌≡◌, ℕ, Bool, true, false, List, [], ◌∷◌, ◌++◌, Option, refl, sym, subst, ◌∙◌, add-zero, append-nil}
 use Rattle.std.specs.Io.KnownBytes.{Appends}
 use Rattle.cli_io.specs.Written.{AppendsBeginning}
 use Rattle.cli_io.proofs.Writing.{beginning_all, beginning_none}
@@ -8,7 +8,7 @@ use Rattle.std.proofs.KnownBytes.{Appends-nil}
 use Rattle.sw_stats.specs.Line.{Numbers, stats_line}
 use Rattle.cli_run.specs.Points.{Point}
 use Rattle.cli_run.specs.Rounds.{Round}
-use Rattle.cli_run.specs.declared.told.Form.{Form}
+use Rattle.cli_run.specs.declared.standard_error.Form.{Form}
 use Rattle.cli_run.specs.Lines.{Line}
 use Rattle.cli_run.specs.Shown.{Shows, if_shown}
 use Rattle.cli_run.specs.Traces.{Adds, AddsSome, Counted, Log, Reports, Tells}

@@ -1,6 +1,6 @@
 -- What is told, one after the other.
--- for: told::Told, switch::Switch, stream::Requests, serving::Switch
-use Rattle.std.proofs.Common.{◌≡◌, ◌<◌, ℕ, ◌+◌, Bool, true, false, List, [], ◌∷◌, ◌++◌, length, map, take, drop, get_or, ◌≤◌, min, ◌-◌, ◌^◌, Option, Some, None, Result, Ok, Err, refl, sym, ap, subst, arith, ◌∙◌, add-zero, add_assoc, zero-add, append-nil, append_assoc, take-append-drop}
+-- for: standard_error::Told, switch::Switch, stream::Requests, serving::Switch
+use Rattle.std.proofs.Common.{◌≡◌, ◌<◌, ℕ, ◌+◌, Bool, true, false, List, [], ◌∷◌, ◌++◌, length, take, get_or, min, ◌-◌, ◌^◌, Option, Some, None, Result, Ok, Err, refl, sym, ap, subst, arith, ◌∙◌, add-zero, zero-add, append-nil, append_assoc}
 use Rattle.std.specs.Global.{Vec}
 use Rattle.std.specs.Io.KnownBytes.{Appends}
 use Rattle.std.proofs.KnownBytes.{Appends-nil, Appends-trans}
@@ -12,7 +12,7 @@ use Rattle.iso_codec.specs.declared.error.DecodeError.{DecodeError}
 use Rattle.iso_codec.specs.Reads.{read}
 use Rattle.sw_frame.specs.Feeds.{messages}
 use Rattle.cli_io.specs.Written.{AppendsBeginning}
-use Rattle.cli_run.specs.declared.told.Form.{Form}
+use Rattle.cli_run.specs.declared.standard_error.Form.{Form}
 use Rattle.cli_run.specs.Lines.{Line, in_form, written_as}
 use Rattle.cli_run.specs.Traces.{Adds, AddsSome, AreBegun, Counted, IsQuiet, Log, Passed, Piece, Tells, Traced, counted_in, if_passed, if_wanted, passed_in, passed_line, passed_over, piece_text, text_of, traced_in}
 

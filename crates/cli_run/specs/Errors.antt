@@ -1,5 +1,5 @@
 -- What the errors of the parts become.
-use Rattle.std.specs.Prelude.{◌≡◌, ⊤, ℕ, Some, Result, Ok, Err, option_map, slice_get}
+use Rattle.std.specs.Prelude.{◌≡◌, ⊤, ℕ, List, Some, Result, Ok, Err, option_map, slice_get}
 use Rattle.flow_model.specs.declared.flow.Flow.{Flow}
 use Rattle.flow_model.specs.declared.numbering.Part.{Part}
 use Rattle.flow_model.specs.Places.{parts_of}
@@ -19,11 +19,11 @@ use Rattle.tx_pool.specs.declared.refusal.Early.TheVariants as early
 use Rattle.tx_pool.specs.declared.refusal.PoolError.{PoolError}
 use Rattle.tx_pool.specs.declared.refusal.PoolError.TheVariants as pool
 use Rattle.cli_run.specs.declared.error.ServeError.{ServeError}
-use Rattle.cli_run.specs.declared.error.ServeError.TheVariants.{BadLength as BadFrameLength, Engine, Journal, Mismatch, NoStation, OutOfMemory, Pool, Read, Truncated as TruncatedFrame, Write}
+use Rattle.cli_run.specs.declared.error.ServeError.TheVariants.{BadLength as BadFrameLength, DoubleStation, Engine, Journal, Mismatch, NoStation, OutOfMemory, Pool, Read, Truncated as TruncatedFrame, Write}
 use Rattle.cli_run.specs.declared.stream.StreamEnd.{StreamEnd}
 use Rattle.cli_run.specs.declared.stream.StreamEnd.TheVariants.{Whole, BadLength, Truncated, Unread}
 
--- want of memory is told as such, and all else is carried
+-- out of memory is an error of its own, and all else is carried
 abbrev pub error_of_engine : EngineError → ServeError
 error_of_engine engine.OutOfMemory = OutOfMemory
 error_of_engine e = Engine e
@@ -36,7 +36,7 @@ abbrev pub error_of_write : WriteError → ServeError
 error_of_write write.OutOfMemory = OutOfMemory
 error_of_write e = Write e
 
--- of a journal want of memory is carried too: it is the journal that refused
+-- of a journal out of memory is carried too: it is the journal that refused
 abbrev pub error_of_plant : PlantError → ServeError
 error_of_plant (plant.Engine e) = error_of_engine e
 error_of_plant (plant.Journal e) = Journal e
@@ -49,10 +49,17 @@ IsNoStation f n (NoStation name) = option_map (λ (x : Part). x.name) (slice_get
 IsNoStation f n OutOfMemory = ⊤
 IsNoStation f n _ = ⊥
 
--- why no plant was made
-abbrev pub IsCause : Flow → PlantError → ServeError → Type 0
-IsCause f (plant.Seating (seating.NoStation n)) e = IsNoStation f n e
-IsCause f cause e = e ≡ error_of_plant cause
+-- the station at this place has the name of an earlier one, or there was no memory to say so
+abbrev pub IsDouble : List (List ℕ) → ℕ → ServeError → Type 0
+IsDouble names place (DoubleStation name) = slice_get names place ≡ Some name
+IsDouble names place OutOfMemory = ⊤
+IsDouble names place _ = ⊥
+
+-- why no plant was made of stations with these names
+abbrev pub IsCause : Flow → List (List ℕ) → PlantError → ServeError → Type 0
+IsCause f names (plant.Seating (seating.NoStation n)) e = IsNoStation f n e
+IsCause f names (plant.Seating (seating.DoubleStation place)) e = IsDouble names place e
+IsCause f names cause e = e ≡ error_of_plant cause
 
 -- a stream that was refused is an error
 abbrev pub result_of : StreamEnd → Result (Unit {0}) ServeError

@@ -6,8 +6,8 @@ use Rattle.tx_history.specs.declared.event.Event.{Event}
 use Rattle.tx_history.specs.History.{Start}
 use Rattle.tx_engine.specs.World.{World}
 use Rattle.tx_trace.specs.Lines.{json_text, line_text}
-use Rattle.cli_run.specs.declared.told.Form.{Form}
-use Rattle.cli_run.specs.declared.told.Form.TheVariants.{Text, Json}
+use Rattle.cli_run.specs.declared.standard_error.Form.{Form}
+use Rattle.cli_run.specs.declared.standard_error.Form.TheVariants.{Text, Json}
 
 -- the line of an entry, as text and as an object of JSON
 pub record Line : Type 0 where

@@ -8,7 +8,7 @@ use Rattle.tx_plant.specs.Plant.{Seen, Whole}
 use Rattle.plant_outcome.specs.Lives.{IsMade}
 use Rattle.cli_run.specs.Points.{IsAtRest, IsReady, Point, world_at}
 use Rattle.cli_run.specs.Rounds.{Drains, IsEmptied, MayCut, Recovers, Round, Serves}
-use Rattle.cli_run.specs.declared.told.Form.TheVariants.{Text}
+use Rattle.cli_run.specs.declared.standard_error.Form.TheVariants.{Text}
 use Rattle.cli_run.specs.Lines.{Line, lines_in, written_as}
 use Rattle.cli_run.specs.Advices.{AdviceStep, SendsAll, stored_at}
 use Rattle.cli_run.specs.Numbers.{begun_in}

@@ -10,7 +10,7 @@ use Rattle.tx_plant.specs.Plant.{Seen}
 use Rattle.cli_run.specs.declared.stream.StreamEnd.{StreamEnd}
 use Rattle.cli_run.specs.Points.{IsReady, Point, all_answered, response_of, responses, unanswered, world_at}
 use Rattle.cli_run.specs.Rounds.{Alone, Batched, Completed, IsRetry, Lone, MayCut, Round, RoundsToward, Serves, ServesFor, Together, Transacts}
-use Rattle.cli_run.specs.declared.told.Form.TheVariants.{Text}
+use Rattle.cli_run.specs.declared.standard_error.Form.TheVariants.{Text}
 use Rattle.cli_run.specs.Lines.{Line, lines_in, written_as}
 use Rattle.cli_run.specs.Ran.{Begins}
 use Rattle.cli_run.specs.Requests.{ReadTo, Reads, requests}

@@ -9,8 +9,8 @@ use Rattle.iso_codec.specs.declared.error.DecodeError.{DecodeError}
 use Rattle.iso_codec.specs.Reads.{read}
 use Rattle.sw_stats.specs.Line.{Numbers, stats_line}
 use Rattle.tx_engine.specs.World.{World}
-use Rattle.cli_run.specs.declared.told.Form.{Form}
-use Rattle.cli_run.specs.declared.told.Told.{Told}
+use Rattle.cli_run.specs.declared.standard_error.Form.{Form}
+use Rattle.cli_run.specs.declared.standard_error.StandardError.{StandardError}
 use Rattle.cli_run.specs.Lines.{Line, written_as}
 use Rattle.cli_run.specs.Points.{Point, all_answered, responses, unanswered}
 use Rattle.cli_run.specs.Requests.{requests}
@@ -92,8 +92,8 @@ pub record Log : Type 0 where
   pub lost : Bool
   pub text : Option (List ℕ)
 
-abbrev pub log_of : {E : Type 0} → (E → Option (List ℕ)) → Told E → Log
-log_of contents told = record { wanted = told.trace; stats = is_some told.stats; passed = told.passed; lost = told.lost; text = contents told.err.now }
+abbrev pub log_of : {E : Type 0} → (E → Option (List ℕ)) → StandardError E → Log
+log_of contents stderr = record { wanted = stderr.trace; stats = is_some stderr.stats; passed = stderr.passed; lost = stderr.lost; text = contents stderr.err.now }
 
 abbrev pub if_wanted : Option Form → List Line → List ℕ
 if_wanted (Some form) lines = written_as form lines

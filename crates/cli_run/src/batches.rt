@@ -1,6 +1,7 @@
 //! Requests in batches, each run by all sessions at once.
 
-ghost use Rattle.std.specs.Prelude.{◌≡◌, ◌≤◌, ◌∷◌, ◌++◌, option_to_list, List, ℕ, [], IfOk, OnErr, OnOk, length, vec_len, true};
+ghost use Rattle.std.specs.Prelude.{◌≡◌, ◌≤◌, ◌∷◌, ◌++◌, List, ℕ, [], IfOk, OnErr, OnOk, true};
+ghost use Rattle.std.specs.Prelude.{length, option_to_list, vec_len};
 ghost use Rattle.sw_frame.specs.Feeds.{messages};
 ghost use Rattle.sw_frame.specs.Stream.{blank};
 ghost use Rattle.cli_run.specs.Points.{IsReady, RestsGiven, point_of};
@@ -10,9 +11,9 @@ ghost use Rattle.cli_run.specs.Stopped.{HaltsToward, StopsWithin, Unfinished};
 ghost use Rattle.cli_run.specs.Traces.{Finishes, Reports, ReportsFor, Tells, log_of, passed_over};
 
 use crate::error::ServeError;
+use crate::standard_error::StandardError;
 use crate::stream::{PIECE, Piece, Requests, StreamEnd, request_in};
 use crate::switch::{MAX_BATCH, Switch};
-use crate::told::Told;
 use cli_io::ReadError;
 use sqlite::Alter;
 use std::alloc::Global;
@@ -23,24 +24,24 @@ use std::time::Clock;
 use sw_context::Context;
 
 impl<S: Alter + Drop> Switch<S> {
-    // Gives the responses of a batch, runs what is on the shelf, and tells the lines of the trace.
+    // Gives the responses of a batch, runs what is on the shelf, and writes the lines of the trace.
     fn finish<O: Write, E: Write>(
         &mut self,
         alloc: Global,
         out: &mut O,
-        told: &mut Told<'_, E>,
+        stderr: &mut StandardError<'_, E>,
     ) -> Result<(), ServeError>
         requires { RestsGiven (point_of S.Store self.old) }
         ensures finishes { OnOk result (Finishes
-            (point_of S.Store self.old) (O.contents out.old) (log_of E.contents told.old)
-            (point_of S.Store self.new) (O.contents out.new) (log_of E.contents told.new)) }
+            (point_of S.Store self.old) (O.contents out.old) (log_of E.contents stderr.old)
+            (point_of S.Store self.new) (O.contents out.new) (log_of E.contents stderr.new)) }
         ensures ready { OnOk result (IsReady (point_of S.Store self.new)) }
         ensures unfinished { OnErr result (Unfinished (point_of S.Store self.old)
             (O.contents out.old) (O.contents out.new)) }
     {
         self.give(alloc, out)?;
-        self.drain(alloc, out, told)?;
-        self.cut_told(alloc, told)
+        self.drain(alloc, out, stderr)?;
+        self.cut_traced(alloc, stderr)
     }
 
     // Answers a request that came alone, in this thread: so it takes no longer than without threads.
@@ -49,22 +50,22 @@ impl<S: Alter + Drop> Switch<S> {
         alloc: Global,
         request: Context,
         out: &mut O,
-        told: &mut Told<'_, E>,
+        stderr: &mut StandardError<'_, E>,
     ) -> Result<(), ServeError>
         requires ready { IsReady (point_of S.Store self.old) }
         ensures serves { OnOk result ((rounds : List Round)
             × RoundsFor true (request ∷ []) rounds × Reports rounds 0
-            (point_of S.Store self.old) (O.contents out.old) (log_of E.contents told.old)
-            (point_of S.Store self.new) (O.contents out.new) (log_of E.contents told.new)) }
+            (point_of S.Store self.old) (O.contents out.old) (log_of E.contents stderr.old)
+            (point_of S.Store self.new) (O.contents out.new) (log_of E.contents stderr.new)) }
         ensures ready { OnOk result (IsReady (point_of S.Store self.new)) }
         ensures halts { OnErr result (HaltsToward true (request ∷ [])
             (point_of S.Store self.old) (O.contents out.old) (O.contents out.new)) }
     {
         self.run_alone(alloc, request)?;
-        self.finish(alloc, out, told)
+        self.finish(alloc, out, stderr)
     }
 
-    // Answers requests as one batch. Where it ends with an error, the lines of the batch are told all the
+    // Answers requests as one batch. Where it ends with an error, the lines of the batch are written all the
     // same, if it was run.
     fn answer_together<T: Threads + Wait + Sync, O: Write, E: Write>(
         self,
@@ -72,45 +73,45 @@ impl<S: Alter + Drop> Switch<S> {
         alloc: Global,
         requests: Vec<Context>,
         out: &mut O,
-        told: &mut Told<'_, E>,
+        stderr: &mut StandardError<'_, E>,
     ) -> Result<Switch<S>, ServeError>
         requires ready { IsReady (point_of S.Store self) }
         requires some { 2 ≤ vec_len requests }
         requires few { vec_len requests ≤ 256 }
         ensures serves { IfOk result (λ switch. (rounds : List Round)
             × RoundsFor true requests.items rounds × Reports rounds 0
-            (point_of S.Store self) (O.contents out.old) (log_of E.contents told.old)
-            (point_of S.Store switch) (O.contents out.new) (log_of E.contents told.new)) }
+            (point_of S.Store self) (O.contents out.old) (log_of E.contents stderr.old)
+            (point_of S.Store switch) (O.contents out.new) (log_of E.contents stderr.new)) }
         ensures ready { IfOk result (λ switch. IsReady (point_of S.Store switch)) }
         ensures halts { OnErr result (HaltsToward true requests.items
             (point_of S.Store self) (O.contents out.old) (O.contents out.new)) }
     {
         let mut switch = self.run_together(rt, alloc, requests)?;
-        match switch.finish(alloc, out, told) {
+        match switch.finish(alloc, out, stderr) {
             Ok(()) => Ok(switch),
             Err(error) => {
-                let _lines = told.trace(alloc, switch.engine());
+                let _lines = stderr.trace(alloc, switch.engine());
                 Err(error)
             }
         }
     }
 
     // Answers requests that came at once: two or more as one batch, and one alone. Where it ends with an
-    // error, the lines of the history are told all the same, unless a batch was given up.
+    // error, the lines of the history are written all the same, unless a batch was given up.
     fn answer_batch<T: Threads + Wait + Sync, O: Write, E: Write>(
         self,
         rt: &T,
         alloc: Global,
         requests: Vec<Context>,
         out: &mut O,
-        told: &mut Told<'_, E>,
+        stderr: &mut StandardError<'_, E>,
     ) -> Result<Switch<S>, ServeError>
         requires ready { IsReady (point_of S.Store self) }
         requires few { vec_len requests ≤ 256 }
         ensures serves { IfOk result (λ switch. (rounds : List Round)
             × RoundsFor true requests.items rounds × Reports rounds 0
-            (point_of S.Store self) (O.contents out.old) (log_of E.contents told.old)
-            (point_of S.Store switch) (O.contents out.new) (log_of E.contents told.new)) }
+            (point_of S.Store self) (O.contents out.old) (log_of E.contents stderr.old)
+            (point_of S.Store switch) (O.contents out.new) (log_of E.contents stderr.new)) }
         ensures ready { IfOk result (λ switch. IsReady (point_of S.Store switch)) }
         ensures halts { OnErr result (HaltsToward true requests.items
             (point_of S.Store self) (O.contents out.old) (O.contents out.new)) }
@@ -119,17 +120,17 @@ impl<S: Alter + Drop> Switch<S> {
             return Ok(self);
         }
         if requests.len() > 1 {
-            return self.answer_together(rt, alloc, requests, out, told);
+            return self.answer_together(rt, alloc, requests, out, stderr);
         }
         let mut requests = requests;
         let Some(request) = requests.pop() else {
             unreachable!()
         };
         let mut switch = self;
-        match switch.answer_alone(alloc, request, out, told) {
+        match switch.answer_alone(alloc, request, out, stderr) {
             Ok(()) => Ok(switch),
             Err(error) => {
-                let _lines = told.trace(alloc, switch.engine());
+                let _lines = stderr.trace(alloc, switch.engine());
                 Err(error)
             }
         }
@@ -151,24 +152,24 @@ fn requests_in<E: Write>(
     alloc: Global,
     count: &mut u64,
     list: &[Vec<u8>],
-    told: &mut Told<'_, E>,
+    stderr: &mut StandardError<'_, E>,
 ) -> Result<Vec<Context>, ServeError>
     ensures all { IfOk result (λ found. found.items ≡ requests (messages list.now)) }
-    ensures told { OnOk result (Tells [] (passed_over (messages list.now))
-        (log_of E.contents told.old) (log_of E.contents told.new)) }
+    ensures tells { OnOk result (Tells [] (passed_over (messages list.now))
+        (log_of E.contents stderr.old) (log_of E.contents stderr.new)) }
     ensures few { IfOk result (λ found. vec_len found ≤ length list.now) }
 {
     let mut found = Vec::new(alloc);
     for message in list {
         *count = count.saturating_add(1);
-        let request = request_in(alloc, *count, message, told)?;
+        let request = request_in(alloc, *count, message, stderr)?;
         add_request(&mut found, request)?;
     }
     Ok(found)
 }
 
-// Answers the requests among some messages, in batches. After each the numbers of the run are told where that is
-// due.
+// Answers the requests among some messages, in batches. After each the numbers of the run are written where
+// that is due.
 fn answer_batches<S: Alter + Drop, T: Threads + Wait + Clock + Sync, O: Write, E: Write>(
     rt: &T,
     alloc: Global,
@@ -176,12 +177,12 @@ fn answer_batches<S: Alter + Drop, T: Threads + Wait + Clock + Sync, O: Write, E
     count: &mut u64,
     list: &[Vec<u8>],
     out: &mut O,
-    told: &mut Told<'_, E>,
+    stderr: &mut StandardError<'_, E>,
 ) -> Result<Switch<S>, ServeError>
     requires ready { IsReady (point_of S.Store switch) }
     ensures serves { IfOk result (λ after. ReportsFor true (messages list.now)
-        (point_of S.Store switch) (O.contents out.old) (log_of E.contents told.old)
-        (point_of S.Store after) (O.contents out.new) (log_of E.contents told.new)) }
+        (point_of S.Store switch) (O.contents out.old) (log_of E.contents stderr.old)
+        (point_of S.Store after) (O.contents out.new) (log_of E.contents stderr.new)) }
     ensures ready { IfOk result (λ after. IsReady (point_of S.Store after)) }
     ensures halts { OnErr result (HaltsToward true (requests (messages list.now))
         (point_of S.Store switch) (O.contents out.old) (O.contents out.new)) }
@@ -190,10 +191,10 @@ fn answer_batches<S: Alter + Drop, T: Threads + Wait + Clock + Sync, O: Write, E
     let mut rest = list;
     for _ in 0..list.len() {
         let (batch, more) = rest.split_at(rest.len().min(MAX_BATCH));
-        let requests = requests_in(alloc, count, batch, told)?;
+        let requests = requests_in(alloc, count, batch, stderr)?;
         let before = switch.answered.counts.requests();
-        switch = switch.answer_batch(rt, alloc, requests, out, told)?;
-        switch.show_since(rt, alloc, before, told);
+        switch = switch.answer_batch(rt, alloc, requests, out, stderr)?;
+        switch.show_since(rt, alloc, before, stderr);
         rest = more;
     }
     Ok(switch)
@@ -215,15 +216,15 @@ impl Requests {
         switch: Switch<S>,
         input: &mut R,
         out: &mut O,
-        told: &mut Told<'_, E>,
+        stderr: &mut StandardError<'_, E>,
     ) -> Result<(Switch<S>, StreamEnd), ServeError>
         requires ready { IsReady (point_of S.Store switch) }
         requires fresh { self.old.framer ≡ blank }
         ensures serves { IfOk result (λ served. (frames : List (List ℕ))
             × ReadTo served.1 (R.remaining input.old) frames
             × ReportsFor true frames
-            (point_of S.Store switch) (O.contents out.old) (log_of E.contents told.old)
-            (point_of S.Store served.0) (O.contents out.new) (log_of E.contents told.new)) }
+            (point_of S.Store switch) (O.contents out.old) (log_of E.contents stderr.old)
+            (point_of S.Store served.0) (O.contents out.new) (log_of E.contents stderr.new)) }
         ensures ready { IfOk result (λ served. IsReady (point_of S.Store served.0)) }
         ensures stops { OnErr result (StopsWithin true (R.remaining input.old)
             (point_of S.Store switch) (O.contents out.old) (O.contents out.new)) }
@@ -234,7 +235,7 @@ impl Requests {
         for _ in 0..u64::MAX {
             let Piece { messages, end } = self.read(alloc, input, buf.as_mut_slice())?;
             let count = &mut self.count;
-            switch = answer_batches(rt, alloc, switch, count, &messages, out, told)?;
+            switch = answer_batches(rt, alloc, switch, count, &messages, out, stderr)?;
             if let Some(end) = end {
                 return Ok((switch, end));
             }

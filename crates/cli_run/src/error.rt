@@ -19,9 +19,15 @@ use tx_pool::{Early, Fault, Late, PoolError};
 #[derive(Debug, Drop, Error)]
 pub enum ServeError {
     /// The flow has a participant that the switch does not have.
-    #[error("unknown participant {}; the switch has check, limits, route, query_alpha, query_beta, \
-        reverse, standin, forward and respond", .0.as_str())]
+    #[error("unknown participant {}; the switch has check, limits, route, reverse, standin, forward, respond, \
+        and query_NAME for each link", .0.as_str())]
     NoStation(Text),
+    /// Two links have one name, so that this participant would be there twice.
+    #[error("participant {} is there twice; expected links of different names", .0.as_str())]
+    DoubleStation(Text),
+    /// A link has this name.
+    #[error("bad link name {}; expected at most 26 bytes of a-z A-Z 0-9 _ - .", .0.as_str())]
+    BadLinkName(Text),
     /// The engine refused a turn.
     #[error("the engine refused: {0}")]
     Engine(EngineError),
@@ -69,7 +75,7 @@ impl From<EngineError> for ServeError {
     }
 }
 
-// Out of memory is told as the journal's own refusal too.
+// Out of memory stays the journal's own refusal.
 impl From<JournalError> for ServeError {
     ghost from_gives = { λ e f. f ≡ serve.Journal e };
 

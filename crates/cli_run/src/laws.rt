@@ -13,19 +13,18 @@ ghost use Rattle.cli_run.specs.Ran.{Begins, Ran};
 ghost use Rattle.cli_run.specs.Rounds.{Round};
 
 use plant_outcome::plants_keep_the_law;
-use sw_issuers::Issuer;
 use sw_parts::Link;
 
-/// The outcome law of every run that ends without an error, with threads or without: where it holds of the calls made before, and of
-/// the view that the run's plant was made on, it holds of all calls with those of the run, and of the
-/// journal that the run leaves. So it is where the run recovers alone. A run is a life of a plant, as
-/// `plant_outcome::stops_keep_the_law` speaks of them. The disk has to have returned what was written.
-pub fn runs_keep_the_law()
+/// The outcome law of every run that ends without an error, with threads or without, over links of any
+/// type: where it holds of the calls made before, and of the view that the run's plant was made on, it
+/// holds of all calls with those of the run, and of the journal that the run leaves. So it is where the
+/// run recovers alone. A run is a life of a plant, as `plant_outcome::stops_keep_the_law` speaks of them.
+/// The disk has to have returned what was written.
+pub fn runs_keep_the_law<L: Link>()
     ensures ran { (f : Flow) (n : ℕ) (j : Seen) (sender : PlainSender)
         (rounds : List Round) (before after : Option (List ℕ)) (calls : List PlantDeed)
         (ran : Ran f n j
-        (SendsAdvice ⟦<Issuer as Link>⟧.sends ⟦<Issuer as Link>⟧.receives
-        ⟦<Issuer as Link>⟧.starves (Unit {0}))
+        (SendsAdvice L.sends L.receives L.starves (Unit {0}))
         sender rounds before after)
         → IsClean ran.serves.end.plant.journal → OutcomeLaw calls (id_view f ran.begins.view)
         → Keeps f ran.begins.view ran.begins.made calls ran.serves.end.plant }
@@ -36,8 +35,7 @@ pub fn runs_keep_the_law()
     ensures lives { (f : Flow) (n : ℕ) (j : Seen) (sender : PlainSender)
         (rounds : List Round) (before after : Option (List ℕ))
         (ran : Ran f n j
-        (SendsAdvice ⟦<Issuer as Link>⟧.sends ⟦<Issuer as Link>⟧.receives
-        ⟦<Issuer as Link>⟧.starves (Unit {0}))
+        (SendsAdvice L.sends L.receives L.starves (Unit {0}))
         sender rounds before after)
         → IsClean ran.serves.end.plant.journal
         → (life : Life) × IsLifeOf f n j ran.begins.view ran.serves.end.plant life }

@@ -2,28 +2,34 @@
 //!
 //! [`run`] makes a plant of the switch's participants over a journal. It recovers what the journal has
 //! unfinished, then answers each request as it comes: its response is written and flushed once the last
-//! entry of its transaction is written. Behind the last request the shelf is released and drained, and the
-//! stored advices are sent to the issuers. Where they are wanted, lines with the numbers of the run go to standard
-//! error.
+//! entry of its transaction is written. After the last request the shelf is released and drained, and the
+//! stored advices are sent to the issuers. Where they are wanted, lines with the numbers of the run go to
+//! standard error.
+//!
+//! The links, the routes and the limits come from the caller ([`Setup`]); [`default_routes`] and its like are
+//! those of the switch without a configuration.
 #![tactic(auto)]
 
 mod advices;
 mod batches;
+mod defaults;
 mod error;
 mod given;
-mod issuers;
 mod laws;
 mod progress;
 mod serving;
+mod setup;
+mod standard_error;
 mod stats;
 mod stream;
 mod switch;
-mod told;
+mod unsuited;
 
+pub use defaults::{DEFAULT_STAND_IN, default_advised, default_queried, default_routes};
 pub use error::ServeError;
-pub use issuers::Issuers;
 pub use laws::runs_keep_the_law;
-pub use serving::{Setup, run};
+pub use serving::run;
+pub use setup::{NamedLink, Setup, SwitchLink};
+pub use standard_error::{Form, StandardError, write_lines};
 pub use stats::Stats;
 pub use stream::StreamEnd;
-pub use told::{Form, Told, write_lines};

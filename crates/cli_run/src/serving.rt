@@ -10,7 +10,7 @@ ghost use Rattle.tx_history.specs.declared.journal.JournalView.{JournalView};
 ghost use Rattle.tx_journal.specs.Kept.{kept};
 ghost use Rattle.tx_plant.specs.Plant.{IsEngine, Seen, seen};
 ghost use Rattle.plant_outcome.specs.Lives.{IsMade};
-ghost use Rattle.cli_run.specs.Links.{sender_of};
+ghost use Rattle.cli_run.specs.Links.{sender_with};
 ghost use Rattle.cli_run.specs.Lines.{lines_in, written_as};
 ghost use Rattle.cli_run.specs.Points.{IsAtRest, point_of};
 ghost use Rattle.cli_run.specs.Ran.{Closes, Printed, Ran, ServesAll, all_lines, lines_cut};
@@ -20,15 +20,16 @@ ghost use Rattle.cli_run.specs.Stopped.{DrainsSome, IsStopped, ServesSome};
 ghost use Rattle.cli_run.specs.Shown.{TellsAll};
 ghost use Rattle.cli_run.specs.Traces.{DrainsAll, Tells, log_of, passed_over};
 ghost use Rattle.cli_io.specs.Written.{AppendsBeginning};
-ghost use Rattle.cli_run.specs.declared.told.Form.TheVariants.{Text};
+ghost use Rattle.cli_run.specs.declared.standard_error.Form.TheVariants.{Text};
 
 use crate::advices::send_advices;
 use crate::error::ServeError;
-use crate::issuers::{Issuers, routes, sender_over};
 use crate::progress::Progress;
+use crate::setup::{NamedLink, Setup, SwitchLink, query_name, sender_over};
+use crate::standard_error::{StandardError, write_lines};
 use crate::stream::{Requests, StreamEnd};
-use crate::switch::{Switch, cause_of};
-use crate::told::{Told, write_lines};
+use crate::switch::Switch;
+use crate::unsuited::cause_of;
 use cli_io::WriteError;
 use flow_asm::Code;
 use sqlite::Alter;
@@ -37,9 +38,8 @@ use std::io::{Read, Write};
 use std::sync::Wait;
 use std::thread::Threads;
 use std::time::Clock;
-use sw_book::Book;
-use sw_issuers::{Issuer, Sender};
-use sw_participant::{Bystander, Station, Unjoined};
+use sw_issuers::Sender;
+use sw_participant::{Bystander, Station, StationError, Unjoined};
 use sw_parts::{CheckFields, Forward, Limits, Link, QueryIssuer, Respond, Reverse, Route, StandIn};
 use tx_engine::Engine;
 use tx_journal::Journal;
@@ -69,18 +69,18 @@ impl<S: Alter> Switch<S> {
         &mut self,
         alloc: Global,
         out: &mut O,
-        told: &mut Told<'_, E>,
+        stderr: &mut StandardError<'_, E>,
     ) -> Result<(), ServeError>
         requires rest { IsAtRest (point_of S.Store self.old) }
         ensures drains { OnOk result (DrainsAll
-            (point_of S.Store self.old) (O.contents out.old) (log_of E.contents told.old)
-            (point_of S.Store self.new) (O.contents out.new) (log_of E.contents told.new)) }
+            (point_of S.Store self.old) (O.contents out.old) (log_of E.contents stderr.old)
+            (point_of S.Store self.new) (O.contents out.new) (log_of E.contents stderr.new)) }
         ensures stops { OnErr result (DrainsSome
             (point_of S.Store self.old) (O.contents out.old) (O.contents out.new)) }
     {
         for _ in 0..MAX_ROUNDS {
             if self.engine().queued() > 0 {
-                self.answer_next(alloc, told, out)?;
+                self.answer_next(alloc, stderr, out)?;
                 continue;
             }
             if self.engine().shelved() == 0 {
@@ -101,7 +101,7 @@ impl<S: Alter> Switch<S> {
         first: u64,
         input: R,
         out: &mut O,
-        told: &mut Told<'_, E>,
+        stderr: &mut StandardError<'_, E>,
     ) -> Result<StreamEnd, ServeError>
         requires rest { IsAtRest (point_of S.Store self.old) }
         requires empty { waits self.old.plant.running.engine ≡ [] }
@@ -112,15 +112,15 @@ impl<S: Alter> Switch<S> {
             (point_of S.Store self.old) sender.old (O.contents out.old) (O.contents out.new))
             × (all.end ≡ point_of S.Store self.new)
             × Tells (lines_cut all) (passed_over frames)
-            (log_of E.contents told.old) (log_of E.contents told.new)) }
+            (log_of E.contents stderr.old) (log_of E.contents stderr.new)) }
         ensures stops { OnErr result (ServesSome false (R.remaining input)
             (point_of S.Store self.old) (O.contents out.old) (O.contents out.new)) }
     {
-        self.cut_told(alloc, told)?;
+        self.cut_traced(alloc, stderr)?;
         let mut input = input;
         let mut requests = Requests::new(alloc);
-        let end = requests.serve_all(rt, alloc, self, &mut input, out, told)?;
-        self.close(alloc, sender, first, out, told)?;
+        let end = requests.serve_all(rt, alloc, self, &mut input, out, stderr)?;
+        self.close(alloc, sender, first, out, stderr)?;
         Ok(end)
     }
 
@@ -131,7 +131,7 @@ impl<S: Alter> Switch<S> {
         sender: &mut Sender<L>,
         first: u64,
         out: &mut O,
-        told: &mut Told<'_, E>,
+        stderr: &mut StandardError<'_, E>,
     ) -> Result<(), ServeError>
         requires rest { IsAtRest (point_of S.Store self.old) }
         ensures closes { OnOk result (
@@ -139,18 +139,18 @@ impl<S: Alter> Switch<S> {
             (point_of S.Store self.old) sender.old (O.contents out.old)
             (point_of S.Store self.new) sender.new (O.contents out.new))
             × Tells c.drains.serves.lines 0
-            (log_of E.contents told.old) (log_of E.contents told.new)) }
+            (log_of E.contents stderr.old) (log_of E.contents stderr.new)) }
         ensures stops { OnErr result (DrainsSome
             (point_of S.Store self.old) (O.contents out.old) (O.contents out.new)) }
     {
-        self.drain(alloc, out, told)?;
+        self.drain(alloc, out, stderr)?;
         send_advices(alloc, self, sender, first)
     }
 }
 
 impl<S: Alter + Drop> Switch<S> {
     // Answers the requests of an input in batches, each run by all sessions at once, then what is on the
-    // shelf, and sends the stored advices. The lines of the trace are told behind each batch, and at the end, the
+    // shelf, and sends the stored advices. The lines of the trace are written after each batch, and at the end, the
     // numbers of the run last.
     fn serve_together<
         T: Threads + Wait + Clock + Sync,
@@ -166,7 +166,7 @@ impl<S: Alter + Drop> Switch<S> {
         first: u64,
         input: R,
         out: &mut O,
-        told: &mut Told<'_, E>,
+        stderr: &mut StandardError<'_, E>,
     ) -> Result<StreamEnd, ServeError>
         requires rest { IsAtRest (point_of S.Store self) }
         requires empty { waits self.plant.running.engine ≡ [] }
@@ -176,19 +176,19 @@ impl<S: Alter + Drop> Switch<S> {
             × (all : ServesAll (SendsAdvice L.sends L.receives L.starves (Unit {0})) first rounds
             (point_of S.Store self) sender.old (O.contents out.old) (O.contents out.new))
             × TellsAll (all_lines all) (passed_over frames) all.end
-            (log_of E.contents told.old) (log_of E.contents told.new)) }
+            (log_of E.contents stderr.old) (log_of E.contents stderr.new)) }
         ensures stops { OnErr result (ServesSome true (R.remaining input)
             (point_of S.Store self) (O.contents out.old) (O.contents out.new)) }
     {
         let mut switch = self;
-        switch.cut_told(alloc, told)?;
+        switch.cut_traced(alloc, stderr)?;
         let mut input = input;
         let mut requests = Requests::new(alloc);
-        let served = requests.serve_in_batches(rt, alloc, switch, &mut input, out, told)?;
+        let served = requests.serve_in_batches(rt, alloc, switch, &mut input, out, stderr)?;
         let (mut switch, end) = served;
-        let closed = switch.close(alloc, sender, first, out, told);
-        let traced = told.trace(alloc, switch.engine());
-        switch.show(rt, alloc, told);
+        let closed = switch.close(alloc, sender, first, out, stderr);
+        let traced = stderr.trace(alloc, switch.engine());
+        switch.show(rt, alloc, stderr);
         closed?;
         traced?;
         Ok(end)
@@ -205,21 +205,6 @@ fn print<O: Write>(alloc: Global, engine: &Engine, out: &mut O) -> Result<(), Se
     write_lines(alloc, engine, out)?;
     out.flush().map_err(WriteError::from)?;
     Ok(())
-}
-
-/// What a run has besides its flow and its journal.
-#[derive(Drop)]
-pub struct Setup {
-    /// What the cards may spend.
-    pub book: Book,
-    /// The links that authorizations go over.
-    pub queried: Issuers,
-    /// The links that stored advices go over.
-    pub advised: Issuers,
-    /// How many sessions the engine has, 1 to 16.
-    pub sessions: usize,
-    /// Whether the sessions run as threads. Without, session 0 runs each transaction.
-    pub threads: bool,
 }
 
 // The error of what was served comes before that of the trace.
@@ -266,7 +251,7 @@ impl<S: Alter + Drop, R: Read + Drop, L: Link> Over<S, R, L> {
         code: &Code,
         stations: Vec<Station>,
         out: &mut O,
-        told: &mut Told<'_, E>,
+        stderr: &mut StandardError<'_, E>,
     ) -> Result<StreamEnd, ServeError>
         ensures ran { IfOk result (λ end. IfSome self.input (λ reader. (frames : List (List ℕ))
             × ReadTo end (R.remaining reader) frames
@@ -275,7 +260,7 @@ impl<S: Alter + Drop, R: Read + Drop, L: Link> Over<S, R, L> {
             (SendsAdvice L.sends L.receives L.starves (Unit {0})) self.sender rounds
             (O.contents out.old) (O.contents out.new))
             × TellsAll (all_lines ran.serves) (passed_over frames) ran.serves.end
-            (log_of E.contents told.old) (log_of E.contents told.new))) }
+            (log_of E.contents stderr.old) (log_of E.contents stderr.new))) }
         ensures printed { OnOk result (IfNone self.input (Printed code.now self.sessions
             (seen (kept S.Store self.journal)) (O.contents out.old) (O.contents out.new))) }
         ensures stopped { OnErr result (IsStopped self.threads (option_map R.remaining self.input)
@@ -292,7 +277,9 @@ impl<S: Alter + Drop, R: Read + Drop, L: Link> Over<S, R, L> {
         let mut sender = sender;
         let plant = match Plant::new(alloc, code, journal, stations, sessions) {
             Ok(plant) => plant,
-            Err((error, _, _)) => return Err(cause_of(alloc, code, error)),
+            Err((error, _, stations)) => {
+                return Err(cause_of(alloc, code, stations.as_slice(), error));
+            }
         };
         let first = plant.engine().opened().next_id;
         let answered = Progress::begin(alloc, plant.engine(), first);
@@ -303,11 +290,11 @@ impl<S: Alter + Drop, R: Read + Drop, L: Link> Over<S, R, L> {
             return Ok(StreamEnd::Whole);
         };
         if threads {
-            return switch.serve_together(rt, alloc, &mut sender, first, input, out, told);
+            return switch.serve_together(rt, alloc, &mut sender, first, input, out, stderr);
         }
-        let served = switch.serve_to_end(rt, alloc, &mut sender, first, input, out, told);
-        let traced = told.trace(alloc, switch.engine());
-        switch.show(rt, alloc, told);
+        let served = switch.serve_to_end(rt, alloc, &mut sender, first, input, out, stderr);
+        let traced = stderr.trace(alloc, switch.engine());
+        switch.show(rt, alloc, stderr);
         end_of(served, traced)
     }
 }
@@ -320,15 +307,20 @@ fn boxed<P: Unjoined>(alloc: Global, participant: P) -> Result<Box<Bystander<P>>
 /// Recovers what the journal has unfinished. Without an input the lines of that are printed, and that is all.
 /// Else it answers the requests of an input as they come, then what is on the shelf, and sends the stored
 /// advices. The lines of the trace of a transaction are written before the next request is offered, the rest at
-/// the end, also where it ends early. Where the stream of frames is refused, what came before is answered, and all is done.
+/// the end, also where it ends early. Where the stream of frames is refused, what came before is answered, and all
+/// is done.
 ///
 /// With threads the requests are answered in batches of those that have come, at most 256 at once; the lines
-/// of the trace are written behind each batch. Those of a batch that was given up are lost.
+/// of the trace are written after each batch. Those of a batch that was given up are lost.
 ///
-/// The numbers of the run, where `told` wants them, are told after each so many requests, with threads after a
+/// The numbers of the run, where `stderr` wants them, are written after each so many requests, with threads after a
 /// batch, and last.
 ///
 /// Standard error that takes nothing is no error of the run: its result is as if all had been written there.
+///
+/// The switch has seven participants, and one more for each link that is queried. Refused are, before anything is
+/// done: the first link whose name makes no participant's name (`BadLinkName`), then the first participant of the
+/// flow that the switch does not have (`NoStation`), then the first name that two links have (`DoubleStation`).
 ///
 /// The stations are made here; no caller has one of them.
 pub fn run<S: Alter + Drop, T: Threads + Wait + Clock + Sync, R: Read + Drop, O: Write, E: Write>(
@@ -336,22 +328,21 @@ pub fn run<S: Alter + Drop, T: Threads + Wait + Clock + Sync, R: Read + Drop, O:
     alloc: Global,
     code: &Code,
     journal: Journal<S>,
-    setup: Setup,
+    setup: Setup<SwitchLink>,
     input: Option<R>,
     out: &mut O,
-    told: &mut Told<'_, E>,
+    stderr: &mut StandardError<'_, E>,
 ) -> Result<StreamEnd, ServeError>
     ensures ran { IfOk result (λ end. IfSome input (λ reader. (frames : List (List ℕ))
         × ReadTo end (R.remaining reader) frames
         × (rounds : List Round) × RoundsFor setup.threads (requests frames) rounds
         × (ran : Ran code.now setup.sessions (seen (kept S.Store journal))
-        (SendsAdvice ⟦<Issuer as Link>⟧.sends ⟦<Issuer as Link>⟧.receives
-        ⟦<Issuer as Link>⟧.starves (Unit {0}))
-        (sender_of (⟦<Issuer as Link>⟧.state setup.advised.alpha)
-        (⟦<Issuer as Link>⟧.state setup.advised.beta)) rounds
+        (SendsAdvice ⟦<SwitchLink as Link>⟧.sends ⟦<SwitchLink as Link>⟧.receives
+        ⟦<SwitchLink as Link>⟧.starves (Unit {0}))
+        (sender_with ⟦<SwitchLink as Link>⟧.state setup.routes setup.advised.items) rounds
         (O.contents out.old) (O.contents out.new))
         × TellsAll (all_lines ran.serves) (passed_over frames) ran.serves.end
-        (log_of E.contents told.old) (log_of E.contents told.new))) }
+        (log_of E.contents stderr.old) (log_of E.contents stderr.new))) }
     ensures printed { OnOk result (IfNone input (Printed code.now setup.sessions
         (seen (kept S.Store journal)) (O.contents out.old) (O.contents out.new))) }
     ensures stopped { OnErr result (IsStopped setup.threads (option_map R.remaining input)
@@ -360,57 +351,60 @@ pub fn run<S: Alter + Drop, T: Threads + Wait + Clock + Sync, R: Read + Drop, O:
 {
     let Setup {
         book,
+        stand_in,
+        routes,
         queried,
         advised,
         sessions,
         threads,
     } = setup;
-    let Issuers { alpha, beta } = queried;
     let over = Over {
         journal,
         input,
-        sender: sender_over(alloc, advised)?,
+        sender: sender_over(alloc, routes.as_slice(), advised)?,
         sessions,
         threads,
     };
-    let routes = routes(alloc)?;
     // (All at once: with a return for each, each would prove how all else is let go.)
-    let (Ok(check), Ok(limits), Ok(route), Ok(alpha), Ok(beta)) = (
+    let (Ok(check), Ok(limits), Ok(route), Ok(reverse)) = (
         boxed(alloc, CheckFields::new(alloc)),
         Box::new(alloc, Limits::new(alloc, book)),
         boxed(alloc, Route::new(alloc, routes)),
-        boxed(alloc, QueryIssuer::new(alloc, alpha)),
-        boxed(alloc, QueryIssuer::new(alloc, beta)),
+        Box::new(alloc, Reverse::new(alloc)),
     ) else {
         return Err(ServeError::OutOfMemory);
     };
-    let (Ok(reverse), Ok(standin), Ok(forward), Ok(respond)) = (
-        Box::new(alloc, Reverse::new(alloc)),
-        boxed(alloc, StandIn::new(alloc)),
+    let (Ok(standin), Ok(forward), Ok(respond)) = (
+        boxed(alloc, StandIn::new(alloc, stand_in)),
         Box::new(alloc, Forward::new(alloc)),
         boxed(alloc, Respond::new(alloc)),
     ) else {
         return Err(ServeError::OutOfMemory);
     };
-    let (Ok(check), Ok(limits), Ok(route), Ok(alpha), Ok(beta)) = (
+    let (Ok(check), Ok(limits), Ok(route), Ok(reverse)) = (
         Station::new(alloc, "check", check),
         Station::new(alloc, "limits", limits),
         Station::new(alloc, "route", route),
-        Station::new(alloc, "query_alpha", alpha),
-        Station::new(alloc, "query_beta", beta),
+        Station::new(alloc, "reverse", reverse),
     ) else {
         return Err(ServeError::OutOfMemory);
     };
-    let (Ok(reverse), Ok(standin), Ok(forward), Ok(respond)) = (
-        Station::new(alloc, "reverse", reverse),
+    let (Ok(standin), Ok(forward), Ok(respond)) = (
         Station::new(alloc, "standin", standin),
         Station::new(alloc, "forward", forward),
         Station::new(alloc, "respond", respond),
     ) else {
         return Err(ServeError::OutOfMemory);
     };
-    let stations = vec![in alloc;
-        check, limits, route, alpha, beta, reverse, standin, forward, respond,
-    ]?;
-    over.run(rt, alloc, code, stations, out, told)
+    let mut stations = vec![in alloc; check, limits, route, reverse, standin, forward, respond]?;
+    for NamedLink { name, link } in queried {
+        let query = boxed(alloc, QueryIssuer::new(alloc, link))?;
+        let station = query_name(alloc, name.as_str())?;
+        match Station::new(alloc, station.as_str(), query) {
+            Ok(station) => stations.push(station)?,
+            Err(StationError::BadName) => return Err(ServeError::BadLinkName(name)),
+            Err(StationError::OutOfMemory) => return Err(ServeError::OutOfMemory),
+        }
+    }
+    over.run(rt, alloc, code, stations, out, stderr)
 }

@@ -6,8 +6,8 @@ ghost use Rattle.cli_run.specs.Points.{point_of};
 ghost use Rattle.cli_run.specs.Shown.{Shows, ShowsSince, every_of, is_due};
 ghost use Rattle.cli_run.specs.Traces.{Tells, log_of};
 
+use crate::standard_error::StandardError;
 use crate::switch::Switch;
-use crate::told::Told;
 use cli_io::write_whole;
 use sqlite::Alter;
 use std::alloc::Global;
@@ -15,10 +15,10 @@ use std::io::Write;
 use std::time::{Clock, Instant};
 use sw_stats::{Beside, Counts};
 
-/// Which lines of numbers a run tells: one at its end, and more where `every` is given.
+/// Which lines of numbers a run writes: one at its end, and more where `every` is given.
 #[derive(Clone, Copy)]
 pub struct Stats {
-    /// After how many requests a line is told too.
+    /// After how many requests a line is written too.
     pub every: Option<u64>,
     /// When the run began; `None` where the clock could not be read, and then the lines say 0 seconds.
     pub started: Option<Instant>,
@@ -50,7 +50,7 @@ impl Stats {
     }
 }
 
-impl<'a, E: Write> Told<'a, E> {
+impl<'a, E: Write> StandardError<'a, E> {
     // Whether a line is due after so many requests, where so many were answered before.
     fn is_due(&self, before: u64, now: u64) -> bool
         ensures { result ≡ is_due (every_of self.now.stats) before now }
@@ -66,7 +66,7 @@ impl<'a, E: Write> Told<'a, E> {
         }
     }
 
-    // Tells the numbers of a run, where they are wanted. Where memory is refused the line is lost, as where
+    // Writes the numbers of a run, where they are wanted. Where memory is refused the line is lost, as where
     // a write fails.
     fn show<C: Clock>(&mut self, rt: &C, alloc: Global, counts: &Counts, stored: u64)
         ensures { Shows
@@ -102,31 +102,36 @@ impl<S: Alter> Switch<S> {
         all.saturating_sub(self.answered.found)
     }
 
-    /// Tells the numbers of the run so far, where they are wanted. Where standard error takes nothing, or memory
+    /// Writes the numbers of the run so far, where they are wanted. Where standard error takes nothing, or memory
     /// is refused, the line is lost, and nothing else changes.
-    pub(crate) fn show<C: Clock, E: Write>(&self, rt: &C, alloc: Global, told: &mut Told<'_, E>)
-        ensures { Shows (numbers_at (point_of S.Store self.now) told.old.passed)
-            (log_of E.contents told.old) (log_of E.contents told.new) }
+    pub(crate) fn show<C: Clock, E: Write>(
+        &self,
+        rt: &C,
+        alloc: Global,
+        stderr: &mut StandardError<'_, E>,
+    )
+        ensures { Shows (numbers_at (point_of S.Store self.now) stderr.old.passed)
+            (log_of E.contents stderr.old) (log_of E.contents stderr.new) }
     {
-        told.show(rt, alloc, &self.answered.counts, self.given_since());
+        stderr.show(rt, alloc, &self.answered.counts, self.given_since());
     }
 
-    /// Tells them where a line is due, since so many requests were answered.
+    /// Writes them where a line is due, since so many requests were answered.
     #[tactic(auto, using(crate::proofs::Tracing::tells_none))]
     pub(crate) fn show_since<C: Clock, E: Write>(
         &self,
         rt: &C,
         alloc: Global,
         before: u64,
-        told: &mut Told<'_, E>,
+        stderr: &mut StandardError<'_, E>,
     )
-        ensures since { ShowsSince (every_of told.old.stats) before
-            (numbers_at (point_of S.Store self.now) told.old.passed)
-            (log_of E.contents told.old) (log_of E.contents told.new) }
-        ensures tells { Tells [] 0 (log_of E.contents told.old) (log_of E.contents told.new) }
+        ensures since { ShowsSince (every_of stderr.old.stats) before
+            (numbers_at (point_of S.Store self.now) stderr.old.passed)
+            (log_of E.contents stderr.old) (log_of E.contents stderr.new) }
+        ensures tells { Tells [] 0 (log_of E.contents stderr.old) (log_of E.contents stderr.new) }
     {
-        if told.is_due(before, self.answered.counts.requests()) {
-            self.show(rt, alloc, told);
+        if stderr.is_due(before, self.answered.counts.requests()) {
+            self.show(rt, alloc, stderr);
         }
     }
 }

@@ -16,8 +16,8 @@ ghost use Rattle.cli_run.specs.Traces.{Reports, ReportsFor, Tells, if_passed, lo
 ghost use Rattle.cli_run.specs.declared.stream.StreamEnd.TheVariants.{Unread};
 
 use crate::error::ServeError;
+use crate::standard_error::StandardError;
 use crate::switch::Switch;
-use crate::told::Told;
 use cli_io::ReadError;
 use iso_codec::{DecodeError, decode};
 use sqlite::Alter;
@@ -81,17 +81,17 @@ impl Drop for Requests {
     }
 }
 
-// The context of a request; a message that cannot be read is told by its number and passed over.
+// The context of a request; a message that cannot be read is passed over, and its number is written.
 pub(crate) fn request_in<E: Write>(
     alloc: Global,
     number: u64,
     message: &[u8],
-    told: &mut Told<'_, E>,
+    stderr: &mut StandardError<'_, E>,
 ) -> Result<Option<Context>, ServeError>
     ensures request { IfOk result (λ request. option_to_list request
         ≡ map request_of (if_read (read message.now) message.now)) }
-    ensures told { OnOk result (Tells [] (if_passed (read message.now))
-        (log_of E.contents told.old) (log_of E.contents told.new)) }
+    ensures tells { OnOk result (Tells [] (if_passed (read message.now))
+        (log_of E.contents stderr.old) (log_of E.contents stderr.new)) }
 {
     match decode(alloc, message) {
         Ok(_) => {
@@ -103,13 +103,13 @@ pub(crate) fn request_in<E: Write>(
         }
         Err(DecodeError::OutOfMemory) => Err(ServeError::OutOfMemory),
         Err(error) => {
-            told.pass_over(alloc, number, &error)?;
+            stderr.pass_over(alloc, number, &error)?;
             Ok(None)
         }
     }
 }
 
-// Answers a message, if it can be read, and tells the numbers of the run where that is due.
+// Answers a message, if it can be read, and writes the numbers of the run where that is due.
 fn serve<S: Alter, C: Clock, O: Write, E: Write>(
     rt: &C,
     alloc: Global,
@@ -117,24 +117,24 @@ fn serve<S: Alter, C: Clock, O: Write, E: Write>(
     number: u64,
     message: &[u8],
     out: &mut O,
-    told: &mut Told<'_, E>,
+    stderr: &mut StandardError<'_, E>,
 ) -> Result<(), ServeError>
     requires ready { IsReady (point_of S.Store switch.old) }
     ensures serves { OnOk result (Reports (answering
         (map request_of (if_read (read message.now) message.now))) (if_passed (read message.now))
-        (point_of S.Store switch.old) (O.contents out.old) (log_of E.contents told.old)
-        (point_of S.Store switch.new) (O.contents out.new) (log_of E.contents told.new)) }
+        (point_of S.Store switch.old) (O.contents out.old) (log_of E.contents stderr.old)
+        (point_of S.Store switch.new) (O.contents out.new) (log_of E.contents stderr.new)) }
     ensures halts { OnErr result (Halts (answering
         (map request_of (if_read (read message.now) message.now)))
         (point_of S.Store switch.old) (O.contents out.old) (O.contents out.new)) }
     ensures ready { OnOk result (IsReady (point_of S.Store switch.new)) }
 {
-    let Some(request) = request_in(alloc, number, message, told)? else {
+    let Some(request) = request_in(alloc, number, message, stderr)? else {
         return Ok(());
     };
     let before = switch.answered.counts.requests();
-    switch.answer(alloc, request, told, out)?;
-    switch.show_since(rt, alloc, before, told);
+    switch.answer(alloc, request, stderr, out)?;
+    switch.show_since(rt, alloc, before, stderr);
     Ok(())
 }
 
@@ -146,20 +146,20 @@ fn serve_messages<S: Alter, C: Clock, O: Write, E: Write>(
     count: &mut u64,
     list: &[Vec<u8>],
     out: &mut O,
-    told: &mut Told<'_, E>,
+    stderr: &mut StandardError<'_, E>,
 ) -> Result<(), ServeError>
     requires ready { IsReady (point_of S.Store switch.old) }
     ensures serves { OnOk result (Reports (answering (requests (messages list.now)))
         (passed_over (messages list.now))
-        (point_of S.Store switch.old) (O.contents out.old) (log_of E.contents told.old)
-        (point_of S.Store switch.new) (O.contents out.new) (log_of E.contents told.new)) }
+        (point_of S.Store switch.old) (O.contents out.old) (log_of E.contents stderr.old)
+        (point_of S.Store switch.new) (O.contents out.new) (log_of E.contents stderr.new)) }
     ensures halts { OnErr result (Halts (answering (requests (messages list.now)))
         (point_of S.Store switch.old) (O.contents out.old) (O.contents out.new)) }
     ensures ready { OnOk result (IsReady (point_of S.Store switch.new)) }
 {
     for message in list {
         *count = count.saturating_add(1);
-        serve(rt, alloc, switch, *count, message, out, told)?;
+        serve(rt, alloc, switch, *count, message, out, stderr)?;
     }
     Ok(())
 }
@@ -238,8 +238,8 @@ impl Requests {
         Ok(Piece { messages, end })
     }
 
-    // Reads once, and answers the messages that are whole then; the lines of the trace are told before. It
-    // tells how the stream ended, if it did.
+    // Reads once, and answers the messages that are whole then; the lines of the trace are written before.
+    // Its result is how the stream ended, if it did.
     fn serve_read<S: Alter, C: Clock, R: Read, O: Write, E: Write>(
         &mut self,
         rt: &C,
@@ -248,7 +248,7 @@ impl Requests {
         input: &mut R,
         buf: &mut [u8],
         out: &mut O,
-        told: &mut Told<'_, E>,
+        stderr: &mut StandardError<'_, E>,
     ) -> Result<Option<StreamEnd>, ServeError>
         requires ready { IsReady (point_of S.Store switch.old) }
         requires room { 0 < length buf.old }
@@ -259,16 +259,16 @@ impl Requests {
             × ReadsOn (R.remaining input.old) self.old.framer more
             (R.remaining input.new) self.new.framer
             × ReportsFor false more
-            (point_of S.Store switch.old) (O.contents out.old) (log_of E.contents told.old)
-            (point_of S.Store switch.new) (O.contents out.new) (log_of E.contents told.new)
+            (point_of S.Store switch.old) (O.contents out.old) (log_of E.contents stderr.old)
+            (point_of S.Store switch.new) (O.contents out.new) (log_of E.contents stderr.new)
             × IfSome end (λ e. EndsAs e self.new.framer (R.remaining input.new))) }
         ensures halts { OnErr result (HaltsOn false (R.remaining input.old) self.old.framer
             (point_of S.Store switch.old) (O.contents out.old) (O.contents out.new)) }
         ensures ready { OnOk result (IsReady (point_of S.Store switch.new)) }
     {
-        switch.cut_told(alloc, told)?;
+        switch.cut_traced(alloc, stderr)?;
         let Piece { messages, end } = self.read(alloc, input, buf)?;
-        serve_messages(rt, alloc, switch, &mut self.count, &messages, out, told)?;
+        serve_messages(rt, alloc, switch, &mut self.count, &messages, out, stderr)?;
         Ok(end)
     }
 
@@ -280,15 +280,15 @@ impl Requests {
         switch: &mut Switch<S>,
         input: &mut R,
         out: &mut O,
-        told: &mut Told<'_, E>,
+        stderr: &mut StandardError<'_, E>,
     ) -> Result<StreamEnd, ServeError>
         requires ready { IsReady (point_of S.Store switch.old) }
         requires fresh { self.old.framer ≡ blank }
         ensures serves { IfOk result (λ end. (frames : List (List ℕ))
             × ReadTo end (R.remaining input.old) frames
             × ReportsFor false frames
-            (point_of S.Store switch.old) (O.contents out.old) (log_of E.contents told.old)
-            (point_of S.Store switch.new) (O.contents out.new) (log_of E.contents told.new)) }
+            (point_of S.Store switch.old) (O.contents out.old) (log_of E.contents stderr.old)
+            (point_of S.Store switch.new) (O.contents out.new) (log_of E.contents stderr.new)) }
         ensures stops { OnErr result (StopsWithin false (R.remaining input.old)
             (point_of S.Store switch.old) (O.contents out.old) (O.contents out.new)) }
         ensures ready { OnOk result (IsReady (point_of S.Store switch.new)) }
@@ -297,7 +297,7 @@ impl Requests {
         // More reads than any run makes.
         for _ in 0..u64::MAX {
             let buf = buf.as_mut_slice();
-            let end = self.serve_read(rt, alloc, switch, input, buf, out, told)?;
+            let end = self.serve_read(rt, alloc, switch, input, buf, out, stderr)?;
             if let Some(end) = end {
                 return Ok(end);
             }
@@ -306,7 +306,7 @@ impl Requests {
     }
 }
 
-// A read failed. Want of memory ends the run, any other error the stream.
+// A read failed. Out of memory ends the run, any other error the stream.
 fn unread(alloc: Global, error: io::Error) -> Result<Piece, ServeError>
     ensures none { IfOk result (λ piece. messages piece.messages.items ≡ []) }
     ensures unread { IfOk result (λ piece. (e : ReadError) × (piece.end ≡ Some (Unread e))) }

@@ -6,7 +6,6 @@ ghost use Rattle.sw_context.specs.Pairs.{Pairs};
 ghost use Rattle.sw_frame.specs.Stream.{AreFramed};
 ghost use Rattle.tx_engine.specs.Calls.{waits};
 ghost use Rattle.plant_outcome.specs.Seated.{Seated};
-ghost use Rattle.cli_run.specs.Errors.{IsCause, IsNoStation};
 ghost use Rattle.cli_run.specs.Points.{IsAtRest, IsReady, RestsGiven, all_answered, point_of};
 ghost use Rattle.cli_run.specs.Points.{responses, unanswered};
 ghost use Rattle.cli_run.specs.Rounds.{Completed, Does, IsDone, Lone, Together, Transacts};
@@ -17,20 +16,17 @@ ghost use Rattle.cli_run.specs.Traces.{Cuts, IsLive, Reports, log_of};
 use crate::error::ServeError;
 use crate::given::{count_above, last_above, text_above};
 use crate::progress::Progress;
-use crate::told::{Form, Told};
+use crate::standard_error::{Form, StandardError};
 use cli_io::write_out;
-use flow_asm::Code;
 use sqlite::Alter;
 use std::alloc::Global;
 use std::io::Write;
 use std::sync::Wait;
 use std::thread::Threads;
 use sw_context::Context;
-use sw_participant::Text;
-use sw_seating::SeatingError;
 use tx_engine::Engine;
 use tx_intake::Listed;
-use tx_plant::{Outcome, Plant, PlantError, Turn};
+use tx_plant::{Outcome, Plant, Turn};
 use tx_pool::{Open, Pool};
 
 /// A history of so many entries is cut between two transactions. Contracts know the bound, half of what a
@@ -38,7 +34,7 @@ use tx_pool::{Open, Pool};
 const MANY_ENTRIES: usize = 8_192;
 
 // From how many entries on a history is cut between two transactions. With the trace it is cut each time: so
-// all lines of a transaction are told before the next one is offered, each once.
+// all lines of a transaction are written before the next one is offered, each once.
 fn entries_kept(trace: Option<Form>) -> usize
     ensures bound { result ≤ 524288 }
     ensures live { is_some trace ≡ true → result ≡ 1 }
@@ -87,29 +83,6 @@ impl<S: Alter + Drop> Switch<S> {
             Ok((plant, _, _)) => Ok(Switch { plant, answered }),
             Err(error) => Err(ServeError::from_pool(error)),
         }
-    }
-}
-
-// The participant without a station, told by its name.
-fn no_station(alloc: Global, code: &Code, number: usize) -> ServeError
-    ensures { IsNoStation code.now number result }
-{
-    let Some(part) = code.participants().get(number) else {
-        return ServeError::OutOfMemory;
-    };
-    match Text::from_str(alloc, part.name.as_str()) {
-        Ok(name) => ServeError::NoStation(name),
-        Err(_) => ServeError::OutOfMemory,
-    }
-}
-
-/// Why no plant was made.
-pub(crate) fn cause_of(alloc: Global, code: &Code, error: PlantError) -> ServeError
-    ensures { IsCause code.now error result }
-{
-    match error {
-        PlantError::Seating(SeatingError::NoStation(number)) => no_station(alloc, code, number),
-        other => ServeError::from(other),
     }
 }
 
@@ -198,47 +171,47 @@ impl<S: Alter> Switch<S> {
         Ok(())
     }
 
-    // Cuts a history between two transactions, where it is long or its lines are wanted; these are told
-    // before. With the trace no line is left to tell then.
+    // Cuts a history between two transactions, where it is long or its lines are wanted; these are written
+    // before. With the trace no line is left to write then.
     fn cut_between<E: Write>(
         &mut self,
         alloc: Global,
-        told: &mut Told<'_, E>,
+        stderr: &mut StandardError<'_, E>,
     ) -> Result<(), ServeError>
         requires rest { IsAtRest (point_of S.Store self.old) }
         ensures cuts { OnOk result (Cuts
-            (point_of S.Store self.old) (log_of E.contents told.old)
-            (point_of S.Store self.new) (log_of E.contents told.new)) }
+            (point_of S.Store self.old) (log_of E.contents stderr.old)
+            (point_of S.Store self.new) (log_of E.contents stderr.new)) }
         ensures rest { OnOk result (IsAtRest (point_of S.Store self.new)) }
         ensures queue { OnOk result (waits self.new.plant.running.engine
             ≡ waits self.old.plant.running.engine) }
-        ensures live { OnOk result (IsLive told.old.trace self.new.plant.running.engine) }
+        ensures live { OnOk result (IsLive stderr.old.trace self.new.plant.running.engine) }
     {
-        let entries = entries_kept(told.trace);
+        let entries = entries_kept(stderr.trace);
         if self.engine().history().len() < entries {
             return Ok(());
         }
-        told.trace(alloc, self.engine())?;
+        stderr.trace(alloc, self.engine())?;
         self.act(alloc, Turn::Cut)?;
         Ok(())
     }
 
-    /// Cuts a history whose lines are wanted, or that is long; these are told before. So lines of the trace
-    /// are told before an input is waited for.
-    pub(crate) fn cut_told<E: Write>(
+    /// Cuts a history whose lines are wanted, or that is long; these are written before. So lines of the trace
+    /// are written before an input is waited for.
+    pub(crate) fn cut_traced<E: Write>(
         &mut self,
         alloc: Global,
-        told: &mut Told<'_, E>,
+        stderr: &mut StandardError<'_, E>,
     ) -> Result<(), ServeError>
         requires rest { IsAtRest (point_of S.Store self.old) }
         requires empty { waits self.old.plant.running.engine ≡ [] }
         ensures cuts { OnOk result (Cuts
-            (point_of S.Store self.old) (log_of E.contents told.old)
-            (point_of S.Store self.new) (log_of E.contents told.new)) }
+            (point_of S.Store self.old) (log_of E.contents stderr.old)
+            (point_of S.Store self.new) (log_of E.contents stderr.new)) }
         ensures ready { OnOk result (IsReady (point_of S.Store self.new)) }
-        ensures live { OnOk result (IsLive told.old.trace self.new.plant.running.engine) }
+        ensures live { OnOk result (IsLive stderr.old.trace self.new.plant.running.engine) }
     {
-        self.cut_between(alloc, told)
+        self.cut_between(alloc, stderr)
     }
 
     /// Runs the transaction of the queue's first context to its end, and writes its response; then the lines of
@@ -246,21 +219,21 @@ impl<S: Alter> Switch<S> {
     pub(crate) fn answer_next<O: Write, E: Write>(
         &mut self,
         alloc: Global,
-        told: &mut Told<'_, E>,
+        stderr: &mut StandardError<'_, E>,
         out: &mut O,
     ) -> Result<(), ServeError>
         requires rest { IsAtRest (point_of S.Store self.old) }
         ensures serves { OnOk result (Reports (Completed ∷ []) 0
-            (point_of S.Store self.old) (O.contents out.old) (log_of E.contents told.old)
-            (point_of S.Store self.new) (O.contents out.new) (log_of E.contents told.new)) }
+            (point_of S.Store self.old) (O.contents out.old) (log_of E.contents stderr.old)
+            (point_of S.Store self.new) (O.contents out.new) (log_of E.contents stderr.new)) }
         ensures halts { OnErr result (Halts (Completed ∷ [])
             (point_of S.Store self.old) (O.contents out.old) (O.contents out.new)) }
         ensures rest { OnOk result (IsAtRest (point_of S.Store self.new)) }
-        ensures live { OnOk result (IsLive told.old.trace self.new.plant.running.engine) }
+        ensures live { OnOk result (IsLive stderr.old.trace self.new.plant.running.engine) }
     {
         self.serve_next(alloc)?;
         self.give(alloc, out)?;
-        self.cut_between(alloc, told)
+        self.cut_between(alloc, stderr)
     }
 
     /// Runs the transaction of a request to its end, and writes its response; then the lines of the trace so
@@ -269,19 +242,19 @@ impl<S: Alter> Switch<S> {
         &mut self,
         alloc: Global,
         request: Context,
-        told: &mut Told<'_, E>,
+        stderr: &mut StandardError<'_, E>,
         out: &mut O,
     ) -> Result<(), ServeError>
         requires ready { IsReady (point_of S.Store self.old) }
         ensures serves { OnOk result (Reports (answering (request ∷ [])) 0
-            (point_of S.Store self.old) (O.contents out.old) (log_of E.contents told.old)
-            (point_of S.Store self.new) (O.contents out.new) (log_of E.contents told.new)) }
+            (point_of S.Store self.old) (O.contents out.old) (log_of E.contents stderr.old)
+            (point_of S.Store self.new) (O.contents out.new) (log_of E.contents stderr.new)) }
         ensures halts { OnErr result (Halts (answering (request ∷ []))
             (point_of S.Store self.old) (O.contents out.old) (O.contents out.new)) }
         ensures ready { OnOk result (IsReady (point_of S.Store self.new)) }
-        ensures live { OnOk result (IsLive told.old.trace self.new.plant.running.engine) }
+        ensures live { OnOk result (IsLive stderr.old.trace self.new.plant.running.engine) }
     {
         self.act(alloc, Turn::Offer(request))?;
-        self.answer_next(alloc, told, out)
+        self.answer_next(alloc, stderr, out)
     }
 }

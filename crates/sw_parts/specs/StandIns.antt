@@ -12,10 +12,10 @@ use Rattle.sw_parts.specs.Quiet.{passes, refuses, leaves_notes}
 abbrev pub is_open : Pairs → Bool
 is_open x = is_some (find (codes "late") x) && is_none (find (codes "rc") x)
 
--- an amount of at most 1,000 is approved
-abbrev pub is_small : Option ℕ → Bool
-is_small None = false
-is_small (Some amount) = nat_le amount 1000
+-- an amount up to the greatest one is approved
+abbrev pub is_small : ℕ → Option ℕ → Bool
+is_small most None = false
+is_small most (Some amount) = nat_le amount most
 
 -- the approval code: SI and the last four digits of the STAN
 abbrev pub stand_in_code : List ℕ → List ℕ
@@ -31,19 +31,20 @@ Judged true stan x byte y = (byte ≡ leaves_notes) × (y ≡ stood_in stan x)
 Judged false stan x byte y = (byte ≡ refuses) × (y ≡ coded rc.IssuerInoperative x)
 
 -- a request without amount (4) or STAN (11) is passed over
-abbrev pub StandsInWith : Option (List ℕ) → Option (List ℕ) → Pairs → ℕ → Pairs → Type 0
-StandsInWith (Some amount) (Some stan) x byte y =
-    Judged (is_small (number_of amount)) stan x byte y
-StandsInWith _ _ x byte y = (byte ≡ passes) × (y ≡ x)
+abbrev pub StandsInWith : ℕ → Option (List ℕ) → Option (List ℕ) → Pairs → ℕ → Pairs → Type 0
+StandsInWith most (Some amount) (Some stan) x byte y =
+    Judged (is_small most (number_of amount)) stan x byte y
+StandsInWith most _ _ x byte y = (byte ≡ passes) × (y ≡ x)
 
-abbrev pub StandsInBy : Option PlainMessage → Pairs → ℕ → Pairs → Type 0
-StandsInBy None x byte y = (byte ≡ passes) × (y ≡ x)
-StandsInBy (Some m) x byte y = StandsInWith (value_at 4 m.fields) (value_at 11 m.fields) x byte y
+abbrev pub StandsInBy : ℕ → Option PlainMessage → Pairs → ℕ → Pairs → Type 0
+StandsInBy most None x byte y = (byte ≡ passes) × (y ≡ x)
+StandsInBy most (Some m) x byte y =
+    StandsInWith most (value_at 4 m.fields) (value_at 11 m.fields) x byte y
 
-abbrev pub StandsInWhere : Bool → Pairs → ℕ → Pairs → Type 0
-StandsInWhere true x byte y = StandsInBy (request_in x) x byte y
-StandsInWhere false x byte y = (byte ≡ passes) × (y ≡ x)
+abbrev pub StandsInWhere : Bool → ℕ → Pairs → ℕ → Pairs → Type 0
+StandsInWhere true most x byte y = StandsInBy most (request_in x) x byte y
+StandsInWhere false most x byte y = (byte ≡ passes) × (y ≡ x)
 
--- stand-in, as it prepares: context, answer byte, context after
-abbrev pub StandsIn : Pairs → ℕ → Pairs → Type 0
-StandsIn x byte y = StandsInWhere (is_open x) x byte y
+-- stand-in up to an amount, as it prepares: context, answer byte, context after
+abbrev pub StandsIn : ℕ → Pairs → ℕ → Pairs → Type 0
+StandsIn most x byte y = StandsInWhere (is_open x) most x byte y

@@ -13,8 +13,8 @@
 //! Each states for each call of a participant what it may do, as a relation in `specs/`. What is
 //! not named there does nothing: a preparation answers that the participant is ready and does not
 //! join, an outcome has no effect. Those that never join are [`Unjoined`](sw_participant::Unjoined),
-//! and [`Bystander`](sw_participant::Bystander) makes participants of them. A participant that is refused memory has changed
-//! nothing.
+//! and [`Bystander`](sw_participant::Bystander) makes participants of them. A participant that is
+//! refused memory has changed nothing.
 #![tactic(auto)]
 
 mod answers;

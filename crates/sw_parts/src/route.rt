@@ -9,7 +9,7 @@ ghost use Rattle.sw_parts.specs.Routes.{ChecksRoute, group_by, chosen_group, sho
 
 use crate::answers::{PASSES, decide};
 use iso_msg::Message;
-use std::alloc::Global;
+use std::alloc::{AllocError, Global};
 use sw_context::Context;
 use sw_messages::{CODE, Class, ResponseCode, class_of, request_in};
 use sw_participant::{NoMemory, Sequence, Text, Unjoined};
@@ -29,6 +29,18 @@ impl Drop for Routing {
             prefix: _,
             group: _,
         } = self;
+    }
+}
+
+impl Routing {
+    /// A second one that says the same; the only refusal is out of memory.
+    pub fn copy(&self) -> Result<Routing, AllocError>
+        ensures { IfOk result (λ routing. routing ≡ self.now) }
+    {
+        Ok(Routing {
+            prefix: self.prefix.copy()?,
+            group: self.group.copy()?,
+        })
     }
 }
 

@@ -1,6 +1,6 @@
 //! What the switch decides where the issuer's answer is late.
 
-ghost use Rattle.std.specs.Prelude.{◌≡◌, ◌≤◌, [], length, IfOk, OnOk, OnErr};
+ghost use Rattle.std.specs.Prelude.{◌≡◌, ◌≤◌, ◌∷◌, ℕ, [], length, IfOk, OnOk, OnErr};
 ghost use Rattle.sw_base.specs.Digits.{number_of};
 ghost use Rattle.sw_parts.specs.Quiet.{PassesOver, SelectsNone};
 ghost use Rattle.sw_parts.specs.StandIns.{is_open, is_small, stand_in_code, stood_in};
@@ -15,20 +15,19 @@ use sw_messages::{
 };
 use sw_participant::{NoMemory, Text, Unjoined};
 
-/// The greatest amount that the switch approves by itself.
-const MOST_AMOUNT: u64 = 1_000;
-
-/// Decides in the place of an issuer whose answer is late: an amount of at most 1,000 is
+/// Decides in the place of an issuer whose answer is late: an amount up to the greatest one is
 /// approved, with an approval code of `SI` and the last four digits of the STAN, and any other
 /// one refused with 91, issuer inoperative.
 pub struct StandIn {
     alloc: Global,
+    /// The greatest amount that it approves, in minor units.
+    most: u64,
 }
 
 // Written out, so that no caller proves again how its parts are dropped.
 impl Drop for StandIn {
     fn drop(self) {
-        let StandIn { alloc: _ } = self;
+        let StandIn { alloc: _, most: _ } = self;
     }
 }
 
@@ -38,12 +37,12 @@ fn is_open(context: &Context) -> bool
     context.get(LATE).is_some() && context.get(CODE).is_none()
 }
 
-fn is_small(amount: &[u8]) -> bool
+fn is_small(most: u64, amount: &[u8]) -> bool
     requires { length amount.now ≤ 12 }
-    ensures { result ≡ is_small (number_of amount.now) }
+    ensures { result ≡ is_small most (number_of amount.now) }
 {
     match amount_of(amount) {
-        Some(amount) => amount <= MOST_AMOUNT,
+        Some(amount) => amount <= most,
         None => false,
     }
 }
@@ -71,14 +70,14 @@ fn approve(stan: &[u8], context: &mut Context) -> Result<(), NoMemory>
     Ok(())
 }
 
-fn decide(amount: &[u8], stan: &[u8], context: &mut Context) -> Result<u8, NoMemory>
+fn decide(most: u64, amount: &[u8], stan: &[u8], context: &mut Context) -> Result<u8, NoMemory>
     requires amount { length amount.now ≤ 12 }
     requires stan { length stan.now ≡ 6 }
     ensures decided { IfOk result (λ byte.
-        Judged (is_small (number_of amount.now)) stan.now context.old byte context.new) }
+        Judged (is_small most (number_of amount.now)) stan.now context.old byte context.new) }
     ensures kept { OnErr result (context.new ≡ context.old) }
 {
-    if is_small(amount) {
+    if is_small(most, amount) {
         approve(stan, context)?;
         return Ok(LEAVES_NOTES);
     }
@@ -86,8 +85,9 @@ fn decide(amount: &[u8], stan: &[u8], context: &mut Context) -> Result<u8, NoMem
     Ok(REFUSES)
 }
 
-fn stand_in(request: &Option<Message>, context: &mut Context) -> Result<u8, NoMemory>
-    ensures stood_in { IfOk result (λ byte. StandsInBy request.now context.old byte context.new) }
+fn stand_in(most: u64, request: &Option<Message>, context: &mut Context) -> Result<u8, NoMemory>
+    ensures stood_in { IfOk result (λ byte.
+        StandsInBy most request.now context.old byte context.new) }
     ensures kept { OnErr result (context.new ≡ context.old) }
 {
     let Some(message) = request else {
@@ -99,22 +99,24 @@ fn stand_in(request: &Option<Message>, context: &mut Context) -> Result<u8, NoMe
     let Some(stan) = message.get(11) else {
         return Ok(PASSES);
     };
-    decide(amount, stan, context)
+    decide(most, amount, stan, context)
 }
 
 impl StandIn {
-    /// It keeps nothing, and takes no memory: `alloc` is for the messages that it reads.
-    pub fn new(alloc: Global) -> StandIn
-        ensures { ⟦<StandIn as Unjoined>⟧.object result ≡ [] }
+    /// Which approves amounts up to this one, in minor units. It takes no memory: `alloc` is for
+    /// the messages that it reads.
+    pub fn new(alloc: Global, most: u64) -> StandIn
+        ensures { ⟦<StandIn as Unjoined>⟧.object result ≡ most ∷ [] }
     {
-        StandIn { alloc }
+        StandIn { alloc, most }
     }
 }
 
 impl Unjoined for StandIn {
-    ghost object = { λ _. [] };
+    ghost object = { λ standin. standin.most ∷ [] };
 
-    ghost prepares = { λ id o x byte p y. (p ≡ o) × StandsIn x byte y };
+    ghost prepares = { λ id o x byte p y. (most : ℕ)
+        × (o ≡ most ∷ []) × (p ≡ o) × StandsIn most x byte y };
 
     ghost prepares_for_abort = { λ id o x byte p y. PassesOver o x byte p y };
 
@@ -125,7 +127,7 @@ impl Unjoined for StandIn {
             return Ok(PASSES);
         }
         let request = request_in(self.alloc, context)?;
-        stand_in(&request, context)
+        stand_in(self.most, &request, context)
     }
 
     fn prepare_for_abort(&mut self, id: u64, context: &mut Context) -> Result<u8, NoMemory> {

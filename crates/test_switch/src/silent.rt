@@ -2,7 +2,10 @@
 
 use crate::error::TestError;
 use cli_flows::open_flow;
-use cli_run::{Issuers, ServeError, Setup, StreamEnd, Told, run};
+use cli_run::{
+    DEFAULT_STAND_IN, ServeError, Setup, StandardError, StreamEnd, SwitchLink, default_advised,
+    default_queried, default_routes, run,
+};
 use flow_asm::{Code, assemble};
 use sqlite::{Alter, Connection};
 use std::alloc::Global;
@@ -11,18 +14,34 @@ use std::sync::Wait;
 use std::thread::Threads;
 use std::time::Clock;
 use sw_book::Book;
+use sw_hosts::IssuerLink;
 use sw_issuers::Issuer;
 use tx_journal::Journal;
 
 /// What a card may spend.
 const LIMIT: u64 = 10_000;
 
-// The links to the issuers, of which alpha's is silent.
-fn issuers(alloc: Global) -> Issuers {
-    Issuers {
-        alpha: Issuer::new(alloc, true),
-        beta: Issuer::new(alloc, false),
-    }
+// A link to a simulated issuer.
+fn link(alloc: Global, silent: bool) -> SwitchLink {
+    IssuerLink::Simulated(Issuer::new(alloc, silent))
+}
+
+// The setup of the switch, with an issuer alpha that is silent.
+fn setup(alloc: Global) -> Result<Setup<SwitchLink>, ServeError> {
+    let Ok(book) = Book::new(alloc, LIMIT) else {
+        return Err(ServeError::OutOfMemory);
+    };
+    let queried = default_queried(alloc, link(alloc, true), link(alloc, false))?;
+    let advised = default_advised(alloc, link(alloc, true), link(alloc, false))?;
+    Ok(Setup {
+        book,
+        stand_in: DEFAULT_STAND_IN,
+        routes: default_routes(alloc)?,
+        queried,
+        advised,
+        sessions: 1,
+        threads: false,
+    })
 }
 
 fn serve<S: Alter + Drop, T: Threads + Wait + Clock + Sync, R: Read + Drop, O: Write, E: Write>(
@@ -32,20 +51,20 @@ fn serve<S: Alter + Drop, T: Threads + Wait + Clock + Sync, R: Read + Drop, O: W
     conn: Connection<S>,
     input: R,
     out: &mut O,
-    told: &mut Told<'_, E>,
+    stderr: &mut StandardError<'_, E>,
 ) -> Result<StreamEnd, ServeError> {
-    let Ok(book) = Book::new(alloc, LIMIT) else {
-        return Err(ServeError::OutOfMemory);
-    };
-    let setup = Setup {
-        book,
-        queried: issuers(alloc),
-        advised: issuers(alloc),
-        sessions: 1,
-        threads: false,
-    };
+    let setup = setup(alloc)?;
     match Journal::open(alloc, conn) {
-        Ok(journal) => run(threads, alloc, code, journal, setup, Some(input), out, told),
+        Ok(journal) => run(
+            threads,
+            alloc,
+            code,
+            journal,
+            setup,
+            Some(input),
+            out,
+            stderr,
+        ),
         Err((cause, _)) => Err(ServeError::from(cause)),
     }
 }
@@ -65,7 +84,7 @@ pub fn run_silent<T: Threads + Wait + Clock + Sync>(
     let Ok(conn) = Connection::open(rt, journal) else {
         return Err(TestError::File);
     };
-    let mut told = Told {
+    let mut stderr = StandardError {
         err: &mut rt.stderr(),
         trace: None,
         lost: false,
@@ -79,7 +98,7 @@ pub fn run_silent<T: Threads + Wait + Clock + Sync>(
         conn,
         rt.stdin(),
         &mut rt.stdout(),
-        &mut told,
+        &mut stderr,
     ) {
         Ok(_) => Ok(()),
         Err(_) => Err(TestError::Run),

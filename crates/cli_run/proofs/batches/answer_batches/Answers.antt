@@ -23,7 +23,7 @@ loop-preserved g c =
       first = i.first ++ messages front;
       split = split_more c.args.list.now c.loop.rest.now front back i.first c.min.result i.split c.split_at.ensures.front c.split_at.ensures.back;
       few = omega (arith, i.few, c.min.ensures, c.split_at.ensures.front_len, c.split_at.ensures.back_len, c.loop-test.true);
-      serves = frames_then i.first (messages front) c.in_ok-requests.requests.items _ _ _ _ _ _ _ _ _ _ c.in_ok-requests.ensures.all i.serves c.in_ok-requests.ensures.told (batch_shown _ _ _ _ _ _ _ _ c.in_ok-switch.ensures.serves c.show_since.ensures.tells);
+      serves = frames_then i.first (messages front) c.in_ok-requests.requests.items _ _ _ _ _ _ _ _ _ _ c.in_ok-requests.ensures.all i.serves c.in_ok-requests.ensures.tells (batch_shown _ _ _ _ _ _ _ _ c.in_ok-switch.ensures.serves c.show_since.ensures.tells);
       ready = c.in_ok-switch.ensures.ready;
     }
 

@@ -3,7 +3,7 @@ use Rattle.cli_run.proofs.Paths.{begins_path, ran_path}
 use Rattle.cli_run.proofs.laws.runs_keep_the_law.Goals as goal
 
 pub returns : goal.returns
-returns c = record {
+returns g c = record {
   ran = λ f n j sender rounds before after calls ran clean law. (let path = ran_path f n j _ sender rounds before after ran in
       record {
         drives = path.drives;

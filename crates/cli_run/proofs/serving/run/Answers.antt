@@ -1,8 +1,11 @@
 use Rattle.std.proofs.Common.{◌≡◌, ℕ, Bool, List, Option, Result, IfOk, IfSome, inl, subst}
 use Rattle.flow_model.specs.declared.flow.Flow.{Flow}
+use Rattle.sw_parts.specs.declared.route.Routing.{Routing}
+use Rattle.sw_issuers.specs.declared.sender.GroupLink.{GroupLink}
 use Rattle.sw_issuers.specs.Sending.{PlainSender}
 use Rattle.tx_plant.specs.Plant.{Seen}
 use Rattle.cli_run.specs.Advices.{AdviceStep}
+use Rattle.cli_run.specs.Links.{sender_with}
 use Rattle.cli_run.specs.Ran.{Ran, all_lines}
 use Rattle.cli_run.specs.Requests.{ReadTo, requests}
 use Rattle.cli_run.specs.Rounds.{Round, RoundsFor}
@@ -24,8 +27,11 @@ of_sender : {R : Type 0} (r : Result StreamEnd ServeError) (input : Option R) (r
     → s ≡ t → RanBy r input remaining threads f n j step a b k l s → RanBy r input remaining threads f n j step a b k l t
 of_sender r input remaining threads f n j step a b k l s t is h = subst (RanBy r input remaining threads f n j step a b k l) is h
 
+over_same_routes : {X : Type 0} (state : X → List ℕ) (s : PlainSender) (routes others : List Routing) (links : List (GroupLink X)) → s ≡ sender_with state routes links → routes ≡ others → s ≡ sender_with state others links
+over_same_routes state s routes others links is same = subst (λ (rs : List Routing). s ≡ sender_with state rs links) same is
+
 pub returns-clause-ran : goal.returns-clause-ran
-returns-clause-ran g c = of_sender c.run.result c.args.input g.R.Read.remaining c.args.setup.threads _ _ _ _ _ _ _ _ _ _ c.in_ok-sender_over.ensures c.run.ensures.ran
+returns-clause-ran g c = of_sender c.run.result c.args.input g.R.Read.remaining c.args.setup.threads _ _ _ _ _ _ _ _ _ _ (over_same_routes _ _ _ _ _ c.in_ok-sender_over.ensures c.as_slice.ensures) c.run.ensures.ran
 
 pub returns-in_default-clause-stopped : goal.returns-in_default-clause-stopped
 returns-in_default-clause-stopped g c = inl (Keeps-refl _)
@@ -41,3 +47,18 @@ returns-in_default-4-clause-stopped g c = inl (Keeps-refl _)
 
 pub returns-in_err-stations-clause-stopped : goal.returns-in_err-stations-clause-stopped
 returns-in_err-stations-clause-stopped g c = on_err_of c.from_residual-in_err-stations.result (inl (Keeps-refl _))
+
+pub returns-in_err-query-clause-stopped : goal.returns-in_err-query-clause-stopped
+returns-in_err-query-clause-stopped g c = on_err_of c.from_residual-in_err-query.result (inl (Keeps-refl _))
+
+pub returns-in_err-station-clause-stopped : goal.returns-in_err-station-clause-stopped
+returns-in_err-station-clause-stopped g c = on_err_of c.from_residual-in_err-station.result (inl (Keeps-refl _))
+
+pub returns-in_err-push-in-Ok-clause-stopped : goal.returns-in_err-push-in-Ok-clause-stopped
+returns-in_err-push-in-Ok-clause-stopped g c = on_err_of c.from_residual-in_err-push-in-Ok.result (inl (Keeps-refl _))
+
+pub returns-in-Err-BadName-clause-stopped : goal.returns-in-Err-BadName-clause-stopped
+returns-in-Err-BadName-clause-stopped g c = inl (Keeps-refl _)
+
+pub returns-in-Err-OutOfMemory-clause-stopped : goal.returns-in-Err-OutOfMemory-clause-stopped
+returns-in-Err-OutOfMemory-clause-stopped g c = inl (Keeps-refl _)

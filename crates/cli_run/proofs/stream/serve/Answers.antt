@@ -29,9 +29,9 @@ returns-in_err-request-clause-halts g c = on_err_of c.from_residual.result (halt
 pub returns-in_default-clause-serves : goal.returns-in_default-clause-serves
 returns-in_default-clause-serves g c =
     let none = rw c.in_default.is at c.in_ok-request.ensures.request in
-    served_message _ [] _ _ _ _ _ _ _ _ none c.in_ok-request.ensures.told (reports_none _ _ _)
+    served_message _ [] _ _ _ _ _ _ _ _ none c.in_ok-request.ensures.tells (reports_none _ _ _)
 
 pub returns-clause-serves : goal.returns-clause-serves
 returns-clause-serves g c =
     let one = rw c.in-Some.is at c.in_ok-request.ensures.request in
-    reports_shown _ _ _ _ _ _ _ _ _ (served_message _ (c.in-Some.request ∷ []) _ _ _ _ _ _ _ _ one c.in_ok-request.ensures.told c.in_ok-answer.ensures.serves) c.show_since.ensures.tells
+    reports_shown _ _ _ _ _ _ _ _ _ (served_message _ (c.in-Some.request ∷ []) _ _ _ _ _ _ _ _ one c.in_ok-request.ensures.tells c.in_ok-answer.ensures.serves) c.show_since.ensures.tells

@@ -1,4 +1,4 @@
-use Rattle.std.proofs.Common.{ℕ, ◌+◌, ◌-◌, ◌≤◌, List, Option, Some, None, option_map, refl, sym, ap, subst, ◌∙◌, rules, arith}
+use Rattle.std.proofs.Common.{ℕ, List, Option, Some, None, option_map, refl, sym, ap, subst, ◌∙◌, rules, arith}
 use Rattle.sw_parts.proofs.Hearing.{ended, starved, came, later, heard, unread}
 use Rattle.sw_parts.proofs.query.hear.Goals as goal
 

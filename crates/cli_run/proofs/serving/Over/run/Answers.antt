@@ -7,7 +7,7 @@ use Rattle.tx_engine.specs.World.{World}
 use Rattle.tx_journal.specs.Kept.{kept}
 use Rattle.tx_plant.specs.Plant.{Whole, seen, whole}
 use Rattle.plant_outcome.specs.Lives.{IsMade}
-use Rattle.cli_run.specs.declared.told.Form.TheVariants.{Text}
+use Rattle.cli_run.specs.declared.standard_error.Form.TheVariants.{Text}
 use Rattle.cli_run.specs.Lines.{lines_in, written_as}
 use Rattle.cli_run.specs.Numbers.{begun_in}
 use Rattle.cli_run.specs.Requests.{requests}
@@ -77,8 +77,8 @@ returns-then-threads-clause-ran g c =
     let is : IsMade c.args.code.now c.args.self.sessions view (seen (kept g.S.Store c.args.self.journal)) made = record { opened = c.in-Ok.ensures.opened.1; engine = c.in-Ok.ensures.engine } in
     let first : c.opened.result.now.next_id ≡ made.core.world.start.view.next_id = ap (λ (v : JournalView). v.next_id) (c.opened.ensures ∙ ap (λ (w : World). w.start.view) c.engine.ensures) in
     let begins : c.begin-answered.result ≡ begun_in made.core.world c.opened.result.now.next_id = c.begin-answered.ensures ∙ ap (λ (w : World). begun_in w c.opened.result.now.next_id) c.engine-2.ensures in
-    if_ok c.serve_together.result (λ end served. some_ok _ c.args.self.input c.in-Some.input c.in-Some.is (let (done, told) = ran c.args.code.now c.args.self.sessions view (seen (kept g.S.Store c.args.self.journal)) made c.opened.result.now.next_id c.begin-answered.result _ _ _ _ _ _ _ _ _ is first begins c.in_ok-recover.ensures.recovers (served.4, served.5) in
-    (served.0, served.1, served.2, for_these c.args.self.threads true (requests served.0) served.2 c.if-threads.true served.3, done, told))) c.serve_together.ensures.serves
+    if_ok c.serve_together.result (λ end served. some_ok _ c.args.self.input c.in-Some.input c.in-Some.is (let (done, tells) = ran c.args.code.now c.args.self.sessions view (seen (kept g.S.Store c.args.self.journal)) made c.opened.result.now.next_id c.begin-answered.result _ _ _ _ _ _ _ _ _ is first begins c.in_ok-recover.ensures.recovers (served.4, served.5) in
+    (served.0, served.1, served.2, for_these c.args.self.threads true (requests served.0) served.2 c.if-threads.true served.3, done, tells))) c.serve_together.ensures.serves
 
 pub returns-then-threads-clause-stopped : goal.returns-then-threads-clause-stopped
 returns-then-threads-clause-stopped g c =
@@ -99,8 +99,8 @@ returns-clause-ran g c =
     let first : c.opened.result.now.next_id ≡ made.core.world.start.view.next_id = ap (λ (v : JournalView). v.next_id) (c.opened.ensures ∙ ap (λ (w : World). w.start.view) c.engine.ensures) in
     let begins : c.begin-answered.result ≡ begun_in made.core.world c.opened.result.now.next_id = c.begin-answered.ensures ∙ ap (λ (w : World). begun_in w c.opened.result.now.next_id) c.engine-2.ensures in
     through_both c.serve_to_end-served.result c.trace-traced.result c.end_of.result c.end_of.ensures.served c.end_of.ensures.traced c.serve_to_end-served.ensures.serves c.trace-traced.ensures (λ end served left. some_ok _ c.args.self.input c.in-Some.input c.in-Some.is (let last = told_last _ _ _ _ _ _ _ _ _ _ _ _ _ _ served.4 served.5 c.engine-3.ensures served.6 left c.show.ensures in
-    let (done, told) = ran c.args.code.now c.args.self.sessions view (seen (kept g.S.Store c.args.self.journal)) made c.opened.result.now.next_id c.begin-answered.result _ _ _ _ _ _ _ _ _ is first begins c.in_ok-recover.ensures.recovers last in
-    (served.0, served.1, served.2, for_these c.args.self.threads false (requests served.0) served.2 c.if-threads.false served.3, done, told)))
+    let (done, tells) = ran c.args.code.now c.args.self.sessions view (seen (kept g.S.Store c.args.self.journal)) made c.opened.result.now.next_id c.begin-answered.result _ _ _ _ _ _ _ _ _ is first begins c.in_ok-recover.ensures.recovers last in
+    (served.0, served.1, served.2, for_these c.args.self.threads false (requests served.0) served.2 c.if-threads.false served.3, done, tells)))
 
 pub returns-in-Err-clause-stopped : goal.returns-in-Err-clause-stopped
 returns-in-Err-clause-stopped g c = inl (Keeps-refl _)

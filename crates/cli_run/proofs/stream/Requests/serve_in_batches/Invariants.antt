@@ -10,6 +10,6 @@ invariant-loop g l = record {
   sound : l.self.framer.failed ≡ false;
   frames : List (List ℕ);
   reads : Reads (g.R.Read.remaining l.fn.input) (g.R.Read.remaining l.input) frames l.self.framer;
-  serves : ReportsFor true frames (point_of g.S.Store l.fn.switch) (g.O.Write.contents l.fn.out) (log_of g.E.Write.contents l.fn.told) (point_of g.S.Store l.switch) (g.O.Write.contents l.out) (log_of g.E.Write.contents l.told);
+  serves : ReportsFor true frames (point_of g.S.Store l.fn.switch) (g.O.Write.contents l.fn.out) (log_of g.E.Write.contents l.fn.stderr) (point_of g.S.Store l.switch) (g.O.Write.contents l.out) (log_of g.E.Write.contents l.stderr);
   ready : IsReady (point_of g.S.Store l.switch);
 }

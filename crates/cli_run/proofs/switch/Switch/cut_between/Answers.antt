@@ -1,4 +1,4 @@
-use Rattle.std.proofs.Common.{◌≡◌, [], false, ap, refl, subst}
+use Rattle.std.proofs.Common.{◌≡◌, [], false, refl, subst}
 use Rattle.tx_engine.specs.World.{World}
 use Rattle.cli_run.specs.Lines.{lines_in}
 use Rattle.cli_run.specs.Points.{is_long}
@@ -24,7 +24,7 @@ returns g c =
       cuts = record {
         lines = _;
         cuts = cuts;
-        tells = subst (λ (w : World). Tells (lines_in w) 0 (log_of g.E.Write.contents c.args.told.now) (log_of g.E.Write.contents c.trace.new.self)) c.engine-2.ensures c.in_ok-trace.ensures;
+        tells = subst (λ (w : World). Tells (lines_in w) 0 (log_of g.E.Write.contents c.args.stderr.now) (log_of g.E.Write.contents c.trace.new.self)) c.engine-2.ensures c.in_ok-trace.ensures;
       };
       rest = cut_rest _ _ _ c.requires.rest c.in_ok-act.ensures.does c.in_ok-act.ensures.seated;
       queue = cuts_waits _ _ _ cuts;

@@ -8,12 +8,12 @@ use Rattle.cli_run.proofs.switch.Switch.finish.Goals as goal
 pub returns-clause-finishes : goal.returns-clause-finishes
 returns-clause-finishes g c =
     let (text, framed, gives) = c.in_ok-give.ensures.gives in
-    on_ok c.cut_told.result (λ cuts. finished text _ _ _ _ _ _ _ _ _ _ framed gives c.in_ok-give.ensures.answered c.in_ok-drain.ensures.drains cuts) c.cut_told.ensures.cuts
+    on_ok c.cut_traced.result (λ cuts. finished text _ _ _ _ _ _ _ _ _ _ framed gives c.in_ok-give.ensures.answered c.in_ok-drain.ensures.drains cuts) c.cut_traced.ensures.cuts
 
 pub returns-clause-unfinished : goal.returns-clause-unfinished
 returns-clause-unfinished g c =
     let (text, framed, gives) = c.in_ok-give.ensures.gives in
-    on_err_of c.cut_told.result (inr (record {
+    on_err_of c.cut_traced.result (inr (record {
       text = text;
       framed = framed;
       between = _;

@@ -8,18 +8,18 @@ use Rattle.cli_run.proofs.switch.Switch.serve_to_end.Goals as goal
 pub returns : goal.returns
 returns g c =
     let (frames, read, serves) = c.in_ok-end.ensures.serves in
-    let (all, end, tells) = all_served _ _ false frames _ _ _ _ _ _ _ _ _ _ _ _ _ c.in_ok-cut_told.ensures.cuts c.in_ok-cut_told.ensures.ready serves c.in_ok-close.ensures.closes in
+    let (all, end, tells) = all_served _ _ false frames _ _ _ _ _ _ _ _ _ _ _ _ _ c.in_ok-cut_traced.ensures.cuts c.in_ok-cut_traced.ensures.ready serves c.in_ok-close.ensures.closes in
     record { stops = tt; serves = (frames, read, serves.rounds, serves.answers, all, end, tells) }
 
-pub returns-in_err-cut_told-clause-stops : goal.returns-in_err-cut_told-clause-stops
-returns-in_err-cut_told-clause-stops g c = on_err_of c.from_residual.result (inl (Keeps-refl _))
+pub returns-in_err-cut_traced-clause-stops : goal.returns-in_err-cut_traced-clause-stops
+returns-in_err-cut_traced-clause-stops g c = on_err_of c.from_residual.result (inl (Keeps-refl _))
 
 pub returns-in_err-end-clause-stops : goal.returns-in_err-end-clause-stops
 returns-in_err-end-clause-stops g c = on_err_of c.from_residual-in_err-end.result (inr (record {
   begun = _;
   cut = _;
-  cuts = c.in_ok-cut_told.ensures.cuts.cuts;
-  ready = c.in_ok-cut_told.ensures.ready;
+  cuts = c.in_ok-cut_traced.ensures.cuts.cuts;
+  ready = c.in_ok-cut_traced.ensures.ready;
   serves = inl c.in_err-end.ensures.stops;
 }))
 
@@ -29,7 +29,7 @@ returns-in_err-close-clause-stops g c =
     on_err_of c.from_residual-in_err-close.result (inr (record {
       begun = _;
       cut = _;
-      cuts = c.in_ok-cut_told.ensures.cuts.cuts;
-      ready = c.in_ok-cut_told.ensures.ready;
+      cuts = c.in_ok-cut_traced.ensures.cuts.cuts;
+      ready = c.in_ok-cut_traced.ensures.ready;
       serves = inr (record { end = _; frames = frames; read = read; served = _; between = _; serves = for_serves false frames _ _ _ _ _ _ serves; drains = c.in_err-close.ensures.stops });
     }))

@@ -1,0 +1,72 @@
+//! What a run has besides its flow and its journal.
+
+ghost use Rattle.std.specs.Prelude.{◌≡◌, IfOk, string_bytes};
+ghost use Rattle.cli_run.specs.Links.{query_name, sender_with};
+
+use std::alloc::{AllocError, Global};
+use sw_book::Book;
+use sw_hosts::IssuerLink;
+use sw_issuers::{GroupLink, Sender};
+use sw_participant::{Sequence, Text};
+use sw_parts::{Link, Routing};
+
+/// The links of the switch. (Only `run` names this type: it makes boxes of the participants that ask over
+/// links, and a box of what is generic in its link gets no proof.)
+pub type SwitchLink = IssuerLink<HostRuntime>;
+
+/// A link to an issuer, with a name.
+#[derive(Drop)]
+pub struct NamedLink<L: Link> {
+    /// Its name: at most 26 bytes of `a-z A-Z 0-9 _ - .`.
+    pub name: Text,
+    /// The link.
+    pub link: L,
+}
+
+/// What a run has besides its flow and its journal.
+#[derive(Drop)]
+pub struct Setup<L: Link> {
+    /// What the cards may spend.
+    pub book: Book,
+    /// The greatest amount that the switch approves in an issuer's place, in minor units.
+    pub stand_in: u64,
+    /// The groups of the flow that the issuers of cards are asked by, of requests and of stored advices.
+    pub routes: Sequence<Routing>,
+    /// The links that authorizations go over: for each the switch has a participant `query_NAME`.
+    pub queried: Vec<NamedLink<L>>,
+    /// The links that stored advices go over, by the group of the card's route.
+    pub advised: Vec<GroupLink<L>>,
+    /// How many sessions the engine has, 1 to 16.
+    pub sessions: usize,
+    /// Whether the sessions run as threads. Without, session 0 runs each transaction.
+    pub threads: bool,
+}
+
+/// The name of the participant that asks over the link of this name.
+pub(crate) fn query_name(alloc: Global, link: &str) -> Result<String, AllocError>
+    ensures { IfOk result (λ name. string_bytes name ≡ query_name link.now) }
+{
+    format!(in alloc; "query_{link}")
+}
+
+// Copies of routes.
+fn copied(alloc: Global, routes: &[Routing]) -> Result<Sequence<Routing>, AllocError>
+    ensures { IfOk result (λ copy. copy ≡ routes.now) }
+{
+    let mut copy = Vec::new(alloc);
+    for routing in routes {
+        copy.push(routing.copy()?)?;
+    }
+    Ok(Sequence::new(copy))
+}
+
+/// What sends stored advices, by copies of these routes over these links.
+pub(crate) fn sender_over<L: Link>(
+    alloc: Global,
+    routes: &[Routing],
+    links: Vec<GroupLink<L>>,
+) -> Result<Sender<L>, AllocError>
+    ensures { IfOk result (λ sender. sender ≡ sender_with L.state routes.now links.items) }
+{
+    Ok(Sender::new(alloc, copied(alloc, routes)?, links))
+}

@@ -1,0 +1,162 @@
+//! What a run writes to standard error.
+
+ghost use Rattle.std.specs.Prelude.{◌≡◌, ◌+◌, ◌∷◌, ◌++◌, [], IfOk, OnOk, is_some};
+ghost use Rattle.std.specs.Prelude.{if◌then◌else◌, option_map, string_bytes};
+ghost use Rattle.std.specs.Io.KnownBytes.{Appends};
+ghost use Rattle.cli_io.specs.Written.{AppendsBeginning};
+ghost use Rattle.tx_trace.specs.Follow.{Follows, count_of};
+ghost use Rattle.tx_trace.specs.Lines.{at_number};
+ghost use Rattle.cli_run.specs.Lines.{in_form, line_at, lines_in, written_as};
+ghost use Rattle.cli_run.specs.declared.standard_error.Form.TheVariants.{Text};
+ghost use Rattle.cli_run.specs.Traces.{Tells, log_of, passed_line};
+
+use crate::error::ServeError;
+use crate::stats::Stats;
+use cli_io::{WriteError, write_whole};
+use iso_codec::DecodeError;
+use std::alloc::{AllocError, Global};
+use std::io::Write;
+use tx_engine::Engine;
+use tx_trace::Tracer;
+
+/// The form of the trace's lines.
+#[derive(Clone, Copy)]
+pub enum Form {
+    Text,
+    /// A line is an object of JSON.
+    Json,
+}
+
+/// Standard error, to which a run writes a line for each message that is passed over, the trace and the numbers.
+/// Where a write fails the run goes on, and its result is as if all had been written.
+#[derive(Drop)]
+pub struct StandardError<'a, E> {
+    pub err: &'a mut E,
+    /// In which form the lines of the trace are wanted, if they are.
+    pub trace: Option<Form>,
+    /// Whether a write failed: what was to be written then is not, or not all of it.
+    pub lost: bool,
+    /// The lines of numbers that are wanted.
+    pub stats: Option<Stats>,
+    /// How many messages were passed over.
+    pub passed: u64,
+}
+
+// The line of a message that is passed over.
+fn passed_line(alloc: Global, number: u64, cause: &str) -> Result<String, AllocError>
+    ensures { IfOk result (λ line. string_bytes line ≡ passed_line number cause.now) }
+{
+    format!(in alloc; "cardswitch: message {number} is passed over: {cause}\n")
+}
+
+impl<'a, E: Write> StandardError<'a, E> {
+    /// Writes that a message is passed over. Out of memory is the only error.
+    pub(crate) fn pass_over(
+        &mut self,
+        alloc: Global,
+        number: u64,
+        error: &DecodeError,
+    ) -> Result<(), ServeError>
+        ensures { OnOk result (Tells [] 1
+            (log_of E.contents self.old) (log_of E.contents self.new)) }
+    {
+        let cause = format!(in alloc; "{error}")?;
+        let line = passed_line(alloc, number, cause.as_str())?;
+        self.passed = self.passed.saturating_add(1);
+        match write_whole(self.err, line.as_bytes()) {
+            Ok(()) => Ok(()),
+            Err(_) => {
+                self.lost = true;
+                Ok(())
+            }
+        }
+    }
+
+    /// Writes the lines of all entries of the engine's history, if a trace is wanted. Out of memory is the
+    /// only error.
+    pub(crate) fn trace(&mut self, alloc: Global, engine: &Engine) -> Result<(), ServeError>
+        ensures { OnOk result (Tells (lines_in engine.now) 0
+            (log_of E.contents self.old) (log_of E.contents self.new)) }
+    {
+        let Some(form) = self.trace else {
+            return Ok(());
+        };
+        match write_lines_as(alloc, engine, form, self.err) {
+            Ok(()) => Ok(()),
+            Err(ServeError::Write(_)) => {
+                self.lost = true;
+                Ok(())
+            }
+            Err(error) => Err(error),
+        }
+    }
+}
+
+fn write_line<W: Write>(out: &mut W, line: &[u8]) -> Result<(), WriteError>
+    ensures written { OnOk result (Appends (W.contents out.old) (W.contents out.new)
+        (line.now ++ 10 ∷ [])) }
+    ensures beginning { AppendsBeginning (W.contents out.old) (W.contents out.new)
+        (line.now ++ 10 ∷ []) }
+{
+    write_whole(out, line)?;
+    write_whole(out, b"\n")
+}
+
+// The next line in this form; none where the tracer has gone through all entries.
+fn next_line(
+    alloc: Global,
+    engine: &Engine,
+    tracer: &mut Tracer,
+    form: Form,
+) -> Result<Option<Vec<u8>>, AllocError>
+    requires { Follows engine.now tracer.old }
+    ensures line { IfOk result (λ line. option_map (λ l. l.items) line
+        ≡ at_number (λ past e. in_form form (line_at engine.now.flow engine.now.start past e))
+        engine.now.past (count_of tracer.old + 1)) }
+    ensures on { IfOk result (λ line. count_of tracer.new
+        ≡ (if is_some line then count_of tracer.old + 1 else count_of tracer.old)) }
+    ensures follows { Follows engine.now tracer.new }
+{
+    match form {
+        Form::Text => match tracer.next(alloc, engine)? {
+            Some(line) => Ok(Some(line.into_bytes())),
+            None => Ok(None),
+        },
+        Form::Json => tracer.next_json(alloc, engine),
+    }
+}
+
+// Writes the lines of all entries of the engine's history in this form, the oldest first. After an error a
+// beginning of them is written.
+fn write_lines_as<W: Write>(
+    alloc: Global,
+    engine: &Engine,
+    form: Form,
+    out: &mut W,
+) -> Result<(), ServeError>
+    ensures lines { OnOk result (Appends
+        (W.contents out.old) (W.contents out.new) (written_as form (lines_in engine.now))) }
+    ensures beginning { AppendsBeginning
+        (W.contents out.old) (W.contents out.new) (written_as form (lines_in engine.now)) }
+{
+    let mut tracer = Tracer::new(alloc, engine);
+    let count = engine.history().len();
+    for number in 0..count {
+        let Some(line) = next_line(alloc, engine, &mut tracer, form)? else {
+            return Ok(());
+        };
+        write_line(out, line.as_slice())?;
+    }
+    Ok(())
+}
+
+/// Writes the lines of all entries of the engine's history as text, the oldest first. After an error a beginning
+/// of them is written.
+pub fn write_lines<W: Write>(alloc: Global, engine: &Engine, out: &mut W) -> Result<(), ServeError>
+    ensures lines { OnOk result (Appends
+        (W.contents out.old) (W.contents out.new) (written_as Text (lines_in engine.now))) }
+    ensures beginning { AppendsBeginning
+        (W.contents out.old) (W.contents out.new) (written_as Text (lines_in engine.now)) }
+{
+    write_lines_as(alloc, engine, Form::Text, out)
+}

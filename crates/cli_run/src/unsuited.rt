@@ -1,0 +1,55 @@
+//! Why no plant was made of the switch's participants.
+
+ghost use Rattle.sw_seating.specs.Seating.{names_of};
+ghost use Rattle.cli_run.specs.Errors.{IsCause, IsDouble, IsNoStation};
+
+use crate::error::ServeError;
+use flow_asm::Code;
+use std::alloc::Global;
+use sw_participant::{Station, Text};
+use sw_seating::SeatingError;
+use tx_plant::PlantError;
+
+// The participant without a station, by its name.
+fn no_station(alloc: Global, code: &Code, number: usize) -> ServeError
+    ensures { IsNoStation code.now number result }
+{
+    let Some(part) = code.participants().get(number) else {
+        return ServeError::OutOfMemory;
+    };
+    match Text::from_str(alloc, part.name.as_str()) {
+        Ok(name) => ServeError::NoStation(name),
+        Err(_) => ServeError::OutOfMemory,
+    }
+}
+
+// The station at this place, which has the name of an earlier one.
+fn double_station(alloc: Global, stations: &[Station], place: usize) -> ServeError
+    ensures { IsDouble (names_of stations.now) place result }
+{
+    let Some(station) = stations.get(place) else {
+        return ServeError::OutOfMemory;
+    };
+    match Text::from_str(alloc, station.name()) {
+        Ok(name) => ServeError::DoubleStation(name),
+        Err(_) => ServeError::OutOfMemory,
+    }
+}
+
+/// Why no plant was made of these stations.
+pub(crate) fn cause_of(
+    alloc: Global,
+    code: &Code,
+    stations: &[Station],
+    error: PlantError,
+) -> ServeError
+    ensures { IsCause code.now (names_of stations.now) error result }
+{
+    match error {
+        PlantError::Seating(SeatingError::NoStation(number)) => no_station(alloc, code, number),
+        PlantError::Seating(SeatingError::DoubleStation(place)) => {
+            double_station(alloc, stations, place)
+        }
+        other => ServeError::from(other),
+    }
+}

@@ -1,0 +1,45 @@
+-- The links to the hosts of a run, as contracts see them.
+use Rattle.std.specs.Prelude.{◌≡◌, ℕ, List, [], ◌∷◌, ◌++◌, map, true, false}
+use Rattle.sw_issuers.specs.Issuing.{shown_issuer}
+use Rattle.sw_issuers.specs.Sending.{LinkStates, link_states}
+use Rattle.sw_hosts.specs.Issuers.{host_state, state_of}
+use Rattle.cli_config.specs.declared.config.Host.{Host}
+use Rattle.cli_config.specs.declared.config.Wire.{Wire}
+use Rattle.cli_config.specs.declared.config.Wire.TheVariants as wire
+use Rattle.sw_hosts.specs.declared.issuer_link.IssuerLink.{IssuerLink}
+use Rattle.cli_run.specs.declared.setup.NamedLink.{NamedLink}
+use Rattle.cli_setup.specs.declared.links.Links.{Links}
+use Rattle.cli_setup.specs.declared.links.Side.{Side}
+use Rattle.cli_setup.specs.declared.links.Side.TheVariants.{Reached, Silent, Simulated}
+
+-- what contracts see of a link
+abbrev pub shown_link : {C : Type 0} → IssuerLink C → List ℕ
+shown_link = state_of (λ issuer. shown_issuer issuer.silent issuer.waiting.items)
+
+-- the same of a new link, by how its host is reached
+abbrev pub wire_state : Wire → List ℕ
+wire_state wire.Simulated = 0 ∷ shown_issuer false []
+wire_state wire.Silent = 0 ∷ shown_issuer true []
+wire_state (wire.Streams to from timeout) = host_state
+
+-- the same of a link that is made of this side
+abbrev pub side_state : Side → List ℕ
+side_state Simulated = 0 ∷ shown_issuer false []
+side_state Silent = 0 ∷ shown_issuer true []
+side_state (Reached host) = host_state
+
+abbrev pub host_link : Host → List ℕ × List ℕ
+host_link h = (h.name, wire_state h.wire)
+
+abbrev pub named_state : {C : Type 0} → NamedLink (IssuerLink C) → List ℕ × List ℕ
+named_state l = (l.name, shown_link l.link)
+
+-- both lists have these links
+pub record AreLinksOf (ls : LinkStates) (links : Links) : Type 0 where
+  pub queried : map named_state links.queried.items ≡ ls
+  pub advised : link_states shown_link links.advised.items ≡ ls
+
+-- a link is added to both lists
+pub record AddsLink (l : List ℕ × List ℕ) (before after : Links) : Type 0 where
+  pub queried : map named_state after.queried.items ≡ map named_state before.queried.items ++ l ∷ []
+  pub advised : link_states shown_link after.advised.items ≡ link_states shown_link before.advised.items ++ l ∷ []

@@ -1,0 +1,98 @@
+-- What a run is set up with: the options of the command line come first, then the configuration, then what the program has itself.
+use Rattle.std.specs.Prelude.{◌≡◌, ◌≤◌, ℕ, Bool, false, ◌||◌, List, [], ◌∷◌, map, Option, None, Some, unwrap_or, codes}
+use Rattle.std.specs.Option.{option_map_or, option_or}
+use Rattle.sw_parts.specs.declared.route.Routing.{Routing}
+use Rattle.sw_issuers.specs.Sending.{LinkStates, link_states}
+use Rattle.cli_config.specs.declared.config.Config.{Config}
+use Rattle.cli_config.specs.declared.config.Route.{Route}
+use Rattle.cli_config.specs.declared.config.Wire.TheVariants.{Simulated}
+use Rattle.cli_options.specs.CommandLine.{text_of}
+use Rattle.cli_options.specs.declared.choice.RunOptions.{RunOptions}
+use Rattle.sw_book.specs.Items.{PlainBook}
+use Rattle.sw_hosts.specs.declared.issuer_link.IssuerLink.{IssuerLink}
+use Rattle.cli_run.specs.Links.{switch_routes}
+use Rattle.cli_run.specs.declared.setup.Setup.{Setup}
+use Rattle.cli_setup.specs.Links.{host_link, named_state, shown_link, wire_state}
+
+-- a configuration that states nothing
+abbrev pub no_config : Config
+no_config = record {
+  hosts = None;
+  routes = None;
+  limits = record { per_card = None; stand_in = None };
+  run = record { sessions = None; journal = None; threads = None };
+}
+
+-- what a card may spend, 10,000 minor units where nothing states it
+abbrev pub limit_of : RunOptions → Config → ℕ
+limit_of o c = unwrap_or (option_or o.limit c.limits.per_card) 10000
+
+-- what the switch approves in a silent issuer's place, 1,000 minor units where nothing states it
+abbrev pub stand_in_of : Config → ℕ
+stand_in_of c = unwrap_or c.limits.stand_in 1000
+
+-- one session where nothing states how many
+abbrev pub sessions_of : RunOptions → Config → ℕ
+sessions_of o c = unwrap_or (option_or o.sessions c.run.sessions) 1
+
+-- whether the sessions run as threads
+abbrev pub threads_of : RunOptions → Config → Bool
+threads_of o c = o.threads || unwrap_or c.run.threads false
+
+-- the path of the journal, if it is in a file
+abbrev pub journal_of : RunOptions → Config → Option (List ℕ)
+journal_of o c = option_or (text_of o.journal) c.run.journal
+
+abbrev pub routing_of : Route → Routing
+routing_of r = record { prefix = r.prefix; group = r.group }
+
+-- the routes of the configuration, or the switch's own
+abbrev pub routes_of : Config → List Routing
+routes_of c = option_map_or (map routing_of) c.routes switch_routes
+
+-- the switch's own hosts: two issuers, which are simulated
+abbrev pub own_links : LinkStates
+own_links = (codes "alpha", wire_state Simulated) ∷ (codes "beta", wire_state Simulated) ∷ []
+
+-- each host under its name, with a new link
+abbrev pub links_of : Config → LinkStates
+links_of c = option_map_or (map host_link) c.hosts own_links
+
+-- what contracts see of what a run is set up with: of each link its host's name and its state
+pub record PlainSetup : Type 0 where
+  pub book : PlainBook
+  pub stand_in : ℕ
+  pub routes : List Routing
+  pub queried : LinkStates
+  pub advised : LinkStates
+  pub sessions : ℕ
+  pub threads : Bool
+
+abbrev pub plain_setup : {C : Type 0} → Setup (IssuerLink C) → PlainSetup
+plain_setup s = record {
+  book = s.book;
+  stand_in = s.stand_in;
+  routes = s.routes;
+  queried = map named_state s.queried.items;
+  advised = link_states shown_link s.advised.items;
+  sessions = s.sessions;
+  threads = s.threads;
+}
+
+-- By options and a configuration: a new book, which may have its limit and has nothing in it; the routes; for each host a link
+-- that authorizations go over, and one of stored advices; and so many sessions, as threads or not.
+abbrev pub setup_of : RunOptions → Config → PlainSetup
+setup_of o c = record {
+  book = record { limit = limit_of o c; items = [] };
+  stand_in = stand_in_of c;
+  routes = routes_of c;
+  queried = links_of c;
+  advised = links_of c;
+  sessions = sessions_of o c;
+  threads = threads_of o c;
+}
+
+-- a run is set up so, which it is only with a limit that a book may have
+pub record IsSetUp {C : Type 0} (o : RunOptions) (c : Config) (setup : Setup (IssuerLink C)) : Type 0 where
+  pub within : limit_of o c ≤ 999999999999999
+  pub plain : plain_setup setup ≡ setup_of o c

@@ -1,0 +1,18 @@
+//! What a run of the switch is set up with: the options of the command line come first, then the configuration
+//! file, then what the program has itself (`specs/Plans.antt`).
+//!
+//! - [`config_at`] reads the configuration file that an option names; without the option it is one that states nothing.
+//! - [`setup`] makes the book, the routes and the links of a run. A host that is reached by streams gets threads of its
+//!   own, which open nothing before the first message is sent.
+//! - [`recovery`] makes what a recovery needs: the same participants, over links that nothing is sent on.
+//! - [`journal_path`] is the path of the journal, if it is in a file.
+#![tactic(auto)]
+
+mod error;
+mod file;
+mod links;
+mod plan;
+
+pub use error::{ConfigFileError, SetupError};
+pub use file::config_at;
+pub use plan::{journal_path, recovery, setup};

@@ -1,0 +1,126 @@
+//! What a run is set up with.
+
+ghost use Rattle.std.specs.Prelude.{◌≡◌, ◌<◌, ◌≤◌, [], Err, IfErr, IfOk, OnOk};
+ghost use Rattle.cli_setup.specs.Plans.{IsSetUp, journal_of, limit_of, sessions_of, stand_in_of, threads_of};
+ghost use Rattle.cli_setup.specs.declared.error.SetupError.TheVariants.{BadLimit, OutOfMemory};
+
+use crate::error::SetupError;
+use crate::links::{Links, links_to_hosts, routes, unasked};
+use cli_config::Config;
+use cli_options::choice::RunOptions;
+use cli_run::{DEFAULT_STAND_IN, Setup, SwitchLink};
+use std::alloc::{AllocError, Global};
+use std::sync::Wait;
+use std::thread::Threads;
+use std::time::Clock;
+use sw_book::Book;
+use sw_participant::Text;
+
+/// What a card may spend in one run, in minor units, where nothing states it.
+const LIMIT: u64 = 10_000;
+
+/// The greatest limit: that of a book, of which `Book::new` says only that it takes every smaller one.
+const MOST_LIMIT: u64 = 999_999_999_999_999;
+
+/// The path of the journal, if it is in a file. Out of memory is the only refusal.
+pub fn journal_path(
+    alloc: Global,
+    options: &RunOptions<'_>,
+    config: &Config,
+) -> Result<Option<Text>, AllocError>
+    ensures { IfOk result (λ path. path ≡ journal_of options.now config.now) }
+{
+    if let Some(path) = options.journal {
+        return Ok(Some(Text::from_str(alloc, path)?));
+    }
+    match &config.run.journal {
+        Some(path) => Ok(Some(path.copy()?)),
+        None => Ok(None),
+    }
+}
+
+fn limit(options: &RunOptions<'_>, config: &Config) -> u64
+    ensures { result ≡ limit_of options.now config.now }
+{
+    options.limit.or(config.limits.per_card).unwrap_or(LIMIT)
+}
+
+fn sessions(options: &RunOptions<'_>, config: &Config) -> u64
+    ensures { result ≡ sessions_of options.now config.now }
+{
+    options.sessions.or(config.run.sessions).unwrap_or(1)
+}
+
+fn threads(options: &RunOptions<'_>, config: &Config) -> bool
+    ensures { result ≡ threads_of options.now config.now }
+{
+    options.threads || config.run.threads.unwrap_or(false)
+}
+
+fn stand_in(config: &Config) -> u64
+    ensures { result ≡ stand_in_of config.now }
+{
+    config.limits.stand_in.unwrap_or(DEFAULT_STAND_IN)
+}
+
+// A new book with a limit, at most the greatest one.
+fn book(alloc: Global, limit: u64) -> Result<Book, SetupError>
+    ensures book { IfOk result (λ book. book ≡ record { limit = limit; items = [] }) }
+    ensures within { OnOk result (limit ≤ 999999999999999) }
+    ensures refused { IfErr result (λ e. (e ≡ BadLimit) × (999999999999999 < limit)) }
+{
+    if limit > MOST_LIMIT {
+        return Err(SetupError::BadLimit);
+    }
+    match Book::new(alloc, limit) {
+        Ok(book) => Ok(book),
+        Err(_) => unreachable!(),
+    }
+}
+
+/// What a run is set up with by its options and its configuration. The threads of its hosts are started here. `BadLimit`
+/// comes first, where what a card may spend is over 999,999,999,999,999 minor units.
+pub fn setup<T: Threads + Wait + Clock + Clone + Drop + Send + 'static>(
+    threads_of_hosts: &T,
+    alloc: Global,
+    rt: &HostRuntime,
+    options: &RunOptions<'_>,
+    config: &Config,
+) -> Result<Setup<SwitchLink>, SetupError>
+    ensures set_up { IfOk result (IsSetUp options.now config.now) }
+    ensures bad_limit { 999999999999999 < limit_of options.now config.now → result ≡ Err BadLimit }
+    ensures within { result ≡ Err BadLimit → 999999999999999 < limit_of options.now config.now }
+{
+    let book = book(alloc, limit(options, config))?;
+    let routes = routes(alloc, config)?;
+    let Links { queried, advised } = links_to_hosts(threads_of_hosts, alloc, rt, config)?;
+    Ok(Setup {
+        book,
+        stand_in: stand_in(config),
+        routes,
+        queried,
+        advised,
+        sessions: sessions(options, config) as usize,
+        threads: threads(options, config),
+    })
+}
+
+/// What a recovery is set up with: a session, and the participants of the configuration's hosts over links that nothing
+/// is sent on, since a recovery asks no host and sends no advice.
+pub fn recovery(alloc: Global, config: &Config) -> Result<Setup<SwitchLink>, SetupError>
+    ensures one { IfOk result (λ setup. setup.sessions ≡ 1) }
+    ensures refused { IfErr result (λ e. e ≡ OutOfMemory) }
+{
+    let book = book(alloc, LIMIT)?;
+    let routes = routes(alloc, config)?;
+    let Links { queried, advised } = unasked(alloc, config)?;
+    Ok(Setup {
+        book,
+        stand_in: stand_in(config),
+        routes,
+        queried,
+        advised,
+        sessions: 1,
+        threads: false,
+    })
+}

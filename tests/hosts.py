@@ -1,0 +1,419 @@
+#!/usr/bin/env python3
+"""Runs `cardswitch run --config` with hosts at the other end of named pipes, and looks at what the switch makes of them.
+
+    tests/hosts.py [WORD] [--program PATH]
+
+Each case is a row of `docs/HOSTS.md`: what the host does, and what the switch then answers, stores and sends. The hosts are played here,
+frame by frame; one case runs `examples/hosts/host.py`, and one `examples/hosts/try.sh`, in which socat carries the frames over connections
+on the loopback, where it is installed. WORD picks the cases whose name has these letters. The last line counts; the status is 1 where something is wrong.
+"""
+
+import argparse
+import contextlib
+import os
+import select
+import shutil
+import signal
+import subprocess
+import sys
+import tempfile
+import time
+
+sys.dont_write_bytecode = True
+
+import kills  # noqa: E402
+from model import messages  # noqa: E402
+
+TOP = os.path.dirname(os.path.dirname(os.path.abspath(__file__)))
+EXAMPLES = os.path.join(TOP, "examples")
+HOST = os.path.join(EXAMPLES, "hosts", "host.py")
+# How long a query waits, in seconds, and how long anything here may take. AT_ONCE is far below the former.
+TIMEOUT, SECONDS, AT_ONCE = 1.5, 20, 0.7
+CONFIG = """
+[[host]]
+name = "alpha"
+to = "alpha.to"
+from = "alpha.from"
+timeout_ms = 1500
+
+[[host]]
+name = "beta"
+{beta}
+
+[limits]
+stand_in = 500
+"""
+PIPES = 'to = "beta.to"\nfrom = "beta.from"\ntimeout_ms = 1500'
+
+
+class Wrong(Exception):
+    """What is wrong in a case."""
+
+
+def wanted(what, got, want):
+    if got != want:
+        raise Wrong(f"{what}: {got!r}, wanted {want!r}")
+
+
+class Wire:
+    """The host's ends of its two named pipes."""
+
+    def __init__(self, room, name):
+        self.to, self.back, self.bytes = os.path.join(room, f"{name}.to"), os.path.join(room, f"{name}.from"), b""
+        self.reads = self.writes = None
+        for path in self.to, self.back:
+            os.mkfifo(path)
+
+    def listen(self):
+        """The host is there, and reads."""
+        self.reads, self.bytes = os.open(self.to, os.O_RDONLY | os.O_NONBLOCK), b""
+
+    def read(self, seconds):
+        ready, _, _ = select.select([self.reads], [], [], seconds)
+        return os.read(self.reads, 65_536) if ready else b""
+
+    def get(self):
+        """The next message from the switch."""
+        until = time.monotonic() + SECONDS
+        while time.monotonic() < until:
+            if len(self.bytes) >= 4 and len(self.bytes) >= 4 + int(self.bytes[:4]):
+                size = 4 + int(self.bytes[:4])
+                frame, self.bytes = self.bytes[:size], self.bytes[size:]
+                return frame[4:]
+            self.bytes += self.read(0.05)
+            time.sleep(0.001)
+        raise Wrong("no message came to the host")
+
+    def quiet(self, seconds):
+        """Nothing comes to the host for so long."""
+        time.sleep(seconds)
+        wanted("at the host", self.read(0), b"")
+
+    def put(self, data):
+        """Writes to the switch, which may still be opening its end."""
+        until = time.monotonic() + SECONDS
+        while self.writes is None:
+            try:
+                self.writes = os.open(self.back, os.O_WRONLY | os.O_NONBLOCK)
+            except OSError:
+                if time.monotonic() > until:
+                    raise Wrong("the switch does not read from its host") from None
+                time.sleep(0.005)
+        os.write(self.writes, data)
+
+    def hang_up(self):
+        for end in self.reads, self.writes:
+            if end is not None:
+                os.close(end)
+        self.reads = self.writes = None
+
+
+def request(stan, amount=2500, card=b"4000000000000002"):
+    fields = {2: card, 3: b"000000", 4: b"%012d" % amount, 7: b"0102030405", 11: b"%06d" % stan, 41: b"TERM0001", 49: b"978"}
+    return messages.encode(b"0100", fields)
+
+
+def reply(message, code=b"00", auth=b"HOST42"):
+    """The host's answer to a message."""
+    mti, fields = messages.decode(message)
+    told = {it: fields[it] for it in (2, 3, 4, 7, 11, 41, 49) if it in fields}
+    if code == b"00" and mti[:2] == b"01" and mti[2:3] == b"0":
+        told |= {38: auth}
+    return messages.framed(messages.encode(mti[:2] + bytes([mti[2] + 1]) + b"0", told | {39: code}))
+
+
+class Run:
+    """A run of the switch in a folder, with its input open."""
+
+    def __init__(self, program, room, *words):
+        command = [program, "run", "--flow", os.path.join(EXAMPLES, "switch.toml"), "--config", "config.toml", *words]
+        streams = {"stdin": subprocess.PIPE, "stdout": subprocess.PIPE, "stderr": subprocess.PIPE, "bufsize": 0}
+        self.process, self.bytes, self.room = subprocess.Popen(command, cwd=room, **streams), b"", room
+
+    def send(self, message):
+        self.process.stdin.write(messages.framed(message))
+
+    def receive(self):
+        """The next response, as its type and fields, and how many seconds it took."""
+        began = time.monotonic()
+        while time.monotonic() - began < SECONDS:
+            if len(self.bytes) >= 4 and len(self.bytes) >= 4 + int(self.bytes[:4]):
+                size = 4 + int(self.bytes[:4])
+                frame, self.bytes = self.bytes[:size], self.bytes[size:]
+                return *messages.decode(frame[4:]), time.monotonic() - began
+            ready, _, _ = select.select([self.process.stdout], [], [], 0.05)
+            if ready:
+                self.bytes += os.read(self.process.stdout.fileno(), 65_536)
+        raise Wrong("no response came")
+
+    def ask(self, message):
+        self.send(message)
+        return self.receive()
+
+    def end(self, status=0):
+        """The input ends; all that is left comes, and what was written to standard error."""
+        self.process.stdin.close()
+        try:
+            got = self.process.wait(SECONDS)
+        except subprocess.TimeoutExpired:
+            raise Wrong("the run had not ended") from None
+        err = self.process.stderr.read()
+        wanted(f"status ({err.decode(errors='replace')})", got, status)
+        return err
+
+    def kill(self):
+        self.process.send_signal(signal.SIGKILL)
+        self.process.wait()
+
+
+@contextlib.contextmanager
+def switch(program, room, *words, beta="simulated = true"):
+    """A run and the host of `alpha`, which listens."""
+    with open(os.path.join(room, "config.toml"), "w", encoding="utf-8") as file:
+        file.write(CONFIG.format(beta=beta))
+    wire = Wire(room, "alpha")
+    wire.listen()
+    run = Run(program, room, *words)
+    try:
+        yield run, wire
+    finally:
+        run.process.kill()
+        run.process.wait()
+
+
+def code(response):
+    return response[1].get(39)
+
+
+def answers(wire, *codes):
+    """The host answers so many messages; their types."""
+    came = [wire.get() for _ in codes]
+    for message, its in zip(came, codes):
+        wire.put(reply(message, its))
+    return [message[:4] for message in came]
+
+
+def approved(program, room):
+    """The host approves: its code and approval are the response's."""
+    with switch(program, room) as (run, wire):
+        run.send(request(1))
+        message = wire.get()
+        wanted("the query", message, request(1))
+        wire.put(reply(message))
+        response = run.receive()
+        wanted("fields 38 and 39", (response[1].get(38), code(response)), (b"HOST42", b"00"))
+        run.end()
+
+
+def declined(program, room):
+    """The host declines with a code."""
+    with switch(program, room) as (run, wire):
+        run.send(request(1))
+        wire.put(reply(wire.get(), b"51"))
+        wanted("field 39", code(run.receive()), b"51")
+        run.end()
+
+
+def silent(program, room):
+    """No answer comes: the switch stands in after the timeout, up to its own amount, and sends reversal and advice at the end."""
+    with switch(program, room) as (run, wire):
+        run.send(request(1, 400))
+        wire.get()
+        response = run.receive()
+        wanted("fields 38 and 39", (response[1].get(38), code(response)), (b"SI0001", b"00"))
+        if response[2] < TIMEOUT - 0.2:
+            raise Wrong(f"the switch stood in after {response[2]:.2f} seconds, wanted {TIMEOUT}")
+        run.send(request(2, 600))
+        wire.get()
+        wanted("field 39 above the stand-in's amount", code(run.receive()), b"91")
+        run.process.stdin.close()
+        wanted("advices", answers(wire, b"00", b"00", b"00"), [b"0420", b"0120", b"0420"])
+        run.process.wait(SECONDS)
+
+
+def late(program, room):
+    """An answer that comes after the timeout is dropped: the next request gets its own."""
+    with switch(program, room) as (run, wire):
+        run.send(request(1, 400))
+        first = wire.get()
+        wanted("the first response's code", code(run.receive()), b"00")
+        wire.put(reply(first, b"51"))
+        run.send(request(2))
+        wire.put(reply(wire.get(), b"05"))
+        wanted("the second response's code", code(run.receive()), b"05")
+
+
+def garbage(program, room):
+    """Bytes that are no message are dropped; a bad length closes the connection, and the switch stands in at once."""
+    with switch(program, room) as (run, wire):
+        run.send(request(1))
+        message = wire.get()
+        wire.put(b"0004junk" + messages.framed(b"0110") + reply(message, b"61"))
+        wanted("field 39 after garbage", code(run.receive()), b"61")
+        run.send(request(2, 400))
+        wire.get()
+        wire.put(b"xxxx")
+        response = run.receive()
+        wanted("field 39 after a bad length", code(response), b"00")
+        if response[2] > AT_ONCE:
+            raise Wrong(f"the switch stood in after {response[2]:.2f} seconds, wanted at once")
+
+
+def closed_in_a_frame(program, room):
+    """The host closes in the middle of a frame: the switch stands in at once."""
+    with switch(program, room) as (run, wire):
+        run.send(request(1, 400))
+        wire.put(reply(wire.get())[:20])
+        wire.hang_up()
+        response = run.receive()
+        wanted("field 39", code(response), b"00")
+        if response[2] > AT_ONCE:
+            raise Wrong(f"the switch stood in after {response[2]:.2f} seconds, wanted at once")
+
+
+def killed_and_back(program, room):
+    """A dead host is stood in for at once; once it is back it is asked again, within a second or so."""
+    with switch(program, room) as (run, wire):
+        run.send(request(1))
+        wire.put(reply(wire.get()))
+        wanted("field 39 before", code(run.receive()), b"00")
+        wire.hang_up()
+        time.sleep(0.2)
+        for stan in 2, 3:
+            response = run.ask(request(stan, 400))
+            wanted("field 38 of a dead host", response[1].get(38), b"SI%04d" % stan)
+            if response[2] > AT_ONCE:
+                raise Wrong(f"the switch stood in after {response[2]:.2f} seconds, wanted at once")
+        wire.listen()
+        time.sleep(1.2)
+        run.send(request(4))
+        wire.put(reply(wire.get(), auth=b"BACK04"))
+        wanted("field 38 of the host that is back", run.receive()[1].get(38), b"BACK04")
+
+
+def nobody_there(program, room):
+    """No host has its pipes open: the switch stands in at once."""
+    with switch(program, room) as (run, wire):
+        wire.hang_up()
+        for stan in 1, 2, 3:
+            response = run.ask(request(stan, 400))
+            wanted("field 38", response[1].get(38), b"SI%04d" % stan)
+            if response[2] > AT_ONCE:
+                raise Wrong(f"the switch stood in after {response[2]:.2f} seconds, wanted at once")
+
+
+def switch_killed(program, room):
+    """The switch is killed while a query is out: the next run aborts the transaction, and its reversal goes out as a repeat."""
+    journal = ["--journal", "journal.db"]
+    with switch(program, room, *journal) as (run, wire):
+        run.send(request(7))
+        wire.get()
+        run.kill()
+        wire.hang_up()
+        wire.listen()
+        again = Run(program, room, *journal)
+        try:
+            again.process.stdin.close()
+            message = wire.get()
+            wire.put(reply(message))
+            again.process.wait(SECONDS)
+            mti, fields = messages.decode(message)
+            wanted("the reversal", (mti, fields[90][:10]), (b"0421", b"0100000007"))
+        finally:
+            again.process.kill()
+    for name, rows in kills.tables_of(os.path.join(room, "journal.db")).items():
+        if name in ("tx", "shelf", "advice"):
+            wanted(f"rows of {name}", list(rows), [])
+
+
+def beside_a_silent_host(program, room):
+    """With threads, a host that is silent holds its own participant alone: the other one answers meanwhile."""
+    words = ["--threads", "--sessions", "4"]
+    with switch(program, room, *words, beta=PIPES) as (run, wire):
+        other = Wire(room, "beta")
+        other.listen()
+        both = [request(1, 400, b"5000000000000009"), request(2), request(3)]
+        run.process.stdin.write(b"".join(map(messages.framed, both)))
+        began = time.monotonic()
+        for message in wire.get(), wire.get():
+            wire.put(reply(message))
+        if time.monotonic() - began > AT_ONCE:
+            raise Wrong("the requests of the other host waited for the silent one")
+        codes = sorted(code(run.receive()) for _ in both)
+        wanted("codes", codes, [b"00", b"00", b"00"])
+
+
+def worked_host(program, room):
+    """`examples/hosts/host.py` at the pipes gives the responses of the simulated issuers."""
+    with switch(program, room, beta=PIPES) as (run, wire):
+        wire.hang_up()
+        for path in "beta.to", "beta.from":
+            os.mkfifo(os.path.join(room, path))
+        hosts = [f'python3 "{HOST}" < {it}.to > {it}.from' for it in ("alpha", "beta")]
+        started = [subprocess.Popen(["sh", "-c", it], cwd=room) for it in hosts]
+        try:
+            with open(os.path.join(EXAMPLES, "requests.frames"), "rb") as file:
+                frames = file.read()
+            run.process.stdin.write(frames)
+            with open(os.path.join(EXAMPLES, "responses.frames"), "rb") as file:
+                responses = messages.frames(file.read())
+            for number, frame in enumerate(responses, 1):
+                mti, fields, _ = run.receive()
+                wanted(f"response {number}", messages.framed(messages.encode(mti, fields)), frame)
+            run.end()
+        finally:
+            for it in started:
+                it.kill()
+                it.wait()
+
+
+def behind_socat(program, room):
+    """`examples/hosts/try.sh`: the same over connections on the loopback."""
+    if shutil.which("socat") is None:
+        print("skipped: no socat carries frames")
+    script = os.path.join(EXAMPLES, "hosts", "try.sh")
+    came = subprocess.run([script, program], cwd=room, stdout=subprocess.PIPE, stderr=subprocess.PIPE, timeout=SECONDS * 2, check=False)
+    wanted(f"what it prints ({came.stderr.decode(errors='replace')})", came.stdout, b"the same responses\n")
+
+
+CASES = [
+    approved,
+    declined,
+    silent,
+    late,
+    garbage,
+    closed_in_a_frame,
+    killed_and_back,
+    nobody_there,
+    switch_killed,
+    beside_a_silent_host,
+    worked_host,
+    behind_socat,
+]
+
+
+def main():
+    parser = argparse.ArgumentParser(description="Runs the switch with hosts over named pipes.")
+    parser.add_argument("word", nargs="?", default="")
+    parser.add_argument("--program", default=kills.BUILT)
+    given = parser.parse_args()
+    began, passed, failed = time.monotonic(), 0, 0
+    for case in CASES:
+        if given.word not in case.__name__:
+            continue
+        room = tempfile.mkdtemp()
+        try:
+            case(os.path.abspath(given.program), room)
+            passed += 1
+        except (Wrong, OSError, subprocess.TimeoutExpired) as fault:
+            print(f"FAILED hosts: {case.__name__}: {fault}")
+            failed += 1
+        finally:
+            shutil.rmtree(room)
+    print(f"{time.monotonic() - began:.1f} seconds")
+    print(f"{passed} passed, {failed} failed")
+    return 1 if failed else 0
+
+
+if __name__ == "__main__":
+    sys.exit(main())
