@@ -321,9 +321,8 @@ def switch_killed(program, room):
             wanted("the reversal", (mti, fields[90][:10]), (b"0421", b"0100000007"))
         finally:
             again.process.kill()
-    for name, rows in kills.tables_of(os.path.join(room, "journal.db")).items():
-        if name in ("tx", "shelf", "advice"):
-            wanted(f"rows of {name}", list(rows), [])
+    left = kills.tables_of(os.path.join(room, "journal.db"))
+    wanted("rows that are left", (left.tx, left.shelf, left.advice), ({}, {}, {}))
 
 
 def beside_a_silent_host(program, room):
@@ -335,8 +334,8 @@ def beside_a_silent_host(program, room):
         both = [request(1, 400, b"5000000000000009"), request(2), request(3)]
         run.process.stdin.write(b"".join(map(messages.framed, both)))
         began = time.monotonic()
-        for message in wire.get(), wire.get():
-            wire.put(reply(message))
+        for _ in range(2):
+            wire.put(reply(wire.get()))
         if time.monotonic() - began > AT_ONCE:
             raise Wrong("the requests of the other host waited for the silent one")
         codes = sorted(code(run.receive()) for _ in both)
@@ -351,6 +350,7 @@ def worked_host(program, room):
             os.mkfifo(os.path.join(room, path))
         hosts = [f'python3 "{HOST}" < {it}.to > {it}.from' for it in ("alpha", "beta")]
         started = [subprocess.Popen(["sh", "-c", it], cwd=room) for it in hosts]
+        time.sleep(1)
         try:
             with open(os.path.join(EXAMPLES, "requests.frames"), "rb") as file:
                 frames = file.read()

@@ -27,5 +27,7 @@ start() {
 
 start alpha 18583
 start beta 18584
+# A request that comes before its host is there is stood in for.
+sleep 1
 "$program" run --flow "$here/../switch.toml" --config "$here/config.toml" < "$here/../requests.frames" > responses.frames || exit
 cmp responses.frames "$here/../responses.frames" && echo "the same responses"

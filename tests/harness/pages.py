@@ -101,7 +101,7 @@ def judged(name, fault):
 def cases_of(top):
     """The examples of all pages, run beside the files of examples/, and what else is wanted of a page."""
     examples = {}
-    for path in glob.glob(os.path.join(glob.escape(top), "examples", "*")):
+    for path in filter(os.path.isfile, glob.glob(os.path.join(glob.escape(top), "examples", "*"))):
         with open(path, "rb") as file:
             examples[os.path.basename(path)] = file.read()
     pages = sorted(glob.glob(os.path.join(glob.escape(top), "docs", "*.md")))
