@@ -190,7 +190,8 @@ fn answer_by<
     }
 }
 
-/// Answers the requests of an input, over a journal in memory or in the file that the options or the configuration name.
+/// Answers the requests of an input. The journal is in memory, or in the file that the options or the
+/// configuration name.
 pub fn answer_requests<
     T: Threads + Wait + Clock + Sync + Clone + Drop + Send + 'static,
     R: Read + Drop,

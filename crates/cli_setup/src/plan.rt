@@ -78,8 +78,8 @@ fn book(alloc: Global, limit: u64) -> Result<Book, SetupError>
     }
 }
 
-/// What a run is set up with by its options and its configuration. The threads of its hosts are started here. `BadLimit`
-/// comes first, where what a card may spend is over 999,999,999,999,999 minor units.
+/// What a run is set up with by its options and its configuration. The threads of its hosts are started here.
+/// `BadLimit` comes first, where what a card may spend is over 999,999,999,999,999 minor units.
 pub fn setup<T: Threads + Wait + Clock + Clone + Drop + Send + 'static>(
     threads_of_hosts: &T,
     alloc: Global,

@@ -24,7 +24,7 @@ fn hears_nothing(rt: HostRuntime, link: &mut HostLink) -> Result<bool, Fail> {
 }
 
 // The first request gets no answer in time, and its response comes with that of the next one, behind
-// a message that is none and one without a key.
+// bytes that are not a message and a message without a key.
 #[test]
 fn a_late_answer_is_dropped(rt: HostRuntime) -> Result<(), Fail> {
     let timeout = Duration::from_secs(2);
