@@ -67,6 +67,7 @@ LIMITS = {
     "stand_in": (integers(0, 999_999_999_999), False, False),
 }
 RUN = {
+    "advices": (integers(0, 256), False, False),
     "journal": (PATH, False, False),
     "sessions": (integers(1, 16), False, False),
     "threads": (FLAG, False, False),

@@ -54,13 +54,13 @@ wanted AtEnd = Some None
 wanted (Every n) = Some (Some n)
 
 -- over this journal the requests of a whole input were answered, one after the other, or by threads in batches
-pub record Served (threads : Bool) (flow : Flow) (sessions : ℕ) (j : Seen) (sender : PlainSender)
+pub record Served (threads : Bool) (flow : Flow) (sessions : ℕ) (j : Seen) (sender : PlainSender) (advices : ℕ)
     (unread before after : Option (List ℕ)) : Type 0 where
   pub frames : List (List ℕ)
   pub reads : ReadTo Whole unread frames
   pub rounds : List Round
   pub answers : RoundsFor threads (requests frames) rounds
-  pub ran : Ran flow sessions j link_step sender rounds before after
+  pub ran : Ran flow sessions j link_step sender advices rounds before after
 
 -- `run` has answered the requests of its input by this flow and this configuration, over the journal that it found, set up as
 -- its options and the configuration say
@@ -71,7 +71,7 @@ pub record AnsweredBy {S : Type 0} (files : Ghosts S) (flow : Flow) (o : RunOpti
   pub is_set_up : setup ≡ setup_of o c
   pub journal : Seen
   pub found : IsFound files (journal_of o c) journal
-  pub served : Served setup.threads flow setup.sessions journal (sender_of_setup setup) unread before after
+  pub served : Served setup.threads flow setup.sessions journal (sender_of_setup setup) setup.advices unread before after
 
 -- the same, with the configuration of the file that `--config` names
 pub record Answered {S : Type 0} (files : Ghosts S) (flow : Flow) (o : RunOptions)

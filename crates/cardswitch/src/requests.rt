@@ -44,7 +44,7 @@ fn serve<S: Alter + Drop, T: Threads + Wait + Clock + Sync, R: Read + Drop, O: W
     stderr: &mut StandardError<'_, E>,
 ) -> Result<(), RunError>
     ensures served { OnOk result (IfSome input (λ reader. Served setup.threads code.now setup.sessions
-        (seen (kept S.Store journal)) (sender_of_setup (plain_setup setup))
+        (seen (kept S.Store journal)) (sender_of_setup (plain_setup setup)) setup.advices
         (R.remaining reader) (O.contents out.old) (O.contents out.new))) }
     ensures printed { OnOk result (IfNone input (Printed code.now setup.sessions
         (seen (kept S.Store journal)) (O.contents out.old) (O.contents out.new))) }

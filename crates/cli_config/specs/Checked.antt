@@ -38,5 +38,6 @@ pub record IsChecked (c : Config) : Type 0 where
   pub routes : IfSome c.routes AreRoutes
   pub per_card : IfSome c.limits.per_card (IsIn 0 999999999999999)
   pub stand_in : IfSome c.limits.stand_in (IsIn 0 999999999999)
+  pub advices : IfSome c.run.advices (IsIn 0 256)
   pub sessions : IfSome c.run.sessions (IsIn 1 16)
   pub journal : IfSome c.run.journal IsPath

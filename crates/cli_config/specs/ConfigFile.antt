@@ -47,8 +47,9 @@ limits_in None = record { per_card = None; stand_in = None }
 limits_in (Some ms) = record { per_card = number_at key.PerCard ms; stand_in = number_at key.StandIn ms }
 
 abbrev pub run_in : Option Members → run.RunTable
-run_in None = record { sessions = None; journal = None; threads = None }
+run_in None = record { advices = None; sessions = None; journal = None; threads = None }
 run_in (Some ms) = record {
+  advices = number_at key.Advices ms;
   sessions = number_at key.Sessions ms;
   journal = text_if key.Journal ms;
   threads = flag_at key.Threads ms;

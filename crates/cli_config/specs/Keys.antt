@@ -25,7 +25,7 @@ keys_of section.Top = key.Host ∷ key.Limits ∷ key.Route ∷ key.Run ∷ []
 keys_of section.Host = key.From ∷ key.Name ∷ key.Simulated ∷ key.TimeoutMs ∷ key.To ∷ []
 keys_of section.Route = key.Group ∷ key.Prefix ∷ []
 keys_of section.Limits = key.PerCard ∷ key.StandIn ∷ []
-keys_of section.Run = key.Journal ∷ key.Sessions ∷ key.Threads ∷ []
+keys_of section.Run = key.Advices ∷ key.Journal ∷ key.Sessions ∷ key.Threads ∷ []
 
 abbrev pub spelling : Key → List ℕ
 spelling key.Host = codes "host"
@@ -41,6 +41,7 @@ spelling key.Group = codes "group"
 spelling key.Prefix = codes "prefix"
 spelling key.PerCard = codes "per_card"
 spelling key.StandIn = codes "stand_in"
+spelling key.Advices = codes "advices"
 spelling key.Journal = codes "journal"
 spelling key.Sessions = codes "sessions"
 spelling key.Threads = codes "threads"
@@ -60,6 +61,7 @@ wants key.Group = want.Name 32
 wants key.Prefix = want.Digits 19
 wants key.PerCard = want.Number 0 999999999999999
 wants key.StandIn = want.Number 0 999999999999
+wants key.Advices = want.Number 0 256
 wants key.Journal = want.Path
 wants key.Sessions = want.Number 1 16
 wants key.Threads = want.Flag

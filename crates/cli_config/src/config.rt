@@ -88,6 +88,8 @@ pub struct Limits {
 /// How the program runs.
 #[derive(Drop)]
 pub struct RunTable {
+    /// How many stored advices are sent between two reads of the input at most, 0 to 256.
+    pub advices: Option<u64>,
     /// How many sessions there are, 1 to 16.
     pub sessions: Option<u64>,
     /// The path of the journal, not empty.

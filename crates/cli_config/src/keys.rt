@@ -44,6 +44,7 @@ pub enum Key {
     Prefix,
     PerCard,
     StandIn,
+    Advices,
     Journal,
     Sessions,
     Threads,
@@ -112,7 +113,7 @@ impl Section {
             ],
             Section::Route => &[Key::Group, Key::Prefix],
             Section::Limits => &[Key::PerCard, Key::StandIn],
-            Section::Run => &[Key::Journal, Key::Sessions, Key::Threads],
+            Section::Run => &[Key::Advices, Key::Journal, Key::Sessions, Key::Threads],
         }
     }
 }
@@ -136,6 +137,7 @@ impl Key {
             Key::Prefix => "prefix",
             Key::PerCard => "per_card",
             Key::StandIn => "stand_in",
+            Key::Advices => "advices",
             Key::Journal => "journal",
             Key::Sessions => "sessions",
             Key::Threads => "threads",
@@ -158,6 +160,7 @@ impl Key {
             Key::TimeoutMs => Want::Number(1, 600_000),
             Key::PerCard => Want::Number(0, 999_999_999_999_999),
             Key::StandIn => Want::Number(0, 999_999_999_999),
+            Key::Advices => Want::Number(0, 256),
             Key::Sessions => Want::Number(1, 16),
         }
     }

@@ -133,11 +133,13 @@ fn run_of(alloc: Global, top: &Table) -> Result<RunTable, AllocError>
 {
     match table_at(top, Key::Run) {
         Some(table) => Ok(RunTable {
+            advices: number_at(table, Key::Advices),
             sessions: number_at(table, Key::Sessions),
             journal: text_if(alloc, table, Key::Journal)?,
             threads: flag_at(table, Key::Threads),
         }),
         None => Ok(RunTable {
+            advices: None,
             sessions: None,
             journal: None,
             threads: None,

@@ -32,6 +32,7 @@ use Rattle.plant_outcome.specs.Seated.{Seated, seat_id}
 use Rattle.plant_outcome.proofs.Cutting.{free_session}
 use Rattle.plant_outcome.proofs.SeatedTurns.{all_seated}
 use Rattle.cli_run.specs.declared.progress.Progress.{Progress}
+use Rattle.cli_run.specs.Advices.{AdviceStep, PlainAdvisor}
 use Rattle.cli_run.specs.Points.{IsAtRest, IsReady, Point, RestsGiven, above, all_answered, ended_at, last_id, next_at, responses, unanswered, world_at}
 use Rattle.cli_run.specs.Rounds.{Alone, Batched, Goes, IsOfBatches, Lone, Round, RoundsFor, Serves, ServesFor, Together, Trimmed, doing, offered_in}
 use Rattle.cli_run.specs.Requests.{if_read, request_of, requests}
@@ -328,5 +329,5 @@ frames_all all (m ∷ rest) first p q a b k l split none s = absurd (omega (arit
 pub for_these : (threads one : Bool) (xs : List Pairs) (rounds : List Round) → threads ≡ one → RoundsFor one xs rounds → RoundsFor threads xs rounds
 for_these threads one xs rounds is h = subst (λ (b : Bool). RoundsFor b xs rounds) (sym is) h
 
-pub some_for : (threads one : Bool) (input : Option (List ℕ)) (p : Point) (a b : Option (List ℕ)) → threads ≡ one → ServesSome one input p a b → ServesSome threads input p a b
-some_for threads one input p a b is h = subst (λ (t : Bool). ServesSome t input p a b) (sym is) h
+pub some_for : (step : AdviceStep) (threads one : Bool) (input : Option (List ℕ)) (p : Point) (s : PlainAdvisor) (a b : Option (List ℕ)) → threads ≡ one → ServesSome step one input p s a b → ServesSome step threads input p s a b
+some_for step threads one input p s a b is h = subst (λ (t : Bool). ServesSome step t input p s a b) (sym is) h

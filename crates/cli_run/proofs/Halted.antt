@@ -10,7 +10,7 @@ use Rattle.tx_history.specs.declared.journal.JournalView.{JournalView}
 use Rattle.tx_plant.specs.Plant.{Seen, Whole}
 use Rattle.plant_outcome.specs.Lives.{IsMade}
 use Rattle.cli_run.specs.declared.stream.StreamEnd.{StreamEnd}
-use Rattle.cli_run.specs.Advices.{AdviceStep}
+use Rattle.cli_run.specs.Advices.{AdviceStep, PlainAdvisor, begun_advisor}
 use Rattle.cli_run.specs.declared.standard_error.Form.TheVariants.{Text}
 use Rattle.cli_run.specs.Lines.{lines_in, written_as}
 use Rattle.cli_run.specs.declared.progress.Progress.{Progress}
@@ -20,7 +20,7 @@ use Rattle.cli_run.specs.Ran.{ServesAll}
 use Rattle.cli_run.specs.Requests.{ReadTo, requests}
 use Rattle.cli_run.specs.Rounds.{Round, RoundsFor}
 use Rattle.cli_run.specs.Stopped.{IsStopped, ServesSome, Serving, Stopped, StopsWith, Unprinted}
-use Rattle.cli_run.proofs.Runs.{FirstRecovers, begun}
+use Rattle.cli_run.proofs.Runs.{FirstRecovers, advisor_is, begun}
 use Rattle.cli_run.proofs.Stops.{drains_all}
 
 pub unprinted : (f : Flow) (n : ℕ) (view : JournalView) (j : Seen) (made : Whole) (first : ℕ) (id : Progress) (r : Point) (a b : Option (List ℕ))
@@ -31,17 +31,19 @@ unprinted f n view j made first id r a b is first_at before recovers written = r
   written = written;
 }
 
-pub stopped : (threads : Bool) (f : Flow) (n : ℕ) (view : JournalView) (j : Seen) (made : Whole) (first : ℕ) (id : Progress) (r : Point) (input a b : Option (List ℕ))
-    → IsMade f n view j made → first ≡ made.core.world.start.view.next_id → id ≡ begun_in made.core.world first → FirstRecovers (record { plant = made; answered = id }) r → Serving threads input r a b → Stopped threads f n j input a b
-stopped threads f n view j made first id r input a b is first_at before recovers serves = record {
+pub stopped : (step : AdviceStep) (advisor : PlainAdvisor) (sender : PlainSender) (most : ℕ) (threads : Bool) (f : Flow) (n : ℕ) (view : JournalView) (j : Seen) (made : Whole) (first : ℕ) (id : Progress) (r : Point) (input a b : Option (List ℕ))
+    → IsMade f n view j made → first ≡ made.core.world.start.view.next_id → id ≡ begun_in made.core.world first → FirstRecovers (record { plant = made; answered = id }) r → advisor ≡ begun_advisor sender most first → Serving step threads input r advisor a b
+    → Stopped step sender most threads f n j input a b
+unfolding begun
+stopped step advisor sender most threads f n view j made first id r input a b is first_at before recovers by serves = record {
   recovered = r;
   begins = begun f n view j made first id r is first_at before recovers;
-  serves = serves;
+  serves = subst (λ (s : PlainAdvisor). Serving step threads input r s a b) (advisor_is f n view j made first advisor sender most is first_at by) serves;
 }
 
 -- all was served, and what comes behind it failed
-pub served_all : (threads : Bool) (step : AdviceStep) (first : ℕ) (p : Point) (sender : PlainSender) (input a b : Option (List ℕ)) (end : StreamEnd) (frames : List (List ℕ)) (rounds : List Round) → ReadTo end input frames → RoundsFor threads (requests frames) rounds → ServesAll step first rounds p sender a b → Serving threads input p a b
-served_all threads step first p sender input a b end frames rounds read are serves = record {
+pub served_all : (threads : Bool) (step : AdviceStep) (p : Point) (advisor : PlainAdvisor) (input a b : Option (List ℕ)) (end : StreamEnd) (frames : List (List ℕ)) (rounds : List Round) → ReadTo end input frames → RoundsFor threads (requests frames) rounds → ServesAll step rounds p advisor a b → Serving step threads input p advisor a b
+served_all threads step p advisor input a b end frames rounds read are serves = record {
   begun = serves.begun;
   cut = serves.cut;
   cuts = serves.cuts;
@@ -50,22 +52,25 @@ served_all threads step first p sender input a b end frames rounds read are serv
     end = end;
     frames = frames;
     read = read;
+    rounds = rounds;
+    answers = are;
     served = serves.served;
-    between = serves.between;
-    serves = (rounds, are, serves.serves);
-    drains = drains_all serves.served serves.drained serves.between b serves.drains;
+    advances = serves.serves;
+    drains = drains_all serves.served.point serves.drained serves.served.out b serves.drains;
   });
 }
 
-pub stops_none : {R : Type 0} (threads : Bool) (remaining : R → Option (List ℕ)) (o : Option R) {f : Flow} {n : ℕ} {j : Seen} {a b : Option (List ℕ)} → o ≡ None → Unprinted f n j a b → StopsWith threads (option_map remaining o) f n j a b
-stops_none {R} threads remaining o {f} {n} {j} {a} {b} is h = subst (λ (z : Option R). StopsWith threads (option_map remaining z) f n j a b) (sym is) h
+pub stops_none : {R : Type 0} (step : AdviceStep) (sender : PlainSender) (most : ℕ) (threads : Bool) (remaining : R → Option (List ℕ)) (o : Option R) {f : Flow} {n : ℕ} {j : Seen} {a b : Option (List ℕ)} → o ≡ None → Unprinted f n j a b → StopsWith step sender most threads (option_map remaining o) f n j a b
+stops_none {R} step sender most threads remaining o {f} {n} {j} {a} {b} is h = subst (λ (z : Option R). StopsWith step sender most threads (option_map remaining z) f n j a b) (sym is) h
 
-pub stops_some : {R : Type 0} (threads : Bool) (remaining : R → Option (List ℕ)) (o : Option R) (x : R) {f : Flow} {n : ℕ} {j : Seen} {a b : Option (List ℕ)} → o ≡ Some x → Stopped threads f n j (remaining x) a b → StopsWith threads (option_map remaining o) f n j a b
-stops_some {R} threads remaining o x {f} {n} {j} {a} {b} is h = subst (λ (z : Option R). StopsWith threads (option_map remaining z) f n j a b) (sym is) h
+pub stops_some : {R : Type 0} (step : AdviceStep) (sender : PlainSender) (most : ℕ) (threads : Bool) (remaining : R → Option (List ℕ)) (o : Option R) (x : R) {f : Flow} {n : ℕ} {j : Seen} {a b : Option (List ℕ)} → o ≡ Some x → Stopped step sender most threads f n j (remaining x) a b
+    → StopsWith step sender most threads (option_map remaining o) f n j a b
+stops_some {R} step sender most threads remaining o x {f} {n} {j} {a} {b} is h = subst (λ (z : Option R). StopsWith step sender most threads (option_map remaining z) f n j a b) (sym is) h
 
-pub stopped_some : {R : Type 0} (threads : Bool) (remaining : R → Option (List ℕ)) (o : Option R) (x : R) → o ≡ Some x → (f : Flow) (n : ℕ) (view : JournalView) (j : Seen) (made : Whole) (first : ℕ) (id : Progress) (r : Point) (a b : Option (List ℕ))
-    → IsMade f n view j made → first ≡ made.core.world.start.view.next_id → id ≡ begun_in made.core.world first → FirstRecovers (record { plant = made; answered = id }) r → ServesSome threads (remaining x) r a b → IsStopped threads (option_map remaining o) f n j a b
-stopped_some threads remaining o x at f n view j made first id r a b is first_at before recovers some = by_some some where
-  by_some : Keeps a b ⊎ Serving threads (remaining x) r a b → IsStopped threads (option_map remaining o) f n j a b
+pub stopped_some : {R : Type 0} (step : AdviceStep) (advisor : PlainAdvisor) (sender : PlainSender) (most : ℕ) (threads : Bool) (remaining : R → Option (List ℕ)) (o : Option R) (x : R) → o ≡ Some x → (f : Flow) (n : ℕ) (view : JournalView) (j : Seen) (made : Whole) (first : ℕ) (id : Progress) (r : Point) (a b : Option (List ℕ))
+    → IsMade f n view j made → first ≡ made.core.world.start.view.next_id → id ≡ begun_in made.core.world first → FirstRecovers (record { plant = made; answered = id }) r → advisor ≡ begun_advisor sender most first → ServesSome step threads (remaining x) r advisor a b
+    → IsStopped step sender most threads (option_map remaining o) f n j a b
+stopped_some step advisor sender most threads remaining o x at f n view j made first id r a b is first_at before recovers by some = by_some some where
+  by_some : Keeps a b ⊎ Serving step threads (remaining x) r advisor a b → IsStopped step sender most threads (option_map remaining o) f n j a b
   by_some (inl keeps) = inl keeps
-  by_some (inr serves) = inr (stops_some threads remaining o x at (stopped threads f n view j made first id r (remaining x) a b is first_at before recovers serves))
+  by_some (inr serves) = inr (stops_some step sender most threads remaining o x at (stopped step advisor sender most threads f n view j made first id r (remaining x) a b is first_at before recovers by serves))

@@ -18,3 +18,4 @@ mod Reporting
 mod Batched
 mod Shown
 mod Counting
+mod Advancing

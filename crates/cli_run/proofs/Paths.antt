@@ -10,11 +10,12 @@ use Rattle.tx_plant.specs.declared.turn.Turn.TheVariants as turn
 use Rattle.tx_plant.specs.Plant.{Seen, Whole}
 use Rattle.tx_plant.specs.Steps.{Moved}
 use Rattle.plant_outcome.specs.Lives.{AllDriven, Drive, TookEnded}
-use Rattle.cli_run.specs.Advices.{Acks, AdviceStep, SendsAll}
+use Rattle.cli_run.specs.Advices.{Acks, AdviceStep, PlainAdvisor, SendsAll, begun_advisor}
+use Rattle.cli_run.specs.Legs.{Advances, Leg, Legs, Stage, stage}
 use Rattle.cli_run.specs.Lines.{Line, lines_in}
 use Rattle.cli_run.specs.Points.{Point, all_answered, world_at}
 use Rattle.cli_run.specs.Ran.{Begins, Ran, ServesAll}
-use Rattle.cli_run.specs.Rounds.{Acts, Alone, Batched, Completed, Completes, Does, Goes, MayCut, Offered, Released, Round, Runs, RunsLone, Trimmed}
+use Rattle.cli_run.specs.Rounds.{Acts, Alone, Batched, Completed, Completes, Does, Goes, MayCut, Offered, Released, Round, Runs, RunsLone, Serves, Trimmed}
 use Rattle.cli_run.proofs.Doings.{all_driven_append}
 
 pub record Path (p q : Whole) : Type 0 where
@@ -78,22 +79,40 @@ acks_path : (b : Bool) (place : ℕ × ℕ) (p q : Point) → Acks b place p q �
 acks_path true place p q (o, w, does, same) = subst (λ (z : Point). Path p.plant z.plant) (sym same) (does_path (turn.Ack place.0 place.1) o p w does)
 acks_path false place p q same = path_none p.plant q.plant (ap (λ (z : Point). z.plant) same)
 
-sends_path : (step : AdviceStep) (is_old : ℕ → Bool) (xs : List ((ℕ × ℕ) × List ℕ)) (s t : PlainSender) (p q : Point) → SendsAll step is_old xs s p t q → Path p.plant q.plant
-sends_path step is_old [] s t p q (sent, same) = path_none p.plant q.plant (ap (λ (z : Point). z.plant) same)
-sends_path step is_old (a ∷ xs) s t p q (u, w, first, more) =
-    path_then p.plant w.plant q.plant (acks_path first.accepted a.0 p w first.acks) (sends_path step is_old xs u t w q more)
+sends_path : (step : AdviceStep) (xs : List ((ℕ × ℕ) × List ℕ)) (s t : PlainAdvisor) (p q : Point) → SendsAll step xs s p t q → Path p.plant q.plant
+sends_path step [] s t p q (sent, same) = path_none p.plant q.plant (ap (λ (z : Point). z.plant) same)
+sends_path step (a ∷ xs) s t p q (u, w, first, more) =
+    path_then p.plant w.plant q.plant (acks_path first.accepted a.0 p w first.acks) (sends_path step xs u t w q more)
 
-serves_path : (step : AdviceStep) (first : ℕ) (rounds : List Round) (p : Point) (sender : PlainSender) (before after : Option (List ℕ)) → (s : ServesAll step first rounds p sender before after) → Path p.plant s.end.plant
-serves_path step first rounds p sender before after s =
+rounds_path : (rounds : List Round) (p q : Point) (a b : Option (List ℕ)) → Serves rounds p a q b → Path p.plant q.plant
+rounds_path rounds p q a b s = goes_path rounds p q s.bytes s.lines s.goes
+
+leg_path : (step : AdviceStep) (rounds : List Round) (x y : Stage) (lines : List Line) → Leg step rounds x lines y → Path x.point.plant y.point.plant
+leg_path step rounds x y lines leg =
+    let b = leg.between in
+    path_then x.point.plant leg.served.plant y.point.plant (rounds_path rounds x.point leg.served x.out y.out leg.serves)
+    (path_then leg.served.plant b.sent.plant y.point.plant (sends_path step _ x.advisor y.advisor leg.served b.sent b.sends) (cuts_path b.sent y.point leg.cut b.cuts))
+
+legs_path : (step : AdviceStep) (legs : List (List Round)) (x y : Stage) (lines : List Line) → Legs step legs x lines y → Path x.point.plant y.point.plant
+legs_path step [] x y lines (none, same) = path_none x.point.plant y.point.plant (ap (λ (z : Stage). z.point.plant) same)
+legs_path step (rs ∷ legs) x y lines (first, later, w, leg, more, are) =
+    path_then x.point.plant w.point.plant y.point.plant (leg_path step rs x w first leg) (legs_path step legs w y later more)
+
+advances_path : (step : AdviceStep) (rounds : List Round) (x y : Stage) → Advances step rounds x y → Path x.point.plant y.point.plant
+advances_path step rounds x y a =
+    path_then x.point.plant a.halfway.point.plant y.point.plant (legs_path step a.legs x a.halfway a.lines a.goes) (rounds_path a.last a.halfway.point y.point a.halfway.out y.out a.serves)
+
+serves_path : (step : AdviceStep) (rounds : List Round) (p : Point) (advisor : PlainAdvisor) (before after : Option (List ℕ)) → (s : ServesAll step rounds p advisor before after) → Path p.plant s.end.plant
+serves_path step rounds p advisor before after s =
     path_then p.plant s.begun.plant s.end.plant (cuts_path p s.begun s.cut s.cuts)
-    (path_then s.begun.plant s.served.plant s.end.plant (goes_path _ s.begun s.served s.serves.bytes s.serves.lines s.serves.goes)
-    (path_then s.served.plant s.drained.plant s.end.plant (goes_path s.drains.rounds s.served s.drained s.drains.serves.bytes s.drains.serves.lines s.drains.serves.goes)
-    (sends_path step _ _ sender s.sent s.drained s.end s.sends)))
+    (path_then s.begun.plant s.served.point.plant s.end.plant (advances_path step rounds (stage advisor s.begun before) s.served s.serves)
+    (path_then s.served.point.plant s.drained.plant s.end.plant (rounds_path s.drains.rounds s.served.point s.drained s.served.out after s.drains.serves)
+    (sends_path step _ s.served.advisor s.sent s.drained s.end s.sends)))
 
 pub begins_path : (f : Flow) (n : ℕ) (j : Seen) (p : Point) → (b : Begins f n j p) → Path b.made p.plant
 begins_path f n j p b = acts_path _ _ p b.recovers.acts
 
-pub ran_path : (f : Flow) (n : ℕ) (j : Seen) (step : AdviceStep) (sender : PlainSender) (rounds : List Round) (before after : Option (List ℕ)) → (r : Ran f n j step sender rounds before after) → Path r.begins.made r.serves.end.plant
-ran_path f n j step sender rounds before after r =
+pub ran_path : (f : Flow) (n : ℕ) (j : Seen) (step : AdviceStep) (sender : PlainSender) (most : ℕ) (rounds : List Round) (before after : Option (List ℕ)) → (r : Ran f n j step sender most rounds before after) → Path r.begins.made r.serves.end.plant
+ran_path f n j step sender most rounds before after r =
     path_then r.begins.made r.recovered.plant r.serves.end.plant (begins_path f n j r.recovered r.begins)
-    (serves_path step r.begins.view.next_id rounds r.recovered sender before after r.serves)
+    (serves_path step rounds r.recovered (begun_advisor sender most r.begins.view.next_id) before after r.serves)

@@ -1,15 +1,16 @@
 -- A whole run of its parts.
 -- for: serving::Over::run
-use Rattle.std.proofs.Common.{◌≡◌, ℕ, ◌-◌, Bool, List, ◌++◌, nat_lt, Option, Result, Ok, Err, ap, refl, sym, subst, ◌∙◌}
+use Rattle.std.proofs.Common.{◌≡◌, ℕ, ◌-◌, Bool, List, ◌++◌, Option, Result, Ok, Err, ap, refl, sym, subst, ◌∙◌}
 use Rattle.std.specs.Prelude.{IfOk, OnOk}
 use Rattle.std.specs.Io.KnownBytes.{Appends}
 use Rattle.flow_model.specs.declared.flow.Flow.{Flow}
 use Rattle.sw_issuers.specs.Sending.{PlainSender}
+use Rattle.cli_run.specs.Legs.{AdvancesFor, lines_of, stage}
 use Rattle.tx_history.specs.declared.journal.JournalView.{JournalView}
 use Rattle.tx_engine.specs.World.{World}
 use Rattle.tx_plant.specs.Plant.{Seen, Whole}
 use Rattle.plant_outcome.specs.Lives.{IsMade}
-use Rattle.cli_run.specs.Advices.{AdviceStep, SendsAll, stored_at}
+use Rattle.cli_run.specs.Advices.{AdviceStep, PlainAdvisor, SendsAll, begun_advisor, stored_at}
 use Rattle.cli_run.specs.declared.standard_error.Form.TheVariants.{Text}
 use Rattle.cli_run.specs.Lines.{lines_in, written_as}
 use Rattle.cli_run.specs.Points.{IsAtRest, IsReady, Point, world_at}
@@ -17,7 +18,7 @@ use Rattle.cli_run.specs.Ran.{Begins, Closes, Printed, Ran, ServesAll, all_lines
 use Rattle.cli_run.specs.declared.progress.Progress.{Progress}
 use Rattle.cli_run.specs.Numbers.{begun_in, numbers_at}
 use Rattle.cli_run.specs.Shown.{Shows, TellsAll}
-use Rattle.cli_run.specs.Traces.{Cuts, DrainsAll, Log, ReportsFor, Tells, passed_over}
+use Rattle.cli_run.specs.Traces.{Cuts, DrainsAll, Log, Tells, passed_over}
 use Rattle.cli_run.proofs.Tracing.{lines_before, lines_then}
 use Rattle.cli_run.specs.Rounds.{IsEmptied, Recovers, Round}
 use Rattle.cli_run.proofs.Recoveries.{made_view}
@@ -41,21 +42,26 @@ begun f n view j made first id r is first_at before recovers =
     }
 
 -- all was served, and what it tells was told, with the numbers at its end
-abbrev pub ServesTold : AdviceStep → List Round → Point → PlainSender → Option (List ℕ) → Option (List ℕ) → ℕ → Log → Log → ℕ → Type 0
-ServesTold step rounds r sender a b n k l first = (s : ServesAll step first rounds r sender a b) × TellsAll (all_lines s) n s.end k l
+abbrev pub ServesTold : AdviceStep → List Round → Point → Option (List ℕ) → Option (List ℕ) → ℕ → Log → Log → PlainAdvisor → Type 0
+ServesTold step rounds r a b n k l advisor = (s : ServesAll step rounds r advisor a b) × TellsAll (all_lines s) n s.end k l
 
-pub ran : (f : Flow) (n : ℕ) (view : JournalView) (j : Seen) (made : Whole) (first : ℕ) (id : Progress) (r : Point) (step : AdviceStep) (sender : PlainSender) (rounds : List Round) (a b : Option (List ℕ)) (passed : ℕ) (k l : Log)
-    → IsMade f n view j made → first ≡ made.core.world.start.view.next_id → id ≡ begun_in made.core.world first → FirstRecovers (record { plant = made; answered = id }) r
-    → ServesTold step rounds r sender a b passed k l first → (ran : Ran f n j step sender rounds a b) × TellsAll (all_lines ran.serves) passed ran.serves.end k l
+-- what sends the advices of a run, by the id that the engine tells
+pub advisor_is : (f : Flow) (n : ℕ) (view : JournalView) (j : Seen) (made : Whole) (first : ℕ) (advisor : PlainAdvisor) (sender : PlainSender) (most : ℕ) → IsMade f n view j made → first ≡ made.core.world.start.view.next_id → advisor ≡ begun_advisor sender most first
+    → advisor ≡ begun_advisor sender most view.next_id
+advisor_is f n view j made first advisor sender most is first_at by = by ∙ ap (begun_advisor sender most) (first_is f n view j made first is first_at)
+
+pub ran : (f : Flow) (n : ℕ) (view : JournalView) (j : Seen) (made : Whole) (first : ℕ) (id : Progress) (r : Point) (step : AdviceStep) (advisor : PlainAdvisor) (sender : PlainSender) (most : ℕ) (rounds : List Round) (a b : Option (List ℕ)) (passed : ℕ) (k l : Log)
+    → IsMade f n view j made → first ≡ made.core.world.start.view.next_id → id ≡ begun_in made.core.world first → FirstRecovers (record { plant = made; answered = id }) r → advisor ≡ begun_advisor sender most first
+    → ServesTold step rounds r a b passed k l advisor → (ran : Ran f n j step sender most rounds a b) × TellsAll (all_lines ran.serves) passed ran.serves.end k l
 unfolding begun
-ran f n view j made first id r step sender rounds a b passed k l is first_at before recovers is_told =
-    let (serves, tells) = subst (ServesTold step rounds r sender a b passed k l) (first_is f n view j made first is first_at) is_told in
+ran f n view j made first id r step advisor sender most rounds a b passed k l is first_at before recovers by is_told =
+    let (serves, tells) = subst (ServesTold step rounds r a b passed k l) (advisor_is f n view j made first advisor sender most is first_at by) is_told in
     (record { recovered = r; begins = begun f n view j made first id r is first_at before recovers; serves = serves }, tells)
 
 -- the lines that were left were told, and the numbers last
-pub told_last : (step : AdviceStep) (first : ℕ) (rounds : List Round) (p : Point) (sender : PlainSender) (a b : Option (List ℕ)) (n : ℕ) (k l m o : Log) (q : Point) (w : World) → (s : ServesAll step first rounds p sender a b) → s.end ≡ q → w ≡ world_at q
-    → Tells (lines_cut s) n k l → Tells (lines_in w) 0 l m → Shows (numbers_at q m.passed) m o → ServesTold step rounds p sender a b n k o first
-told_last step first rounds p sender a b n k l m o q w s end is cut left shows =
+pub told_last : (step : AdviceStep) (rounds : List Round) (p : Point) (advisor : PlainAdvisor) (a b : Option (List ℕ)) (n : ℕ) (k l m o : Log) (q : Point) (w : World) → (s : ServesAll step rounds p advisor a b) → s.end ≡ q → w ≡ world_at q
+    → Tells (lines_cut s) n k l → Tells (lines_in w) 0 l m → Shows (numbers_at q m.passed) m o → ServesTold step rounds p a b n k o advisor
+told_last step rounds p advisor a b n k l m o q w s end is cut left shows =
     let same : w ≡ world_at s.end = is ∙ ap world_at (sym end) in (
       s,
       record {
@@ -86,23 +92,22 @@ through_both s t (Err e) is first h k f = tt
 
 -- the end of a run, and what it told
 
-pub closed : (step : AdviceStep) (first : ℕ) (p q r : Point) (s t : PlainSender) (a b : Option (List ℕ)) (k l : Log) → (d : DrainsAll p a k q b l) → SendsAll step (λ id. nat_lt id first) (stored_at q) s q t r → IsAtRest r → IsEmptied (world_at r)
-    → (c : Closes step first p s a r t b) × Tells c.drains.serves.lines 0 k l
-closed step first p q r s t a b k l d sends rest emptied =
+pub closed : (step : AdviceStep) (p q r : Point) (s t : PlainAdvisor) (a b : Option (List ℕ)) (k l : Log) → (d : DrainsAll p a k q b l) → SendsAll step (stored_at q) s q t r → IsAtRest r → IsEmptied (world_at r)
+    → (c : Closes step p s a r t b) × Tells c.drains.serves.lines 0 k l
+closed step p q r s t a b k l d sends rest emptied =
     (record { drained = q; drains = d.drains; sends = sends; rest = rest; emptied = emptied }, d.tells)
 
 -- a cut, rounds, and the end, one after the other
-pub all_served : (step : AdviceStep) (first : ℕ) (threads : Bool) (frames : List (List ℕ)) (p q r t : Point) (s u : PlainSender) (a b c : Option (List ℕ)) (k l m o : Log) → Cuts p k q l → IsReady q → (f : ReportsFor threads frames q a l r b m)
-    → (d : Closes step first r s b t u c) × Tells d.drains.serves.lines 0 m o → (all : ServesAll step first f.rounds p s a c) × (all.end ≡ t) × Tells (lines_cut all) (passed_over frames) k o
-all_served step first threads frames p q r t s u a b c k l m o cuts ready f (d, tells) = (
+pub all_served : (step : AdviceStep) (threads : Bool) (frames : List (List ℕ)) (p q r t : Point) (s v u : PlainAdvisor) (a b c : Option (List ℕ)) (k l m o : Log) → Cuts p k q l → IsReady q → (f : AdvancesFor step threads frames (stage s q a) l (stage v r b) m)
+    → (d : Closes step r v b t u c) × Tells d.drains.serves.lines 0 m o → (all : ServesAll step f.rounds p s a c) × (all.end ≡ t) × Tells (lines_cut all) (passed_over frames) k o
+all_served step threads frames p q r t s v u a b c k l m o cuts ready f (d, tells) = (
   record {
     begun = q;
     cut = cuts.lines;
     cuts = cuts.cuts;
     ready = ready;
-    served = r;
-    between = b;
-    serves = f.reports.serves;
+    served = stage v r b;
+    serves = f.advances;
     drained = d.drained;
     drains = d.drains;
     sent = u;
@@ -112,6 +117,6 @@ all_served step first threads frames p q r t s u a b c k l m o cuts ready f (d, 
     emptied = d.emptied;
   },
   refl,
-  lines_before cuts.lines (f.reports.serves.lines ++ d.drains.serves.lines) (passed_over frames) k l o cuts.tells
-      (lines_then f.reports.serves.lines d.drains.serves.lines (passed_over frames) l m o f.reports.tells tells),
+  lines_before cuts.lines (lines_of f.advances ++ d.drains.serves.lines) (passed_over frames) k l o cuts.tells
+      (lines_then (lines_of f.advances) d.drains.serves.lines (passed_over frames) l m o f.tells tells),
 )

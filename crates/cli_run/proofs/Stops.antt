@@ -9,7 +9,7 @@ use Rattle.cli_io.specs.Written.{AppendsBeginning}
 use Rattle.cli_io.proofs.Writing.{beginning_all, beginning_none}
 use Rattle.sw_context.specs.Pairs.{Pairs}
 use Rattle.sw_frame.specs.Feeds.{messages}
-use Rattle.sw_frame.specs.Stream.{AreFramed, State, blank}
+use Rattle.sw_frame.specs.Stream.{AreFramed, State}
 use Rattle.iso_codec.specs.Reads.{read}
 use Rattle.tx_plant.specs.declared.turn.Outcome.{Outcome}
 use Rattle.tx_plant.specs.declared.turn.Turn.TheVariants as turn
@@ -17,7 +17,7 @@ use Rattle.cli_run.specs.Points.{IsAtRest, IsReady, Point, responses, unanswered
 use Rattle.cli_run.specs.Requests.{Reads, ReadsOn, if_read, request_of, requests}
 use Rattle.cli_run.specs.Lines.{Line}
 use Rattle.cli_run.specs.Rounds.{Alone, Batched, Completed, Does, Drains, IsOfBatches, IsRetry, MayCut, Offered, Released, Round, RoundsFor, Serves, ServesFor, Transacts, Trimmed, answering, offered_in, untrimmed}
-use Rattle.cli_run.specs.Stopped.{DrainsSome, GivesSome, Halts, HaltsOn, HaltsToward, IsOfNext, StopsWithin}
+use Rattle.cli_run.specs.Stopped.{DrainsSome, GivesSome, Halts, HaltsOn, HaltsToward, IsOfNext}
 use Rattle.cli_run.proofs.Readings.{nothing_read, requests_append, requests_front, requests_next}
 use Rattle.cli_run.specs.Traces.{Log}
 use Rattle.cli_run.proofs.Rounds.{Empties, answering_append, gives_own, retries_append, serves_none, serves_offer, serves_then, serves_trimmed}
@@ -281,17 +281,3 @@ halts_reads threads left then more s t p a b on h = λ input frames reads. (more
 
 pub halts_unread : (threads : Bool) (left : Option (List ℕ)) (s : State) (p : Point) (a : Option (List ℕ)) → HaltsOn threads left s p a a
 halts_unread threads left s p a = λ input frames reads. ([], record { left = left; state = s; reads = subst (λ (l : List (List ℕ)). Reads input left l s) (sym (append-nil frames)) reads }, toward_none threads [] p a)
-
--- a whole input
-
-pub stops_fresh : (threads : Bool) (input : Option (List ℕ)) (s : State) (p : Point) (a : Option (List ℕ)) → s ≡ blank → StopsWithin threads input p a a
-stops_fresh threads input s p a fresh = record { frames = []; begins = record { left = input; state = s; reads = nothing_read input s fresh }; halts = toward_none threads [] p a }
-
-pub stops_on : (threads : Bool) (input left : Option (List ℕ)) (frames : List (List ℕ)) (s : State) (p q : Point) (a b c : Option (List ℕ)) → Reads input left frames s → ServesFor threads (requests frames) p a q b → HaltsOn threads left s q b c → StopsWithin threads input p a c
-stops_on threads input left frames s p q a b c reads serves on =
-    let (more, begins, halts) = on input frames reads in
-    record {
-      frames = frames ++ more;
-      begins = begins;
-      halts = subst (λ (l : List Pairs). HaltsToward threads l p a c) (sym (requests_append frames more)) (toward_then threads (requests frames) (requests more) p q a b c serves halts);
-    }

@@ -1,16 +1,43 @@
 -- The stored advices are sent.
-use Rattle.std.specs.Prelude.{◌≡◌, ℕ, Bool, true, false, List, [], ◌∷◌}
+use Rattle.std.specs.Prelude.{◌≡◌, ℕ, Bool, true, false, cond, ◌==◌, ◌&&◌, ◌||◌, nat_le, nat_lt, List, [], ◌∷◌, take, Option, Some, None}
 use Rattle.sw_issuers.specs.Sending.{PlainSender, SenderStep}
 use Rattle.tx_history.specs.Journal.{advices}
 use Rattle.tx_plant.specs.declared.turn.Outcome.{Outcome}
 use Rattle.tx_plant.specs.declared.turn.Turn.TheVariants as turn
 use Rattle.sw_stats.specs.Tallies.{with_delivered}
+use Rattle.cli_run.specs.Lines.{Line}
 use Rattle.cli_run.specs.Points.{Point, world_at}
-use Rattle.cli_run.specs.Rounds.{Does}
+use Rattle.cli_run.specs.Rounds.{Does, MayCut}
+use Rattle.cli_run.specs.Traces.{Log, Tells}
 
 -- how an advice is sent: its bytes, whether it is a repeat, the sender before, whether it was accepted, the sender after
 abbrev pub AdviceStep : Type 1
 AdviceStep = List ℕ → Bool → SenderStep
+
+-- What sends the advices of a run. `most` is how many it sends between two reads at most; `first` is the id of the run's first
+-- own transaction; `last` is the last advice that was sent in the run, by its transaction's id and its place.
+pub record PlainAdvisor : Type 0 where
+  pub sender : PlainSender
+  pub most : ℕ
+  pub first : ℕ
+  pub last : Option (ℕ × ℕ)
+
+-- before the first advice is sent
+abbrev pub begun_advisor : PlainSender → ℕ → ℕ → PlainAdvisor
+begun_advisor sender most first = record { sender = sender; most = most; first = first; last = None }
+
+-- whether the advice at this place comes no later than that one, ids and places rising
+abbrev pub is_up_to : ℕ × ℕ → Option (ℕ × ℕ) → Bool
+is_up_to a None = false
+is_up_to a (Some l) = nat_lt a.0 l.0 || (a.0 == l.0) && nat_le a.1 l.1
+
+-- An advice is a repeat where an earlier run may have sent it, since it has a transaction of that run, or this one has.
+abbrev pub is_repeat : PlainAdvisor → ℕ × ℕ → Bool
+is_repeat s a = nat_lt a.0 s.first || is_up_to a s.last
+
+-- the last advice that was sent, with this one
+abbrev pub last_with : PlainAdvisor → ℕ × ℕ → Option (ℕ × ℕ)
+last_with s a = cond (is_repeat s a) s.last (Some a)
 
 -- one more advice was accepted
 abbrev pub one_delivered : Point → Point
@@ -21,17 +48,31 @@ abbrev pub Acks : Bool → ℕ × ℕ → Point → Point → Type 0
 Acks true place p q = (o : Outcome) × (w : Point) × Does (turn.Ack place.0 place.1) o p w × (q ≡ one_delivered w)
 Acks false place p q = q ≡ p
 
--- an advice is sent once; `is_old` says of which transactions it is a repeat
-pub record Sends (step : AdviceStep) (is_old : ℕ → Bool) (a : (ℕ × ℕ) × List ℕ) (s : PlainSender) (p : Point) (t : PlainSender) (q : Point) : Type 0 where
+-- an advice is sent once
+pub record Sends (step : AdviceStep) (a : (ℕ × ℕ) × List ℕ) (s : PlainAdvisor) (p : Point) (t : PlainAdvisor) (q : Point) : Type 0 where
   pub accepted : Bool
-  pub sent : step a.1 (is_old a.0.0) s accepted t
+  pub sender : PlainSender
+  pub sent : step a.1 (is_repeat s a.0) s.sender accepted sender
+  pub noted : t ≡ record s { sender = sender; last = last_with s a.0 }
   pub acks : Acks accepted a.0 p q
 
 -- one after the other
-abbrev pub SendsAll : AdviceStep → (ℕ → Bool) → List ((ℕ × ℕ) × List ℕ) → PlainSender → Point → PlainSender → Point → Type 0
-SendsAll step is_old [] s p t q = (t ≡ s) × (q ≡ p)
-SendsAll step is_old (a ∷ more) s p t q = (u : PlainSender) × (w : Point) × Sends step is_old a s p u w × SendsAll step is_old more u w t q
+abbrev pub SendsAll : AdviceStep → List ((ℕ × ℕ) × List ℕ) → PlainAdvisor → Point → PlainAdvisor → Point → Type 0
+SendsAll step [] s p t q = (t ≡ s) × (q ≡ p)
+SendsAll step (a ∷ more) s p t q = (u : PlainAdvisor) × (w : Point) × Sends step a s p u w × SendsAll step more u w t q
 
 -- the advices that are stored, ids and places rising
 abbrev pub stored_at : Point → List ((ℕ × ℕ) × List ℕ)
 stored_at p = advices (world_at p).flow (world_at p).start (world_at p).past
+
+-- between two reads: the first of the stored advices are sent, at most so many; then the history may be cut
+pub record Between (step : AdviceStep) (s : PlainAdvisor) (p : Point) (lines : List Line) (t : PlainAdvisor) (q : Point) : Type 0 where
+  pub sent : Point
+  pub sends : SendsAll step (take s.most (stored_at p)) s p t sent
+  pub cuts : MayCut sent lines q
+
+-- and the lines of the entries that are cut were told
+pub record SendsBetween (step : AdviceStep) (s : PlainAdvisor) (p : Point) (a : Log) (t : PlainAdvisor) (q : Point) (b : Log) : Type 0 where
+  pub lines : List Line
+  pub between : Between step s p lines t q
+  pub tells : Tells lines 0 a b

@@ -1,6 +1,7 @@
 pub mod Points
 pub mod Rounds
 pub mod Advices
+pub mod Legs
 pub mod Ran
 pub mod Requests
 pub mod Errors

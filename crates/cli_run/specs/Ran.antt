@@ -1,5 +1,5 @@
 -- A whole run.
-use Rattle.std.specs.Prelude.{ℕ, List, ◌++◌, nat_lt, Option}
+use Rattle.std.specs.Prelude.{ℕ, List, ◌++◌, Option}
 use Rattle.std.specs.Io.KnownBytes.{Appends}
 use Rattle.flow_model.specs.declared.flow.Flow.{Flow}
 use Rattle.sw_issuers.specs.Sending.{PlainSender}
@@ -7,10 +7,11 @@ use Rattle.tx_history.specs.declared.journal.JournalView.{JournalView}
 use Rattle.tx_plant.specs.Plant.{Seen, Whole}
 use Rattle.plant_outcome.specs.Lives.{IsMade}
 use Rattle.cli_run.specs.Points.{IsAtRest, IsReady, Point, world_at}
-use Rattle.cli_run.specs.Rounds.{Drains, IsEmptied, MayCut, Recovers, Round, Serves}
+use Rattle.cli_run.specs.Rounds.{Drains, IsEmptied, MayCut, Recovers, Round}
 use Rattle.cli_run.specs.declared.standard_error.Form.TheVariants.{Text}
 use Rattle.cli_run.specs.Lines.{Line, lines_in, written_as}
-use Rattle.cli_run.specs.Advices.{AdviceStep, SendsAll, stored_at}
+use Rattle.cli_run.specs.Advices.{AdviceStep, PlainAdvisor, SendsAll, begun_advisor, stored_at}
+use Rattle.cli_run.specs.Legs.{Advances, Stage, lines_of, stage}
 use Rattle.cli_run.specs.Numbers.{begun_in}
 
 -- a new plant, of which no response of the journal's own transactions is given, and nothing is counted
@@ -25,45 +26,44 @@ pub record Begins (f : Flow) (sessions : ℕ) (j : Seen) (p : Point) : Type 0 wh
   pub recovers : Recovers (made_at made view) p
 
 -- The history may be cut first. The rounds are done, in which requests are offered when the switch is ready for them, and answered before the next
--- are; the queue and the shelf are emptied; then each stored advice is sent once, as a repeat where its transaction has an id below `first`, and
--- dropped where it is accepted.
-pub record ServesAll (step : AdviceStep) (first : ℕ) (rounds : List Round) (p : Point) (sender : PlainSender) (before after : Option (List ℕ)) : Type 0 where
+-- are, and stored advices are sent between them; the queue and the shelf are emptied; then each stored advice is sent, and dropped where it is
+-- accepted.
+pub record ServesAll (step : AdviceStep) (rounds : List Round) (p : Point) (advisor : PlainAdvisor) (before after : Option (List ℕ)) : Type 0 where
   pub begun : Point
   pub cut : List Line
   pub cuts : MayCut p cut begun
   pub ready : IsReady begun
-  pub served : Point
-  pub between : Option (List ℕ)
-  pub serves : Serves rounds begun before served between
+  pub served : Stage
+  pub serves : Advances step rounds (stage advisor begun before) served
   pub drained : Point
-  pub drains : Drains served between drained after
-  pub sent : PlainSender
+  pub drains : Drains served.point served.out drained after
+  pub sent : PlainAdvisor
   pub end : Point
-  pub sends : SendsAll step (λ id. nat_lt id first) (stored_at drained) sender drained sent end
+  pub sends : SendsAll step (stored_at drained) served.advisor drained sent end
   pub rest : IsAtRest end
   pub emptied : IsEmptied (world_at end)
 
 -- the lines of the entries that were cut till then, each once, the oldest first
-abbrev pub lines_cut : {step : AdviceStep} {first : ℕ} {rounds : List Round} {p : Point} {sender : PlainSender} {before after : Option (List ℕ)} → ServesAll step first rounds p sender before after → List Line
-lines_cut s = s.cut ++ (s.serves.lines ++ s.drains.serves.lines)
+abbrev pub lines_cut : {step : AdviceStep} {rounds : List Round} {p : Point} {advisor : PlainAdvisor} {before after : Option (List ℕ)} → ServesAll step rounds p advisor before after → List Line
+lines_cut s = s.cut ++ (lines_of s.serves ++ s.drains.serves.lines)
 
 -- and with those of the history that is left
-abbrev pub all_lines : {step : AdviceStep} {first : ℕ} {rounds : List Round} {p : Point} {sender : PlainSender} {before after : Option (List ℕ)} → ServesAll step first rounds p sender before after → List Line
+abbrev pub all_lines : {step : AdviceStep} {rounds : List Round} {p : Point} {advisor : PlainAdvisor} {before after : Option (List ℕ)} → ServesAll step rounds p advisor before after → List Line
 all_lines s = lines_cut s ++ lines_in (world_at s.end)
 
 -- the queue and the shelf are emptied; then each stored advice is sent
-pub record Closes (step : AdviceStep) (first : ℕ) (p : Point) (sender : PlainSender) (before : Option (List ℕ)) (q : Point) (sent : PlainSender) (after : Option (List ℕ)) : Type 0 where
+pub record Closes (step : AdviceStep) (p : Point) (advisor : PlainAdvisor) (before : Option (List ℕ)) (q : Point) (sent : PlainAdvisor) (after : Option (List ℕ)) : Type 0 where
   pub drained : Point
   pub drains : Drains p before drained after
-  pub sends : SendsAll step (λ id. nat_lt id first) (stored_at drained) sender drained sent q
+  pub sends : SendsAll step (stored_at drained) advisor drained sent q
   pub rest : IsAtRest q
   pub emptied : IsEmptied (world_at q)
 
--- A run with an input: it recovers first. Of advices those of transactions of the journal are repeats.
-pub record Ran (f : Flow) (sessions : ℕ) (j : Seen) (step : AdviceStep) (sender : PlainSender) (rounds : List Round) (before after : Option (List ℕ)) : Type 0 where
+-- A run with an input: it recovers first. Between two reads it sends at most so many stored advices.
+pub record Ran (f : Flow) (sessions : ℕ) (j : Seen) (step : AdviceStep) (sender : PlainSender) (most : ℕ) (rounds : List Round) (before after : Option (List ℕ)) : Type 0 where
   pub recovered : Point
   pub begins : Begins f sessions j recovered
-  pub serves : ServesAll step begins.view.next_id rounds recovered sender before after
+  pub serves : ServesAll step rounds recovered (begun_advisor sender most begins.view.next_id) before after
 
 -- A run without one: it recovers, and prints the lines of its history.
 pub record Printed (f : Flow) (sessions : ℕ) (j : Seen) (before after : Option (List ℕ)) : Type 0 where

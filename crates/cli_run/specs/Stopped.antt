@@ -9,9 +9,12 @@ use Rattle.flow_model.specs.declared.flow.Flow.{Flow}
 use Rattle.tx_plant.specs.Plant.{Seen}
 use Rattle.cli_run.specs.declared.stream.StreamEnd.{StreamEnd}
 use Rattle.cli_run.specs.Points.{IsReady, Point, all_answered, response_of, responses, unanswered, world_at}
-use Rattle.cli_run.specs.Rounds.{Alone, Batched, Completed, IsRetry, Lone, MayCut, Round, RoundsToward, Serves, ServesFor, Together, Transacts}
+use Rattle.cli_run.specs.Rounds.{Alone, Batched, Completed, IsRetry, Lone, MayCut, Round, RoundsFor, RoundsToward, Serves, Together, Transacts}
 use Rattle.cli_run.specs.declared.standard_error.Form.TheVariants.{Text}
 use Rattle.cli_run.specs.Lines.{Line, lines_in, written_as}
+use Rattle.sw_issuers.specs.Sending.{PlainSender}
+use Rattle.cli_run.specs.Advices.{AdviceStep, PlainAdvisor, begun_advisor}
+use Rattle.cli_run.specs.Legs.{Advances, Stage, stage}
 use Rattle.cli_run.specs.Ran.{Begins}
 use Rattle.cli_run.specs.Requests.{ReadTo, Reads, requests}
 
@@ -73,11 +76,22 @@ abbrev pub HaltsOn : Bool → Option (List ℕ) → State → Point → Option (
 HaltsOn threads left s p before after = (input : Option (List ℕ)) (frames : List (List ℕ)) → Reads input left frames s
     → (more : List (List ℕ)) × BeginsWith input (frames ++ more) × HaltsToward threads (requests more) p before after
 
+-- the first of these requests were answered, with advices sent between them, and of the others some, up to an error
+pub record HaltsLater (step : AdviceStep) (threads : Bool) (all : List Pairs) (x : Stage) (after : Option (List ℕ)) : Type 0 where
+  pub first : List Pairs
+  pub later : List Pairs
+  pub order : all ≡ first ++ later
+  pub rounds : List Round
+  pub answers : RoundsFor threads first rounds
+  pub reached : Stage
+  pub advances : Advances step rounds x reached
+  pub halts : HaltsToward threads later reached.point reached.out after
+
 -- requests at the beginning of an input were answered, up to an error
-pub record StopsWithin (threads : Bool) (input : Option (List ℕ)) (p : Point) (before after : Option (List ℕ)) : Type 0 where
+pub record StopsWithin (step : AdviceStep) (threads : Bool) (input : Option (List ℕ)) (x : Stage) (after : Option (List ℕ)) : Type 0 where
   pub frames : List (List ℕ)
   pub begins : BeginsWith input frames
-  pub halts : HaltsToward threads (requests frames) p before after
+  pub halts : HaltsLater step threads (requests frames) x after
 
 -- the queue and the shelf were emptied, up to an error
 pub record DrainsSome (p : Point) (before after : Option (List ℕ)) : Type 0 where
@@ -99,31 +113,32 @@ abbrev pub Unfinished : Point → Option (List ℕ) → Option (List ℕ) → Ty
 Unfinished p before after = GivesSome p before after ⊎ Given p before after
 
 -- all requests of an input were answered; then the queue and the shelf were emptied, up to an error
-pub record StopsBehind (threads : Bool) (input : Option (List ℕ)) (p : Point) (before after : Option (List ℕ)) : Type 0 where
+pub record StopsBehind (step : AdviceStep) (threads : Bool) (input : Option (List ℕ)) (x : Stage) (after : Option (List ℕ)) : Type 0 where
   pub end : StreamEnd
   pub frames : List (List ℕ)
   pub read : ReadTo end input frames
-  pub served : Point
-  pub between : Option (List ℕ)
-  pub serves : ServesFor threads (requests frames) p before served between
-  pub drains : DrainsSome served between after
+  pub rounds : List Round
+  pub answers : RoundsFor threads (requests frames) rounds
+  pub served : Stage
+  pub advances : Advances step rounds x served
+  pub drains : DrainsSome served.point served.out after
 
 -- the history may be cut, and what an input has was served, up to an error
-pub record Serving (threads : Bool) (input : Option (List ℕ)) (p : Point) (before after : Option (List ℕ)) : Type 0 where
+pub record Serving (step : AdviceStep) (threads : Bool) (input : Option (List ℕ)) (p : Point) (advisor : PlainAdvisor) (before after : Option (List ℕ)) : Type 0 where
   pub begun : Point
   pub cut : List Line
   pub cuts : MayCut p cut begun
   pub ready : IsReady begun
-  pub serves : StopsWithin threads input begun before after ⊎ StopsBehind threads input begun before after
+  pub serves : StopsWithin step threads input (stage advisor begun before) after ⊎ StopsBehind step threads input (stage advisor begun before) after
 
-abbrev pub ServesSome : Bool → Option (List ℕ) → Point → Option (List ℕ) → Option (List ℕ) → Type 0
-ServesSome threads input p before after = Keeps before after ⊎ Serving threads input p before after
+abbrev pub ServesSome : AdviceStep → Bool → Option (List ℕ) → Point → PlainAdvisor → Option (List ℕ) → Option (List ℕ) → Type 0
+ServesSome step threads input p advisor before after = Keeps before after ⊎ Serving step threads input p advisor before after
 
 -- a run with an input recovered, and served up to an error
-pub record Stopped (threads : Bool) (f : Flow) (sessions : ℕ) (j : Seen) (input before after : Option (List ℕ)) : Type 0 where
+pub record Stopped (step : AdviceStep) (sender : PlainSender) (most : ℕ) (threads : Bool) (f : Flow) (sessions : ℕ) (j : Seen) (input before after : Option (List ℕ)) : Type 0 where
   pub recovered : Point
   pub begins : Begins f sessions j recovered
-  pub serves : Serving threads input recovered before after
+  pub serves : Serving step threads input recovered (begun_advisor sender most begins.view.next_id) before after
 
 -- a run without one recovered, and wrote a beginning of the lines of its history
 pub record Unprinted (f : Flow) (sessions : ℕ) (j : Seen) (before after : Option (List ℕ)) : Type 0 where
@@ -131,10 +146,10 @@ pub record Unprinted (f : Flow) (sessions : ℕ) (j : Seen) (before after : Opti
   pub begins : Begins f sessions j recovered
   pub written : AppendsBeginning before after (written_as Text (lines_in (world_at recovered)))
 
-abbrev pub StopsWith : Bool → Option (Option (List ℕ)) → Flow → ℕ → Seen → Option (List ℕ) → Option (List ℕ) → Type 0
-StopsWith threads None f sessions j before after = Unprinted f sessions j before after
-StopsWith threads (Some input) f sessions j before after = Stopped threads f sessions j input before after
+abbrev pub StopsWith : AdviceStep → PlainSender → ℕ → Bool → Option (Option (List ℕ)) → Flow → ℕ → Seen → Option (List ℕ) → Option (List ℕ) → Type 0
+StopsWith step sender most threads None f sessions j before after = Unprinted f sessions j before after
+StopsWith step sender most threads (Some input) f sessions j before after = Stopped step sender most threads f sessions j input before after
 
 -- a run, with or without an input, ended with an error: before anything was written, or as above
-abbrev pub IsStopped : Bool → Option (Option (List ℕ)) → Flow → ℕ → Seen → Option (List ℕ) → Option (List ℕ) → Type 0
-IsStopped threads input f sessions j before after = Keeps before after ⊎ StopsWith threads input f sessions j before after
+abbrev pub IsStopped : AdviceStep → PlainSender → ℕ → Bool → Option (Option (List ℕ)) → Flow → ℕ → Seen → Option (List ℕ) → Option (List ℕ) → Type 0
+IsStopped step sender most threads input f sessions j before after = Keeps before after ⊎ StopsWith step sender most threads input f sessions j before after

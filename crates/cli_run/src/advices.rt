@@ -1,29 +1,46 @@
 //! The advices that the journal stores.
 
-ghost use Rattle.std.specs.Prelude.{◌≡◌, map, nat_lt, IfOk, OnOk};
-ghost use Rattle.sw_issuers.specs.Sending.{SendsAdvice};
+ghost use Rattle.std.specs.Prelude.{◌≡◌, map, take, IfOk, OnErr, OnOk};
+ghost use Rattle.sw_issuers.specs.Sending.{PlainSender, SendsAdvice};
+ghost use Rattle.tx_engine.specs.Calls.{waits};
 ghost use Rattle.tx_history.specs.Journal.{advices};
-ghost use Rattle.cli_run.specs.Advices.{Sends, SendsAll, stored_at};
-ghost use Rattle.cli_run.specs.Points.{IsAtRest, point_of, world_at};
+ghost use Rattle.cli_run.specs.Advices.{PlainAdvisor, Sends, SendsAll, SendsBetween};
+ghost use Rattle.cli_run.specs.Advices.{begun_advisor, is_repeat, is_up_to, last_with, stored_at};
+ghost use Rattle.cli_run.specs.Points.{IsAtRest, IsReady, point_of, world_at};
 ghost use Rattle.cli_run.specs.Rounds.{IsEmptied};
-ghost use Rattle.cli_run.specs.Stored.{plain};
+ghost use Rattle.cli_run.specs.Stored.{place_of, plain};
+ghost use Rattle.cli_run.specs.Traces.{log_of};
 
 use crate::error::ServeError;
+use crate::standard_error::StandardError;
 use crate::switch::Switch;
 use sqlite::Alter;
 use std::alloc::{AllocError, Global};
+use std::io::Write;
+use std::marker::Model;
 use sw_issuers::Sender;
-use sw_participant::Bytes;
+use sw_participant::{Bytes, NoMemory};
 use sw_parts::Link;
 use tx_engine::Engine;
 use tx_plant::Turn;
 
 /// A stored advice: the member at this place of the transaction gave it.
 #[derive(Drop)]
-struct Stored {
+pub(crate) struct Stored {
     id: u64,
     place: usize,
     advice: Bytes,
+}
+
+// Where an advice is stored, and the advice.
+fn stored(id: u64, place: usize, advice: &Bytes) -> Result<Stored, AllocError>
+    ensures { IfOk result (λ stored. plain stored ≡ ((id, place), advice.now)) }
+{
+    Ok(Stored {
+        id,
+        place,
+        advice: advice.copy()?,
+    })
 }
 
 fn advices_of(alloc: Global, engine: &Engine) -> Result<Vec<Stored>, AllocError>
@@ -32,35 +49,144 @@ fn advices_of(alloc: Global, engine: &Engine) -> Result<Vec<Stored>, AllocError>
 {
     let mut list = Vec::new(alloc);
     for ((id, place), advice) in engine.advices() {
-        list.push(Stored {
-            id: *id,
-            place: *place,
-            advice: advice.copy()?,
-        })?;
+        list.push(stored(*id, *place, advice)?)?;
     }
     Ok(list)
 }
 
-// Sends an advice, as a repeat where its transaction has an id below this one, and drops and counts it where
-// its issuer accepts it.
+// The oldest advices, at most so many. The others are not looked at.
+fn oldest_advices(
+    alloc: Global,
+    engine: &Engine,
+    most: usize,
+) -> Result<Vec<Stored>, AllocError>
+    ensures { IfOk result (λ list. map plain list.items
+        ≡ take most (advices engine.now.flow engine.now.start engine.now.past)) }
+{
+    let mut list = Vec::new(alloc);
+    for ((id, place), advice) in engine.advices() {
+        if list.len() >= most {
+            return Ok(list);
+        }
+        list.push(stored(*id, *place, advice)?)?;
+    }
+    Ok(list)
+}
+
+/// The place of an advice that was sent.
+#[derive(Clone, Copy)]
+struct Sent {
+    id: u64,
+    place: usize,
+}
+
+/// What sends the stored advices of a run, and knows which were sent before.
+pub(crate) struct Advisor<L: Link> {
+    sender: Sender<L>,
+    most: usize,
+    first: u64,
+    last: Option<Sent>,
+}
+
+// Written out, so that no caller proves again how its parts are dropped.
+impl<L: Link + Drop> Drop for Advisor<L> {
+    fn drop(self) {
+        let Advisor {
+            sender: _,
+            most: _,
+            first: _,
+            last: _,
+        } = self;
+    }
+}
+
+impl<L: Link> Model for Advisor<L> {
+    ghost use Rattle.std.specs.Prelude.{option_map};
+    ghost use Rattle.cli_run.specs.Advices.{PlainAdvisor};
+
+    ghost Value = { PlainAdvisor };
+
+    ghost view = { λ a. record {
+      sender = a.sender;
+      most = a.most;
+      first = a.first;
+      last = option_map (λ l. (l.id, l.place)) a.last;
+    } };
+}
+
+// Whether the advice comes no later than that one, ids and places rising.
+fn is_up_to(stored: &Stored, last: Option<Sent>) -> bool
+    ensures { result ≡ is_up_to (place_of stored.now) (option_map (λ l. (l.id, l.place)) last) }
+{
+    match last {
+        None => false,
+        Some(last) => {
+            stored.id < last.id || stored.id == last.id && stored.place <= last.place
+        }
+    }
+}
+
+impl<L: Link> Advisor<L> {
+    /// For a run whose first own transaction has this id, and that sends at most so many advices between two reads.
+    pub(crate) fn new(sender: Sender<L>, most: usize, first: u64) -> Advisor<L>
+        ensures { result ≡ begun_advisor sender most first }
+    {
+        Advisor {
+            sender,
+            most,
+            first,
+            last: None,
+        }
+    }
+
+    // How many advices it sends between two reads at most.
+    fn most(&self) -> usize
+        ensures { result ≡ self.now.most }
+    {
+        self.most
+    }
+
+    // Sends an advice, as a repeat where it may have been sent before; whether it was accepted.
+    fn send(&mut self, stored: &Stored) -> Result<bool, NoMemory>
+        ensures sent { IfOk result (λ accepted. (sender : PlainSender)
+            × SendsAdvice L.sends L.receives L.starves (Unit {0})
+            (plain stored.now).1 (is_repeat self.old (place_of stored.now)) self.old.sender
+            accepted sender
+            × (self.new ≡ record self.old {
+              sender = sender;
+              last = last_with self.old (place_of stored.now);
+            })) }
+    {
+        let is_repeat = stored.id < self.first || is_up_to(stored, self.last);
+        let accepted = self.sender.send(stored.advice.as_slice(), is_repeat)?;
+        if !is_repeat {
+            self.last = Some(Sent {
+                id: stored.id,
+                place: stored.place,
+            });
+        }
+        Ok(accepted)
+    }
+}
+
+// Sends an advice, and drops and counts it where its issuer accepts it.
 fn send_advice<S: Alter, L: Link>(
     alloc: Global,
     switch: &mut Switch<S>,
-    sender: &mut Sender<L>,
+    advisor: &mut Advisor<L>,
     stored: &Stored,
-    first: u64,
 ) -> Result<(), ServeError>
     requires rest { IsAtRest (point_of S.Store switch.old) }
-    ensures sends { OnOk result (Sends (SendsAdvice L.sends L.receives L.starves (Unit {0})) (λ id. nat_lt id first)
-        (plain stored.now) sender.old (point_of S.Store switch.old)
-        sender.new (point_of S.Store switch.new)) }
+    ensures sends { OnOk result (Sends (SendsAdvice L.sends L.receives L.starves (Unit {0}))
+        (plain stored.now) advisor.old (point_of S.Store switch.old)
+        advisor.new (point_of S.Store switch.new)) }
     ensures rest { OnOk result (IsAtRest (point_of S.Store switch.new)) }
+    ensures queue { OnOk result (waits switch.new.plant.running.engine
+        ≡ waits switch.old.plant.running.engine) }
     ensures emptied { OnOk result (IsEmptied (world_at (point_of S.Store switch.old))
         → IsEmptied (world_at (point_of S.Store switch.new))) }
 {
-    let is_old = stored.id < first;
-    let accepted = sender.send(stored.advice.as_slice(), is_old)?;
-    if !accepted {
+    if !advisor.send(stored)? {
         return Ok(());
     }
     switch.act(alloc, Turn::Ack(stored.id, stored.place))?;
@@ -68,25 +194,66 @@ fn send_advice<S: Alter, L: Link>(
     Ok(())
 }
 
-/// Sends each stored advice once, ids and places rising, and drops those that their issuers accept. Those
-/// of transactions with ids below this one go as repeats.
+// Sends each of these advices, and drops and counts those that their issuers accept.
+fn send_each<S: Alter, L: Link>(
+    alloc: Global,
+    switch: &mut Switch<S>,
+    advisor: &mut Advisor<L>,
+    list: &[Stored],
+) -> Result<(), ServeError>
+    requires rest { IsAtRest (point_of S.Store switch.old) }
+    ensures sends { OnOk result (SendsAll (SendsAdvice L.sends L.receives L.starves (Unit {0}))
+        (map plain list.now) advisor.old (point_of S.Store switch.old)
+        advisor.new (point_of S.Store switch.new)) }
+    ensures rest { OnOk result (IsAtRest (point_of S.Store switch.new)) }
+    ensures queue { OnOk result (waits switch.new.plant.running.engine
+        ≡ waits switch.old.plant.running.engine) }
+    ensures emptied { OnOk result (IsEmptied (world_at (point_of S.Store switch.old))
+        → IsEmptied (world_at (point_of S.Store switch.new))) }
+{
+    for stored in list {
+        send_advice(alloc, switch, advisor, stored)?;
+    }
+    Ok(())
+}
+
+/// Sends each stored advice once, ids and places rising, and drops those that their issuers accept.
 pub(crate) fn send_advices<S: Alter, L: Link>(
     alloc: Global,
     switch: &mut Switch<S>,
-    sender: &mut Sender<L>,
-    first: u64,
+    advisor: &mut Advisor<L>,
 ) -> Result<(), ServeError>
     requires rest { IsAtRest (point_of S.Store switch.old) }
-    ensures sends { OnOk result (SendsAll (SendsAdvice L.sends L.receives L.starves (Unit {0})) (λ id. nat_lt id first)
-        (stored_at (point_of S.Store switch.old)) sender.old (point_of S.Store switch.old)
-        sender.new (point_of S.Store switch.new)) }
+    ensures sends { OnOk result (SendsAll (SendsAdvice L.sends L.receives L.starves (Unit {0}))
+        (stored_at (point_of S.Store switch.old)) advisor.old (point_of S.Store switch.old)
+        advisor.new (point_of S.Store switch.new)) }
     ensures rest { OnOk result (IsAtRest (point_of S.Store switch.new)) }
     ensures emptied { OnOk result (IsEmptied (world_at (point_of S.Store switch.old))
         → IsEmptied (world_at (point_of S.Store switch.new))) }
 {
     let list = advices_of(alloc, switch.engine())?;
-    for stored in &list {
-        send_advice(alloc, switch, sender, stored, first)?;
+    send_each(alloc, switch, advisor, &list)
+}
+
+/// Sends the oldest stored advices between two reads, at most as many as the advisor may; those that are accepted are
+/// dropped. The history is cut then, where it is long or its lines are wanted.
+pub(crate) fn send_between<S: Alter, L: Link, E: Write>(
+    alloc: Global,
+    switch: &mut Switch<S>,
+    advisor: &mut Advisor<L>,
+    stderr: &mut StandardError<'_, E>,
+) -> Result<(), ServeError>
+    requires ready { IsReady (point_of S.Store switch.old) }
+    ensures sends { OnOk result (SendsBetween
+        (SendsAdvice L.sends L.receives L.starves (Unit {0}))
+        advisor.old (point_of S.Store switch.old) (log_of E.contents stderr.old)
+        advisor.new (point_of S.Store switch.new) (log_of E.contents stderr.new)) }
+    ensures ready { OnOk result (IsReady (point_of S.Store switch.new)) }
+{
+    let list = oldest_advices(alloc, switch.engine(), advisor.most())?;
+    if list.is_empty() {
+        return Ok(());
     }
-    Ok(())
+    send_each(alloc, switch, advisor, &list)?;
+    switch.cut_traced(alloc, stderr)
 }

@@ -4,12 +4,15 @@ ghost use Rattle.std.specs.Prelude.{◌≡◌, ◌≤◌, ◌∷◌, ◌++◌, L
 ghost use Rattle.std.specs.Prelude.{length, option_to_list, vec_len};
 ghost use Rattle.sw_frame.specs.Feeds.{messages};
 ghost use Rattle.sw_frame.specs.Stream.{blank};
+ghost use Rattle.sw_issuers.specs.Sending.{SendsAdvice};
+ghost use Rattle.cli_run.specs.Legs.{AdvancesFor, stage};
 ghost use Rattle.cli_run.specs.Points.{IsReady, RestsGiven, point_of};
 ghost use Rattle.cli_run.specs.Requests.{ReadTo, requests};
 ghost use Rattle.cli_run.specs.Rounds.{Round, RoundsFor};
 ghost use Rattle.cli_run.specs.Stopped.{HaltsToward, StopsWithin, Unfinished};
 ghost use Rattle.cli_run.specs.Traces.{Finishes, Reports, ReportsFor, Tells, log_of, passed_over};
 
+use crate::advices::{Advisor, send_between};
 use crate::error::ServeError;
 use crate::standard_error::StandardError;
 use crate::stream::{PIECE, Piece, Requests, StreamEnd, request_in};
@@ -22,6 +25,7 @@ use std::sync::Wait;
 use std::thread::Threads;
 use std::time::Clock;
 use sw_context::Context;
+use sw_parts::Link;
 
 impl<S: Alter + Drop> Switch<S> {
     // Gives the responses of a batch, runs what is on the shelf, and writes the lines of the trace.
@@ -202,10 +206,11 @@ fn answer_batches<S: Alter + Drop, T: Threads + Wait + Clock + Sync, O: Write, E
 
 impl Requests {
     /// Answers all requests of an input, in batches of those that have come: at most 256 messages, and at
-    /// least one. A request that came alone is answered in this thread.
+    /// least one. A request that came alone is answered in this thread. Stored advices are sent between two reads.
     pub(crate) fn serve_in_batches<
         S: Alter + Drop,
         T: Threads + Wait + Clock + Sync,
+        L: Link,
         R: Read,
         O: Write,
         E: Write,
@@ -214,6 +219,7 @@ impl Requests {
         rt: &T,
         alloc: Global,
         switch: Switch<S>,
+        advisor: &mut Advisor<L>,
         input: &mut R,
         out: &mut O,
         stderr: &mut StandardError<'_, E>,
@@ -222,12 +228,16 @@ impl Requests {
         requires fresh { self.old.framer ≡ blank }
         ensures serves { IfOk result (λ served. (frames : List (List ℕ))
             × ReadTo served.1 (R.remaining input.old) frames
-            × ReportsFor true frames
-            (point_of S.Store switch) (O.contents out.old) (log_of E.contents stderr.old)
-            (point_of S.Store served.0) (O.contents out.new) (log_of E.contents stderr.new)) }
+            × AdvancesFor (SendsAdvice L.sends L.receives L.starves (Unit {0})) true frames
+            (stage advisor.old (point_of S.Store switch) (O.contents out.old))
+            (log_of E.contents stderr.old)
+            (stage advisor.new (point_of S.Store served.0) (O.contents out.new))
+            (log_of E.contents stderr.new)) }
         ensures ready { IfOk result (λ served. IsReady (point_of S.Store served.0)) }
-        ensures stops { OnErr result (StopsWithin true (R.remaining input.old)
-            (point_of S.Store switch) (O.contents out.old) (O.contents out.new)) }
+        ensures stops { OnErr result (StopsWithin
+            (SendsAdvice L.sends L.receives L.starves (Unit {0})) true (R.remaining input.old)
+            (stage advisor.old (point_of S.Store switch) (O.contents out.old))
+            (O.contents out.new)) }
     {
         let mut switch = switch;
         let mut buf = vec![in alloc; 0u8; PIECE]?;
@@ -239,6 +249,7 @@ impl Requests {
             if let Some(end) = end {
                 return Ok((switch, end));
             }
+            send_between(alloc, &mut switch, advisor, stderr)?;
         }
         Ok((switch, StreamEnd::Unread(ReadError::TooManyReads)))
     }

@@ -21,22 +21,22 @@ use sw_parts::Link;
 /// run recovers alone. A run is a life of a plant, as `plant_outcome::stops_keep_the_law` speaks of them.
 /// The disk has to have returned what was written.
 pub fn runs_keep_the_law<L: Link>()
-    ensures ran { (f : Flow) (n : ℕ) (j : Seen) (sender : PlainSender)
+    ensures ran { (f : Flow) (n : ℕ) (j : Seen) (sender : PlainSender) (most : ℕ)
         (rounds : List Round) (before after : Option (List ℕ)) (calls : List PlantDeed)
         (ran : Ran f n j
         (SendsAdvice L.sends L.receives L.starves (Unit {0}))
-        sender rounds before after)
+        sender most rounds before after)
         → IsClean ran.serves.end.plant.journal → OutcomeLaw calls (id_view f ran.begins.view)
         → Keeps f ran.begins.view ran.begins.made calls ran.serves.end.plant }
     ensures recovered { (f : Flow) (n : ℕ) (j : Seen) (p : Point) (calls : List PlantDeed)
         (begins : Begins f n j p) → IsClean p.plant.journal
         → OutcomeLaw calls (id_view f begins.view)
         → Keeps f begins.view begins.made calls p.plant }
-    ensures lives { (f : Flow) (n : ℕ) (j : Seen) (sender : PlainSender)
+    ensures lives { (f : Flow) (n : ℕ) (j : Seen) (sender : PlainSender) (most : ℕ)
         (rounds : List Round) (before after : Option (List ℕ))
         (ran : Ran f n j
         (SendsAdvice L.sends L.receives L.starves (Unit {0}))
-        sender rounds before after)
+        sender most rounds before after)
         → IsClean ran.serves.end.plant.journal
         → (life : Life) × IsLifeOf f n j ran.begins.view ran.serves.end.plant life }
 {

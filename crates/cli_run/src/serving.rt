@@ -22,7 +22,7 @@ ghost use Rattle.cli_run.specs.Traces.{DrainsAll, Tells, log_of, passed_over};
 ghost use Rattle.cli_io.specs.Written.{AppendsBeginning};
 ghost use Rattle.cli_run.specs.declared.standard_error.Form.TheVariants.{Text};
 
-use crate::advices::send_advices;
+use crate::advices::{Advisor, send_advices};
 use crate::error::ServeError;
 use crate::progress::Progress;
 use crate::setup::{NamedLink, Setup, SwitchLink, query_name, sender_over};
@@ -91,14 +91,12 @@ impl<S: Alter> Switch<S> {
         Err(ServeError::Endless)
     }
 
-    // Answers the requests of an input and what is on the shelf, and sends the stored advices, those of
-    // transactions with ids below this one as repeats.
+    // Answers the requests of an input and what is on the shelf, and sends the stored advices.
     fn serve_to_end<C: Clock, L: Link, R: Read + Drop, O: Write, E: Write>(
         &mut self,
         rt: &C,
         alloc: Global,
-        sender: &mut Sender<L>,
-        first: u64,
+        advisor: &mut Advisor<L>,
         input: R,
         out: &mut O,
         stderr: &mut StandardError<'_, E>,
@@ -108,19 +106,20 @@ impl<S: Alter> Switch<S> {
         ensures serves { IfOk result (λ end. (frames : List (List ℕ))
             × ReadTo end (R.remaining input) frames
             × (rounds : List Round) × RoundsFor false (requests frames) rounds
-            × (all : ServesAll (SendsAdvice L.sends L.receives L.starves (Unit {0})) first rounds
-            (point_of S.Store self.old) sender.old (O.contents out.old) (O.contents out.new))
+            × (all : ServesAll (SendsAdvice L.sends L.receives L.starves (Unit {0})) rounds
+            (point_of S.Store self.old) advisor.old (O.contents out.old) (O.contents out.new))
             × (all.end ≡ point_of S.Store self.new)
             × Tells (lines_cut all) (passed_over frames)
             (log_of E.contents stderr.old) (log_of E.contents stderr.new)) }
-        ensures stops { OnErr result (ServesSome false (R.remaining input)
-            (point_of S.Store self.old) (O.contents out.old) (O.contents out.new)) }
+        ensures stops { OnErr result (ServesSome
+            (SendsAdvice L.sends L.receives L.starves (Unit {0})) false (R.remaining input)
+            (point_of S.Store self.old) advisor.old (O.contents out.old) (O.contents out.new)) }
     {
         self.cut_traced(alloc, stderr)?;
         let mut input = input;
         let mut requests = Requests::new(alloc);
-        let end = requests.serve_all(rt, alloc, self, &mut input, out, stderr)?;
-        self.close(alloc, sender, first, out, stderr)?;
+        let end = requests.serve_all(rt, alloc, self, advisor, &mut input, out, stderr)?;
+        self.close(alloc, advisor, out, stderr)?;
         Ok(end)
     }
 
@@ -128,23 +127,22 @@ impl<S: Alter> Switch<S> {
     fn close<L: Link, O: Write, E: Write>(
         &mut self,
         alloc: Global,
-        sender: &mut Sender<L>,
-        first: u64,
+        advisor: &mut Advisor<L>,
         out: &mut O,
         stderr: &mut StandardError<'_, E>,
     ) -> Result<(), ServeError>
         requires rest { IsAtRest (point_of S.Store self.old) }
         ensures closes { OnOk result (
-            (c : Closes (SendsAdvice L.sends L.receives L.starves (Unit {0})) first
-            (point_of S.Store self.old) sender.old (O.contents out.old)
-            (point_of S.Store self.new) sender.new (O.contents out.new))
+            (c : Closes (SendsAdvice L.sends L.receives L.starves (Unit {0}))
+            (point_of S.Store self.old) advisor.old (O.contents out.old)
+            (point_of S.Store self.new) advisor.new (O.contents out.new))
             × Tells c.drains.serves.lines 0
             (log_of E.contents stderr.old) (log_of E.contents stderr.new)) }
         ensures stops { OnErr result (DrainsSome
             (point_of S.Store self.old) (O.contents out.old) (O.contents out.new)) }
     {
         self.drain(alloc, out, stderr)?;
-        send_advices(alloc, self, sender, first)
+        send_advices(alloc, self, advisor)
     }
 }
 
@@ -162,8 +160,7 @@ impl<S: Alter + Drop> Switch<S> {
         self,
         rt: &T,
         alloc: Global,
-        sender: &mut Sender<L>,
-        first: u64,
+        advisor: &mut Advisor<L>,
         input: R,
         out: &mut O,
         stderr: &mut StandardError<'_, E>,
@@ -173,20 +170,21 @@ impl<S: Alter + Drop> Switch<S> {
         ensures serves { IfOk result (λ end. (frames : List (List ℕ))
             × ReadTo end (R.remaining input) frames
             × (rounds : List Round) × RoundsFor true (requests frames) rounds
-            × (all : ServesAll (SendsAdvice L.sends L.receives L.starves (Unit {0})) first rounds
-            (point_of S.Store self) sender.old (O.contents out.old) (O.contents out.new))
+            × (all : ServesAll (SendsAdvice L.sends L.receives L.starves (Unit {0})) rounds
+            (point_of S.Store self) advisor.old (O.contents out.old) (O.contents out.new))
             × TellsAll (all_lines all) (passed_over frames) all.end
             (log_of E.contents stderr.old) (log_of E.contents stderr.new)) }
-        ensures stops { OnErr result (ServesSome true (R.remaining input)
-            (point_of S.Store self) (O.contents out.old) (O.contents out.new)) }
+        ensures stops { OnErr result (ServesSome
+            (SendsAdvice L.sends L.receives L.starves (Unit {0})) true (R.remaining input)
+            (point_of S.Store self) advisor.old (O.contents out.old) (O.contents out.new)) }
     {
         let mut switch = self;
         switch.cut_traced(alloc, stderr)?;
         let mut input = input;
         let mut requests = Requests::new(alloc);
-        let served = requests.serve_in_batches(rt, alloc, switch, &mut input, out, stderr)?;
+        let served = requests.serve_in_batches(rt, alloc, switch, advisor, &mut input, out, stderr)?;
         let (mut switch, end) = served;
-        let closed = switch.close(alloc, sender, first, out, stderr);
+        let closed = switch.close(alloc, advisor, out, stderr);
         let traced = stderr.trace(alloc, switch.engine());
         switch.show(rt, alloc, stderr);
         closed?;
@@ -226,6 +224,7 @@ struct Over<S: Alter, R: Read, L: Link> {
     journal: Journal<S>,
     input: Option<R>,
     sender: Sender<L>,
+    advices: usize,
     sessions: usize,
     threads: bool,
 }
@@ -236,6 +235,7 @@ impl<S: Alter + Drop, R: Read + Drop, L: Link> Drop for Over<S, R, L> {
             journal: _,
             input: _,
             sender: _,
+            advices: _,
             sessions: _,
             threads: _,
         } = self;
@@ -257,24 +257,25 @@ impl<S: Alter + Drop, R: Read + Drop, L: Link> Over<S, R, L> {
             × ReadTo end (R.remaining reader) frames
             × (rounds : List Round) × RoundsFor self.threads (requests frames) rounds
             × (ran : Ran code.now self.sessions (seen (kept S.Store self.journal))
-            (SendsAdvice L.sends L.receives L.starves (Unit {0})) self.sender rounds
+            (SendsAdvice L.sends L.receives L.starves (Unit {0})) self.sender self.advices rounds
             (O.contents out.old) (O.contents out.new))
             × TellsAll (all_lines ran.serves) (passed_over frames) ran.serves.end
             (log_of E.contents stderr.old) (log_of E.contents stderr.new))) }
         ensures printed { OnOk result (IfNone self.input (Printed code.now self.sessions
             (seen (kept S.Store self.journal)) (O.contents out.old) (O.contents out.new))) }
-        ensures stopped { OnErr result (IsStopped self.threads (option_map R.remaining self.input)
-            code.now self.sessions (seen (kept S.Store self.journal))
+        ensures stopped { OnErr result (IsStopped
+            (SendsAdvice L.sends L.receives L.starves (Unit {0})) self.sender self.advices
+            self.threads (option_map R.remaining self.input) code.now self.sessions (seen (kept S.Store self.journal))
             (O.contents out.old) (O.contents out.new)) }
     {
         let Over {
             journal,
             input,
             sender,
+            advices,
             sessions,
             threads,
         } = self;
-        let mut sender = sender;
         let plant = match Plant::new(alloc, code, journal, stations, sessions) {
             Ok(plant) => plant,
             Err((error, _, stations)) => {
@@ -284,15 +285,16 @@ impl<S: Alter + Drop, R: Read + Drop, L: Link> Over<S, R, L> {
         let first = plant.engine().opened().next_id;
         let answered = Progress::begin(alloc, plant.engine(), first);
         let mut switch = Switch { plant, answered };
+        let mut advisor = Advisor::new(sender, advices, first);
         switch.recover(alloc)?;
         let Some(input) = input else {
             print(alloc, switch.engine(), out)?;
             return Ok(StreamEnd::Whole);
         };
         if threads {
-            return switch.serve_together(rt, alloc, &mut sender, first, input, out, stderr);
+            return switch.serve_together(rt, alloc, &mut advisor, input, out, stderr);
         }
-        let served = switch.serve_to_end(rt, alloc, &mut sender, first, input, out, stderr);
+        let served = switch.serve_to_end(rt, alloc, &mut advisor, input, out, stderr);
         let traced = stderr.trace(alloc, switch.engine());
         switch.show(rt, alloc, stderr);
         end_of(served, traced)
@@ -306,9 +308,11 @@ fn boxed<P: Unjoined>(alloc: Global, participant: P) -> Result<Box<Bystander<P>>
 
 /// Recovers what the journal has unfinished. Without an input the lines of that are printed, and that is all.
 /// Else it answers the requests of an input as they come, then what is on the shelf, and sends the stored
-/// advices. The lines of the trace of a transaction are written before the next request is offered, the rest at
-/// the end, also where it ends early. Where the stream of frames is refused, what came before is answered, and all
-/// is done.
+/// advices. Between two reads of the input it sends the oldest of them, at most as many as the setup says. An
+/// advice that may have been sent before, in this run or an earlier one, is sent as a repeat.
+///
+/// The lines of the trace of a transaction are written before the next request is offered, the rest at the end,
+/// also where it ends early. Where the stream of frames is refused, what came before is answered, and all is done.
 ///
 /// With threads the requests are answered in batches of those that have come, at most 256 at once; the lines
 /// of the trace are written after each batch. Those of a batch that was given up are lost.
@@ -339,14 +343,17 @@ pub fn run<S: Alter + Drop, T: Threads + Wait + Clock + Sync, R: Read + Drop, O:
         × (ran : Ran code.now setup.sessions (seen (kept S.Store journal))
         (SendsAdvice ⟦<SwitchLink as Link>⟧.sends ⟦<SwitchLink as Link>⟧.receives
         ⟦<SwitchLink as Link>⟧.starves (Unit {0}))
-        (sender_with ⟦<SwitchLink as Link>⟧.state setup.routes setup.advised.items) rounds
-        (O.contents out.old) (O.contents out.new))
+        (sender_with ⟦<SwitchLink as Link>⟧.state setup.routes setup.advised.items)
+        setup.advices rounds (O.contents out.old) (O.contents out.new))
         × TellsAll (all_lines ran.serves) (passed_over frames) ran.serves.end
         (log_of E.contents stderr.old) (log_of E.contents stderr.new))) }
     ensures printed { OnOk result (IfNone input (Printed code.now setup.sessions
         (seen (kept S.Store journal)) (O.contents out.old) (O.contents out.new))) }
-    ensures stopped { OnErr result (IsStopped setup.threads (option_map R.remaining input)
-        code.now setup.sessions (seen (kept S.Store journal))
+    ensures stopped { OnErr result (IsStopped
+        (SendsAdvice ⟦<SwitchLink as Link>⟧.sends ⟦<SwitchLink as Link>⟧.receives
+        ⟦<SwitchLink as Link>⟧.starves (Unit {0}))
+        (sender_with ⟦<SwitchLink as Link>⟧.state setup.routes setup.advised.items)
+        setup.advices setup.threads (option_map R.remaining input) code.now setup.sessions (seen (kept S.Store journal))
         (O.contents out.old) (O.contents out.new)) }
 {
     let Setup {
@@ -355,6 +362,7 @@ pub fn run<S: Alter + Drop, T: Threads + Wait + Clock + Sync, R: Read + Drop, O:
         routes,
         queried,
         advised,
+        advices,
         sessions,
         threads,
     } = setup;
@@ -362,6 +370,7 @@ pub fn run<S: Alter + Drop, T: Threads + Wait + Clock + Sync, R: Read + Drop, O:
         journal,
         input,
         sender: sender_over(alloc, routes.as_slice(), advised)?,
+        advices,
         sessions,
         threads,
     };

@@ -36,6 +36,8 @@ pub struct Setup<L: Link> {
     pub queried: Vec<NamedLink<L>>,
     /// The links that stored advices go over, by the group of the card's route.
     pub advised: Vec<GroupLink<L>>,
+    /// How many stored advices are sent between two reads of the input at most. 0: none before the input has ended.
+    pub advices: usize,
     /// How many sessions the engine has, 1 to 16.
     pub sessions: usize,
     /// Whether the sessions run as threads. Without, session 0 runs each transaction.

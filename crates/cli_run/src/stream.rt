@@ -7,6 +7,8 @@ ghost use Rattle.cli_io.specs.declared.error.ReadError.{ReadError};
 ghost use Rattle.sw_frame.specs.Feeds.{messages};
 ghost use Rattle.sw_frame.specs.Stream.{blank};
 ghost use Rattle.iso_codec.specs.Reads.{read};
+ghost use Rattle.sw_issuers.specs.Sending.{SendsAdvice};
+ghost use Rattle.cli_run.specs.Legs.{AdvancesFor, stage};
 ghost use Rattle.cli_run.specs.Points.{IsReady, point_of};
 ghost use Rattle.cli_run.specs.Rounds.{answering};
 ghost use Rattle.cli_run.specs.Errors.{result_of};
@@ -15,6 +17,7 @@ ghost use Rattle.cli_run.specs.Stopped.{Halts, HaltsOn, StopsWithin};
 ghost use Rattle.cli_run.specs.Traces.{Reports, ReportsFor, Tells, if_passed, log_of, passed_over};
 ghost use Rattle.cli_run.specs.declared.stream.StreamEnd.TheVariants.{Unread};
 
+use crate::advices::{Advisor, send_between};
 use crate::error::ServeError;
 use crate::standard_error::StandardError;
 use crate::switch::Switch;
@@ -26,6 +29,7 @@ use std::io::{self, ErrorKind, Read, Write};
 use std::time::Clock;
 use sw_context::Context;
 use sw_frame::{FrameError, Framer};
+use sw_parts::Link;
 
 /// How many bytes are read at once.
 pub(crate) const PIECE: usize = 65_536;
@@ -272,12 +276,13 @@ impl Requests {
         Ok(end)
     }
 
-    /// Answers all messages of an input, as they come.
-    pub(crate) fn serve_all<S: Alter, C: Clock, R: Read, O: Write, E: Write>(
+    /// Answers all messages of an input, as they come, and sends stored advices between two reads.
+    pub(crate) fn serve_all<S: Alter, C: Clock, L: Link, R: Read, O: Write, E: Write>(
         &mut self,
         rt: &C,
         alloc: Global,
         switch: &mut Switch<S>,
+        advisor: &mut Advisor<L>,
         input: &mut R,
         out: &mut O,
         stderr: &mut StandardError<'_, E>,
@@ -286,11 +291,15 @@ impl Requests {
         requires fresh { self.old.framer ≡ blank }
         ensures serves { IfOk result (λ end. (frames : List (List ℕ))
             × ReadTo end (R.remaining input.old) frames
-            × ReportsFor false frames
-            (point_of S.Store switch.old) (O.contents out.old) (log_of E.contents stderr.old)
-            (point_of S.Store switch.new) (O.contents out.new) (log_of E.contents stderr.new)) }
-        ensures stops { OnErr result (StopsWithin false (R.remaining input.old)
-            (point_of S.Store switch.old) (O.contents out.old) (O.contents out.new)) }
+            × AdvancesFor (SendsAdvice L.sends L.receives L.starves (Unit {0})) false frames
+            (stage advisor.old (point_of S.Store switch.old) (O.contents out.old))
+            (log_of E.contents stderr.old)
+            (stage advisor.new (point_of S.Store switch.new) (O.contents out.new))
+            (log_of E.contents stderr.new)) }
+        ensures stops { OnErr result (StopsWithin
+            (SendsAdvice L.sends L.receives L.starves (Unit {0})) false (R.remaining input.old)
+            (stage advisor.old (point_of S.Store switch.old) (O.contents out.old))
+            (O.contents out.new)) }
         ensures ready { OnOk result (IsReady (point_of S.Store switch.new)) }
     {
         let mut buf = vec![in alloc; 0u8; PIECE]?;
@@ -301,6 +310,7 @@ impl Requests {
             if let Some(end) = end {
                 return Ok(end);
             }
+            send_between(alloc, switch, advisor, stderr)?;
         }
         Ok(StreamEnd::Unread(ReadError::TooManyReads))
     }

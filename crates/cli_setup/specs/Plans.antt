@@ -4,6 +4,7 @@ use Rattle.std.specs.Option.{option_map_or, option_or}
 use Rattle.sw_parts.specs.declared.route.Routing.{Routing}
 use Rattle.sw_issuers.specs.Sending.{LinkStates, link_states}
 use Rattle.cli_config.specs.declared.config.Config.{Config}
+use Rattle.cli_config.specs.declared.config.Host.{Host}
 use Rattle.cli_config.specs.declared.config.Route.{Route}
 use Rattle.cli_config.specs.declared.config.Wire.TheVariants.{Simulated}
 use Rattle.cli_options.specs.CommandLine.{text_of}
@@ -20,7 +21,7 @@ no_config = record {
   hosts = None;
   routes = None;
   limits = record { per_card = None; stand_in = None };
-  run = record { sessions = None; journal = None; threads = None };
+  run = record { advices = None; sessions = None; journal = None; threads = None };
 }
 
 -- what a card may spend, 10,000 minor units where nothing states it
@@ -34,6 +35,10 @@ stand_in_of c = unwrap_or c.limits.stand_in 1000
 -- one session where nothing states how many
 abbrev pub sessions_of : RunOptions → Config → ℕ
 sessions_of o c = unwrap_or (option_or o.sessions c.run.sessions) 1
+
+-- how many stored advices are sent between two reads, none where nothing states it
+abbrev pub advices_of : Config → ℕ
+advices_of c = unwrap_or c.run.advices 0
 
 -- whether the sessions run as threads
 abbrev pub threads_of : RunOptions → Config → Bool
@@ -65,6 +70,7 @@ pub record PlainSetup : Type 0 where
   pub routes : List Routing
   pub queried : LinkStates
   pub advised : LinkStates
+  pub advices : ℕ
   pub sessions : ℕ
   pub threads : Bool
 
@@ -75,12 +81,14 @@ plain_setup s = record {
   routes = s.routes;
   queried = map named_state s.queried.items;
   advised = link_states shown_link s.advised.items;
+  advices = s.advices;
   sessions = s.sessions;
   threads = s.threads;
 }
 
 -- By options and a configuration: a new book, which may have its limit and has nothing in it; the routes; for each host a link
--- that authorizations go over, and one of stored advices; and so many sessions, as threads or not.
+-- that authorizations go over, and one of stored advices; how many advices are sent between two reads; and so many sessions, as
+-- threads or not.
 abbrev pub setup_of : RunOptions → Config → PlainSetup
 setup_of o c = record {
   book = record { limit = limit_of o c; items = [] };
@@ -88,8 +96,30 @@ setup_of o c = record {
   routes = routes_of c;
   queried = links_of c;
   advised = links_of c;
+  advices = advices_of c;
   sessions = sessions_of o c;
   threads = threads_of o c;
+}
+
+-- a host's name, with a link that nothing is sent on
+abbrev pub unasked : Host → List ℕ × List ℕ
+unasked h = (h.name, wire_state Simulated)
+
+-- each host under its name, with a new link to a simulated issuer
+abbrev pub unasked_of : Config → LinkStates
+unasked_of c = option_map_or (map unasked) c.hosts own_links
+
+-- a recovery: the same participants, which are asked nothing, and one session
+abbrev pub recovery_of : Config → PlainSetup
+recovery_of c = record {
+  book = record { limit = 10000; items = [] };
+  stand_in = stand_in_of c;
+  routes = routes_of c;
+  queried = unasked_of c;
+  advised = [];
+  advices = 0;
+  sessions = 1;
+  threads = false;
 }
 
 -- a run is set up so, which it is only with a limit that a book may have

@@ -1,6 +1,6 @@
 //! The configuration file that an option names.
 
-ghost use Rattle.std.specs.Prelude.{◌≡◌, IfErr, IfNone, IfOk};
+ghost use Rattle.std.specs.Prelude.{◌≡◌, IfErr, IfNone, IfOk, Ok};
 ghost use Rattle.cli_config.specs.ConfigFile.{IsConfigFile};
 ghost use Rattle.cli_setup.specs.Errors.{RefusesBytes, RefusesConfig, StatesConfig};
 ghost use Rattle.cli_setup.specs.Plans.{no_config};
@@ -24,6 +24,7 @@ fn no_config() -> Config
             stand_in: None,
         },
         run: RunTable {
+            advices: None,
             sessions: None,
             journal: None,
             threads: None,
@@ -59,7 +60,7 @@ pub fn config_at<F: Files>(
     files: &F,
     path: Option<&str>,
 ) -> Result<Config, ConfigFileError>
-    ensures none { IfNone path.entry (IfOk result (λ config. config ≡ no_config)) }
+    ensures none { IfNone path.entry (result ≡ Ok no_config) }
 {
     let Some(path) = path else {
         return Ok(no_config());

@@ -1,9 +1,10 @@
 //! The routes of a run, and the links to its hosts.
 
-ghost use Rattle.std.specs.Prelude.{◌≡◌, [], IfOk, OnOk};
+ghost use Rattle.std.specs.Prelude.{◌≡◌, [], map, IfOk, OnOk};
 ghost use Rattle.cli_config.specs.declared.config.Wire.TheVariants.{Simulated};
-ghost use Rattle.cli_setup.specs.Links.{AddsLink, AreLinksOf, host_link, shown_link, side_state, wire_state};
-ghost use Rattle.cli_setup.specs.Plans.{links_of, own_links, routes_of, routing_of};
+ghost use Rattle.cli_setup.specs.Links.{AddsLink, AreLinksOf, host_link, named_state, shown_link};
+ghost use Rattle.cli_setup.specs.Links.{side_state, wire_state};
+ghost use Rattle.cli_setup.specs.Plans.{links_of, own_links, routes_of, routing_of, unasked, unasked_of};
 
 use cli_config::{Config, Host, Route, Wire};
 use cli_run::{NamedLink, SwitchLink, default_routes};
@@ -189,19 +190,27 @@ pub(crate) fn links_to_hosts<T: Threads + Wait + Clock + Clone + Drop + Send + '
 
 /// Links to no host, under the names of the configuration's hosts or the switch's own: for participants that are asked
 /// nothing.
-pub(crate) fn unasked(alloc: Global, config: &Config) -> Result<Links, AllocError> {
+pub(crate) fn unasked(
+    alloc: Global,
+    config: &Config,
+) -> Result<Vec<NamedLink<SwitchLink>>, AllocError>
+    ensures { IfOk result (λ links. map named_state links.items ≡ unasked_of config.now) }
+{
     let Some(hosts) = &config.hosts else {
-        return own_links(alloc);
+        return Ok(own_links(alloc)?.queried);
     };
-    let mut queried = Vec::new(alloc);
+    let mut links = Vec::new(alloc);
     for host in hosts.as_slice() {
-        queried.push(NamedLink {
-            name: host.name.copy()?,
-            link: simulated(alloc),
-        })?;
+        links.push(unasked_link(alloc, host)?)?;
     }
-    Ok(Links {
-        queried,
-        advised: Vec::new(alloc),
+    Ok(links)
+}
+
+fn unasked_link(alloc: Global, host: &Host) -> Result<NamedLink<SwitchLink>, AllocError>
+    ensures { IfOk result (λ link. named_state link ≡ unasked host.now) }
+{
+    Ok(NamedLink {
+        name: host.name.copy()?,
+        link: simulated(alloc),
     })
 }

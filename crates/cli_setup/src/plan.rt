@@ -1,7 +1,8 @@
 //! What a run is set up with.
 
 ghost use Rattle.std.specs.Prelude.{◌≡◌, ◌<◌, ◌≤◌, [], Err, IfErr, IfOk, OnOk};
-ghost use Rattle.cli_setup.specs.Plans.{IsSetUp, journal_of, limit_of, sessions_of, stand_in_of, threads_of};
+ghost use Rattle.cli_setup.specs.Plans.{IsSetUp, advices_of, journal_of, limit_of, plain_setup, recovery_of};
+ghost use Rattle.cli_setup.specs.Plans.{sessions_of, stand_in_of, threads_of};
 ghost use Rattle.cli_setup.specs.declared.error.SetupError.TheVariants.{BadLimit, OutOfMemory};
 
 use crate::error::SetupError;
@@ -49,6 +50,12 @@ fn sessions(options: &RunOptions<'_>, config: &Config) -> u64
     ensures { result ≡ sessions_of options.now config.now }
 {
     options.sessions.or(config.run.sessions).unwrap_or(1)
+}
+
+fn advices(config: &Config) -> u64
+    ensures { result ≡ advices_of config.now }
+{
+    config.run.advices.unwrap_or(0)
 }
 
 fn threads(options: &RunOptions<'_>, config: &Config) -> bool
@@ -100,6 +107,7 @@ pub fn setup<T: Threads + Wait + Clock + Clone + Drop + Send + 'static>(
         routes,
         queried,
         advised,
+        advices: advices(config) as usize,
         sessions: sessions(options, config) as usize,
         threads: threads(options, config),
     })
@@ -108,18 +116,18 @@ pub fn setup<T: Threads + Wait + Clock + Clone + Drop + Send + 'static>(
 /// What a recovery is set up with: a session, and the participants of the configuration's hosts over links that nothing
 /// is sent on, since a recovery asks no host and sends no advice.
 pub fn recovery(alloc: Global, config: &Config) -> Result<Setup<SwitchLink>, SetupError>
-    ensures one { IfOk result (λ setup. setup.sessions ≡ 1) }
+    ensures set_up { IfOk result (λ setup. plain_setup setup ≡ recovery_of config.now) }
     ensures refused { IfErr result (λ e. e ≡ OutOfMemory) }
 {
     let book = book(alloc, LIMIT)?;
     let routes = routes(alloc, config)?;
-    let Links { queried, advised } = unasked(alloc, config)?;
     Ok(Setup {
         book,
         stand_in: stand_in(config),
         routes,
-        queried,
-        advised,
+        queried: unasked(alloc, config)?,
+        advised: Vec::new(alloc),
+        advices: 0,
         sessions: 1,
         threads: false,
     })

@@ -39,6 +39,7 @@ fn setup(alloc: Global) -> Result<Setup<SwitchLink>, ServeError> {
         routes: default_routes(alloc)?,
         queried,
         advised,
+        advices: 0,
         sessions: 1,
         threads: false,
     })

@@ -4,7 +4,7 @@ use Rattle.cli_run.proofs.laws.runs_keep_the_law.Goals as goal
 
 pub returns : goal.returns
 returns g c = record {
-  ran = λ f n j sender rounds before after calls ran clean law. (let path = ran_path f n j _ sender rounds before after ran in
+  ran = λ f n j sender most rounds before after calls ran clean law. (let path = ran_path f n j _ sender most rounds before after ran in
       record {
         drives = path.drives;
         moves = path.moved;
@@ -18,7 +18,7 @@ returns g c = record {
         driven = path.driven;
         holds = c.plants_keep_the_law.ensures.kept f n begins.view j calls path.drives path.moved begins.made p.plant begins.is_made law path.driven clean;
       });
-  lives = λ f n j sender rounds before after ran clean. (let path = ran_path f n j _ sender rounds before after ran in (
+  lives = λ f n j sender most rounds before after ran clean. (let path = ran_path f n j _ sender most rounds before after ran in (
     record { sessions = n; found = j; view = ran.begins.view; first = ran.begins.made; drives = path.drives; moves = path.moved; last = ran.serves.end.plant },
     record {
       is_life = record { made = ran.begins.is_made; driven = path.driven; clean = clean };

@@ -1,10 +1,10 @@
 use Rattle.std.proofs.Common.{◌≡◌, ◌<◌, ◌≤◌, false, [], ◌++◌, length, drop, arith, ap}
 use Rattle.sw_frame.specs.Stream.{State}
 use Rattle.cli_run.specs.Requests.{EndsAs}
-use Rattle.cli_run.proofs.Reporting.{for_none, for_serves, for_then}
+use Rattle.cli_run.proofs.Advancing.{advanced_none, advanced_sends, advanced_then, stops_fresh, stops_on}
 use Rattle.cli_run.proofs.Rounds.{if_none, if_some}
 use Rattle.cli_run.proofs.Readings.{nothing_read, still_room}
-use Rattle.cli_run.proofs.Stops.{on_err_of, stops_fresh, stops_on}
+use Rattle.cli_run.proofs.Stops.{halts_unread, on_err_of}
 use Rattle.cli_run.proofs.stream.Requests.serve_all.Goals as goal
 
 pub loop-init : goal.loop-init
@@ -13,7 +13,7 @@ loop-init g c = record {
   sound = ap (λ (s : State). s.failed) c.requires.fresh;
   frames = [];
   reads = nothing_read (g.R.Read.remaining c.args.input.now) c.args.self.now.framer c.requires.fresh;
-  serves = for_none false _ _ _;
+  serves = advanced_none _ false _ _;
   ready = c.requires.ready;
 }
 
@@ -29,7 +29,7 @@ returns-in-Some g c =
           reads = adds (g.R.Read.remaining c.args.input.now) c.loop.invariant.frames c.loop.invariant.reads;
           ends = if_some (λ e. EndsAs e c.serve_read.new.self.framer (g.R.Read.remaining c.serve_read.new.input)) c.in_ok-end.end c.in-Some.end c.in-Some.is ends;
         },
-        for_then false c.loop.invariant.frames more _ _ _ _ _ _ _ _ _ c.loop.invariant.serves serves,
+        advanced_then _ false c.loop.invariant.frames more _ _ _ _ _ _ _ c.loop.invariant.serves serves,
       );
       stops = tt;
       ready = c.in_ok-end.ensures.ready;
@@ -47,13 +47,20 @@ loop-preserved g c =
       sound = if_none _ c.in_ok-end.end c.in_default.is c.in_ok-end.ensures.goes_on;
       frames = c.loop.invariant.frames ++ more;
       reads = adds (g.R.Read.remaining c.args.input.now) c.loop.invariant.frames c.loop.invariant.reads;
-      serves = for_then false c.loop.invariant.frames more _ _ _ _ _ _ _ _ _ c.loop.invariant.serves serves;
-      ready = c.in_ok-end.ensures.ready;
+      serves = advanced_sends _ false (c.loop.invariant.frames ++ more) _ _ _ _ _ _ _ (advanced_then _ false c.loop.invariant.frames more _ _ _ _ _ _ _ c.loop.invariant.serves serves) c.in_ok-send_between.ensures.sends;
+      ready = c.in_ok-send_between.ensures.ready;
     }
 
 pub returns-in_err-buf-clause-stops : goal.returns-in_err-buf-clause-stops
-returns-in_err-buf-clause-stops g c = on_err_of c.from_residual.result (stops_fresh false (g.R.Read.remaining c.args.input.now) c.args.self.now.framer _ _ c.requires.fresh)
+returns-in_err-buf-clause-stops g c = on_err_of c.from_residual.result (stops_fresh _ false (g.R.Read.remaining c.args.input.now) c.args.self.now.framer _ c.requires.fresh)
 
 pub returns-in_err-end-clause-stops : goal.returns-in_err-end-clause-stops
 returns-in_err-end-clause-stops g c =
-    on_err_of c.from_residual-in_err-end.result (stops_on false (g.R.Read.remaining c.args.input.now) _ c.loop.invariant.frames _ _ _ _ _ _ c.loop.invariant.reads (for_serves false c.loop.invariant.frames _ _ _ _ _ _ c.loop.invariant.serves) c.in_err-end.ensures.halts)
+    on_err_of c.from_residual-in_err-end.result (stops_on _ false (g.R.Read.remaining c.args.input.now) _ c.loop.invariant.frames _ _ _ _ _ _ c.loop.invariant.reads c.loop.invariant.serves c.in_err-end.ensures.halts)
+
+pub returns-in_err-send_between-clause-stops : goal.returns-in_err-send_between-clause-stops
+returns-in_err-send_between-clause-stops g c =
+    let (more, adds, serves, ends) = c.in_ok-end.ensures.serves in
+    let left = g.R.Read.remaining c.serve_read.new.input in
+    let all = advanced_then _ false c.loop.invariant.frames more _ _ _ _ _ _ _ c.loop.invariant.serves serves in
+    on_err_of c.from_residual-in_err-send_between.result (stops_on _ false (g.R.Read.remaining c.args.input.now) left (c.loop.invariant.frames ++ more) c.serve_read.new.self.framer _ _ _ _ _ (adds (g.R.Read.remaining c.args.input.now) c.loop.invariant.frames c.loop.invariant.reads) all (halts_unread false left c.serve_read.new.self.framer _ _))

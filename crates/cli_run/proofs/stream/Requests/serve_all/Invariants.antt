@@ -2,7 +2,9 @@ use Rattle.std.proofs.Common.{◌≡◌, ℕ, false, List, ◌<◌, length}
 use Rattle.tx_journal.specs.Kept.{kept}
 use Rattle.cli_run.specs.Points.{IsReady, point}
 use Rattle.cli_run.specs.Requests.{Reads}
-use Rattle.cli_run.specs.Traces.{ReportsFor, log_of}
+use Rattle.sw_issuers.specs.Sending.{SendsAdvice}
+use Rattle.cli_run.specs.Legs.{AdvancesFor, stage}
+use Rattle.cli_run.specs.Traces.{log_of}
 use Rattle.cli_run.proofs.stream.Requests.serve_all.Given as goal
 
 abbrev pub invariant-loop : goal.invariant-loop
@@ -11,6 +13,8 @@ invariant-loop g l = record {
   sound : l.self.framer.failed ≡ false;
   frames : List (List ℕ);
   reads : Reads (g.R.Read.remaining l.fn.input) (g.R.Read.remaining l.input) frames l.self.framer;
-  serves : ReportsFor false frames (point l.fn.switch.plant.running.engine l.fn.switch.plant.running.seats (kept g.S.Store l.fn.switch.plant.journal) l.fn.switch.answered) (g.O.Write.contents l.fn.out) (log_of g.E.Write.contents l.fn.stderr) (point l.switch.plant.running.engine l.switch.plant.running.seats (kept g.S.Store l.switch.plant.journal) l.switch.answered) (g.O.Write.contents l.out) (log_of g.E.Write.contents l.stderr);
+  serves : AdvancesFor (SendsAdvice g.L.Link.sends g.L.Link.receives g.L.Link.starves (Unit {0})) false frames
+      (stage l.fn.advisor (point l.fn.switch.plant.running.engine l.fn.switch.plant.running.seats (kept g.S.Store l.fn.switch.plant.journal) l.fn.switch.answered) (g.O.Write.contents l.fn.out)) (log_of g.E.Write.contents l.fn.stderr)
+      (stage l.advisor (point l.switch.plant.running.engine l.switch.plant.running.seats (kept g.S.Store l.switch.plant.journal) l.switch.answered) (g.O.Write.contents l.out)) (log_of g.E.Write.contents l.stderr);
   ready : IsReady (point l.switch.plant.running.engine l.switch.plant.running.seats (kept g.S.Store l.switch.plant.journal) l.switch.answered);
 }

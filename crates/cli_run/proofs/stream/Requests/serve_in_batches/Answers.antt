@@ -3,10 +3,10 @@ use Rattle.sw_frame.specs.Feeds.{messages}
 use Rattle.sw_frame.specs.Stream.{State}
 use Rattle.cli_run.specs.Points.{point_of}
 use Rattle.cli_run.specs.Requests.{EndsAs}
-use Rattle.cli_run.proofs.Reporting.{for_none, for_serves, for_then}
+use Rattle.cli_run.proofs.Advancing.{advanced_none, advanced_sends, advanced_then, stops_fresh, stops_on}
 use Rattle.cli_run.proofs.Rounds.{if_none, if_some}
 use Rattle.cli_run.proofs.Readings.{nothing_read, still_room}
-use Rattle.cli_run.proofs.Stops.{halts_reads, halts_unread, on_err_of, stops_fresh, stops_on}
+use Rattle.cli_run.proofs.Stops.{halts_reads, halts_unread, on_err_of}
 use Rattle.cli_run.proofs.stream.Requests.serve_in_batches.Goals as goal
 
 pub loop-init : goal.loop-init
@@ -15,7 +15,7 @@ loop-init g c = record {
   sound = ap (λ (s : State). s.failed) c.requires.fresh;
   frames = [];
   reads = nothing_read (g.R.Read.remaining c.args.input.now) c.args.self.now.framer c.requires.fresh;
-  serves = for_none true _ _ _;
+  serves = advanced_none _ true _ _;
   ready = c.requires.ready;
 }
 
@@ -30,7 +30,7 @@ returns-in-Some-clause-serves g c =
         reads = c.in_ok-messages.ensures.reads (g.R.Read.remaining c.args.input.now) i.frames i.reads;
         ends = if_some (λ e. EndsAs e c.read.new.self.framer (g.R.Read.remaining c.read.new.input)) c.in_ok-messages.field-0.end c.in-Some.end c.in-Some.is c.in_ok-messages.ensures.ends;
       },
-      for_then true i.frames more _ _ _ _ _ _ _ _ _ i.serves (rw c.deref.ensures.value at c.in_ok-switch.ensures.serves),
+      advanced_then _ true i.frames more _ _ _ _ _ _ _ i.serves (rw c.deref.ensures.value at c.in_ok-switch.ensures.serves),
     )
 
 pub loop-preserved : goal.loop-preserved
@@ -46,19 +46,17 @@ loop-preserved g c =
       sound = if_none _ c.in_ok-messages.field-0.end c.in_default.is c.in_ok-messages.ensures.goes_on;
       frames = i.frames ++ more;
       reads = c.in_ok-messages.ensures.reads (g.R.Read.remaining c.args.input.now) i.frames i.reads;
-      serves = for_then true i.frames more _ _ _ _ _ _ _ _ _ i.serves (rw c.deref.ensures.value at c.in_ok-switch.ensures.serves);
-      ready = c.in_ok-switch.ensures.ready;
+      serves = advanced_sends _ true (i.frames ++ more) _ _ _ _ _ _ _ (advanced_then _ true i.frames more _ _ _ _ _ _ _ i.serves (rw c.deref.ensures.value at c.in_ok-switch.ensures.serves)) c.in_ok-send_between.ensures.sends;
+      ready = c.in_ok-send_between.ensures.ready;
     }
 
 pub returns-in_err-buf-clause-stops : goal.returns-in_err-buf-clause-stops
-returns-in_err-buf-clause-stops g c = on_err_of c.from_residual.result (stops_fresh true (g.R.Read.remaining c.args.input.now) c.args.self.now.framer _ _ c.requires.fresh)
+returns-in_err-buf-clause-stops g c = on_err_of c.from_residual.result (stops_fresh _ true (g.R.Read.remaining c.args.input.now) c.args.self.now.framer _ c.requires.fresh)
 
 pub returns-in_err-messages-clause-stops : goal.returns-in_err-messages-clause-stops
 returns-in_err-messages-clause-stops g c =
     let i = c.loop.invariant in
-    let q = point_of g.S.Store c.loop.switch in
-    let out = g.O.Write.contents c.loop.out in
-    on_err_of c.from_residual-in_err-messages.result (stops_on true (g.R.Read.remaining c.args.input.now) (g.R.Read.remaining c.loop.input) i.frames c.loop.self.framer (point_of g.S.Store c.args.switch) q (g.O.Write.contents c.args.out.now) out out i.reads (for_serves true i.frames _ _ _ _ _ _ i.serves) (halts_unread true (g.R.Read.remaining c.loop.input) c.loop.self.framer q out))
+    on_err_of c.from_residual-in_err-messages.result (stops_on _ true (g.R.Read.remaining c.args.input.now) (g.R.Read.remaining c.loop.input) i.frames c.loop.self.framer _ _ _ _ _ i.reads i.serves (halts_unread true (g.R.Read.remaining c.loop.input) c.loop.self.framer _ _))
 
 pub returns-in_err-switch-clause-stops : goal.returns-in_err-switch-clause-stops
 returns-in_err-switch-clause-stops g c =
@@ -66,5 +64,13 @@ returns-in_err-switch-clause-stops g c =
     let q = point_of g.S.Store c.loop.switch in
     let out = g.O.Write.contents c.loop.out in
     let end = g.O.Write.contents c.answer_batches.new.out in
-    on_err_of c.from_residual-in_err-switch.result (stops_on true (g.R.Read.remaining c.args.input.now) (g.R.Read.remaining c.loop.input) i.frames c.loop.self.framer (point_of g.S.Store c.args.switch) q (g.O.Write.contents c.args.out.now) out end i.reads (for_serves true i.frames _ _ _ _ _ _ i.serves)
+    on_err_of c.from_residual-in_err-switch.result (stops_on _ true (g.R.Read.remaining c.args.input.now) (g.R.Read.remaining c.loop.input) i.frames c.loop.self.framer _ _ _ _ _ i.reads i.serves
     (halts_reads true (g.R.Read.remaining c.loop.input) (g.R.Read.remaining c.read.new.input) (messages c.in_ok-messages.field-0.messages.items) c.loop.self.framer c.read.new.self.framer q out end c.in_ok-messages.ensures.reads (rw c.deref.ensures.value at c.in_err-switch.ensures.halts)))
+
+pub returns-in_err-send_between-clause-stops : goal.returns-in_err-send_between-clause-stops
+returns-in_err-send_between-clause-stops g c =
+    let i = c.loop.invariant in
+    let more = messages c.in_ok-messages.field-0.messages.items in
+    let left = g.R.Read.remaining c.read.new.input in
+    let all = advanced_then _ true i.frames more _ _ _ _ _ _ _ i.serves (rw c.deref.ensures.value at c.in_ok-switch.ensures.serves) in
+    on_err_of c.from_residual-in_err-send_between.result (stops_on _ true (g.R.Read.remaining c.args.input.now) left (i.frames ++ more) c.read.new.self.framer _ _ _ _ _ (c.in_ok-messages.ensures.reads (g.R.Read.remaining c.args.input.now) i.frames i.reads) all (halts_unread true left c.read.new.self.framer _ _))

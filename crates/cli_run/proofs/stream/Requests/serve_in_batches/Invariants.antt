@@ -1,7 +1,9 @@
 use Rattle.std.proofs.Common.{◌≡◌, ℕ, true, false, List, ◌<◌, length}
 use Rattle.cli_run.specs.Points.{IsReady, point_of}
 use Rattle.cli_run.specs.Requests.{Reads}
-use Rattle.cli_run.specs.Traces.{ReportsFor, log_of}
+use Rattle.sw_issuers.specs.Sending.{SendsAdvice}
+use Rattle.cli_run.specs.Legs.{AdvancesFor, stage}
+use Rattle.cli_run.specs.Traces.{log_of}
 use Rattle.cli_run.proofs.stream.Requests.serve_in_batches.Given as goal
 
 abbrev pub invariant-loop : goal.invariant-loop
@@ -10,6 +12,8 @@ invariant-loop g l = record {
   sound : l.self.framer.failed ≡ false;
   frames : List (List ℕ);
   reads : Reads (g.R.Read.remaining l.fn.input) (g.R.Read.remaining l.input) frames l.self.framer;
-  serves : ReportsFor true frames (point_of g.S.Store l.fn.switch) (g.O.Write.contents l.fn.out) (log_of g.E.Write.contents l.fn.stderr) (point_of g.S.Store l.switch) (g.O.Write.contents l.out) (log_of g.E.Write.contents l.stderr);
+  serves : AdvancesFor (SendsAdvice g.L.Link.sends g.L.Link.receives g.L.Link.starves (Unit {0})) true frames
+      (stage l.fn.advisor (point_of g.S.Store l.fn.switch) (g.O.Write.contents l.fn.out)) (log_of g.E.Write.contents l.fn.stderr)
+      (stage l.advisor (point_of g.S.Store l.switch) (g.O.Write.contents l.out)) (log_of g.E.Write.contents l.stderr);
   ready : IsReady (point_of g.S.Store l.switch);
 }

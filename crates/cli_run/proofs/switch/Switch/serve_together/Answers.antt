@@ -1,5 +1,4 @@
 use Rattle.std.proofs.Common.{true, inl, inr}
-use Rattle.cli_run.proofs.Reporting.{for_serves}
 use Rattle.cli_run.proofs.Runs.{all_served, told_last}
 use Rattle.cli_run.proofs.Stops.{drains_all, on_err_of}
 use Rattle.cli_run.proofs.switch.Switch.serve_together.Goals as goal
@@ -10,8 +9,8 @@ serve_in_batches-requires-clause-ready g c = λ κs within. c.in_ok-cut_traced.e
 pub returns-clause-serves : goal.returns-clause-serves
 returns-clause-serves g c =
     let (frames, read, serves) = c.in_ok-served.ensures.serves in
-    let (all, end, tells) = all_served _ _ true frames _ _ _ _ _ _ _ _ _ _ _ _ _ c.in_ok-cut_traced.ensures.cuts c.in_ok-cut_traced.ensures.ready serves c.in_ok-closed.ensures.closes in
-    let (whole, last) = told_last _ _ _ _ _ _ _ _ _ _ _ _ _ _ all end c.engine.ensures tells c.in_ok-traced.ensures c.show.ensures in
+    let (all, end, tells) = all_served _ true frames _ _ _ _ _ _ _ _ _ _ _ _ _ _ c.in_ok-cut_traced.ensures.cuts c.in_ok-cut_traced.ensures.ready serves c.in_ok-closed.ensures.closes in
+    let (whole, last) = told_last _ _ _ _ _ _ _ _ _ _ _ _ _ all end c.engine.ensures tells c.in_ok-traced.ensures c.show.ensures in
     (frames, read, serves.rounds, serves.answers, whole, last)
 
 pub returns-in_err-served-clause-stops : goal.returns-in_err-served-clause-stops
@@ -31,7 +30,7 @@ returns-in_err-closed-clause-stops g c =
       cut = _;
       cuts = c.in_ok-cut_traced.ensures.cuts.cuts;
       ready = c.in_ok-cut_traced.ensures.ready;
-      serves = inr (record { end = _; frames = frames; read = read; served = _; between = _; serves = for_serves true frames _ _ _ _ _ _ serves; drains = c.in_err-closed.ensures.stops });
+      serves = inr (record { end = _; frames = frames; read = read; rounds = serves.rounds; answers = serves.answers; served = _; advances = serves.advances; drains = c.in_err-closed.ensures.stops });
     }))
 
 pub returns-in_err-traced-clause-stops : goal.returns-in_err-traced-clause-stops
@@ -42,5 +41,5 @@ returns-in_err-traced-clause-stops g c =
       cut = _;
       cuts = c.in_ok-cut_traced.ensures.cuts.cuts;
       ready = c.in_ok-cut_traced.ensures.ready;
-      serves = inr (record { end = _; frames = frames; read = read; served = _; between = _; serves = for_serves true frames _ _ _ _ _ _ serves; drains = drains_all _ _ _ _ c.in_ok-closed.ensures.closes.0.drains });
+      serves = inr (record { end = _; frames = frames; read = read; rounds = serves.rounds; answers = serves.answers; served = _; advances = serves.advances; drains = drains_all _ _ _ _ c.in_ok-closed.ensures.closes.0.drains });
     }))
