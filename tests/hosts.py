@@ -167,10 +167,10 @@ class Run:
 
 
 @contextlib.contextmanager
-def switch(program, room, *words, beta="simulated = true"):
+def switch(program, room, *words, beta="simulated = true", more=""):
     """A run and the host of `alpha`, which listens."""
     with open(os.path.join(room, "config.toml"), "w", encoding="utf-8") as file:
-        file.write(CONFIG.format(beta=beta))
+        file.write(CONFIG.format(beta=beta) + more)
     wire = Wire(room, "alpha")
     wire.listen()
     run = Run(program, room, *words)
@@ -325,6 +325,23 @@ def switch_killed(program, room):
     wanted("rows that are left", (left.tx, left.shelf, left.advice), ({}, {}, {}))
 
 
+def advices_between_reads(program, room):
+    """With `advices = 1` the oldest stored advice goes out before the next request is read; one that the host refused goes as a repeat."""
+    for words in [], ["--threads", "--sessions", "4"]:
+        with tempfile.TemporaryDirectory(dir=room) as inner, switch(program, inner, *words, more="\n[run]\nadvices = 1\n") as (run, wire):
+            run.send(request(1, 400))
+            wire.get()
+            wanted("field 38 of the first response", run.receive()[1].get(38), b"SI0001")
+            wanted("the first advice", answers(wire, b"05"), [b"0420"])
+            for stan, its in (2, b"0421"), (3, b"0120"):
+                run.send(request(stan))
+                wire.put(reply(wire.get()))
+                wanted(f"field 38 of response {stan}", run.receive()[1].get(38), b"HOST42")
+                wanted(f"the advice after response {stan}", answers(wire, b"00"), [its])
+            run.end()
+            wanted("at the host", wire.read(0), b"")
+
+
 def beside_a_silent_host(program, room):
     """With threads, a host that is silent holds its own participant alone: the other one answers meanwhile."""
     words = ["--threads", "--sessions", "4"]
@@ -386,6 +403,7 @@ CASES = [
     killed_and_back,
     nobody_there,
     switch_killed,
+    advices_between_reads,
     beside_a_silent_host,
     worked_host,
     behind_socat,

@@ -34,7 +34,7 @@ def document(random):
         "host": [host(random) for _ in range(random.choice([0, 1, 2, 3]))],
         "route": [route(random) for _ in range(random.choice([0, 1, 2, 3]))],
         "limits": some(random, {"per_card": random.choice([0, 10_000, 999_999_999_999_999]), "stand_in": random.choice([0, 999_999_999_999])}),
-        "run": some(random, {"sessions": random.randint(1, 16), "threads": random.random() < 0.5}),
+        "run": some(random, {"advices": random.choice([0, 1, 256]), "sessions": random.randint(1, 16), "threads": random.random() < 0.5}),
     }
     return some(random, made)
 
@@ -57,7 +57,7 @@ def spoil(random, made):
     elif way == "odd" and keys:
         table[random.choice(keys)] = random.choice(ODD)
     elif way == "known":
-        table[random.choice(["simulated", "to", "name", "prefix", "sessions", "host"])] = random.choice([*ODD, *NAMES])
+        table[random.choice(["simulated", "to", "name", "prefix", "sessions", "advices", "host"])] = random.choice([*ODD, *NAMES])
     else:
         table[random.choice(["color", "Name", "zz", "a b"])] = random.choice(ODD)
 
