@@ -33,7 +33,7 @@ pub(crate) struct Stored {
 }
 
 // Where an advice is stored, and the advice.
-fn stored(id: u64, place: usize, advice: &Bytes) -> Result<Stored, AllocError>
+fn advice_at(id: u64, place: usize, advice: &Bytes) -> Result<Stored, AllocError>
     ensures { IfOk result (λ stored. plain stored ≡ ((id, place), advice.now)) }
 {
     Ok(Stored {
@@ -49,7 +49,7 @@ fn advices_of(alloc: Global, engine: &Engine) -> Result<Vec<Stored>, AllocError>
 {
     let mut list = Vec::new(alloc);
     for ((id, place), advice) in engine.advices() {
-        list.push(stored(*id, *place, advice)?)?;
+        list.push(advice_at(*id, *place, advice)?)?;
     }
     Ok(list)
 }
@@ -68,7 +68,7 @@ fn oldest_advices(
         if list.len() >= most {
             return Ok(list);
         }
-        list.push(stored(*id, *place, advice)?)?;
+        list.push(advice_at(*id, *place, advice)?)?;
     }
     Ok(list)
 }
