@@ -30,7 +30,7 @@ rounds_in_more : (legs : List (List Round)) (rs : List Round) → rounds_in (leg
 rounds_in_more [] rs = append-nil rs
 rounds_in_more (r ∷ legs) rs = ap (λ (l : List Round). r ++ l) (rounds_in_more legs rs) ∙ sym (append_assoc r (rounds_in legs) rs)
 
-advances_none : (step : AdviceStep) (x : Stage) → Advances step [] x x
+abbrev advances_none : (step : AdviceStep) (x : Stage) → Advances step [] x x
 advances_none step x = record {
   legs = [];
   last = [];

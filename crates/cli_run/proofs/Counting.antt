@@ -1,10 +1,9 @@
 -- What is counted, one after the other.
 -- for: given::count_above, advices::send_advice
-use Rattle.std.proofs.Common.{◌≡◌, ℕ, Bool, true, false, List, [], ◌∷◌, ◌++◌, map, refl, sym, ap, subst, ◌∙◌}
+use Rattle.std.proofs.Common.{◌≡◌, ℕ, Bool, true, List, [], ◌∷◌, ◌++◌, map, refl, sym, ap, subst, ◌∙◌}
 use Rattle.std.proofs.lemmas.List.{map-append}
 use Rattle.std.specs.Borrow.{Bor}
 use Rattle.sw_context.specs.Pairs.{Pairs}
-use Rattle.sw_issuers.specs.Sending.{PlainSender}
 use Rattle.sw_stats.specs.Tallies.{Tally, tallied, with_context, with_delivered}
 use Rattle.tx_plant.specs.declared.turn.Outcome.{Outcome}
 use Rattle.tx_plant.specs.declared.turn.Turn.TheVariants as turn
@@ -28,32 +27,17 @@ tallied_next t u v es e so_far counted =
 
 -- an advice that was accepted
 
--- what is promised of a sending
-abbrev pub SendsBy : AdviceStep → (ℕ × ℕ) × List ℕ → PlainAdvisor → Bool → PlainAdvisor → Type 0
-SendsBy step a s accepted t = (sender : PlainSender) × step a.1 (is_repeat s a.0) s.sender accepted sender × (t ≡ record s { sender = sender; last = last_with s a.0 })
-
 abbrev pub with_counts : Point → Tally → Point
 with_counts p t = record p { answered = record p.answered { counts = t } }
 
 pub counted_rest : (w : Point) (n : Tally) → n ≡ with_delivered w.answered.counts → IsAtRest w → IsAtRest (with_counts w n)
 counted_rest w n is rest = subst (λ (t : Tally). IsAtRest (with_counts w t)) (sym is) (delivered_rest w rest)
 
-pub sent_one : (step : AdviceStep) (a : (ℕ × ℕ) × List ℕ) (s t : PlainAdvisor) (p w : Point) (o : Outcome) (n : Tally) → SendsBy step a s true t → Does (turn.Ack a.0.0 a.0.1) o p w → n ≡ with_delivered w.answered.counts
-    → Sends step a s p t (with_counts w n)
-sent_one step a s t p w o n (sender, sent, noted) does counted = record {
+pub sent_one : (step : AdviceStep) (a : (ℕ × ℕ) × List ℕ) (s t : PlainAdvisor) (p w : Point) (o : Outcome) (n : Tally) → step a.1 (is_repeat s a.0) s.sender true t.sender → t ≡ record s { sender = t.sender; last = last_with s a.0 }
+    → Does (turn.Ack a.0.0 a.0.1) o p w → n ≡ with_delivered w.answered.counts → Sends step a s p t (with_counts w n)
+sent_one step a s t p w o n sent noted does counted = record {
   accepted = true;
-  sender = sender;
   sent = sent;
   noted = noted;
   acks = (o, w, does, ap (with_counts w) counted);
-}
-
--- and one that was not
-pub sent_none : (step : AdviceStep) (a : (ℕ × ℕ) × List ℕ) (s t : PlainAdvisor) (p : Point) (accepted : Bool) → SendsBy step a s accepted t → accepted ≡ false → Sends step a s p t p
-sent_none step a s t p accepted (sender, sent, noted) is = record {
-  accepted = false;
-  sender = sender;
-  sent = subst (λ (b : Bool). step a.1 (is_repeat s a.0) s.sender b sender) is sent;
-  noted = noted;
-  acks = refl;
 }

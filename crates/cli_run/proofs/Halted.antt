@@ -1,6 +1,6 @@
 -- A whole run that ends with an error.
 -- for: serving::Over::run, serving::Switch::serve_together
-use Rattle.std.proofs.Common.{◌≡◌, ◌⊎◌, ℕ, Bool, List, Option, Some, None, sym, subst, inl, inr}
+use Rattle.std.proofs.Common.{◌≡◌, ◌⊎◌, ℕ, Bool, List, Option, Some, None, sym, subst, ap, ◌∙◌, inl, inr}
 use Rattle.std.specs.Prelude.{option_map}
 use Rattle.std.specs.Io.KnownBytes.{Keeps}
 use Rattle.cli_io.specs.Written.{AppendsBeginning}
@@ -20,7 +20,7 @@ use Rattle.cli_run.specs.Ran.{ServesAll}
 use Rattle.cli_run.specs.Requests.{ReadTo, requests}
 use Rattle.cli_run.specs.Rounds.{Round, RoundsFor}
 use Rattle.cli_run.specs.Stopped.{IsStopped, ServesSome, Serving, Stopped, StopsWith, Unprinted}
-use Rattle.cli_run.proofs.Runs.{FirstRecovers, advisor_is, begun}
+use Rattle.cli_run.proofs.Runs.{FirstRecovers, advisor_is, begun, begun_next}
 use Rattle.cli_run.proofs.Stops.{drains_all}
 
 pub unprinted : (f : Flow) (n : ℕ) (view : JournalView) (j : Seen) (made : Whole) (first : ℕ) (id : Progress) (r : Point) (a b : Option (List ℕ))
@@ -34,11 +34,12 @@ unprinted f n view j made first id r a b is first_at before recovers written = r
 pub stopped : (step : AdviceStep) (advisor : PlainAdvisor) (sender : PlainSender) (most : ℕ) (threads : Bool) (f : Flow) (n : ℕ) (view : JournalView) (j : Seen) (made : Whole) (first : ℕ) (id : Progress) (r : Point) (input a b : Option (List ℕ))
     → IsMade f n view j made → first ≡ made.core.world.start.view.next_id → id ≡ begun_in made.core.world first → FirstRecovers (record { plant = made; answered = id }) r → advisor ≡ begun_advisor sender most first → Serving step threads input r advisor a b
     → Stopped step sender most threads f n j input a b
-unfolding begun
 stopped step advisor sender most threads f n view j made first id r input a b is first_at before recovers by serves = record {
   recovered = r;
   begins = begun f n view j made first id r is first_at before recovers;
-  serves = subst (λ (s : PlainAdvisor). Serving step threads input r s a b) (advisor_is f n view j made first advisor sender most is first_at by) serves;
+  serves = (let here : advisor ≡ begun_advisor sender most view.next_id = advisor_is f n view j made first advisor sender most is first_at by in
+      let begins : view.next_id ≡ (begun f n view j made first id r is first_at before recovers).view.next_id = sym (begun_next f n view j made first id r is first_at before recovers) in
+      subst (λ (s : PlainAdvisor). Serving step threads input r s a b) (here ∙ ap (begun_advisor sender most) begins) serves);
 }
 
 -- all was served, and what comes behind it failed

@@ -41,6 +41,12 @@ begun f n view j made first id r is first_at before recovers =
       recovers = subst (λ (g : Progress). Recovers (record { plant = made; answered = g }) r) answered (recovers f n view j is (ap (λ (g : Progress). g.last) answered));
     }
 
+-- the view that it begins with
+pub begun_next : (f : Flow) (n : ℕ) (view : JournalView) (j : Seen) (made : Whole) (first : ℕ) (id : Progress) (r : Point) (is : IsMade f n view j made) (first_at : first ≡ made.core.world.start.view.next_id) (before : id ≡ begun_in made.core.world first)
+    (recovers : FirstRecovers (record { plant = made; answered = id }) r) → (begun f n view j made first id r is first_at before recovers).view.next_id ≡ view.next_id
+unfolding begun
+begun_next f n view j made first id r is first_at before recovers = refl
+
 -- all was served, and what it tells was told, with the numbers at its end
 abbrev pub ServesTold : AdviceStep → List Round → Point → Option (List ℕ) → Option (List ℕ) → ℕ → Log → Log → PlainAdvisor → Type 0
 ServesTold step rounds r a b n k l advisor = (s : ServesAll step rounds r advisor a b) × TellsAll (all_lines s) n s.end k l

@@ -27,5 +27,5 @@ sends_whole step items n bs s t p q le are h =
     subst (λ (l : List ((ℕ × ℕ) × List ℕ)). SendsAll step l s p t q) all h
 
 -- these advices are those
-pub sends_these : {T E : Type 0} (r : Result T E) {step : AdviceStep} {as bs : List ((ℕ × ℕ) × List ℕ)} {s t : PlainAdvisor} {p q : Point} → as ≡ bs → OnOk r (SendsAll step as s p t q) → OnOk r (SendsAll step bs s p t q)
-sends_these r {step} {as} {bs} {s} {t} {p} {q} is h = subst (λ (l : List ((ℕ × ℕ) × List ℕ)). OnOk r (SendsAll step l s p t q)) is h
+pub sends_these : {T E : Type 0} (r : Result T E) (step : AdviceStep) (cs bs : List ((ℕ × ℕ) × List ℕ)) (s t : PlainAdvisor) (p q : Point) → cs ≡ bs → OnOk r (SendsAll step cs s p t q) → OnOk r (SendsAll step bs s p t q)
+sends_these r step cs bs s t p q is h = subst (λ (l : List ((ℕ × ℕ) × List ℕ)). OnOk r (SendsAll step l s p t q)) is h

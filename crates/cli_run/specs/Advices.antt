@@ -51,9 +51,8 @@ Acks false place p q = q ≡ p
 -- an advice is sent once
 pub record Sends (step : AdviceStep) (a : (ℕ × ℕ) × List ℕ) (s : PlainAdvisor) (p : Point) (t : PlainAdvisor) (q : Point) : Type 0 where
   pub accepted : Bool
-  pub sender : PlainSender
-  pub sent : step a.1 (is_repeat s a.0) s.sender accepted sender
-  pub noted : t ≡ record s { sender = sender; last = last_with s a.0 }
+  pub sent : step a.1 (is_repeat s a.0) s.sender accepted t.sender
+  pub noted : t ≡ record s { sender = t.sender; last = last_with s a.0 }
   pub acks : Acks accepted a.0 p q
 
 -- one after the other

@@ -19,7 +19,7 @@ use Rattle.tx_pool.specs.declared.refusal.Early.TheVariants as early
 use Rattle.tx_pool.specs.declared.refusal.PoolError.{PoolError}
 use Rattle.tx_pool.specs.declared.refusal.PoolError.TheVariants as pool
 use Rattle.cli_run.specs.declared.error.ServeError.{ServeError}
-use Rattle.cli_run.specs.declared.error.ServeError.TheVariants.{BadLength as BadFrameLength, DoubleStation, Engine, Journal, Mismatch, NoStation, OutOfMemory, Pool, Read, Truncated as TruncatedFrame, Write}
+use Rattle.cli_run.specs.declared.error.ServeError.TheVariants.{BadLength as BadFrameLength, BadSessions, DoubleStation, Engine, Journal, Mismatch, NoStation, OutOfMemory, Pool, Read, Truncated as TruncatedFrame, Write}
 use Rattle.cli_run.specs.declared.stream.StreamEnd.{StreamEnd}
 use Rattle.cli_run.specs.declared.stream.StreamEnd.TheVariants.{Whole, BadLength, Truncated, Unread}
 
@@ -55,11 +55,12 @@ IsDouble names place (DoubleStation name) = slice_get names place ≡ Some name
 IsDouble names place OutOfMemory = ⊤
 IsDouble names place _ = ⊥
 
--- why no plant was made of stations with these names
-abbrev pub IsCause : Flow → List (List ℕ) → PlantError → ServeError → Type 0
-IsCause f names (plant.Seating (seating.NoStation n)) e = IsNoStation f n e
-IsCause f names (plant.Seating (seating.DoubleStation place)) e = IsDouble names place e
-IsCause f names cause e = e ≡ error_of_plant cause
+-- why no plant was made of stations with these names, and so many sessions
+abbrev pub IsCause : Flow → List (List ℕ) → ℕ → PlantError → ServeError → Type 0
+IsCause f names sessions (plant.Seating (seating.NoStation n)) e = IsNoStation f n e
+IsCause f names sessions (plant.Seating (seating.DoubleStation place)) e = IsDouble names place e
+IsCause f names sessions (plant.Engine engine.BadSessions) e = e ≡ BadSessions sessions
+IsCause f names sessions cause e = e ≡ error_of_plant cause
 
 -- a stream that was refused is an error
 abbrev pub result_of : StreamEnd → Result (Unit {0}) ServeError

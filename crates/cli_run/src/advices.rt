@@ -1,10 +1,10 @@
 //! The advices that the journal stores.
 
-ghost use Rattle.std.specs.Prelude.{◌≡◌, map, take, IfOk, OnErr, OnOk};
-ghost use Rattle.sw_issuers.specs.Sending.{PlainSender, SendsAdvice};
+ghost use Rattle.std.specs.Prelude.{◌≡◌, map, option_map, take, IfOk, OnOk};
+ghost use Rattle.sw_issuers.specs.Sending.{SendsAdvice};
 ghost use Rattle.tx_engine.specs.Calls.{waits};
 ghost use Rattle.tx_history.specs.Journal.{advices};
-ghost use Rattle.cli_run.specs.Advices.{PlainAdvisor, Sends, SendsAll, SendsBetween};
+ghost use Rattle.cli_run.specs.Advices.{Sends, SendsAll, SendsBetween};
 ghost use Rattle.cli_run.specs.Advices.{begun_advisor, is_repeat, is_up_to, last_with, stored_at};
 ghost use Rattle.cli_run.specs.Points.{IsAtRest, IsReady, point_of, world_at};
 ghost use Rattle.cli_run.specs.Rounds.{IsEmptied};
@@ -146,25 +146,49 @@ impl<L: Link> Advisor<L> {
         self.most
     }
 
-    // Sends an advice, as a repeat where it may have been sent before; whether it was accepted.
-    fn send(&mut self, stored: &Stored) -> Result<bool, NoMemory>
-        ensures sent { IfOk result (λ accepted. (sender : PlainSender)
-            × SendsAdvice L.sends L.receives L.starves (Unit {0})
-            (plain stored.now).1 (is_repeat self.old (place_of stored.now)) self.old.sender
-            accepted sender
-            × (self.new ≡ record self.old {
-              sender = sender;
-              last = last_with self.old (place_of stored.now);
-            })) }
+    // Whether an advice may have been sent before.
+    fn is_repeat(&self, stored: &Stored) -> bool
+        ensures { result ≡ is_repeat self.now (place_of stored.now) }
     {
-        let is_repeat = stored.id < self.first || is_up_to(stored, self.last);
-        let accepted = self.sender.send(stored.advice.as_slice(), is_repeat)?;
-        if !is_repeat {
+        stored.id < self.first || is_up_to(stored, self.last)
+    }
+
+    // Notes that an advice was sent.
+    fn note(&mut self, stored: &Stored)
+        ensures { self.new ≡ record self.old { last = last_with self.old (place_of stored.now) } }
+    {
+        if !self.is_repeat(stored) {
             self.last = Some(Sent {
                 id: stored.id,
                 place: stored.place,
             });
         }
+    }
+
+    // Hands an advice to the sender.
+    fn hand_over(&mut self, stored: &Stored, is_repeat: bool) -> Result<bool, NoMemory>
+        ensures sent { IfOk result (λ accepted.
+            SendsAdvice L.sends L.receives L.starves (Unit {0})
+            (plain stored.now).1 is_repeat self.old.sender accepted self.new.sender) }
+        ensures kept { self.new ≡ record self.old { sender = self.new.sender } }
+    {
+        self.sender.send(stored.advice.as_slice(), is_repeat)
+    }
+
+    // Sends an advice, as a repeat where it may have been sent before; whether it was accepted.
+    fn send(&mut self, stored: &Stored) -> Result<bool, NoMemory>
+        ensures sent { IfOk result (λ accepted.
+            SendsAdvice L.sends L.receives L.starves (Unit {0})
+            (plain stored.now).1 (is_repeat self.old (place_of stored.now)) self.old.sender
+            accepted self.new.sender) }
+        ensures noted { OnOk result (self.new ≡ record self.old {
+            sender = self.new.sender;
+            last = last_with self.old (place_of stored.now);
+        }) }
+    {
+        let is_repeat = self.is_repeat(stored);
+        let accepted = self.hand_over(stored, is_repeat)?;
+        self.note(stored);
         Ok(accepted)
     }
 }
@@ -186,7 +210,8 @@ fn send_advice<S: Alter, L: Link>(
     ensures emptied { OnOk result (IsEmptied (world_at (point_of S.Store switch.old))
         → IsEmptied (world_at (point_of S.Store switch.new))) }
 {
-    if !advisor.send(stored)? {
+    let accepted = advisor.send(stored)?;
+    if !accepted {
         return Ok(());
     }
     switch.act(alloc, Turn::Ack(stored.id, stored.place))?;

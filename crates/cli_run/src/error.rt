@@ -28,6 +28,9 @@ pub enum ServeError {
     /// A link has this name.
     #[error("bad link name {}; expected at most 26 bytes of a-z A-Z 0-9 _ - .", .0.as_str())]
     BadLinkName(Text),
+    /// The engine may not have so many sessions.
+    #[error("--sessions: {0} is not 1 to 16")]
+    BadSessions(usize),
     /// The engine refused a turn.
     #[error("the engine refused: {0}")]
     Engine(EngineError),

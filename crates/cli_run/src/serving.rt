@@ -279,7 +279,7 @@ impl<S: Alter + Drop, R: Read + Drop, L: Link> Over<S, R, L> {
         let plant = match Plant::new(alloc, code, journal, stations, sessions) {
             Ok(plant) => plant,
             Err((error, _, stations)) => {
-                return Err(cause_of(alloc, code, stations.as_slice(), error));
+                return Err(cause_of(alloc, code, stations.as_slice(), sessions, error));
             }
         };
         let first = plant.engine().opened().next_id;

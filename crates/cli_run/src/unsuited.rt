@@ -8,6 +8,7 @@ use flow_asm::Code;
 use std::alloc::Global;
 use sw_participant::{Station, Text};
 use sw_seating::SeatingError;
+use tx_engine::EngineError;
 use tx_plant::PlantError;
 
 // The participant without a station, by its name.
@@ -36,20 +37,22 @@ fn double_station(alloc: Global, stations: &[Station], place: usize) -> ServeErr
     }
 }
 
-/// Why no plant was made of these stations.
+/// Why no plant was made of these stations, with so many sessions.
 pub(crate) fn cause_of(
     alloc: Global,
     code: &Code,
     stations: &[Station],
+    sessions: usize,
     error: PlantError,
 ) -> ServeError
-    ensures { IsCause code.now (names_of stations.now) error result }
+    ensures { IsCause code.now (names_of stations.now) sessions error result }
 {
     match error {
         PlantError::Seating(SeatingError::NoStation(number)) => no_station(alloc, code, number),
         PlantError::Seating(SeatingError::DoubleStation(place)) => {
             double_station(alloc, stations, place)
         }
+        PlantError::Engine(EngineError::BadSessions) => ServeError::BadSessions(sessions),
         other => ServeError::from(other),
     }
 }

@@ -11,4 +11,4 @@ pub returns-clause-emptied : goal.returns-clause-emptied
 returns-clause-emptied g c = λ e. acked_emptied _ _ _ _ _ e c.in_ok-act.ensures.does
 
 pub returns-clause-sends : goal.returns-clause-sends
-returns-clause-sends g c = sent_one _ _ _ _ _ (point_of g.S.Store c.act.new.self) _ c.deliver.new.self (rw c.if-not.false at c.in_ok-send.ensures.sent) c.in_ok-act.ensures.does c.deliver.ensures
+returns-clause-sends g c = sent_one _ _ _ _ _ (point_of g.S.Store c.act.new.self) _ c.deliver.new.self (rw c.if-not-accepted.false at c.in_ok-accepted.ensures.sent) c.in_ok-accepted.ensures.noted c.in_ok-act.ensures.does c.deliver.ensures
