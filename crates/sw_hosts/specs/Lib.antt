@@ -3,5 +3,8 @@ pub mod Directions
 pub mod Framing
 pub mod Issuers
 pub mod Keyed
+pub mod Looks
 pub mod Moments
+pub mod Outgoings
 pub mod Wanted
+pub mod Ways

@@ -2,9 +2,10 @@
 
 ghost use Rattle.std.specs.Prelude.{◌≡◌, ◌<◌};
 ghost use Rattle.sw_hosts.specs.declared.direction.DirectionState.{DirectionState};
-ghost use Rattle.sw_hosts.specs.Directions.{word_of, is_due};
+ghost use Rattle.sw_hosts.specs.Directions.{word_of, is_due, is_ordered};
 
 use crate::moment::Moment;
+use crate::shared_moment::SharedMoment;
 use std::sync::Wait;
 use std::sync::atomic::{AtomicU64, Ordering};
 
@@ -55,14 +56,21 @@ fn is_due(last: Option<Moment>, now: Moment) -> bool
     }
 }
 
+/// Whether an order has a direction opened: one that is closed, and may be ordered again.
+fn is_ordered(state: DirectionState, last: Option<Moment>, now: Moment) -> bool
+    ensures { result ≡ is_ordered state last now.micros }
+{
+    state == DirectionState::Closed && is_due(last, now)
+}
+
 /// One direction of a host. Links order it to be opened; one thread opens it, uses it and closes
 /// it. An order, and whatever else the thread is to look at, rings its bell: the thread reads the
 /// bell before it looks, and sleeps only while it is unchanged, so that no ring is lost.
 #[derive(Drop)]
 pub struct Direction {
     state: AtomicU64,
-    /// When the last order came, in microseconds and one more; 0 before the first.
-    ordered: AtomicU64,
+    /// When the last order came; none before the first.
+    ordered: SharedMoment,
     /// How often it was rung.
     bell: AtomicU64,
 }
@@ -72,15 +80,17 @@ impl Direction {
     pub fn new() -> Direction {
         Direction {
             state: AtomicU64::new(DirectionState::Closed.word()),
-            ordered: AtomicU64::new(0),
+            ordered: SharedMoment::new(),
             bell: AtomicU64::new(0),
         }
     }
 
+    /// Its state now.
     pub fn state(&self) -> DirectionState {
         DirectionState::of_word(self.state.load(Ordering::SeqCst))
     }
 
+    /// Its thread alone sets it.
     pub fn set(&self, state: DirectionState) {
         self.state.store(state.word(), Ordering::SeqCst);
     }
@@ -88,25 +98,24 @@ impl Direction {
     /// Orders the direction to be opened, where it is closed and the last order came a second ago or
     /// longer. Whether the order was given.
     pub fn order(&self, now: Moment) -> bool {
-        let last = match self.ordered.load(Ordering::SeqCst).checked_sub(1) {
-            Some(micros) => Some(Moment { micros }),
-            None => None,
-        };
-        if !is_due(last, now) {
+        if !is_ordered(self.state(), self.ordered.get(), now) {
             return false;
         }
-        let closed = DirectionState::Closed.word();
-        let opening = DirectionState::Opening.word();
-        let is_ordered = self
-            .state
-            .compare_exchange(closed, opening, Ordering::SeqCst, Ordering::SeqCst)
-            .is_ok();
-        if is_ordered {
-            self.ordered
-                .store(now.micros.saturating_add(1), Ordering::SeqCst);
+        // Of several links that order it at once one does.
+        let is_first = self.exchange(DirectionState::Closed, DirectionState::Opening);
+        if is_first {
+            self.ordered.set(Some(now));
             self.ring();
         }
-        is_ordered
+        is_first
+    }
+
+    // Sets the state where it is this one; whether it was.
+    fn exchange(&self, from: DirectionState, to: DirectionState) -> bool {
+        let (from, to) = (from.word(), to.word());
+        self.state
+            .compare_exchange(from, to, Ordering::SeqCst, Ordering::SeqCst)
+            .is_ok()
     }
 
     /// Has the direction's thread look again.
@@ -115,6 +124,7 @@ impl Direction {
         self.bell.wake_one();
     }
 
+    /// How often the bell was rung.
     pub fn rings(&self) -> u64 {
         self.bell.load(Ordering::SeqCst)
     }

@@ -1,6 +1,7 @@
 //! A host and its threads.
 
 use crate::counts::Counts;
+use crate::host_way::HostWay;
 use crate::link::HostLink;
 use crate::opener::{OpenReader, OpenWriter};
 use crate::shared::Shared;
@@ -53,7 +54,8 @@ impl Host {
     /// A link to the host. All links of a host share its directions and its inbox, so only one of them
     /// may wait for an answer at a time: what the others wait for is dropped as late.
     pub fn link<C: Clock + Drop>(&self, clock: C) -> Result<HostLink<C>, AllocError> {
-        Ok(HostLink::new(self.alloc, clock, Arc::try_clone(&self.shared)?))
+        let way = HostWay::new(clock, Arc::try_clone(&self.shared)?);
+        Ok(HostLink::new(self.alloc, way))
     }
 
     /// What was lost so far.

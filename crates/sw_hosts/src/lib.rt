@@ -5,17 +5,23 @@ mod counts;
 mod direction;
 mod frame;
 mod host;
+mod host_way;
 mod inbox;
 mod issuer_link;
 mod link;
+mod look;
 mod moment;
 mod opener;
 mod outbox;
+mod outgoing;
 mod received;
 mod shared;
+mod shared_moment;
 #[cfg(test)]
 mod tests;
 mod threads;
+mod waiting;
+mod way;
 
 pub use counts::Counts;
 pub use host::Host;

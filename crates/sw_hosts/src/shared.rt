@@ -56,7 +56,7 @@ impl Shared {
     pub fn next_frame<R: Wait + Clock>(&self, rt: &R) -> Option<Frame> {
         let next = self.outbox.lock(rt).next(Moment::now(rt));
         self.counters.add_dropped(next.dropped);
-        next.frame
+        next.item
     }
 
     /// Drops the frames that nobody writes any more.

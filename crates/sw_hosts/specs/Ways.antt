@@ -1,0 +1,41 @@
+-- What is done over a way to a host, whatever way that is.
+use Rattle.std.specs.Prelude.{◌≡◌, ⊤, ℕ, Bool, List, Option, Some, None, option_map, if◌then◌else◌}
+use Rattle.std.specs.Global.{Vec}
+use Rattle.sw_hosts.specs.declared.frame.Frame.{Frame}
+use Rattle.sw_hosts.specs.declared.look.Look.{Look}
+use Rattle.sw_hosts.specs.declared.look.Look.TheVariants.{Answer}
+use Rattle.sw_hosts.specs.declared.outgoing.Awaited.{Awaited}
+use Rattle.sw_hosts.specs.declared.outgoing.Outgoing.{Outgoing}
+use Rattle.sw_hosts.specs.Keyed.{key_in, Answers, WaitsFor}
+use Rattle.sw_hosts.specs.Looks.{answer_in}
+use Rattle.sw_hosts.specs.Outgoings.{IsOutgoing}
+
+-- the key that is waited for
+abbrev pub awaited_key : Option Awaited → Option (List ℕ)
+awaited_key awaited = option_map (λ a. a.key.bytes) awaited
+
+abbrev pub KeyedFor : List ℕ → Option Awaited → Type 0
+KeyedFor message awaited = WaitsFor (key_in message) (awaited_key awaited)
+
+abbrev pub AnswersTo : Option Awaited → List ℕ → Type 0
+AnswersTo awaited bytes = Answers (awaited_key awaited) bytes
+
+-- an answer has the key that is waited for
+abbrev pub AnswersLook : Awaited → Look → Type 0
+AnswersLook a (Answer v) = key_in v.items ≡ Some a.key.bytes
+AnswersLook a look = ⊤
+
+-- The frame was handed over, if there is one, and the answer is waited for where the frame is on its way.
+abbrev pub HandsOver : (Frame → Bool → Type 0) → Option Outgoing → Option Awaited → Type 0
+HandsOver takes None awaited = awaited ≡ None
+HandsOver takes (Some o) awaited = (taken : Bool) × takes o.frame taken × (awaited ≡ (if taken then o.awaited else None))
+
+-- The message was made a frame with the way's deadline, and that was handed over.
+abbrev pub SendsOver : (ℕ → Type 0) → (Frame → Bool → Type 0) → List ℕ → Option Awaited → Type 0
+SendsOver dates takes message awaited =
+    (deadline : ℕ) × (o : Option Outgoing) × dates deadline × IsOutgoing message deadline o × HandsOver takes o awaited
+
+-- A look was taken for what is waited for, and what it showed is received.
+abbrev pub ReceivesOver : (Awaited → Look → Type 0) → Option Awaited → Option (Vec ℕ) → Type 0
+ReceivesOver shows None answer = answer ≡ None
+ReceivesOver shows (Some a) answer = (look : Look) × shows a look × (answer ≡ answer_in look)
