@@ -39,7 +39,7 @@ mod keys;
 mod look;
 mod read;
 
-pub use config::{Config, Host, Limits, Route, RunTable, Wire};
+pub use config::{Config, Host, Limits, Route, RunTable, Wire, WireTimes};
 pub use error::{ConfigError, Found, TableError};
 pub use keys::{Key, Section, TablePath, Want};
 pub use read::read_config;

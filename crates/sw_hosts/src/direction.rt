@@ -8,6 +8,7 @@ use crate::moment::Moment;
 use crate::shared_moment::SharedMoment;
 use std::sync::Wait;
 use std::sync::atomic::{AtomicU64, Ordering};
+use std::time::Duration;
 
 /// How long after an order to open a direction the next one may come, in microseconds.
 const BETWEEN_ORDERS: u64 = 1_000_000;
@@ -118,6 +119,11 @@ impl Direction {
             .is_ok()
     }
 
+    /// Holds off orders for a second, as if the direction had been ordered now.
+    pub fn put_off(&self, now: Moment) {
+        self.ordered.set(Some(now));
+    }
+
     /// Has the direction's thread look again.
     pub fn ring(&self) {
         self.bell.fetch_add(1, Ordering::SeqCst);
@@ -132,6 +138,12 @@ impl Direction {
     /// Sleeps until the bell has rung more often than so.
     pub fn sleep<R: Wait>(&self, rt: &R, rings: u64) {
         self.bell.park(rt, (rings & 0xffff_ffff) as u32);
+    }
+
+    /// Sleeps until the bell has rung more often than so, or the time has passed.
+    pub fn sleep_for<R: Wait>(&self, rt: &R, rings: u64, time: Duration) {
+        self.bell
+            .park_timeout(rt, (rings & 0xffff_ffff) as u32, time);
     }
 
     /// Waits until the direction is ordered to be opened.

@@ -6,10 +6,11 @@ use crate::link::HostLink;
 use crate::opener::{OpenReader, OpenWriter};
 use crate::shared::Shared;
 use crate::threads::{keep_reading, keep_writing};
+use crate::times::HostTimes;
 use std::alloc::{AllocError, Global};
 use std::sync::{Arc, Wait};
 use std::thread::{self, Threads};
-use std::time::{Clock, Duration};
+use std::time::Clock;
 
 /// An issuer's host, which is reached over a direction to it and one from it.
 ///
@@ -33,16 +34,15 @@ impl Drop for Host {
 
 impl Host {
     /// Starts the threads of a host, with both directions closed: the first message that is sent has
-    /// them opened. `timeout` is how long the answer to a message is waited for. Refused where no
-    /// memory or no thread is to be had.
+    /// them opened. Refused where no memory or no thread is to be had.
     pub fn start<
         R: Threads + Wait + Clock + Clone + Drop + Send + 'static,
         W: OpenWriter + Send + 'static,
         I: OpenReader + Send + 'static,
-    >(rt: &R, alloc: Global, to: W, from: I, timeout: Duration) -> Result<Host, AllocError> {
-        let shared = Arc::new(alloc, Shared::new(alloc, timeout)?)?;
+    >(rt: &R, alloc: Global, to: W, from: I, times: HostTimes) -> Result<Host, AllocError> {
+        let shared = Arc::new(alloc, Shared::new(alloc, times)?)?;
         let (rt_to, shared_to) = (rt.clone()?, Arc::try_clone(&shared)?);
-        thread::spawn(rt, move || keep_writing(&rt_to, &shared_to, to))?;
+        thread::spawn(rt, move || keep_writing(&rt_to, alloc, &shared_to, to))?;
         let (rt_from, shared_from) = (rt.clone()?, Arc::try_clone(&shared)?);
         thread::spawn(
             rt,
@@ -58,7 +58,7 @@ impl Host {
         Ok(HostLink::new(self.alloc, way))
     }
 
-    /// What was lost so far.
+    /// What was lost, and not answered, so far.
     pub fn counts(&self) -> Counts {
         self.shared.counters.counts()
     }

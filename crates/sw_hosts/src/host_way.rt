@@ -1,7 +1,8 @@
 //! The way over the threads of a host.
 
-ghost use Rattle.std.specs.Prelude.{◌≡◌, ⊤, IfSome};
+ghost use Rattle.std.specs.Prelude.{◌≡◌, ⊤, IfSome, Some};
 ghost use Rattle.sw_hosts.specs.Keyed.{key_in};
+ghost use Rattle.sw_hosts.specs.Looks.{answer_in};
 
 use crate::direction::DirectionState;
 use crate::frame::Frame;
@@ -106,6 +107,14 @@ impl<C: Clock + Drop> HostWay<C> {
         self.shared.counters.add_late(found.dropped);
         Some(found.item?.into_bytes())
     }
+
+    // A look before the deadline.
+    fn look_now(&self, key: &Key) -> Look
+        ensures { IfSome (answer_in result) (λ v. key_in v.items ≡ Some key.now.bytes) }
+    {
+        let is_closed = is_closed(self.shared.to.state(), self.shared.from.state());
+        Look::of(is_closed, self.find(key))
+    }
 }
 
 impl<C: Clock + Drop> Way for HostWay<C> {
@@ -116,21 +125,28 @@ impl<C: Clock + Drop> Way for HostWay<C> {
     ghost shows = { λ way awaited look. ⊤ };
 
     fn deadline(&self) -> Moment {
-        Moment::now(&self.clock).after(self.shared.timeout)
+        Moment::now(&self.clock).after(self.shared.times.timeout)
     }
 
     fn send(&self, frame: Frame) -> bool {
         self.drop_late();
-        self.open(Moment::now(&self.clock));
+        let now = Moment::now(&self.clock);
+        if self.shared.is_paused(now) {
+            return false;
+        }
+        self.open(now);
         self.hand_over(frame)
     }
 
     fn look(&self, awaited: &Awaited) -> Look {
-        if Moment::now(&self.clock).is_past(awaited.deadline) {
-            return Look::Late;
-        }
-        let is_closed = is_closed(self.shared.to.state(), self.shared.from.state());
-        Look::of(is_closed, self.find(&awaited.key))
+        let now = Moment::now(&self.clock);
+        let look = if now.is_past(awaited.deadline) {
+            Look::Late
+        } else {
+            self.look_now(&awaited.key)
+        };
+        self.shared.note(&look, now);
+        look
     }
 
     fn nap(&self, naps: &mut Naps) {

@@ -1,8 +1,10 @@
 //! Links to the hosts of issuers.
 #![tactic(auto)]
 
+mod came;
 mod counts;
 mod direction;
+mod echo;
 mod frame;
 mod host;
 mod host_way;
@@ -14,13 +16,16 @@ mod moment;
 mod opener;
 mod outbox;
 mod outgoing;
+mod pause;
 mod received;
 mod shared;
 mod shared_moment;
 #[cfg(test)]
 mod tests;
 mod threads;
+mod times;
 mod waiting;
+mod watch;
 mod way;
 
 pub use counts::Counts;
@@ -28,3 +33,4 @@ pub use host::Host;
 pub use issuer_link::IssuerLink;
 pub use link::HostLink;
 pub use opener::{OpenReader, OpenWriter, ReadPath, WritePath};
+pub use times::HostTimes;
