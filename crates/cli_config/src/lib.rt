@@ -6,6 +6,8 @@
 //! to = "/run/alpha.to"
 //! from = "/run/alpha.from"
 //! timeout_ms = 2000
+//! retry_ms = 5000
+//! echo_s = 30
 //!
 //! [[route]]
 //! prefix = "4"
