@@ -1,5 +1,5 @@
 -- What is done over a way to a host, whatever way that is.
-use Rattle.std.specs.Prelude.{◌≡◌, ⊤, ℕ, Bool, List, Option, Some, None, option_map, if◌then◌else◌}
+use Rattle.std.specs.Prelude.{◌≡◌, ◌<◌, ⊤, ℕ, Bool, true, List, Option, Some, None, option_map, if◌then◌else◌}
 use Rattle.std.specs.Global.{Vec}
 use Rattle.sw_hosts.specs.declared.frame.Frame.{Frame}
 use Rattle.sw_hosts.specs.declared.look.Look.{Look}
@@ -7,7 +7,7 @@ use Rattle.sw_hosts.specs.declared.look.Look.TheVariants.{Answer}
 use Rattle.sw_hosts.specs.declared.outgoing.Awaited.{Awaited}
 use Rattle.sw_hosts.specs.declared.outgoing.Outgoing.{Outgoing}
 use Rattle.sw_hosts.specs.Keyed.{key_in, Answers, WaitsFor}
-use Rattle.sw_hosts.specs.Looks.{answer_in}
+use Rattle.sw_hosts.specs.Looks.{answer_in, is_open}
 use Rattle.sw_hosts.specs.Outgoings.{IsOutgoing}
 
 -- the key that is waited for
@@ -35,7 +35,16 @@ abbrev pub SendsOver : (ℕ → Type 0) → (Frame → Bool → Type 0) → List
 SendsOver dates takes message awaited =
     (deadline : ℕ) × (o : Option Outgoing) × dates deadline × IsOutgoing message deadline o × HandsOver takes o awaited
 
--- A look was taken for what is waited for, and what it showed is received.
-abbrev pub ReceivesOver : (Awaited → Look → Type 0) → Option Awaited → Option (Vec ℕ) → Type 0
+-- the look of that number showed nothing yet
+abbrev pub ShowsNothing : (ℕ → Look → Type 0) → ℕ → Type 0
+ShowsNothing shows n = (look : Look) × shows n look × (is_open look ≡ true)
+
+-- This is what a look showed, and those before it showed nothing yet. It shows nothing yet itself only where it is the last of 2 ^ 64.
+abbrev pub SeesLast : (ℕ → Look → Type 0) → Look → Type 0
+SeesLast shows look =
+    (n : ℕ) × shows n look × ((k : ℕ) → k < n → ShowsNothing shows k) × (is_open look ≡ true → n ≡ 18446744073709551615)
+
+-- What the last look for it showed is received.
+abbrev pub ReceivesOver : (Awaited → ℕ → Look → Type 0) → Option Awaited → Option (Vec ℕ) → Type 0
 ReceivesOver shows None answer = answer ≡ None
-ReceivesOver shows (Some a) answer = (look : Look) × shows a look × (answer ≡ answer_in look)
+ReceivesOver shows (Some a) answer = (look : Look) × SeesLast (shows a) look × (answer ≡ answer_in look)

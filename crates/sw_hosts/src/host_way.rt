@@ -122,7 +122,7 @@ impl<C: Clock + Drop> Way for HostWay<C> {
 
     ghost takes = { λ way frame taken. ⊤ };
 
-    ghost shows = { λ way awaited look. ⊤ };
+    ghost shows = { λ way awaited number look. ⊤ };
 
     fn deadline(&self) -> Moment {
         Moment::now(&self.clock).after(self.shared.times.timeout)
@@ -138,7 +138,7 @@ impl<C: Clock + Drop> Way for HostWay<C> {
         self.hand_over(frame)
     }
 
-    fn look(&self, awaited: &Awaited) -> Look {
+    fn look(&self, awaited: &Awaited, _number: u64) -> Look {
         let now = Moment::now(&self.clock);
         let look = if now.is_past(awaited.deadline) {
             Look::Late

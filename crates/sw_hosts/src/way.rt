@@ -4,7 +4,7 @@ ghost use Rattle.std.specs.Prelude.{ℕ, Bool, IfOk, IfSome};
 ghost use Rattle.sw_hosts.specs.declared.frame.Frame.{Frame};
 ghost use Rattle.sw_hosts.specs.declared.look.Look.{Look};
 ghost use Rattle.sw_hosts.specs.declared.outgoing.Awaited.{Awaited};
-ghost use Rattle.sw_hosts.specs.Ways.{AnswersLook, AnswersTo, KeyedFor, ReceivesOver, SendsOver};
+ghost use Rattle.sw_hosts.specs.Ways.{AnswersLook, AnswersTo, KeyedFor, ReceivesOver, SeesLast, SendsOver};
 
 use crate::frame::Frame;
 use crate::look::Look;
@@ -22,8 +22,8 @@ pub trait Way {
     /// A frame that it was handed, and whether it took it.
     ghost takes: { Self → Frame → Bool → Type 0 };
 
-    /// What it showed of an answer that is waited for.
-    ghost shows: { Self → Awaited → Look → Type 0 };
+    /// What its look of that number showed of an answer that is waited for.
+    ghost shows: { Self → Awaited → ℕ → Look → Type 0 };
 
     /// From when on nobody waits for the answer to a message that is sent now.
     fn deadline(&self) -> Moment
@@ -33,9 +33,9 @@ pub trait Way {
     fn send(&self, frame: Frame) -> bool
         ensures { takes self.now frame result };
 
-    /// Looks for an answer.
-    fn look(&self, awaited: &Awaited) -> Look
-        ensures shown { shows self.now awaited.now result }
+    /// Looks for an answer. The looks for one answer are numbered from 0, for contracts alone.
+    fn look(&self, awaited: &Awaited, number: u64) -> Look
+        ensures shown { shows self.now awaited.now number result }
         ensures keyed { AnswersLook awaited.now result };
 
     /// Sleeps until the next look.
@@ -67,18 +67,18 @@ pub fn send_over<W: Way>(
 
 // Looks until there is more to be seen than nothing yet.
 fn look_over<W: Way>(way: &W, awaited: &Awaited) -> Look
-    ensures shown { W.shows way.now awaited.now result }
+    ensures seen { SeesLast (W.shows way.now awaited.now) result }
     ensures keyed { AnswersLook awaited.now result }
 {
     let mut naps = Naps::new();
-    for _ in 0..u64::MAX {
-        let look = way.look(awaited);
+    for number in 0..u64::MAX {
+        let look = way.look(awaited, number);
         if !look.is_open() {
             return look;
         }
         way.nap(&mut naps);
     }
-    way.look(awaited)
+    way.look(awaited, u64::MAX)
 }
 
 /// Waits for an answer; none where nothing is waited for.
