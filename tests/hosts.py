@@ -10,6 +10,7 @@ on the loopback, where it is installed. WORD picks the cases whose name has thes
 
 import argparse
 import contextlib
+import datetime
 import os
 import select
 import shutil
@@ -35,6 +36,7 @@ name = "alpha"
 to = "alpha.to"
 from = "alpha.from"
 timeout_ms = 1500
+{alpha}
 
 [[host]]
 name = "beta"
@@ -88,6 +90,15 @@ class Wire:
         """Nothing comes to the host for so long."""
         time.sleep(seconds)
         wanted("at the host", self.read(0), b"")
+
+    def hung_up(self):
+        """The switch closes its end, and nothing comes before."""
+        until = time.monotonic() + SECONDS
+        while time.monotonic() < until:
+            if select.select([self.reads], [], [], 0.05)[0]:
+                wanted("before the switch closed", os.read(self.reads, 65_536), b"")
+                return
+        raise Wrong("the switch did not close its end")
 
     def put(self, data):
         """Writes to the switch, which may still be opening its end."""
@@ -167,10 +178,10 @@ class Run:
 
 
 @contextlib.contextmanager
-def switch(program, room, *words, beta="simulated = true", more=""):
+def switch(program, room, *words, alpha="", beta="simulated = true", more=""):
     """A run and the host of `alpha`, which listens."""
     with open(os.path.join(room, "config.toml"), "w", encoding="utf-8") as file:
-        file.write(CONFIG.format(beta=beta) + more)
+        file.write(CONFIG.format(alpha=alpha, beta=beta) + more)
     wire = Wire(room, "alpha")
     wire.listen()
     run = Run(program, room, *words)
@@ -342,6 +353,82 @@ def advices_between_reads(program, room):
             wanted("at the host", wire.read(0), b"")
 
 
+def echo(message):
+    """The STAN of an echo test."""
+    mti, fields = messages.decode(message)
+    wanted("an echo test's type, fields and code", (mti, sorted(fields), fields.get(70)), (b"0800", [7, 11, 70], b"301"))
+    now, said = datetime.datetime.now(datetime.timezone.utc), fields[7].decode()
+    its = datetime.datetime.strptime(f"{now.year}{said}+0000", "%Y%m%d%H%M%S%z")
+    if abs(now - its).total_seconds() > SECONDS:
+        raise Wrong(f"field 7 of an echo test: {said}, and it is {now}")
+    return fields[11]
+
+
+def asked(wire):
+    """The next message that is no echo test; each of those is answered."""
+    while (message := wire.get())[:4] == b"0800":
+        wire.put(reply(message))
+    return message
+
+
+def echo_answered(program, room):
+    """A host that gets nothing for a second is sent an echo test. Its answer is dropped, and it is asked as ever."""
+    with switch(program, room, alpha="echo_s = 1") as (run, wire):
+        began = time.monotonic()
+        run.send(request(1))
+        wire.put(reply(wire.get()))
+        wanted("field 39", code(run.receive()), b"00")
+        for number in 1, 2:
+            message = wire.get()
+            if time.monotonic() - began < number:
+                raise Wrong(f"echo test {number} came too early")
+            wanted("the STAN of an echo test", echo(message), b"%06d" % number)
+            wire.put(reply(message))
+        run.send(request(2))
+        wire.put(reply(asked(wire), b"05"))
+        wanted("field 39 after the echo tests", code(run.receive()), b"05")
+        run.end()
+
+
+def echo_unanswered(program, room):
+    """A host that answers no echo test is closed, and stood in for at once; it is asked again from the first request after a second."""
+    with switch(program, room, alpha="echo_s = 1") as (run, wire):
+        began = time.monotonic()
+        run.send(request(1))
+        wire.put(reply(wire.get()))
+        wanted("field 39", code(run.receive()), b"00")
+        echo(wire.get())
+        wire.hung_up()
+        if time.monotonic() - began < 1 + TIMEOUT:
+            raise Wrong("the switch did not wait for the answer to its echo test")
+        response = run.ask(request(2, 400))
+        wanted("field 38 of a host that is closed", response[1].get(38), b"SI0002")
+        if response[2] > AT_ONCE:
+            raise Wrong(f"the switch stood in after {response[2]:.2f} seconds, wanted at once")
+        time.sleep(1.2)
+        run.send(request(3))
+        wire.put(reply(asked(wire), auth=b"BACK03"))
+        wanted("field 38 of a host that is asked again", run.receive()[1].get(38), b"BACK03")
+
+
+def retried(program, room):
+    """A host that was silent is not asked for two seconds: the next request is stood in for at once, and the one after that is asked."""
+    with switch(program, room, alpha="retry_ms = 2000") as (run, wire):
+        run.send(request(1, 400))
+        wire.get()
+        wanted("field 38 of a silent host", run.receive()[1].get(38), b"SI0001")
+        response = run.ask(request(2, 400))
+        wanted("field 38 of a host that is not asked", response[1].get(38), b"SI0002")
+        if response[2] > AT_ONCE:
+            raise Wrong(f"the switch stood in after {response[2]:.2f} seconds, wanted at once")
+        time.sleep(2.2)
+        run.send(request(3))
+        message = wire.get()
+        wanted("the first message after two seconds", message, request(3))
+        wire.put(reply(message, auth=b"BACK03"))
+        wanted("field 38 of a host that is asked again", run.receive()[1].get(38), b"BACK03")
+
+
 def beside_a_silent_host(program, room):
     """With threads, a host that is silent holds its own participant alone: the other one answers meanwhile."""
     words = ["--threads", "--sessions", "4"]
@@ -404,6 +491,9 @@ CASES = [
     nobody_there,
     switch_killed,
     advices_between_reads,
+    echo_answered,
+    echo_unanswered,
+    retried,
     beside_a_silent_host,
     worked_host,
     behind_socat,

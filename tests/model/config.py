@@ -6,7 +6,8 @@ import re
 from model import flows, texts
 
 NAME, DIGITS = r"[a-zA-Z0-9_.-]{1,%d}", r"[0-9]{1,%d}"
-TIMEOUT_MS = 10_000
+# What the times of a host are where the file does not say.
+TIMES = {"timeout_ms": 10_000, "retry_ms": 0, "echo_s": 0}
 
 
 def text_like(pattern):
@@ -52,8 +53,10 @@ TOP = {
     "run": (TABLE, False, False),
 }
 HOST = {
+    "echo_s": (integers(0, 86_400), False, True),
     "from": (PATH, True, True),
     "name": (names(26), True, False),
+    "retry_ms": (integers(0, 3_600_000), False, True),
     "simulated": (SIMULATION, False, False),
     "timeout_ms": (integers(1, 600_000), False, True),
     "to": (PATH, True, True),
@@ -138,7 +141,7 @@ def wire_of(host):
     if "simulated" in host:
         return "simulated" if host["simulated"] is True else "silent"
     wire = {key: host[key] for key in ("to", "from")}
-    return wire | {"timeout_ms": host.get("timeout_ms", TIMEOUT_MS)}
+    return wire | {key: host.get(key, default) for key, default in TIMES.items()}
 
 
 def stated(document):

@@ -21,7 +21,8 @@ def host(random):
     made = {"name": random.choice(NAMES)}
     if random.random() < 0.5:
         return made | {"simulated": random.choice([True, "silent"])}
-    return made | {"to": "none.to", "from": "none.from"} | some(random, {"timeout_ms": random.choice([1, 2000, 600_000])})
+    times = {"timeout_ms": random.choice([1, 2000, 600_000]), "retry_ms": random.choice([0, 5000, 3_600_000]), "echo_s": random.choice([0, 30, 86_400])}
+    return made | {"to": "none.to", "from": "none.from"} | some(random, times)
 
 
 def route(random):
@@ -57,7 +58,7 @@ def spoil(random, made):
     elif way == "odd" and keys:
         table[random.choice(keys)] = random.choice(ODD)
     elif way == "known":
-        table[random.choice(["simulated", "to", "name", "prefix", "sessions", "advices", "host"])] = random.choice([*ODD, *NAMES])
+        table[random.choice(["simulated", "to", "name", "retry_ms", "echo_s", "prefix", "sessions", "advices", "host"])] = random.choice([*ODD, *NAMES])
     else:
         table[random.choice(["color", "Name", "zz", "a b"])] = random.choice(ODD)
 

@@ -15,8 +15,8 @@ use Rattle.cli_config.specs.declared.keys.Want.TheVariants as want
 use Rattle.cli_config.specs.Keys.{keys_of, sections}
 use Rattle.cli_config.specs.Tables.{number_at, tables_if, tables_of, text_at, value_at}
 use Rattle.cli_config.specs.Faults.{bad, bad_in, double, double_of, excludes_in, fault_in, first_fault, missing, missing_in, section_fault, table_fault, unknown}
-use Rattle.cli_config.specs.ConfigFile.{config_of, host_of, limits_in, route_of, run_in, wire_by}
-use Rattle.cli_config.specs.Checked.{AreHosts, AreRoutes, IsChecked, IsHost, IsIn, IsPath, IsRoute, IsWire}
+use Rattle.cli_config.specs.ConfigFile.{config_of, host_of, limits_in, route_of, run_in, times_of, wire_by}
+use Rattle.cli_config.specs.Checked.{AreHosts, AreRoutes, AreTimes, IsChecked, IsHost, IsIn, IsPath, IsRoute, IsWire}
 use Rattle.cli_config.proofs.NoFault.{digits_are_texts, digits_parts, is_fit, is_there, left_none, long_enough, name_parts, names_are_texts, none_of, number_fits, path_fits, paths_are_texts, right_none, text_fits}
 use Rattle.cli_config.proofs.Doubles.{texts_are_distinct}
 
@@ -42,13 +42,22 @@ module _ (n : ℕ) (ms : Members) where
   abbrev host_path : TablePath
   host_path = record { section = section.Host; number = n }
 
+  times_checked : NoneBad host_path ms → AreTimes (times_of ms)
+  times_checked b = (
+    (
+      default_fits 1 600000 10000 (number_at key.TimeoutMs ms) (omega arith, omega arith) (number_fits 1 600000 (value_at key.TimeoutMs ms) (is_fit host_path ms key.TimeoutMs b.1.1.1.1.1.0)),
+      default_fits 0 3600000 0 (number_at key.RetryMs ms) (omega arith, omega arith) (number_fits 0 3600000 (value_at key.RetryMs ms) (is_fit host_path ms key.RetryMs b.1.1.1.0)),
+    ),
+    default_fits 0 86400 0 (number_at key.EchoS ms) (omega arith, omega arith) (number_fits 0 86400 (value_at key.EchoS ms) (is_fit host_path ms key.EchoS b.0)),
+  )
+
   wire_checked : (o : Option Data) → value_at key.Simulated ms ≡ o → NoneMissing host_path ms → NoneBad host_path ms → IsWire (wire_by o ms)
   wire_checked None is m b =
       let apart : (if is_some (value_at key.Simulated ms) then Some key.Simulated else None) ≡ None = ap (λ (o : Option Data). if is_some o then Some key.Simulated else None) is in
-      let from = text_fits want.Path paths_are_texts (value_at key.From ms) (is_there host_path ms key.From m.0 refl apart) (is_fit host_path ms key.From b.0) in
-      let to = text_fits want.Path paths_are_texts (value_at key.To ms) (is_there host_path ms key.To m.1.1.1.1.0 refl apart) (is_fit host_path ms key.To b.1.1.1.1.0) in (
+      let from = text_fits want.Path paths_are_texts (value_at key.From ms) (is_there host_path ms key.From m.1.0 refl apart) (is_fit host_path ms key.From b.1.0) in
+      let to = text_fits want.Path paths_are_texts (value_at key.To ms) (is_there host_path ms key.To m.1.1.1.1.1.1.0 refl apart) (is_fit host_path ms key.To b.1.1.1.1.1.1.0) in (
         (long_enough (text_at key.To ms) to, long_enough (text_at key.From ms) from),
-        default_fits 1 600000 10000 (number_at key.TimeoutMs ms) (omega arith, omega arith) (number_fits 1 600000 (value_at key.TimeoutMs ms) (is_fit host_path ms key.TimeoutMs b.1.1.1.0)),
+        times_checked b,
       )
   wire_checked (Some (boolean x)) is m b = tt
   wire_checked (Some (string s)) is m b = tt
@@ -62,7 +71,7 @@ module _ (n : ℕ) (ms : Members) where
   host_checked h =
       let m = none_missing host_path ms h in
       let b = none_bad host_path ms h in
-      let name = text_fits (want.Name 26) (names_are_texts 26) (value_at key.Name ms) (is_there host_path ms key.Name m.1.0 refl refl) (is_fit host_path ms key.Name b.1.0) in
+      let name = text_fits (want.Name 26) (names_are_texts 26) (value_at key.Name ms) (is_there host_path ms key.Name m.1.1.0 refl refl) (is_fit host_path ms key.Name b.1.1.0) in
       (name_parts 26 (text_at key.Name ms) name, wire_checked (value_at key.Simulated ms) refl m b)
 
   abbrev route_path : TablePath

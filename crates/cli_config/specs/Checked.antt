@@ -8,6 +8,7 @@ use Rattle.cli_config.specs.declared.config.Config.{Config}
 use Rattle.cli_config.specs.declared.config.Host.{Host}
 use Rattle.cli_config.specs.declared.config.Wire.{Wire}
 use Rattle.cli_config.specs.declared.config.Wire.TheVariants as wire
+use Rattle.cli_config.specs.declared.config.WireTimes.{WireTimes}
 use Rattle.cli_config.specs.declared.config.Route.{Route}
 
 abbrev pub IsIn : (least most n : ℕ) → Type 0
@@ -16,8 +17,11 @@ IsIn least most n = (least ≤ n) × (n ≤ most)
 abbrev pub IsPath : List ℕ → Type 0
 IsPath text = 1 ≤ length text
 
+abbrev pub AreTimes : WireTimes → Type 0
+AreTimes times = (IsIn 1 600000 times.timeout_ms × IsIn 0 3600000 times.retry_ms) × IsIn 0 86400 times.echo_s
+
 abbrev pub IsWire : Wire → Type 0
-IsWire (wire.Streams to from timeout) = (IsPath to × IsPath from) × IsIn 1 600000 timeout
+IsWire (wire.Streams to from times) = (IsPath to × IsPath from) × AreTimes times
 IsWire w = ⊤
 
 -- the name has room for `query_` before it

@@ -7,6 +7,7 @@ use Rattle.cli_config.specs.declared.config.Config as config
 use Rattle.cli_config.specs.declared.config.Host as host
 use Rattle.cli_config.specs.declared.config.Wire.{Wire}
 use Rattle.cli_config.specs.declared.config.Wire.TheVariants as wire
+use Rattle.cli_config.specs.declared.config.WireTimes as times
 use Rattle.cli_config.specs.declared.config.Route as route
 use Rattle.cli_config.specs.declared.config.Limits as limits
 use Rattle.cli_config.specs.declared.config.RunTable as run
@@ -23,9 +24,17 @@ use Rattle.cli_config.specs.Faults.{first_fault}
 abbrev pub text_if : Key → Members → Option (List ℕ)
 text_if k ms = option_map (λ d. text_at k ms) (value_at k ms)
 
--- a query waits ten seconds where the file does not say
+-- where the file does not say, a query waits ten seconds, a host that did not answer is asked again at once, and there are no
+-- echo tests
+abbrev pub times_of : Members → times.WireTimes
+times_of ms = record {
+  timeout_ms = unwrap_or (number_at key.TimeoutMs ms) 10000;
+  retry_ms = unwrap_or (number_at key.RetryMs ms) 0;
+  echo_s = unwrap_or (number_at key.EchoS ms) 0;
+}
+
 abbrev pub streams_of : Members → Wire
-streams_of ms = wire.Streams (text_at key.To ms) (text_at key.From ms) (unwrap_or (number_at key.TimeoutMs ms) 10000)
+streams_of ms = wire.Streams (text_at key.To ms) (text_at key.From ms) (times_of ms)
 
 -- how a host without a fault is reached, by what stands at `simulated`: true, or "silent"
 abbrev pub wire_by : Option Data → Members → Wire

@@ -22,7 +22,7 @@ sections = section.Top ∷ section.Host ∷ section.Route ∷ section.Limits ∷
 -- ascending by their spelling
 abbrev pub keys_of : Section → List Key
 keys_of section.Top = key.Host ∷ key.Limits ∷ key.Route ∷ key.Run ∷ []
-keys_of section.Host = key.From ∷ key.Name ∷ key.Simulated ∷ key.TimeoutMs ∷ key.To ∷ []
+keys_of section.Host = key.EchoS ∷ key.From ∷ key.Name ∷ key.RetryMs ∷ key.Simulated ∷ key.TimeoutMs ∷ key.To ∷ []
 keys_of section.Route = key.Group ∷ key.Prefix ∷ []
 keys_of section.Limits = key.PerCard ∷ key.StandIn ∷ []
 keys_of section.Run = key.Advices ∷ key.Journal ∷ key.Sessions ∷ key.Threads ∷ []
@@ -32,8 +32,10 @@ spelling key.Host = codes "host"
 spelling key.Limits = codes "limits"
 spelling key.Route = codes "route"
 spelling key.Run = codes "run"
+spelling key.EchoS = codes "echo_s"
 spelling key.From = codes "from"
 spelling key.Name = codes "name"
+spelling key.RetryMs = codes "retry_ms"
 spelling key.Simulated = codes "simulated"
 spelling key.TimeoutMs = codes "timeout_ms"
 spelling key.To = codes "to"
@@ -52,8 +54,10 @@ wants key.Host = want.Tables
 wants key.Limits = want.Table
 wants key.Route = want.Tables
 wants key.Run = want.Table
+wants key.EchoS = want.Number 0 86400
 wants key.From = want.Path
 wants key.Name = want.Name 26
+wants key.RetryMs = want.Number 0 3600000
 wants key.Simulated = want.Simulation
 wants key.TimeoutMs = want.Number 1 600000
 wants key.To = want.Path
@@ -77,7 +81,9 @@ is_required k = false
 
 -- the key that may not stand beside it
 abbrev pub excluded : Key → Option Key
+excluded key.EchoS = Some key.Simulated
 excluded key.From = Some key.Simulated
+excluded key.RetryMs = Some key.Simulated
 excluded key.TimeoutMs = Some key.Simulated
 excluded key.To = Some key.Simulated
 excluded k = None

@@ -39,9 +39,20 @@ pub enum Wire {
         to: Text,
         /// What frames are read from.
         from: Text,
-        /// How many milliseconds a query waits for its answer, 1 to 600,000.
-        timeout_ms: u64,
+        times: WireTimes,
     },
+}
+
+/// How long a host is waited for, and when it is asked whether it is still there.
+#[derive(Clone, Copy)]
+pub struct WireTimes {
+    /// How many milliseconds a query waits for its answer, 1 to 600,000.
+    pub timeout_ms: u64,
+    /// For how many milliseconds a host that did not answer in time is not asked, at most 3,600,000; 0: it
+    /// is asked again at once.
+    pub retry_ms: u64,
+    /// After how many seconds without a frame the host gets an echo test, at most 86,400; 0: it gets none.
+    pub echo_s: u64,
 }
 
 // Written out, so that no caller proves again how its parts are dropped.
@@ -52,7 +63,7 @@ impl Drop for Wire {
             Wire::Streams {
                 to: _,
                 from: _,
-                timeout_ms: _,
+                times: _,
             } => {}
         }
     }

@@ -35,8 +35,10 @@ pub enum Key {
     Limits,
     Route,
     Run,
+    EchoS,
     From,
     Name,
+    RetryMs,
     Simulated,
     TimeoutMs,
     To,
@@ -105,8 +107,10 @@ impl Section {
         match self {
             Section::Top => &[Key::Host, Key::Limits, Key::Route, Key::Run],
             Section::Host => &[
+                Key::EchoS,
                 Key::From,
                 Key::Name,
+                Key::RetryMs,
                 Key::Simulated,
                 Key::TimeoutMs,
                 Key::To,
@@ -128,8 +132,10 @@ impl Key {
             Key::Limits => "limits",
             Key::Route => "route",
             Key::Run => "run",
+            Key::EchoS => "echo_s",
             Key::From => "from",
             Key::Name => "name",
+            Key::RetryMs => "retry_ms",
             Key::Simulated => "simulated",
             Key::TimeoutMs => "timeout_ms",
             Key::To => "to",
@@ -158,6 +164,8 @@ impl Key {
             Key::Simulated => Want::Simulation,
             Key::Threads => Want::Flag,
             Key::TimeoutMs => Want::Number(1, 600_000),
+            Key::RetryMs => Want::Number(0, 3_600_000),
+            Key::EchoS => Want::Number(0, 86_400),
             Key::PerCard => Want::Number(0, 999_999_999_999_999),
             Key::StandIn => Want::Number(0, 999_999_999_999),
             Key::Advices => Want::Number(0, 256),
@@ -180,7 +188,9 @@ impl Key {
         ensures { result ≡ spec.excluded self }
     {
         match self {
-            Key::From | Key::TimeoutMs | Key::To => Some(Key::Simulated),
+            Key::EchoS | Key::From | Key::RetryMs | Key::TimeoutMs | Key::To => Some(
+                Key::Simulated,
+            ),
             _ => None,
         }
     }

@@ -6,6 +6,8 @@
 //! to = "/run/alpha.to"
 //! from = "/run/alpha.from"
 //! timeout_ms = 2000
+//! retry_ms = 5000
+//! echo_s = 30
 //!
 //! [[route]]
 //! prefix = "4"
@@ -39,7 +41,7 @@ mod keys;
 mod look;
 mod read;
 
-pub use config::{Config, Host, Limits, Route, RunTable, Wire};
+pub use config::{Config, Host, Limits, Route, RunTable, Wire, WireTimes};
 pub use error::{ConfigError, Found, TableError};
 pub use keys::{Key, Section, TablePath, Want};
 pub use read::read_config;

@@ -6,7 +6,7 @@ ghost use Rattle.cli_config.specs.Tables.{text_at, views};
 ghost use Rattle.cli_config.specs.Checked.{IsChecked};
 ghost use Rattle.cli_config.specs.ConfigFile as spec;
 
-use crate::config::{Config, Host, Limits, Route, RunTable, Wire};
+use crate::config::{Config, Host, Limits, Route, RunTable, Wire, WireTimes};
 use crate::error::ConfigError;
 use crate::faults::first_fault;
 use crate::keys::{Key, Section};
@@ -33,6 +33,16 @@ fn text_if(alloc: Global, table: &Table, key: Key) -> Result<Option<Text>, Alloc
     }
 }
 
+fn times_of(table: &Table) -> WireTimes
+    ensures { result ≡ spec.times_of (table_view table.now) }
+{
+    WireTimes {
+        timeout_ms: number_at(table, Key::TimeoutMs).unwrap_or(TIMEOUT_MS),
+        retry_ms: number_at(table, Key::RetryMs).unwrap_or(0),
+        echo_s: number_at(table, Key::EchoS).unwrap_or(0),
+    }
+}
+
 fn streams_of(alloc: Global, table: &Table) -> Result<Wire, AllocError>
     ensures { IfOk result (λ w. w ≡ spec.streams_of (table_view table.now)) }
 {
@@ -41,7 +51,7 @@ fn streams_of(alloc: Global, table: &Table) -> Result<Wire, AllocError>
     Ok(Wire::Streams {
         to,
         from,
-        timeout_ms: number_at(table, Key::TimeoutMs).unwrap_or(TIMEOUT_MS),
+        times: times_of(table),
     })
 }
 

@@ -1,18 +1,19 @@
 //! The routes of a run, and the links to its hosts.
 
-ghost use Rattle.std.specs.Prelude.{◌≡◌, [], map, IfOk, OnOk};
+ghost use Rattle.std.specs.Prelude.{◌≡◌, ◌*◌, [], map, IfOk, OnOk};
+ghost use Rattle.std.specs.Duration.{as_nanos};
 ghost use Rattle.cli_config.specs.declared.config.Wire.TheVariants.{Simulated};
 ghost use Rattle.cli_setup.specs.Links.{AddsLink, AreLinksOf, host_link, named_state, shown_link};
 ghost use Rattle.cli_setup.specs.Links.{side_state, wire_state};
 ghost use Rattle.cli_setup.specs.Plans.{links_of, own_links, routes_of, routing_of, unasked, unasked_of};
 
-use cli_config::{Config, Host, Route, Wire};
+use cli_config::{Config, Host, Route, Wire, WireTimes};
 use cli_run::{NamedLink, SwitchLink, default_routes};
 use std::alloc::{AllocError, Global};
 use std::sync::Wait;
 use std::thread::Threads;
 use std::time::{Clock, Duration};
-use sw_hosts::{IssuerLink, ReadPath, WritePath};
+use sw_hosts::{HostTimes, IssuerLink, ReadPath, WritePath};
 use sw_issuers::{GroupLink, Issuer};
 use sw_participant::{Sequence, Text};
 use sw_parts::Routing;
@@ -38,6 +39,18 @@ pub(crate) fn routes(alloc: Global, config: &Config) -> Result<Sequence<Routing>
         routes.push(routing(route)?)?;
     }
     Ok(Sequence::new(routes))
+}
+
+fn times_of(times: &WireTimes) -> HostTimes
+    ensures timeout { as_nanos result.timeout ≡ times.now.timeout_ms * 1000000 }
+    ensures retry { as_nanos result.retry ≡ times.now.retry_ms * 1000000 }
+    ensures echo { as_nanos result.echo ≡ times.now.echo_s * 1000000000 }
+{
+    HostTimes {
+        timeout: Duration::from_millis(times.timeout_ms),
+        retry: Duration::from_millis(times.retry_ms),
+        echo: Duration::from_secs(times.echo_s),
+    }
 }
 
 /// The other end of the links to a host: its threads, or the program itself.
@@ -71,15 +84,10 @@ impl Side {
         match wire {
             Wire::Simulated => Ok(Side::Simulated),
             Wire::Silent => Ok(Side::Silent),
-            Wire::Streams {
-                to,
-                from,
-                timeout_ms,
-            } => {
+            Wire::Streams { to, from, times } => {
                 let to = WritePath::new(*rt, to.copy()?.into_string());
                 let from = ReadPath::new(*rt, from.copy()?.into_string());
-                let timeout = Duration::from_millis(*timeout_ms);
-                let host = sw_hosts::Host::start(threads, alloc, to, from, timeout)?;
+                let host = sw_hosts::Host::start(threads, alloc, to, from, times_of(times))?;
                 Ok(Side::Reached(host))
             }
         }

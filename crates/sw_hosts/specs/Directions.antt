@@ -1,5 +1,5 @@
 -- The states of a direction as a word, and when it may be ordered to be opened.
-use Rattle.std.specs.Prelude.{ℕ, ◌-◌, Bool, true, nat_le, Option, Some, None}
+use Rattle.std.specs.Prelude.{ℕ, ◌-◌, Bool, true, false, nat_le, Option, Some, None}
 use Rattle.sw_hosts.specs.declared.direction.DirectionState.{DirectionState}
 use Rattle.sw_hosts.specs.declared.direction.DirectionState.TheVariants.{Closed, Opening, Open}
 use Rattle.sw_hosts.specs.declared.moment.Moment.{Moment}
@@ -13,3 +13,9 @@ word_of Open = 2
 abbrev pub is_due : Option Moment → ℕ → Bool
 is_due None now = true
 is_due (Some last) now = nat_le 1000000 (now - last.micros)
+
+-- only one that is closed is ordered to be opened
+abbrev pub is_ordered : DirectionState → Option Moment → ℕ → Bool
+is_ordered Closed last now = is_due last now
+is_ordered Opening last now = false
+is_ordered Open last now = false

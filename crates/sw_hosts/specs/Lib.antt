@@ -1,7 +1,14 @@
 pub mod Boxes
+pub mod Comings
 pub mod Directions
+pub mod Echoes
 pub mod Framing
 pub mod Issuers
 pub mod Keyed
+pub mod Looks
 pub mod Moments
+pub mod Outgoings
+pub mod Pauses
 pub mod Wanted
+pub mod Watches
+pub mod Ways

@@ -2,11 +2,13 @@
 
 ghost use Rattle.std.specs.Prelude.{◌≡◌, ◌<◌};
 ghost use Rattle.sw_hosts.specs.declared.direction.DirectionState.{DirectionState};
-ghost use Rattle.sw_hosts.specs.Directions.{word_of, is_due};
+ghost use Rattle.sw_hosts.specs.Directions.{word_of, is_due, is_ordered};
 
 use crate::moment::Moment;
+use crate::shared_moment::SharedMoment;
 use std::sync::Wait;
 use std::sync::atomic::{AtomicU64, Ordering};
+use std::time::Duration;
 
 /// How long after an order to open a direction the next one may come, in microseconds.
 const BETWEEN_ORDERS: u64 = 1_000_000;
@@ -55,14 +57,21 @@ fn is_due(last: Option<Moment>, now: Moment) -> bool
     }
 }
 
+/// Whether an order has a direction opened: one that is closed, and may be ordered again.
+fn is_ordered(state: DirectionState, last: Option<Moment>, now: Moment) -> bool
+    ensures { result ≡ is_ordered state last now.micros }
+{
+    state == DirectionState::Closed && is_due(last, now)
+}
+
 /// One direction of a host. Links order it to be opened; one thread opens it, uses it and closes
 /// it. An order, and whatever else the thread is to look at, rings its bell: the thread reads the
 /// bell before it looks, and sleeps only while it is unchanged, so that no ring is lost.
 #[derive(Drop)]
 pub struct Direction {
     state: AtomicU64,
-    /// When the last order came, in microseconds and one more; 0 before the first.
-    ordered: AtomicU64,
+    /// When the last order came; none before the first.
+    ordered: SharedMoment,
     /// How often it was rung.
     bell: AtomicU64,
 }
@@ -72,15 +81,17 @@ impl Direction {
     pub fn new() -> Direction {
         Direction {
             state: AtomicU64::new(DirectionState::Closed.word()),
-            ordered: AtomicU64::new(0),
+            ordered: SharedMoment::new(),
             bell: AtomicU64::new(0),
         }
     }
 
+    /// Its state now.
     pub fn state(&self) -> DirectionState {
         DirectionState::of_word(self.state.load(Ordering::SeqCst))
     }
 
+    /// Its thread alone sets it.
     pub fn set(&self, state: DirectionState) {
         self.state.store(state.word(), Ordering::SeqCst);
     }
@@ -88,25 +99,29 @@ impl Direction {
     /// Orders the direction to be opened, where it is closed and the last order came a second ago or
     /// longer. Whether the order was given.
     pub fn order(&self, now: Moment) -> bool {
-        let last = match self.ordered.load(Ordering::SeqCst).checked_sub(1) {
-            Some(micros) => Some(Moment { micros }),
-            None => None,
-        };
-        if !is_due(last, now) {
+        if !is_ordered(self.state(), self.ordered.get(), now) {
             return false;
         }
-        let closed = DirectionState::Closed.word();
-        let opening = DirectionState::Opening.word();
-        let is_ordered = self
-            .state
-            .compare_exchange(closed, opening, Ordering::SeqCst, Ordering::SeqCst)
-            .is_ok();
-        if is_ordered {
-            self.ordered
-                .store(now.micros.saturating_add(1), Ordering::SeqCst);
+        // Of several links that order it at once one does.
+        let is_first = self.exchange(DirectionState::Closed, DirectionState::Opening);
+        if is_first {
+            self.ordered.set(Some(now));
             self.ring();
         }
-        is_ordered
+        is_first
+    }
+
+    // Sets the state where it is this one; whether it was.
+    fn exchange(&self, from: DirectionState, to: DirectionState) -> bool {
+        let (from, to) = (from.word(), to.word());
+        self.state
+            .compare_exchange(from, to, Ordering::SeqCst, Ordering::SeqCst)
+            .is_ok()
+    }
+
+    /// Holds off orders for a second, as if the direction had been ordered now.
+    pub fn put_off(&self, now: Moment) {
+        self.ordered.set(Some(now));
     }
 
     /// Has the direction's thread look again.
@@ -115,6 +130,7 @@ impl Direction {
         self.bell.wake_one();
     }
 
+    /// How often the bell was rung.
     pub fn rings(&self) -> u64 {
         self.bell.load(Ordering::SeqCst)
     }
@@ -122,6 +138,12 @@ impl Direction {
     /// Sleeps until the bell has rung more often than so.
     pub fn sleep<R: Wait>(&self, rt: &R, rings: u64) {
         self.bell.park(rt, (rings & 0xffff_ffff) as u32);
+    }
+
+    /// Sleeps until the bell has rung more often than so, or the time has passed.
+    pub fn sleep_for<R: Wait>(&self, rt: &R, rings: u64, time: Duration) {
+        self.bell
+            .park_timeout(rt, (rings & 0xffff_ffff) as u32, time);
     }
 
     /// Waits until the direction is ordered to be opened.

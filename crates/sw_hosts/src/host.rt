@@ -1,14 +1,16 @@
 //! A host and its threads.
 
 use crate::counts::Counts;
+use crate::host_way::HostWay;
 use crate::link::HostLink;
 use crate::opener::{OpenReader, OpenWriter};
 use crate::shared::Shared;
 use crate::threads::{keep_reading, keep_writing};
+use crate::times::HostTimes;
 use std::alloc::{AllocError, Global};
 use std::sync::{Arc, Wait};
 use std::thread::{self, Threads};
-use std::time::{Clock, Duration};
+use std::time::Clock;
 
 /// An issuer's host, which is reached over a direction to it and one from it.
 ///
@@ -32,16 +34,15 @@ impl Drop for Host {
 
 impl Host {
     /// Starts the threads of a host, with both directions closed: the first message that is sent has
-    /// them opened. `timeout` is how long the answer to a message is waited for. Refused where no
-    /// memory or no thread is to be had.
+    /// them opened. Refused where no memory or no thread is to be had.
     pub fn start<
         R: Threads + Wait + Clock + Clone + Drop + Send + 'static,
         W: OpenWriter + Send + 'static,
         I: OpenReader + Send + 'static,
-    >(rt: &R, alloc: Global, to: W, from: I, timeout: Duration) -> Result<Host, AllocError> {
-        let shared = Arc::new(alloc, Shared::new(alloc, timeout)?)?;
+    >(rt: &R, alloc: Global, to: W, from: I, times: HostTimes) -> Result<Host, AllocError> {
+        let shared = Arc::new(alloc, Shared::new(alloc, times)?)?;
         let (rt_to, shared_to) = (rt.clone()?, Arc::try_clone(&shared)?);
-        thread::spawn(rt, move || keep_writing(&rt_to, &shared_to, to))?;
+        thread::spawn(rt, move || keep_writing(&rt_to, alloc, &shared_to, to))?;
         let (rt_from, shared_from) = (rt.clone()?, Arc::try_clone(&shared)?);
         thread::spawn(
             rt,
@@ -53,10 +54,11 @@ impl Host {
     /// A link to the host. All links of a host share its directions and its inbox, so only one of them
     /// may wait for an answer at a time: what the others wait for is dropped as late.
     pub fn link<C: Clock + Drop>(&self, clock: C) -> Result<HostLink<C>, AllocError> {
-        Ok(HostLink::new(self.alloc, clock, Arc::try_clone(&self.shared)?))
+        let way = HostWay::new(clock, Arc::try_clone(&self.shared)?);
+        Ok(HostLink::new(self.alloc, way))
     }
 
-    /// What was lost so far.
+    /// What was lost, and not answered, so far.
     pub fn counts(&self) -> Counts {
         self.shared.counters.counts()
     }

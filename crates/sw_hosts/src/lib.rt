@@ -1,24 +1,36 @@
 //! Links to the hosts of issuers.
 #![tactic(auto)]
 
+mod came;
 mod counts;
 mod direction;
+mod echo;
 mod frame;
 mod host;
+mod host_way;
 mod inbox;
 mod issuer_link;
 mod link;
+mod look;
 mod moment;
 mod opener;
 mod outbox;
+mod outgoing;
+mod pause;
 mod received;
 mod shared;
+mod shared_moment;
 #[cfg(test)]
 mod tests;
 mod threads;
+mod times;
+mod waiting;
+mod watch;
+mod way;
 
 pub use counts::Counts;
 pub use host::Host;
 pub use issuer_link::IssuerLink;
 pub use link::HostLink;
 pub use opener::{OpenReader, OpenWriter, ReadPath, WritePath};
+pub use times::HostTimes;

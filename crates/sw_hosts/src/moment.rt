@@ -1,6 +1,7 @@
 //! Moments, and the short sleeps between two looks.
 
-ghost use Rattle.std.specs.Prelude.{◌≡◌, ◌≤◌, ◌*◌, min, nat_le};
+ghost use Rattle.std.specs.Prelude.{◌≡◌, ◌-◌, ◌*◌, nat_le};
+ghost use Rattle.std.specs.Duration.{as_nanos};
 ghost use Rattle.sw_hosts.specs.Moments.{later};
 
 use std::thread;
@@ -19,13 +20,16 @@ pub struct Moment {
 }
 
 impl Moment {
+    /// The last moment there is.
+    pub const LAST: Moment = Moment { micros: u64::MAX };
+
     /// The moment that it is now. Where the clock cannot be read it is past every deadline.
     pub fn now(clock: &impl Clock) -> Moment {
         match clock.monotonic() {
             Ok(time) => Moment {
                 micros: micros_of(time),
             },
-            Err(_) => Moment { micros: u64::MAX },
+            Err(_) => Moment::LAST,
         }
     }
 
@@ -36,6 +40,13 @@ impl Moment {
         Moment {
             micros: self.micros.saturating_add(micros_of(time)),
         }
+    }
+
+    /// How long it is until a later moment; no time, where that has come.
+    pub fn until(self, later: Moment) -> Duration
+        ensures { as_nanos result ≡ (later.micros - self.micros) * 1000 }
+    {
+        Duration::from_micros(later.micros.saturating_sub(self.micros))
     }
 
     /// Whether the deadline has come.

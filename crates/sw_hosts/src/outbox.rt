@@ -1,92 +1,68 @@
 //! What goes to a host.
 
-ghost use Rattle.std.specs.Prelude.{◌≡◌, ◌≤◌, ◌∷◌, ◌++◌, [], length};
-ghost use Rattle.std.specs.Prelude.{nat_le, not, IfOk, if◌then◌else◌};
-ghost use Rattle.std.specs.VecDeque.{deque_len, deque_capacity};
+ghost use Rattle.std.specs.Prelude.{◌≡◌, ◌∷◌, ◌++◌, [], length, nat_le, not, IfOk, if◌then◌else◌};
 ghost use Rattle.sw_hosts.specs.Boxes.{first_of, after_first, before_first};
 ghost use Rattle.sw_hosts.specs.Wanted.{is_timely};
 
 use crate::frame::Frame;
 use crate::moment::Moment;
+use crate::waiting::{Found, Picks, Waiting};
 use std::alloc::{AllocError, Global};
-use std::collections::VecDeque;
 
-/// How many frames wait at most.
-const PLACES: usize = 64;
-
-/// The frames that a host's thread has not begun to write, oldest first. It takes all its memory
-/// as it is made.
+/// The frames that a host's thread has not begun to write.
 #[derive(Drop)]
 pub struct Outbox {
-    held: VecDeque<Frame>,
-    ghost few: { deque_len held ≤ 64 },
-    ghost room: { 64 ≤ deque_capacity held },
+    held: Waiting<Frame>,
 }
 
-/// What a look for a frame found: the first that is not too late, and how many before it were
-/// dropped.
-#[derive(Drop)]
-pub struct Next {
-    pub frame: Option<Frame>,
-    pub dropped: u64,
+// A moment looks for the frames that are not too late by then.
+impl Picks<Frame> for Moment {
+    ghost picks = { λ now frame. is_timely now.micros frame };
+
+    fn picks(&self, item: &Frame) -> bool {
+        !self.is_past(item.deadline)
+    }
 }
 
 impl Outbox {
     /// An empty outbox.
     pub fn new(alloc: Global) -> Result<Outbox, AllocError>
-        ensures { IfOk result (λ outbox. outbox.held.items ≡ []) }
+        ensures { IfOk result (λ outbox. outbox.held ≡ []) }
     {
-        let held = VecDeque::with_capacity(alloc, PLACES)?;
-        Ok(Outbox { held })
+        Ok(Outbox {
+            held: Waiting::new(alloc)?,
+        })
     }
 
     /// Puts a frame last, where fewer than 64 wait; whether there was room. Else it is dropped, and
     /// nothing has changed.
     pub fn put(&mut self, frame: Frame) -> bool
-        ensures room { result ≡ not (nat_le 64 (length self.old.held.items)) }
-        ensures put { self.new.held.items ≡ (if result then self.old.held.items ++ frame ∷ []
-            else self.old.held.items) }
+        ensures room { result ≡ not (nat_le 64 (length self.old.held)) }
+        ensures put { self.new.held ≡ (if result then self.old.held ++ frame ∷ []
+            else self.old.held) }
     {
-        if self.held.len() >= PLACES {
+        if self.held.is_full() {
             return false;
         }
-        let Ok(()) = self.held.push_back(frame) else {
-            unreachable!()
-        };
+        self.held.put(frame);
         true
     }
 
     /// Takes the first frame whose deadline has not come by now. Those before it are dropped; all of them
     /// are, where each is too late.
-    pub fn next(&mut self, now: Moment) -> Next
-        ensures taken { result.frame ≡ first_of (is_timely now.micros) self.old.held.items }
-        ensures left { self.new.held.items
-            ≡ after_first (is_timely now.micros) self.old.held.items }
-        ensures dropped { result.dropped ≡ before_first (is_timely now.micros) self.old.held.items }
+    pub fn next(&mut self, now: Moment) -> Found<Frame>
+        ensures taken { result.item ≡ first_of (is_timely now.micros) self.old.held }
+        ensures left { self.new.held ≡ after_first (is_timely now.micros) self.old.held }
+        ensures dropped { result.dropped ≡ before_first (is_timely now.micros) self.old.held }
     {
-        let mut dropped = 0;
-        while let Some(frame) = self.held.pop_front() {
-            if !now.is_past(frame.deadline) {
-                return Next {
-                    frame: Some(frame),
-                    dropped,
-                };
-            }
-            dropped += 1;
-        }
-        Next {
-            frame: None,
-            dropped,
-        }
+        self.held.take_first(&now)
     }
 
     /// Drops all frames, and tells how many there were.
     pub fn clear(&mut self) -> u64
-        ensures count { result ≡ length self.old.held.items }
-        ensures empty { self.new.held.items ≡ [] }
+        ensures count { result ≡ length self.old.held }
+        ensures empty { self.new.held ≡ [] }
     {
-        let count = self.held.len() as u64;
-        self.held.clear();
-        count
+        self.held.clear()
     }
 }

@@ -1,9 +1,11 @@
 //! What a host sent.
 
 ghost use Rattle.std.specs.Prelude.{◌≡◌, IfOk, option_map, Some};
+ghost use Rattle.sw_messages.specs.Requests.{message_of};
 ghost use Rattle.sw_hosts.specs.Keyed.{key_in};
 
 use iso_codec::{DecodeError, decode};
+use iso_msg::Message;
 use std::alloc::Global;
 use sw_mux::{Key, key_of};
 use sw_participant::NoMemory;
@@ -22,15 +24,25 @@ impl Drop for Received {
     }
 }
 
+/// The message that these are the bytes of; none where they are no message.
+pub fn read_message(alloc: Global, bytes: &[u8]) -> Result<Option<Message>, NoMemory>
+    ensures { IfOk result (λ message. message ≡ message_of (Some bytes.now)) }
+{
+    match decode(alloc, bytes) {
+        Ok(message) => Ok(Some(message)),
+        Err(DecodeError::OutOfMemory) => Err(NoMemory),
+        Err(_) => Ok(None),
+    }
+}
+
 /// The key of the message that these are the bytes of; none where they are no message, or one
 /// without a key.
 pub fn key_in(alloc: Global, bytes: &[u8]) -> Result<Option<Key>, NoMemory>
     ensures { IfOk result (λ key. option_map (λ k. k.bytes) key ≡ key_in bytes.now) }
 {
-    match decode(alloc, bytes) {
-        Ok(message) => Ok(key_of(&message)),
-        Err(DecodeError::OutOfMemory) => Err(NoMemory),
-        Err(_) => Ok(None),
+    match read_message(alloc, bytes)? {
+        Some(message) => Ok(key_of(&message)),
+        None => Ok(None),
     }
 }
 

@@ -3,4 +3,5 @@
 mod hearing;
 mod reaching;
 mod stations;
+mod watching;
 mod wires;

@@ -1,11 +1,14 @@
 //! What the threads of a host do.
 
-ghost use Rattle.std.specs.Prelude.{OnOk};
+ghost use Rattle.std.specs.Prelude.{◌≡◌, OnOk, true};
 ghost use Rattle.std.specs.Io.KnownBytes.{Appends};
 
 use crate::direction::DirectionState;
+use crate::echo::echo_frame;
+use crate::moment::Moment;
 use crate::opener::{OpenReader, OpenWriter};
 use crate::shared::Shared;
+use crate::watch::{Duty, Watch};
 use std::alloc::Global;
 use std::io::{self, ErrorKind, Read, Write};
 use std::sync::Wait;
@@ -16,32 +19,107 @@ use sw_frame::Framer;
 const PIECE: usize = 4_096;
 
 /// Writes frames to a host, each time that this direction is opened, until it is closed.
-pub fn keep_writing<R: Wait + Clock, W: OpenWriter>(rt: &R, shared: &Shared, opener: W) {
+pub fn keep_writing<R: Wait + Clock, W: OpenWriter>(
+    rt: &R,
+    alloc: Global,
+    shared: &Shared,
+    opener: W,
+) {
     let mut opener = opener;
+    let mut watch = Watch::new();
     for _ in rt.forever() {
         shared.to.await_order(rt);
         if let Ok(writer) = opener.open() {
+            watch.opened(Moment::now(rt));
             shared.to.set(DirectionState::Open);
-            write_frames(rt, shared, writer);
+            write_frames(rt, alloc, shared, &mut watch, writer);
         }
         shared.to.set(DirectionState::Closed);
         shared.drop_frames(rt);
     }
 }
 
-// Writes frames until one is not written whole.
-fn write_frames<R: Wait + Clock, W: Write + Drop>(rt: &R, shared: &Shared, writer: W) {
+// Writes frames until one is not written whole, or an echo test is not answered in time.
+fn write_frames<R: Wait + Clock, W: Write + Drop>(
+    rt: &R,
+    alloc: Global,
+    shared: &Shared,
+    watch: &mut Watch,
+    writer: W,
+) {
     let mut writer = writer;
     for _ in rt.forever() {
-        let rings = shared.to.rings();
-        match shared.next_frame(rt) {
-            Some(frame) => {
-                if write_whole(&mut writer, &frame.bytes).is_err() {
-                    shared.counters.add_dropped(1);
-                    return;
-                }
-            }
-            None => shared.to.sleep(rt, rings),
+        if !take_turn(rt, alloc, shared, watch, &mut writer) {
+            return;
+        }
+    }
+}
+
+// Writes the next frame, or else does what is due; whether the direction stays open. The bell is read
+// first, so that a frame that is put while the outbox is looked into ends the sleep at once.
+fn take_turn<R: Wait + Clock, W: Write>(
+    rt: &R,
+    alloc: Global,
+    shared: &Shared,
+    watch: &mut Watch,
+    writer: &mut W,
+) -> bool {
+    let (rings, heard) = (shared.to.rings(), shared.heard());
+    let now = Moment::now(rt);
+    let duty = watch.duty(now, heard, &shared.times);
+    if let Duty::GivesUp = duty {
+        shared.counters.add_echo();
+        shared.to.put_off(now);
+        return false;
+    }
+    if let Some(frame) = shared.next_frame(rt, now) {
+        watch.wrote(now);
+        return write_counted(shared, writer, &frame.bytes);
+    }
+    match duty {
+        Duty::Rests(until) => shared.to.sleep_for(rt, rings, now.until(until)),
+        Duty::Tests => return write_test(rt, alloc, shared, watch, writer),
+        Duty::GivesUp => {}
+    }
+    true
+}
+
+// Writes an echo test, where there is memory for one; whether the direction stays open.
+fn write_test<R: Clock, W: Write>(
+    rt: &R,
+    alloc: Global,
+    shared: &Shared,
+    watch: &mut Watch,
+    writer: &mut W,
+) -> bool {
+    let (now, heard) = (Moment::now(rt), shared.heard());
+    watch.tested(now, heard, shared.times.timeout);
+    match echo_frame(alloc, seconds(rt), watch.next_stan()) {
+        Ok(frame) => write_whole(writer, &frame).is_ok(),
+        Err(_) => {
+            watch.opened(now);
+            true
+        }
+    }
+}
+
+// The seconds since 1970; none where the clock cannot be read.
+fn seconds(clock: &impl Clock) -> u64 {
+    match clock.since_1970() {
+        Ok(time) => time.as_secs(),
+        Err(_) => 0,
+    }
+}
+
+// Writes a frame, and counts it where it was not written whole; whether it was.
+fn write_counted<W: Write>(shared: &Shared, writer: &mut W, bytes: &[u8]) -> bool
+    ensures { result ≡ true → Appends (W.contents writer.old) (W.contents writer.new) bytes.now }
+{
+    match write_whole(writer, bytes) {
+        Ok(()) => true,
+        Err(_) => {
+            shared.counters.add_dropped(1);
+            false
         }
     }
 }
@@ -82,6 +160,7 @@ fn read_messages<R: Wait, I: Read + Drop>(rt: &R, alloc: Global, shared: &Shared
                 return;
             }
         };
+        shared.hear();
         let Ok(messages) = framer.feed(&piece[..count]) else {
             return;
         };

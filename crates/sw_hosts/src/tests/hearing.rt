@@ -1,7 +1,9 @@
 //! What a link hears.
 
 use crate::HostLink;
-use crate::tests::wires::{NEXT_REQUEST, NEXT_RESPONSE, REQUEST, RESPONSE, Wired, wire_up};
+use crate::tests::wires::{
+    NEXT_REQUEST, NEXT_RESPONSE, REQUEST, RESPONSE, Wired, seconds, wire_up,
+};
 use std::io::Write;
 use std::test::Fail;
 use std::thread;
@@ -28,7 +30,7 @@ fn hears_nothing(rt: HostRuntime, link: &mut HostLink) -> Result<bool, Fail> {
 #[test]
 fn a_late_answer_is_dropped(rt: HostRuntime) -> Result<(), Fail> {
     let timeout = Duration::from_secs(2);
-    let mut wired = wire_up(rt, rt, timeout)?;
+    let mut wired = wire_up(rt, rt, seconds(2))?;
     let mut link = wired.host.link(rt)?;
     let start = Instant::now(&rt)?;
     link.send(REQUEST)?;
@@ -52,7 +54,7 @@ fn a_late_answer_is_dropped(rt: HostRuntime) -> Result<(), Fail> {
 // opened again a second after the last order, and not before.
 #[test]
 fn what_breaks_is_opened_again(rt: HostRuntime) -> Result<(), Fail> {
-    let mut wired = wire_up(rt, rt, Duration::from_secs(10))?;
+    let mut wired = wire_up(rt, rt, seconds(10))?;
     let mut link = wired.host.link(rt)?;
     link.send(REQUEST)?;
     assert!(rt; wired.reads(REQUEST)?);

@@ -1,6 +1,6 @@
 //! Messages that reach nobody.
 
-use crate::tests::wires::{REQUEST, wire_up};
+use crate::tests::wires::{REQUEST, seconds, wire_up};
 use crate::{Host, OpenReader, OpenWriter};
 use std::io::{self, ErrorKind, PipeReader, PipeWriter};
 use std::sync::Arc;
@@ -45,16 +45,16 @@ fn nobody_is_asked_too_often(rt: HostRuntime) -> Result<(), Fail> {
     let from = Nowhere {
         asked: Arc::try_clone(&asked)?,
     };
-    let host = Host::start(&rt, alloc, to, from, Duration::from_secs(10))?;
+    let host = Host::start(&rt, alloc, to, from, seconds(10))?;
     let mut link = host.link(rt)?;
     let start = Instant::now(&rt)?;
     for _ in 0..5 {
         link.send(REQUEST)?;
         assert!(rt; link.receive()?.is_none());
     }
-    let seconds = start.elapsed(&rt)?.as_secs();
-    assert!(rt; seconds < 5);
-    assert!(rt; asked.load(Ordering::SeqCst) <= 2 + 2 * seconds);
+    let passed = start.elapsed(&rt)?.as_secs();
+    assert!(rt; passed < 5);
+    assert!(rt; asked.load(Ordering::SeqCst) <= 2 + 2 * passed);
     thread::sleep(&rt, Duration::from_millis(1_100));
     link.send(REQUEST)?;
     thread::sleep(&rt, Duration::from_millis(200));
@@ -66,7 +66,7 @@ fn nobody_is_asked_too_often(rt: HostRuntime) -> Result<(), Fail> {
 // in the outbox.
 #[test]
 fn a_full_outbox_reaches_nobody(rt: HostRuntime) -> Result<(), Fail> {
-    let wired = wire_up(rt, rt, Duration::from_secs(30))?;
+    let wired = wire_up(rt, rt, seconds(30))?;
     let mut link = wired.host.link(rt)?;
     let start = Instant::now(&rt)?;
     let long = [b'0'; 9_999];

@@ -1,12 +1,11 @@
 //! A station that asks an issuer over a link, boxed as a plant has it.
 
 use crate::IssuerLink;
-use crate::tests::wires::{REQUEST, Wired, wire_up};
+use crate::tests::wires::{REQUEST, Wired, seconds, wire_up};
 use std::alloc::Global;
 use std::io::{PipeReader, PipeWriter, Read, Write};
 use std::test::Fail;
 use std::thread;
-use std::time::Duration;
 use sw_context::Context;
 use sw_issuers::Issuer;
 use sw_participant::{Act, Bystander, Call, Station};
@@ -48,7 +47,7 @@ fn a_station_asks_an_issuer(rt: HostRuntime) -> Result<(), Fail> {
         responses,
         to: _to,
         from: _from,
-    } = wire_up(rt, rt, Duration::from_secs(10))?;
+    } = wire_up(rt, rt, seconds(10))?;
     let there = thread::spawn(&rt, move || refuses(requests, responses))?;
     let context = asked_over(alloc, IssuerLink::Host(host.link(rt)?))?;
     assert!(rt; context.get("rc") == Some(b"05".as_slice()));

@@ -3,7 +3,7 @@
 use crate::direction::DirectionState;
 use crate::moment::Moment;
 use crate::shared::Shared;
-use crate::{Host, ReadPath, WritePath};
+use crate::{Host, HostTimes, ReadPath, WritePath};
 use std::alloc::{AllocError, Global};
 use std::io::{PipeReader, PipeWriter, Read, Write, pipe};
 use std::os::fd::AsRawFd;
@@ -32,6 +32,15 @@ pub struct Wired {
     pub from: PipeReader,
 }
 
+/// So many seconds for each answer, no pause and no echo tests.
+pub fn seconds(timeout: u64) -> HostTimes {
+    HostTimes {
+        timeout: Duration::from_secs(timeout),
+        retry: Duration::ZERO,
+        echo: Duration::ZERO,
+    }
+}
+
 fn path_of(alloc: Global, end: &impl AsRawFd) -> Result<String, AllocError> {
     let number = end.as_raw_fd();
     format!(in alloc; "/proc/self/fd/{number}")
@@ -56,14 +65,14 @@ fn open<C: Clock>(clock: &C, shared: &Shared) {
 pub fn wire_up<R: Threads + Wait + Clock + Copy + Send + 'static>(
     rt: R,
     files: HostRuntime,
-    timeout: Duration,
+    times: HostTimes,
 ) -> Result<Wired, Fail> {
     let alloc = files.alloc();
     let (requests, to) = pipe(&files)?;
     let (from, responses) = pipe(&files)?;
     let writer = WritePath::new(files, path_of(alloc, &to)?);
     let reader = ReadPath::new(files, path_of(alloc, &from)?);
-    let host = Host::start(&rt, alloc, writer, reader, timeout)?;
+    let host = Host::start(&rt, alloc, writer, reader, times)?;
     open(&files, &host.shared);
     Ok(Wired {
         host,

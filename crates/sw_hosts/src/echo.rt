@@ -1,0 +1,95 @@
+//! Echo tests: network management requests (0800) of a host that nothing is asked.
+
+ghost use Rattle.std.specs.Prelude.{◌≡◌, ◌+◌, ◌*◌, ◌/◌, ◌%◌, ◌<◌, length, pos, IfOk, Some};
+ghost use Rattle.jiff_core.specs.Date.{epoch_day};
+ghost use Rattle.sw_base.specs.Digits.{number_of};
+ghost use Rattle.sw_hosts.specs.Echoes.{IsEcho, IsStamp, echo_message, stamp_of, two_digits};
+
+use iso_codec::encode;
+use iso_msg::{Message, MessageError, Mti};
+use jiff_core::civil::Date;
+use std::alloc::Global;
+use sw_frame::{FrameError, frame};
+use sw_participant::NoMemory;
+
+/// The seconds of a day.
+const DAY: u64 = 86_400;
+
+/// The days from 1970-01-01 to 9999-12-31.
+const DAYS: u64 = 2_932_897;
+
+// The date after so many seconds since 1970; after the year 9999 the dates from 1970 on come again.
+fn date_of(seconds: u64) -> Date
+    ensures { epoch_day result ≡ pos (seconds / 86400 % 2932897) }
+{
+    let Ok(date) = Date::from_unix_epoch_day((seconds / DAY % DAYS) as i64) else {
+        unreachable!()
+    };
+    date
+}
+
+fn two_digits(number: u8) -> [u8; 2]
+    requires { number < 100 }
+    ensures { result ≡ two_digits number }
+{
+    [b'0' + number / 10, b'0' + number % 10]
+}
+
+// Month, day, hour, minute and second.
+fn stamp_of(date: Date, seconds: u64) -> [u8; 10]
+    ensures { result ≡ stamp_of date (seconds % 86400) }
+{
+    let time = seconds % DAY;
+    let month = two_digits(date.month);
+    let day = two_digits(date.day);
+    let hour = two_digits((time / 3_600) as u8);
+    let minute = two_digits((time / 60 % 60) as u8);
+    let second = two_digits((time % 60) as u8);
+    [
+        month[0], month[1], day[0], day[1], hour[0], hour[1], minute[0], minute[1], second[0],
+        second[1],
+    ]
+}
+
+// The six digits of a STAN.
+fn stan_digits(stan: u32) -> [u8; 6]
+    requires { stan < 1000000 }
+    ensures { number_of result ≡ Some stan }
+{
+    [
+        b'0' + (stan / 100_000) as u8,
+        b'0' + (stan / 10_000 % 10) as u8,
+        b'0' + (stan / 1_000 % 10) as u8,
+        b'0' + (stan / 100 % 10) as u8,
+        b'0' + (stan / 10 % 10) as u8,
+        b'0' + (stan % 10) as u8,
+    ]
+}
+
+// The message, by its fields 7 and 11. A field that the table of fields refuses is none here, so that
+// memory alone is refused.
+fn message_of(alloc: Global, stamp: &[u8], stan: &[u8]) -> Result<Message, MessageError>
+    ensures { IfOk result (λ message. message ≡ echo_message stamp.now stan.now) }
+{
+    let mut message = Message::new(alloc, Mti::new(b"0800")?);
+    message.set(alloc, 7, stamp)?;
+    message.set(alloc, 11, stan)?;
+    message.set(alloc, 70, b"301")?;
+    Ok(message)
+}
+
+/// The frame of an echo test that is made so many seconds after 1970, with a STAN.
+pub fn echo_frame(alloc: Global, seconds: u64, stan: u32) -> Result<Vec<u8>, NoMemory>
+    requires { stan < 1000000 }
+    ensures { IfOk result (λ bytes. IsEcho seconds stan bytes.items) }
+{
+    let stamp = stamp_of(date_of(seconds), seconds);
+    let Ok(message) = message_of(alloc, &stamp, &stan_digits(stan)) else {
+        return Err(NoMemory);
+    };
+    let text = encode(alloc, &message)?;
+    match frame(alloc, &text) {
+        Ok(bytes) => Ok(bytes),
+        Err(_) => Err(NoMemory),
+    }
+}

@@ -1,0 +1,155 @@
+//! The way over the threads of a host.
+
+ghost use Rattle.std.specs.Prelude.{◌≡◌, ⊤, IfSome, Some};
+ghost use Rattle.sw_hosts.specs.Keyed.{key_in};
+ghost use Rattle.sw_hosts.specs.Looks.{answer_in};
+
+use crate::direction::DirectionState;
+use crate::frame::Frame;
+use crate::look::{Look, is_closed};
+use crate::moment::{Moment, Naps};
+use crate::outgoing::Awaited;
+use crate::shared::Shared;
+use crate::way::Way;
+use std::sync::{Arc, Mutex, MutexGuard};
+use std::time::{Clock, Duration};
+use sw_mux::Key;
+
+/// How long a message that has a direction opened waits for it, in milliseconds.
+const OPENING: u64 = 100;
+
+/// How long a lock is waited for, in milliseconds.
+const LOCKING: u64 = 100;
+
+/// The way over the threads of a host, without a handle to wait with.
+pub struct HostWay<C: Clock + Drop> {
+    clock: C,
+    shared: Arc<Shared>,
+}
+
+// Written out, so that no caller proves again how its parts are dropped.
+impl<C: Clock + Drop> Drop for HostWay<C> {
+    fn drop(self) {
+        let HostWay {
+            clock: _,
+            shared: _,
+        } = self;
+    }
+}
+
+// The lock, where it is to be had in time.
+fn locked<'a, T, C: Clock>(clock: &C, mutex: &'a Mutex<T>) -> Option<MutexGuard<'a, T>> {
+    let deadline = Moment::now(clock).after(Duration::from_millis(LOCKING));
+    let mut naps = Naps::new();
+    for _ in 0..u64::MAX {
+        if let Some(guard) = mutex.try_lock() {
+            return Some(guard);
+        }
+        if Moment::now(clock).is_past(deadline) {
+            return None;
+        }
+        naps.sleep(clock);
+    }
+    None
+}
+
+impl<C: Clock + Drop> HostWay<C> {
+    pub fn new(clock: C, shared: Arc<Shared>) -> HostWay<C> {
+        HostWay { clock, shared }
+    }
+
+    // Drops what is still in the inbox: nobody waits for it any more.
+    fn drop_late(&self) {
+        if let Some(mut inbox) = locked(&self.clock, &self.shared.inbox) {
+            let count = inbox.clear();
+            self.shared.counters.add_late(count);
+        }
+    }
+
+    // Has the directions opened that are closed, and waits for them, but not for long.
+    fn open(&self, now: Moment) {
+        let shared = &self.shared;
+        let (to, from) = (shared.to.order(now), shared.from.order(now));
+        if !to && !from {
+            return;
+        }
+        let deadline = now.after(Duration::from_millis(OPENING));
+        let mut naps = Naps::new();
+        for _ in 0..u64::MAX {
+            let is_opening = shared.to.state() == DirectionState::Opening
+                || shared.from.state() == DirectionState::Opening;
+            if !is_opening || Moment::now(&self.clock).is_past(deadline) {
+                return;
+            }
+            naps.sleep(&self.clock);
+        }
+    }
+
+    // Hands a frame to the thread that writes; whether it takes it.
+    fn hand_over(&self, frame: Frame) -> bool {
+        if self.shared.to.state() != DirectionState::Open {
+            return false;
+        }
+        let Some(mut outbox) = locked(&self.clock, &self.shared.outbox) else {
+            return false;
+        };
+        let is_put = outbox.put(frame);
+        drop(outbox);
+        self.shared.to.ring();
+        is_put
+    }
+
+    // The first message with the key that is in the inbox; those before it are late.
+    fn find(&self, key: &Key) -> Option<Vec<u8>>
+        ensures { IfSome result (λ v. key_in v.items ≡ Some key.now.bytes) }
+    {
+        let found = locked(&self.clock, &self.shared.inbox)?.take(key);
+        self.shared.counters.add_late(found.dropped);
+        Some(found.item?.into_bytes())
+    }
+
+    // A look before the deadline.
+    fn look_now(&self, key: &Key) -> Look
+        ensures { IfSome (answer_in result) (λ v. key_in v.items ≡ Some key.now.bytes) }
+    {
+        let is_closed = is_closed(self.shared.to.state(), self.shared.from.state());
+        Look::of(is_closed, self.find(key))
+    }
+}
+
+impl<C: Clock + Drop> Way for HostWay<C> {
+    ghost dates = { λ way deadline. ⊤ };
+
+    ghost takes = { λ way frame taken. ⊤ };
+
+    ghost shows = { λ way awaited number look. ⊤ };
+
+    fn deadline(&self) -> Moment {
+        Moment::now(&self.clock).after(self.shared.times.timeout)
+    }
+
+    fn send(&self, frame: Frame) -> bool {
+        self.drop_late();
+        let now = Moment::now(&self.clock);
+        if self.shared.is_paused(now) {
+            return false;
+        }
+        self.open(now);
+        self.hand_over(frame)
+    }
+
+    fn look(&self, awaited: &Awaited, _number: u64) -> Look {
+        let now = Moment::now(&self.clock);
+        let look = if now.is_past(awaited.deadline) {
+            Look::Late
+        } else {
+            self.look_now(&awaited.key)
+        };
+        self.shared.note(&look, now);
+        look
+    }
+
+    fn nap(&self, naps: &mut Naps) {
+        naps.sleep(&self.clock);
+    }
+}

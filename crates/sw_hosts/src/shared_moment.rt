@@ -1,0 +1,48 @@
+//! A moment that threads share.
+
+ghost use Rattle.std.specs.Prelude.{◌≡◌};
+ghost use Rattle.sw_hosts.specs.Moments.{moment_in, word_for};
+
+use crate::moment::Moment;
+use std::sync::atomic::{AtomicU64, Ordering};
+
+fn word_for(moment: Option<Moment>) -> u64
+    ensures { result ≡ word_for moment }
+{
+    match moment {
+        Some(moment) => moment.micros.saturating_add(1),
+        None => 0,
+    }
+}
+
+fn moment_in(word: u64) -> Option<Moment>
+    ensures { result ≡ moment_in word }
+{
+    match word.checked_sub(1) {
+        Some(micros) => Some(Moment { micros }),
+        None => None,
+    }
+}
+
+/// A moment that threads share, or none. What another thread has put there no contract says.
+#[derive(Drop)]
+pub struct SharedMoment {
+    word: AtomicU64,
+}
+
+impl SharedMoment {
+    /// No moment.
+    pub fn new() -> SharedMoment {
+        SharedMoment {
+            word: AtomicU64::new(word_for(None)),
+        }
+    }
+
+    pub fn get(&self) -> Option<Moment> {
+        moment_in(self.word.load(Ordering::SeqCst))
+    }
+
+    pub fn set(&self, moment: Option<Moment>) {
+        self.word.store(word_for(moment), Ordering::SeqCst);
+    }
+}
