@@ -3,12 +3,12 @@
 
     tests/disks.py [--all] [--seed N] [--count N] [--program PATH]
 
-A run on a new journal's file answers requests, some with a silent issuer, and counts its calls that open, write, sync, cut or link
-that file and those beside it. Then it runs again with the Nth of them failed, once or from then on, a write torn in half or not, with
-EIO or ENOSPC. Its responses have to be a beginning of the undisturbed ones, and the status 0, 3 (the journal refused) or 1. Then
-`recover` runs without faults. It has to leave a sound file without a row, and what it prints and leaves is what the plain model makes
-of the rows. No transaction whose response was read is unfinished; a stored reversal is of a request that got no response, or whose
-issuer is silent.
+A run with `--trace` on a new journal's file answers requests, some with a silent issuer, and counts its calls that open, write, sync,
+cut or link that file and those beside it. Then it runs again with the Nth of them failed, once or from then on, a write torn in half or
+not, with EIO or ENOSPC. Its responses have to be a beginning of the undisturbed ones, and so have the lines of its trace, and the status
+0, 3 (the journal refused) or 1. Then `recover` runs without faults. It has to leave a sound file without a row, and what it prints and
+leaves is what the plain model makes of the rows. No transaction whose response was read is unfinished; a stored reversal is of a
+request that got no response, or whose issuer is silent. A run without faults goes on with the file, whatever was made of it.
 
 --all takes every call, else so many of them, spread evenly (--count).
 """
@@ -43,7 +43,20 @@ def ran(shim, program, path, stdin, at=0, failure=(False, False, errno.EIO)):
     fresh(path)
     goes_on, is_torn, error = failure
     more = {"PATH": path, "WITH": str(error)} | ({"TORN": "1"} if is_torn else {})
-    return shim.run([program, "run", "--flow", kills.FLOW, "--journal", path], stdin, at, goes_on, **more)
+    return shim.run([program, "run", "--flow", kills.FLOW, "--journal", path, "--trace"], stdin, at, goes_on, **more)
+
+
+def trace_of(came):
+    """What a run wrote to standard error, without the cause for which it ended."""
+    return b"".join(line for line in came.stderr.splitlines(True) if not line.startswith(b"cardswitch: "))
+
+
+def trace_faults(whole, came):
+    """What is wrong with the trace of a run."""
+    if not trace_of(whole).startswith(trace_of(came)):
+        yield f"its lines are no beginning of the undisturbed ones: {trace_of(came)[-200:]}"
+    if came.status == 0 and came.stderr != whole.stderr:
+        yield "it is done, and its lines are other ones"
 
 
 def faults_of(program, path, whole, came, silent):
@@ -54,11 +67,11 @@ def faults_of(program, path, whole, came, silent):
         yield "its responses are no beginning of the undisturbed ones"
     if came.status == 0 and came.stdout != whole.stdout:
         yield "it is done, and responses are missing"
+    yield from trace_faults(whole, came)
     answered = {number: number for number, _ in enumerate(messages.frames(came.stdout))}
     tables = kills.tables_of(path) if os.path.exists(path) else None
     yield from kills.faults_of(program, tables, path, answered, silent)
-    if tables is not None:
-        yield from recovered_faults(program, path)
+    yield from recovered_faults(program, path)
 
 
 def recovered_faults(program, path):

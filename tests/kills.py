@@ -7,7 +7,8 @@ With --threads the runs have 8 sessions as threads, and the requests come in pie
 several transactions unfinished. After each kill, and at the end, SQLite's own library reads the journal. Of each kill holds: no
 transaction whose response was read is unfinished, so that no later run aborts it; a stored reversal is of a request that got no
 response, or whose issuer is silent; no row is at fault, and what `recover` prints and leaves, on a copy, is what the plain model
-makes of the rows. At the end every row is gone and the file is sound.
+makes of the rows. No id is given twice, and an advice that a kill leaves stays in the journal until a run has answered all. That run
+delivers as many advices as were stored before it and in it. At the end every row is gone and the file is sound.
 """
 
 import argparse
@@ -15,6 +16,7 @@ import contextlib
 import glob
 import os
 import random
+import re
 import shutil
 import sqlite3
 import subprocess
@@ -34,6 +36,8 @@ TOP = os.path.dirname(os.path.dirname(os.path.abspath(__file__)))
 BUILT = os.path.join(TOP, "crates", "cardswitch", "out", "cardswitch")
 FLOW = os.path.join(TOP, "examples", "switch.toml")
 REQUESTS, SESSIONS, KILLS = 60, 8, 6
+# What a run's last line says of advices: how many were stored in it, and how many were delivered.
+ADVICES = re.compile(rb" advices-stored=(\d+) advices-delivered=(\d+) ")
 
 
 def frames(chosen):
@@ -116,6 +120,20 @@ def faults_of(program, tables, path, answered, silent):
         yield from recovery_faults(program, tables, path)
 
 
+def lost_faults(before, after, has_answered_all, told):
+    """What is wrong with the ids and advices that the journal had before a run."""
+    if before is None:
+        return
+    if after is None or after.meta[2] < before.meta[2]:
+        yield f"the next id was {before.meta[2]}, and is {after and after.meta[2]}"
+    elif not has_answered_all:
+        yield from (f"the advice {its} is gone, and was not sent" for its in before.advice if its not in after.advice)
+    elif found := ADVICES.search(told):
+        given, sent = int(found[1]), int(found[2])
+        if sent != len(before.advice) + given:
+            yield f"{sent} advices were delivered of {len(before.advice)} and {given} more"
+
+
 def soundness_faults(path):
     """Whether the file is no sound database."""
     with copied(path) as copy, contextlib.closing(sqlite3.connect(copy)) as database:
@@ -133,7 +151,7 @@ def end_faults(path):
 
 def ran(chosen, given, path, made, seconds=None):
     """What comes of a run on these frames, killed after so many seconds."""
-    command = [given.program, "run", "--flow", FLOW, "--journal", path]
+    command = [given.program, "run", "--flow", FLOW, "--journal", path, "--stats"]
     command += ["--threads", "--sessions", str(SESSIONS)] * given.threads
     given_in = [*pieces(chosen, made)] if given.threads else [b"".join(made)]
     return inputs.run_in_packets(command, given_in, seconds, {})
@@ -158,8 +176,9 @@ def one(chosen, given, room, most, left):
         out, told, status = ran(chosen, given, path, made[at:], seconds)
         count = len(messages.frames(out))
         answered |= {first - 1 + number: at + number for number in range(count)}
-        at, kills, tables = at + count, kills + 1, tables_of(path)
+        before, at, kills, tables = tables, at + count, kills + 1, tables_of(path)
         yield from faults_of(given.program, tables, path, answered, silent)
+        yield from lost_faults(before, tables, at == len(made), told)
         left += [len(tables.tx)] if tables and status is None else []
     if status != 0:
         yield f"it ended with {status}: {told.decode()}"

@@ -12,7 +12,7 @@ use sw_participant::NoMemory;
 use tx_intake::{Listed, Source};
 
 /// A list whose second context is given only once the flag is set. Where it is not set in time, the
-/// source has ended.
+/// source has ended, and gives no context after that.
 #[derive(Drop)]
 pub struct Waiting {
     listed: Listed,
@@ -43,6 +43,9 @@ impl Source for Waiting {
     ghost ends_with = { λ s all. ⊤ };
 
     fn next(&mut self) -> Result<Option<Context>, NoMemory> {
+        if self.ended {
+            return Ok(None);
+        }
         self.asked = self.asked.saturating_add(1);
         if self.asked == 2 && !is_set_in_time(&self.called) {
             self.ended = true;

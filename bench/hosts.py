@@ -1,0 +1,138 @@
+#!/usr/bin/env python3
+"""Times `cardswitch run --config` with two hosts, of which one is silent: how long the other one's requests wait.
+
+    bench/hosts.py [--program PATH] [--requests N] [--rounds N] [--flying N] [--sessions N] [--timeout MS]
+
+Both hosts are examples/hosts/host.py at named pipes. Alpha answers at once. Beta gives no answer to a request, so that each waits for
+the timeout; it accepts the advices that follow. The requests come over a pipe, so many in flight, and of a hundred of them 0, 1, 10
+or 50 are of beta's cards, at random places. With threads the responses of a batch leave when all of it has ended, so that a request of
+alpha waits for those of beta in its batch.
+
+It prints one table: the requests a second, and of alpha's requests the median time until the response, and what 99 of 100 stay below.
+So many sessions as threads stand beside the same run without threads. Each figure is the middle one of the rounds, in which
+both take turns. In brackets stands how many times the figure without threads each is. The journal is in memory.
+"""
+
+import argparse
+import collections
+import contextlib
+import os
+import random
+import statistics
+import subprocess
+import sys
+import tempfile
+import time
+
+import run
+from threads import EARLY, cells, in_turns, percentile, talk
+
+HOST = os.path.join(run.TOP, "examples", "hosts", "host.py")
+# Of a hundred requests so many are of beta.
+SHARES = (0, 1, 10, 50)
+# The amount of which a host's answer comes at once, and of which none comes (host.py).
+ANSWERED, SILENT = 100, 191
+CONFIG = """
+[[host]]
+name = "alpha"
+to = "alpha.to"
+from = "alpha.from"
+timeout_ms = 5000
+
+[[host]]
+name = "beta"
+to = "beta.to"
+from = "beta.from"
+timeout_ms = {timeout}
+
+[[route]]
+prefix = "4"
+group = "alpha"
+
+[[route]]
+prefix = "5"
+group = "beta"
+"""
+
+
+def frame(number, is_beta):
+    """The frame of an authorization, of a card of its own."""
+    card = b"%d%015d" % (5 if is_beta else 4, number)
+    amount = SILENT if is_beta else ANSWERED
+    message = b"0100722000000080800016" + card + b"000000%012d" % amount + b"0102030405%06d" % number + b"TERM0001978"
+    return b"%04d" % len(message) + message
+
+
+def kinds(share, count):
+    """Which of so many requests are of beta."""
+    betas = set(random.Random(share).sample(range(count), count * share // 100))
+    return [number in betas for number in range(count)]
+
+
+@contextlib.contextmanager
+def hosts(room):
+    """Both hosts at their pipes. (Each end is opened for both ways, so that no opening waits.)"""
+    with contextlib.ExitStack() as ends:
+        for name in "alpha", "beta":
+            its = []
+            for path in f"{room}/{name}.to", f"{room}/{name}.from":
+                os.mkfifo(path)
+                its.append(os.open(path, os.O_RDWR))
+                ends.callback(os.close, its[-1])
+            host = subprocess.Popen([sys.executable, HOST], stdin=its[0], stdout=its[1])
+            ends.callback(host.wait)
+            ends.callback(host.kill)
+        yield
+
+
+def measured(given, side, share):
+    """The requests a second of a run, and the seconds that each of alpha's requests waits for its response."""
+    words = [os.path.abspath(given.program), "run", "--flow", run.EXAMPLE, "--config", "config.toml"]
+    words += [] if side == "no threads" else ["--threads", "--sessions", str(side)]
+    are_beta = kinds(share, given.requests)
+    early = collections.deque(frame(number, False) for number in range(EARLY))
+    frames = collections.deque(frame(EARLY + number, its) for number, its in enumerate(are_beta))
+    streams = {"stdin": subprocess.PIPE, "stdout": subprocess.PIPE, "bufsize": 0}
+    with tempfile.TemporaryDirectory() as room, hosts(room):
+        with open(f"{room}/config.toml", "w", encoding="utf-8") as it:
+            it.write(CONFIG.format(timeout=given.timeout))
+        with subprocess.Popen(words, cwd=room, **streams) as process:
+            # (some are sent before, while the program begins and opens the pipes)
+            collections.deque(talk(process, early, given.flying), maxlen=0)
+            began = time.perf_counter()
+            took = list(talk(process, frames, given.flying))
+            rate = given.requests / (time.perf_counter() - began)
+            process.stdin.close()
+            assert process.wait() == 0, process.returncode
+    return rate, [seconds for seconds, is_beta in zip(took, are_beta) if not is_beta]
+
+
+def rows(given, share):
+    """The rows of a share."""
+    sides = ("no threads", given.sessions)
+    found = in_turns(given.rounds, sides, lambda side: measured(given, side, share))
+    rates = {side: statistics.median(rate for rate, _ in its) for side, its in found.items()}
+    yield f"{share} of 100 to beta: requests a second", cells(rates, "{:,.1f}")
+    for what, part in (("median", 50), ("99 of 100", 99)):
+        waits = {side: 1e3 * statistics.median(percentile(took, part) for _, took in its) for side, its in found.items()}
+        yield f"{share} of 100 to beta: alpha's {what}, ms", cells(waits, "{:,.2f}")
+
+
+def main():
+    parser = argparse.ArgumentParser(description="Times cardswitch run with a silent host.")
+    parser.add_argument("--program", default=run.BUILT)
+    parser.add_argument("--requests", type=int, default=400)
+    parser.add_argument("--rounds", type=int, default=3)
+    parser.add_argument("--flying", type=int, default=32, help="how many requests are in flight")
+    parser.add_argument("--sessions", type=int, default=16, help="how many sessions run as threads")
+    parser.add_argument("--timeout", type=int, default=200, help="how long a request waits for beta, in milliseconds")
+    given = parser.parse_args()
+    print(f"| {given.flying} in flight | no threads | {given.sessions} sessions as threads |")
+    print("|---" * 3 + "|")
+    for share in SHARES:
+        for what, figures in rows(given, share):
+            print(f"| {what} | " + " | ".join(figures) + " |", flush=True)
+
+
+if __name__ == "__main__":
+    sys.exit(main())
