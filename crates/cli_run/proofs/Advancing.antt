@@ -8,8 +8,8 @@ use Rattle.cli_run.specs.Legs.{Advances, AdvancesFor, Leg, Legs, Stage, lines_of
 use Rattle.cli_run.specs.Lines.{Line}
 use Rattle.cli_run.specs.Points.{Point, is_long, world_at}
 use Rattle.cli_run.specs.Requests.{Reads, requests}
-use Rattle.cli_run.specs.Rounds.{MayCut, Round, RoundsFor, Serves}
-use Rattle.cli_run.specs.Stopped.{HaltsLater, HaltsOn, HaltsToward, StopsWithin}
+use Rattle.cli_run.specs.Rounds.{Round, RoundsFor, Serves}
+use Rattle.cli_run.specs.Stopped.{HaltsOn, StopsWithin}
 use Rattle.cli_run.specs.Traces.{Cuts, Log, ReportsFor, Tells, passed_over}
 use Rattle.cli_run.proofs.Readings.{nothing_read, requests_append}
 use Rattle.cli_run.proofs.Resting.{may_keep}

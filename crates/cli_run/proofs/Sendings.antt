@@ -1,7 +1,7 @@
 -- Advices sent one after the other.
 -- for: advices::send_each, advices::send_advices, advices::oldest_advices
 use Rattle.std.specs.Prelude.{OnOk}
-use Rattle.std.proofs.Common.{Result, ◌≡◌, ◌<◌, ◌≤◌, ℕ, ◌+◌, Bool, List, [], ◌∷◌, ◌++◌, length, map, take, get_or, refl, sym, ap, subst, ◌∙◌}
+use Rattle.std.proofs.Common.{Result, ◌≡◌, ◌<◌, ◌≤◌, ℕ, ◌+◌, List, [], ◌∷◌, ◌++◌, length, map, take, get_or, refl, sym, ap, subst, ◌∙◌}
 use Rattle.std.proofs.lemmas.List.{map-append, take_all, take_more}
 use Rattle.cli_run.specs.Points.{Point}
 use Rattle.cli_run.specs.Advices.{AdviceStep, PlainAdvisor, Sends, SendsAll}

@@ -18,7 +18,7 @@ use Rattle.cli_run.specs.Requests.{Reads, ReadsOn, if_read, request_of, requests
 use Rattle.cli_run.specs.Lines.{Line}
 use Rattle.cli_run.specs.Rounds.{Alone, Batched, Completed, Does, Drains, IsOfBatches, IsRetry, MayCut, Offered, Released, Round, RoundsFor, Serves, ServesFor, Transacts, Trimmed, answering, offered_in, untrimmed}
 use Rattle.cli_run.specs.Stopped.{DrainsSome, GivesSome, Halts, HaltsOn, HaltsToward, IsOfNext}
-use Rattle.cli_run.proofs.Readings.{nothing_read, requests_append, requests_front, requests_next}
+use Rattle.cli_run.proofs.Readings.{requests_front, requests_next}
 use Rattle.cli_run.specs.Traces.{Log}
 use Rattle.cli_run.proofs.Rounds.{Empties, answering_append, gives_own, retries_append, serves_none, serves_offer, serves_then, serves_trimmed}
 

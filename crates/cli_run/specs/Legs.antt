@@ -1,6 +1,5 @@
 -- What a run does until its input has ended: it answers requests, and sends stored advices between two reads.
 use Rattle.std.specs.Prelude.{◌≡◌, ℕ, Bool, List, [], ◌∷◌, ◌++◌, Option}
-use Rattle.sw_context.specs.Pairs.{Pairs}
 use Rattle.cli_run.specs.Advices.{AdviceStep, Between, PlainAdvisor}
 use Rattle.cli_run.specs.Lines.{Line}
 use Rattle.cli_run.specs.Points.{Point}

@@ -55,11 +55,7 @@ fn advices_of(alloc: Global, engine: &Engine) -> Result<Vec<Stored>, AllocError>
 }
 
 // The oldest advices, at most so many. The others are not looked at.
-fn oldest_advices(
-    alloc: Global,
-    engine: &Engine,
-    most: usize,
-) -> Result<Vec<Stored>, AllocError>
+fn oldest_advices(alloc: Global, engine: &Engine, most: usize) -> Result<Vec<Stored>, AllocError>
     ensures { IfOk result (λ list. map plain list.items
         ≡ take most (advices engine.now.flow engine.now.start engine.now.past)) }
 {
@@ -120,9 +116,7 @@ fn is_up_to(stored: &Stored, last: Option<Sent>) -> bool
 {
     match last {
         None => false,
-        Some(last) => {
-            stored.id < last.id || stored.id == last.id && stored.place <= last.place
-        }
+        Some(last) => { stored.id < last.id || stored.id == last.id && stored.place <= last.place }
     }
 }
 
@@ -182,8 +176,8 @@ impl<L: Link> Advisor<L> {
             (plain stored.now).1 (is_repeat self.old (place_of stored.now)) self.old.sender
             accepted self.new.sender) }
         ensures noted { OnOk result (self.new ≡ record self.old {
-            sender = self.new.sender;
-            last = last_with self.old (place_of stored.now);
+          sender = self.new.sender;
+          last = last_with self.old (place_of stored.now);
         }) }
     {
         let is_repeat = self.is_repeat(stored);

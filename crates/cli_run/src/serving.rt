@@ -182,7 +182,9 @@ impl<S: Alter + Drop> Switch<S> {
         switch.cut_traced(alloc, stderr)?;
         let mut input = input;
         let mut requests = Requests::new(alloc);
-        let served = requests.serve_in_batches(rt, alloc, switch, advisor, &mut input, out, stderr)?;
+        let served = requests.serve_in_batches(
+            rt, alloc, switch, advisor, &mut input, out, stderr,
+        )?;
         let (mut switch, end) = served;
         let closed = switch.close(alloc, advisor, out, stderr);
         let traced = stderr.trace(alloc, switch.engine());
