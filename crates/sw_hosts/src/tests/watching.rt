@@ -12,12 +12,18 @@ use sw_parts::Link;
 // The answer to an echo test (fields 11 and 39).
 const ECHO_ANSWER: &[u8] = b"00280810002000000200000000000100";
 
-// Whether the next frame that the host reads is an echo test with this STAN (fields 7, 11 and 70).
+// The frame of an echo test up to field 7: its length, its type, and the bitmap of fields 7, 11 and 70.
+const ECHO_HEAD: &[u8] = b"0055080082200000000000000400000000000000";
+
+// Whether the next frame that the host reads is an echo test with this STAN.
 fn reads_echo(wired: &mut Wired, stan: &[u8]) -> Result<bool, Fail> {
-    let mut frame = [0; 59];
-    wired.requests.read_exact(&mut frame)?;
-    let begins = &frame[..40] == b"0055080082200000000000000400000000000000".as_slice();
-    Ok(begins && &frame[50..56] == stan && &frame[56..] == b"301".as_slice())
+    let (mut head, mut stamp, mut number, mut code) = ([0; 40], [0; 10], [0; 6], [0; 3]);
+    wired.requests.read_exact(&mut head)?;
+    wired.requests.read_exact(&mut stamp)?;
+    wired.requests.read_exact(&mut number)?;
+    wired.requests.read_exact(&mut code)?;
+    let is_echo = head.as_slice() == ECHO_HEAD && code.as_slice() == b"301".as_slice();
+    Ok(is_echo && number.as_slice() == stan)
 }
 
 // The first echo test is answered, and the second is not: that one is counted, and closes the direction.
