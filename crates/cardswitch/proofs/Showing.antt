@@ -33,6 +33,7 @@ row_untold o before (serve.Journal (journal.Store c)) h = absurd h
 row_untold o before (serve.NoStation t) h = absurd h
 row_untold o before (serve.DoubleStation t) h = absurd h
 row_untold o before (serve.BadLinkName t) h = absurd h
+row_untold o before (serve.BadSessions n) h = absurd h
 row_untold o before (serve.Engine e) h = absurd h
 row_untold o before (serve.Read e) h = absurd h
 row_untold o before (serve.Write e) h = absurd h

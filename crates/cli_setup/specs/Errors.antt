@@ -1,5 +1,5 @@
 -- Why a configuration file is not taken. Out of memory is reported as such, and all else is carried.
-use Rattle.std.specs.Prelude.{◌≡◌, ⊤, ℕ, List, Option, IfSome}
+use Rattle.std.specs.Prelude.{⊤, ℕ, List, Option, IfSome}
 use Rattle.std.specs.Str.{IsUtf8}
 use Rattle.cli_io.specs.declared.error.ReadError.{ReadError}
 use Rattle.cli_io.specs.declared.error.ReadError.TheVariants as read

@@ -1,5 +1,5 @@
 -- What a run is set up with: the options of the command line come first, then the configuration, then what the program has itself.
-use Rattle.std.specs.Prelude.{◌≡◌, ◌≤◌, ℕ, Bool, false, ◌||◌, List, [], ◌∷◌, map, Option, None, Some, unwrap_or, codes}
+use Rattle.std.specs.Prelude.{◌≡◌, ◌≤◌, ℕ, Bool, false, ◌||◌, List, [], ◌∷◌, map, Option, None, unwrap_or, codes}
 use Rattle.std.specs.Option.{option_map_or, option_or}
 use Rattle.sw_parts.specs.declared.route.Routing.{Routing}
 use Rattle.sw_issuers.specs.Sending.{LinkStates, link_states}
