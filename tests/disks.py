@@ -1,7 +1,7 @@
 #!/usr/bin/env python3
 """Lets calls on the files of a journal fail under `cardswitch run`, one after the other, by a shim in C (shims/disk.c).
 
-    tests/disks.py [--all] [--seed N] [--count N] [--program PATH]
+    tests/disks.py [--all] [--first N] [--seed N] [--count N] [--program PATH]
 
 A run with `--trace` on a new journal's file answers requests, some with a silent issuer, and counts its calls that open, write, sync,
 cut or link that file and those beside it. Then it runs again with the Nth of them failed, once or from then on, a write torn in half or
@@ -10,7 +10,7 @@ not, with EIO or ENOSPC. Its responses have to be a beginning of the undisturbed
 leaves is what the plain model makes of the rows. No transaction whose response was read is unfinished; a stored reversal is of a
 request that got no response, or whose issuer is silent. A run without faults goes on with the file, whatever was made of it.
 
---all takes every call, else so many of them, spread evenly (--count).
+--all takes every call, --first the first N, each failed in each way; else so many of them are taken, spread evenly (--count).
 """
 
 import argparse
@@ -19,6 +19,7 @@ import glob
 import itertools
 import os
 import random
+import sqlite3
 import sys
 import tempfile
 import time
@@ -69,7 +70,11 @@ def faults_of(program, path, whole, came, silent):
         yield "it is done, and responses are missing"
     yield from trace_faults(whole, came)
     answered = {number: number for number, _ in enumerate(messages.frames(came.stdout))}
-    tables = kills.tables_of(path) if os.path.exists(path) else None
+    try:
+        tables = kills.tables_of(path) if os.path.exists(path) else None
+    except sqlite3.DatabaseError as error:
+        yield f"SQLite does not read the file: {error}"
+        return
     yield from kills.faults_of(program, tables, path, answered, silent)
     yield from recovered_faults(program, path)
 
@@ -81,13 +86,15 @@ def recovered_faults(program, path):
         came = shims.plain(command, b"")
         if came.returncode != 0:
             yield f"the next run ends with {came.returncode}: {came.stderr.decode('utf-8', 'replace')}"
-        yield from kills.end_faults(copy)
+        else:
+            yield from kills.end_faults(copy)
 
 
 def arguments():
     """The words of the command line."""
     parser = argparse.ArgumentParser(description="Lets calls on the files of a journal fail.")
     parser.add_argument("--all", action="store_true", help="every call, in each way")
+    parser.add_argument("--first", type=int, default=0, help="the first so many calls alone, in each way")
     parser.add_argument("--seed", type=int, default=random.SystemRandom().randrange(10**9))
     parser.add_argument("--count", type=int, default=150, help="how many calls that fail, in all")
     parser.add_argument("--program", default=kills.BUILT)
@@ -106,8 +113,9 @@ def main():
         whole = ran(shim, given.program, path, requests)
         if whole.status != 0 or whole.calls == 0:
             sys.exit(f"undisturbed it ends with {whole.status} after {whole.calls} calls: {whole.stderr.decode()}")
-        for at in shims.spread(chosen, whole.calls, whole.calls if given.all else given.count):
-            for failure in FAILURES if given.all else [chosen.choice(FAILURES)]:
+        count = whole.calls if given.all else given.count
+        for at in range(1, given.first + 1) if given.first else shims.spread(chosen, whole.calls, count):
+            for failure in FAILURES if given.all or given.first else [chosen.choice(FAILURES)]:
                 came = ran(shim, given.program, path, requests, at, failure)
                 found = [*faults_of(given.program, path, whole, came, silent)]
                 passed, failed = passed + (not found), failed + bool(found)

@@ -1,5 +1,7 @@
 """Random configuration files, right ones and slightly spoilt ones, and what `run` does with them when no request comes."""
 
+from copy import deepcopy
+
 from harness.case import Begins, Case, Exactly
 from model import config, texts
 
@@ -48,6 +50,11 @@ def tables_of(made):
                 yield table
 
 
+def one_of(random, values):
+    """One of these values, as a value of its own: a later change of it, or in it, changes no other case."""
+    return deepcopy(random.choice(values))
+
+
 def spoil(random, made):
     """One change in one table: a key gone, an odd value, or an unknown key."""
     table = random.choice([*tables_of(made)])
@@ -56,11 +63,11 @@ def spoil(random, made):
     if way == "drop" and keys:
         del table[random.choice(keys)]
     elif way == "odd" and keys:
-        table[random.choice(keys)] = random.choice(ODD)
+        table[random.choice(keys)] = one_of(random, ODD)
     elif way == "known":
-        table[random.choice(["simulated", "to", "name", "retry_ms", "echo_s", "prefix", "sessions", "advices", "host"])] = random.choice([*ODD, *NAMES])
+        table[random.choice(["simulated", "to", "name", "retry_ms", "echo_s", "prefix", "sessions", "advices", "host"])] = one_of(random, [*ODD, *NAMES])
     else:
-        table[random.choice(["color", "Name", "zz", "a b"])] = random.choice(ODD)
+        table[random.choice(["color", "Name", "zz", "a b"])] = one_of(random, ODD)
 
 
 def value_text(value):
