@@ -8,8 +8,9 @@ with all from the Nth on. The commands are those of `cardswitch`, and two of pro
 
 The status of `cardswitch` has to be 4 (out of memory) or 3 (the journal is out of memory), or 0 where the program can do without.
 What it wrote has to be a beginning of what the undisturbed run wrote, and all of it at status 0. `run` may have given what a silent
-issuer leads to for one request, as it does where memory is refused after a query was sent; the plain model says what that is. A
-journal's file has to be sound, without a row at fault, and `recover` has to leave no transaction in it.
+issuer leads to for one request, as it does where memory is refused after a query was sent; the plain model says what that is. The
+lines of its trace are judged in the same way. A journal's file has to be sound, without a row at fault, and `recover` has to leave no
+transaction in it.
 
 `test_switch again` does each turn of a script again that is refused for memory. With one request refused, what it prints has to be
 what the model prints; or, where memory was refused to the journal's store, what it prints with a stop before or after one line.
@@ -133,6 +134,20 @@ class Command:
 
 
 @dataclass
+class Traced(Command):
+    """A run with `--trace`, the lines of which are judged too."""
+
+    # The lines that it may write at best beside those of the undisturbed run.
+    traces: list = field(default_factory=list)
+
+    def faults(self, whole, came, at, goes_on):
+        yield from super().faults(whole, came, at, goes_on)
+        lines = b"".join(line for line in came.stderr.splitlines(True) if not line.startswith((b"cardswitch: ", b"error: ")))
+        if not any(it.startswith(lines) for it in [whole.stderr, *self.traces]):
+            yield f"its lines are no beginning of those that are wanted: {lines[-300:]}"
+
+
+@dataclass
 class Again(Command):
     """A script whose turns are done again where they are refused, and what it may print."""
 
@@ -170,14 +185,16 @@ class Threads(Command):
 
 
 def with_silence(requests):
-    """What `run` writes where the issuer of one request is silent, for each authorization in turn."""
+    """What `run` writes where the issuer of one request is silent, for each authorization in turn: the responses, and the trace."""
     flow = flows.read_flow(read("examples/switch.toml"))
     heard = switch.issued
     for silent in filter(lambda it: it[:4] == b"0100", requests):
         _, fields = messages.decode(silent)
         switch.issued = lambda mti, its, fields=fields: None if its == fields else heard(mti, its)
         try:
-            yield switch.Switch(flow, 10_000).run(requests)
+            its = switch.Switch(flow, 10_000)
+            trace = "".join(f"{line}\n" for line, _ in its.told(requests))
+            yield its.responses(), trace.encode()
         finally:
             switch.issued = heard
 
@@ -204,10 +221,11 @@ def with_a_stop(text):
 def switch_commands(program, room):
     """The commands of `cardswitch`."""
     requests = read("examples/requests.frames")
-    others = list(with_silence([frame[4:] for frame in messages.frames(requests)]))
+    others, traces = map(list, zip(*with_silence([frame[4:] for frame in messages.frames(requests)])))
     for name, text in SCRIPTS.items():
         yield Command(f"step: {name}", [program, "step"], text.encode())
     yield Command("run, in memory", [program, "run", "--flow", FLOW], requests, others=others)
+    yield Traced("run, with the trace", [program, "run", "--flow", FLOW, "--trace"], requests, others=others, traces=traces)
     path = f"{room}/journal.db"
     yield Command("run, on a file", [program, "run", "--flow", FLOW, "--journal", path], requests, path, others)
     yield Command("recover", [program, "recover", "--flow", FLOW, "--journal", path], b"", path, begins_with=RELEASED)

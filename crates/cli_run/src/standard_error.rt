@@ -87,7 +87,11 @@ impl<'a, E: Write> StandardError<'a, E> {
                 self.lost = true;
                 Ok(())
             }
-            Err(error) => Err(error),
+            Err(error) => {
+                // (what was written of the lines is not written again)
+                self.trace = None;
+                Err(error)
+            }
         }
     }
 }

@@ -192,8 +192,14 @@ impl<S: Alter> Switch<S> {
             return Ok(());
         }
         stderr.trace(alloc, self.engine())?;
-        self.act(alloc, Turn::Cut)?;
-        Ok(())
+        match self.act(alloc, Turn::Cut) {
+            Ok(_) => Ok(()),
+            Err(error) => {
+                // (its lines are written, and none is written again as the run ends)
+                stderr.trace = None;
+                Err(error)
+            }
+        }
     }
 
     /// Cuts a history whose lines are wanted, or that is long; these are written before. So lines of the trace
