@@ -133,6 +133,11 @@ class Command:
         yield from recovery_faults(self.words[0], tables, self.path)
 
 
+def without(text, *begins):
+    """The lines of a text that do not begin so."""
+    return b"".join(line for line in text.splitlines(True) if not line.startswith(begins))
+
+
 @dataclass
 class Traced(Command):
     """A run with `--trace`, the lines of which are judged too."""
@@ -142,8 +147,9 @@ class Traced(Command):
 
     def faults(self, whole, came, at, goes_on):
         yield from super().faults(whole, came, at, goes_on)
-        lines = b"".join(line for line in came.stderr.splitlines(True) if not line.startswith((b"cardswitch: ", b"error: ")))
-        if not any(it.startswith(lines) for it in [whole.stderr, *self.traces]):
+        # (an advice for which there is no memory stays in the journal, and has no line then)
+        lines = without(came.stderr, b"cardswitch: ", b"error: ", b"ack ")
+        if not any(without(it, b"ack ").startswith(lines) for it in [whole.stderr, *self.traces]):
             yield f"its lines are no beginning of those that are wanted: {lines[-300:]}"
 
 
