@@ -1,6 +1,6 @@
 //! What a run writes to standard error.
 
-ghost use Rattle.std.specs.Prelude.{◌≡◌, ◌+◌, ◌∷◌, ◌++◌, [], IfOk, OnOk, is_some};
+ghost use Rattle.std.specs.Prelude.{◌≡◌, ◌+◌, ◌∷◌, ◌++◌, [], None, IfOk, OnErr, OnOk, is_some};
 ghost use Rattle.std.specs.Prelude.{if◌then◌else◌, option_map, string_bytes};
 ghost use Rattle.std.specs.Io.KnownBytes.{Appends};
 ghost use Rattle.cli_io.specs.Written.{AppendsBeginning};
@@ -73,10 +73,11 @@ impl<'a, E: Write> StandardError<'a, E> {
     }
 
     /// Writes the lines of all entries of the engine's history, if a trace is wanted. Out of memory is the
-    /// only error.
+    /// only error. Then no trace is wanted any more, so that no line is written twice.
     pub(crate) fn trace(&mut self, alloc: Global, engine: &Engine) -> Result<(), ServeError>
-        ensures { OnOk result (Tells (lines_in engine.now) 0
+        ensures tells { OnOk result (Tells (lines_in engine.now) 0
             (log_of E.contents self.old) (log_of E.contents self.new)) }
+        ensures once { OnErr result (self.new.trace ≡ None) }
     {
         let Some(form) = self.trace else {
             return Ok(());
@@ -88,7 +89,7 @@ impl<'a, E: Write> StandardError<'a, E> {
                 Ok(())
             }
             Err(error) => {
-                // (what was written of the lines is not written again)
+                // What was written of the lines is not written again as the run ends.
                 self.trace = None;
                 Err(error)
             }

@@ -1,6 +1,7 @@
 //! The plant of the switch, one transaction after the other.
 
-ghost use Rattle.std.specs.Prelude.{◌≡◌, ◌≤◌, ◌∷◌, List, ℕ, [], Option, IfOk, OnErr, OnOk, is_some, true};
+ghost use Rattle.std.specs.Prelude.{◌≡◌, ◌≤◌, ◌∷◌, List, ℕ, [], Option, None, IfOk, OnErr, OnOk, is_some};
+ghost use Rattle.std.specs.Prelude.{true};
 ghost use Rattle.std.specs.Io.KnownBytes.{Appends};
 ghost use Rattle.sw_context.specs.Pairs.{Pairs};
 ghost use Rattle.sw_frame.specs.Stream.{AreFramed};
@@ -186,6 +187,7 @@ impl<S: Alter> Switch<S> {
         ensures queue { OnOk result (waits self.new.plant.running.engine
             ≡ waits self.old.plant.running.engine) }
         ensures live { OnOk result (IsLive stderr.old.trace self.new.plant.running.engine) }
+        ensures once { OnErr result (stderr.new.trace ≡ None) }
     {
         let entries = entries_kept(stderr.trace);
         if self.engine().history().len() < entries {
@@ -195,7 +197,7 @@ impl<S: Alter> Switch<S> {
         match self.act(alloc, Turn::Cut) {
             Ok(_) => Ok(()),
             Err(error) => {
-                // (its lines are written, and none is written again as the run ends)
+                // Its lines are written, and none is written again as the run ends.
                 stderr.trace = None;
                 Err(error)
             }

@@ -98,7 +98,7 @@ returns-clause-ran g c =
     let is : IsMade c.args.code.now c.args.self.sessions view (seen (kept g.S.Store c.args.self.journal)) made = record { opened = c.in-Ok.ensures.opened.1; engine = c.in-Ok.ensures.engine } in
     let first : c.opened.result.now.next_id ≡ made.core.world.start.view.next_id = ap (λ (v : JournalView). v.next_id) (c.opened.ensures ∙ ap (λ (w : World). w.start.view) c.engine.ensures) in
     let begins : c.begin-answered.result ≡ begun_in made.core.world c.opened.result.now.next_id = c.begin-answered.ensures ∙ ap (λ (w : World). begun_in w c.opened.result.now.next_id) c.engine-2.ensures in
-    through_both c.serve_to_end-served.result c.trace-traced.result c.end_of.result c.end_of.ensures.served c.end_of.ensures.traced c.serve_to_end-served.ensures.serves c.trace-traced.ensures (λ end served left. some_ok _ c.args.self.input c.in-Some.input c.in-Some.is (let last = told_last _ _ _ _ _ _ _ _ _ _ _ _ _ served.4 served.5 c.engine-3.ensures served.6 left c.show.ensures in
+    through_both c.serve_to_end-served.result c.trace-traced.result c.end_of.result c.end_of.ensures.served c.end_of.ensures.traced c.serve_to_end-served.ensures.serves c.trace-traced.ensures.tells (λ end served left. some_ok _ c.args.self.input c.in-Some.input c.in-Some.is (let last = told_last _ _ _ _ _ _ _ _ _ _ _ _ _ served.4 served.5 c.engine-3.ensures served.6 left c.show.ensures in
     let (done, tells) = ran c.args.code.now c.args.self.sessions view (seen (kept g.S.Store c.args.self.journal)) made c.opened.result.now.next_id c.begin-answered.result _ _ _ _ _ _ _ _ _ _ _ is first begins c.in_ok-recover.ensures.recovers c.new-advisor.ensures last in
     (served.0, served.1, served.2, for_these c.args.self.threads false (requests served.0) served.2 c.if-threads.false served.3, done, tells)))
 

@@ -15,18 +15,20 @@ returns-then-history-entries g c =
       rest = c.requires.rest;
       queue = refl;
       live = λ wanted. subst (λ (w : World). w.past ≡ []) c.engine.ensures (history_none c.engine.result.now c.history.result.now c.entries_kept-entries.result c.history.ensures.entries c.if-history-entries.true (c.entries_kept-entries.ensures.live wanted));
+      once = tt;
     }
 
-pub returns : goal.returns
-returns g c =
-    let cuts = may_cut _ _ _ c.in_ok-act.ensures.does in
+pub returns-in-Ok : goal.returns-in-Ok
+returns-in-Ok g c =
+    let cuts = may_cut _ _ _ c.in-Ok.ensures.does in
     record {
       cuts = record {
         lines = _;
         cuts = cuts;
-        tells = subst (λ (w : World). Tells (lines_in w) 0 (log_of g.E.Write.contents c.args.stderr.now) (log_of g.E.Write.contents c.trace.new.self)) c.engine-2.ensures c.in_ok-trace.ensures;
+        tells = subst (λ (w : World). Tells (lines_in w) 0 (log_of g.E.Write.contents c.args.stderr.now) (log_of g.E.Write.contents c.trace.new.self)) c.engine-2.ensures c.in_ok-trace.ensures.tells;
       };
-      rest = cut_rest _ _ _ c.requires.rest c.in_ok-act.ensures.does c.in_ok-act.ensures.seated;
+      rest = cut_rest _ _ _ c.requires.rest c.in-Ok.ensures.does c.in-Ok.ensures.seated;
       queue = cuts_waits _ _ _ cuts;
-      live = λ wanted. cut_none _ _ _ c.in_ok-act.ensures.does;
+      live = λ wanted. cut_none _ _ _ c.in-Ok.ensures.does;
+      once = tt;
     }
