@@ -1,12 +1,12 @@
 #!/usr/bin/env python3
 """Times `cardswitch run --config` with two hosts, of which one is silent: how long the other one's requests wait.
 
-    bench/hosts.py [--program PATH] [--requests N] [--rounds N] [--flying N] [--sessions N] [--timeout MS]
+    bench/hosts.py [--program PATH] [--requests N] [--rounds N] [--flying N] [--sessions N] [--timeout MS] [--retry MS]
 
 Both hosts are examples/hosts/host.py at named pipes. Alpha answers at once. Beta gives no answer to a request, so that each waits for
-the timeout; it accepts the advices that follow. The requests come over a pipe, so many in flight, and of a hundred of them 0, 1, 10
-or 50 are of beta's cards, at random places. With threads the responses of a batch leave when all of it has ended, so that a request of
-alpha waits for those of beta in its batch.
+the timeout. With --retry one of them does, and beta is not asked for so long after that. Beta accepts the advices that follow. The
+requests come over a pipe, so many in flight, and of a hundred of them 0, 1, 10 or 50 are of beta's cards, at random places. With threads
+the responses of a batch leave when all of it has ended, so that a request of alpha waits for those of beta in its batch.
 
 It prints one table: the requests a second, and of alpha's requests the median time until the response, and what 99 of 100 stay below.
 So many sessions as threads stand beside the same run without threads. Each figure is the middle one of the rounds, in which
@@ -44,6 +44,7 @@ name = "beta"
 to = "beta.to"
 from = "beta.from"
 timeout_ms = {timeout}
+retry_ms = {retry}
 
 [[route]]
 prefix = "4"
@@ -95,7 +96,7 @@ def measured(given, side, share):
     streams = {"stdin": subprocess.PIPE, "stdout": subprocess.PIPE, "bufsize": 0}
     with tempfile.TemporaryDirectory() as room, hosts(room):
         with open(f"{room}/config.toml", "w", encoding="utf-8") as it:
-            it.write(CONFIG.format(timeout=given.timeout))
+            it.write(CONFIG.format(timeout=given.timeout, retry=given.retry))
         with subprocess.Popen(words, cwd=room, **streams) as process:
             # (some are sent before, while the program begins and opens the pipes)
             collections.deque(talk(process, early, given.flying), maxlen=0)
@@ -126,6 +127,7 @@ def main():
     parser.add_argument("--flying", type=int, default=32, help="how many requests are in flight")
     parser.add_argument("--sessions", type=int, default=16, help="how many sessions run as threads")
     parser.add_argument("--timeout", type=int, default=200, help="how long a request waits for beta, in milliseconds")
+    parser.add_argument("--retry", type=int, default=0, help="how long beta is not asked after that, in milliseconds")
     given = parser.parse_args()
     print(f"| {given.flying} in flight | no threads | {given.sessions} sessions as threads |")
     print("|---" * 3 + "|")
