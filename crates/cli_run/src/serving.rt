@@ -1,7 +1,7 @@
 //! The whole run.
 
-ghost use Rattle.std.specs.Prelude.{◌≡◌, ◌-◌, ℕ, List, [], true, false, IfErr, IfNone, IfOk, IfSome, OnErr, OnOk};
-ghost use Rattle.std.specs.Prelude.{option_map};
+ghost use Rattle.std.specs.Prelude.{◌≡◌, ◌-◌, ℕ, List, [], true, false, option_map};
+ghost use Rattle.std.specs.Prelude.{IfErr, IfNone, IfOk, IfSome, OnErr, OnOk};
 ghost use Rattle.tx_engine.specs.Calls.{waits};
 ghost use Rattle.std.specs.Io.KnownBytes.{Appends};
 ghost use Rattle.flow_model.specs.declared.flow.Flow.{Flow};
@@ -267,7 +267,8 @@ impl<S: Alter + Drop, R: Read + Drop, L: Link> Over<S, R, L> {
             (seen (kept S.Store self.journal)) (O.contents out.old) (O.contents out.new))) }
         ensures stopped { OnErr result (IsStopped
             (SendsAdvice L.sends L.receives L.starves (Unit {0})) self.sender self.advices
-            self.threads (option_map R.remaining self.input) code.now self.sessions (seen (kept S.Store self.journal))
+            self.threads (option_map R.remaining self.input)
+            code.now self.sessions (seen (kept S.Store self.journal))
             (O.contents out.old) (O.contents out.new)) }
     {
         let Over {
@@ -355,7 +356,8 @@ pub fn run<S: Alter + Drop, T: Threads + Wait + Clock + Sync, R: Read + Drop, O:
         (SendsAdvice ⟦<SwitchLink as Link>⟧.sends ⟦<SwitchLink as Link>⟧.receives
         ⟦<SwitchLink as Link>⟧.starves (Unit {0}))
         (sender_with ⟦<SwitchLink as Link>⟧.state setup.routes setup.advised.items)
-        setup.advices setup.threads (option_map R.remaining input) code.now setup.sessions (seen (kept S.Store journal))
+        setup.advices setup.threads (option_map R.remaining input)
+        code.now setup.sessions (seen (kept S.Store journal))
         (O.contents out.old) (O.contents out.new)) }
 {
     let Setup {

@@ -1,7 +1,7 @@
 //! The plant of the switch, one transaction after the other.
 
-ghost use Rattle.std.specs.Prelude.{◌≡◌, ◌≤◌, ◌∷◌, List, ℕ, [], Option, None, IfOk, OnErr, OnOk, is_some};
-ghost use Rattle.std.specs.Prelude.{true};
+ghost use Rattle.std.specs.Prelude.{◌≡◌, ◌≤◌, ◌∷◌, List, ℕ, [], Option, None, IfOk, OnErr, OnOk};
+ghost use Rattle.std.specs.Prelude.{is_some, true};
 ghost use Rattle.std.specs.Io.KnownBytes.{Appends};
 ghost use Rattle.sw_context.specs.Pairs.{Pairs};
 ghost use Rattle.sw_frame.specs.Stream.{AreFramed};

@@ -66,8 +66,8 @@ fn stan_digits(stan: u32) -> [u8; 6]
     ]
 }
 
-// The message, by its fields 7 and 11. A field that the table of fields refuses is none here, so that
-// memory alone is refused.
+// The message, by its fields 7 and 11. They fit the table of fields, so that out of memory is the only
+// refusal.
 fn message_of(alloc: Global, stamp: &[u8], stan: &[u8]) -> Result<Message, MessageError>
     ensures { IfOk result (λ message. message ≡ echo_message stamp.now stan.now) }
 {

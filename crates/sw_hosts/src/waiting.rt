@@ -1,6 +1,7 @@
 //! A box of what waits, of which both boxes of a host are made.
 
-ghost use Rattle.std.specs.Prelude.{◌≡◌, ◌≤◌, ◌<◌, ◌∷◌, ◌++◌, [], List, Bool, drop, length, nat_le, IfOk, IfSome, IsTrue};
+ghost use Rattle.std.specs.Prelude.{◌≡◌, ◌≤◌, ◌<◌, ◌∷◌, ◌++◌, [], List, Bool, drop, length};
+ghost use Rattle.std.specs.Prelude.{nat_le, IfOk, IfSome, IsTrue};
 ghost use Rattle.std.specs.VecDeque.{deque_len, deque_capacity};
 ghost use Rattle.sw_hosts.specs.Boxes.{first_of, after_first, before_first};
 

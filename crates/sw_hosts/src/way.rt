@@ -42,9 +42,9 @@ pub trait Way {
     fn nap(&self, naps: &mut Naps);
 }
 
-/// Sends a message; the answer that is waited for from then on. There is none where the message is too
-/// long for a frame, where it has no key, and where its frame is not on its way. Out of memory comes
-/// before anything is sent.
+/// Sends a message, and returns the answer to wait for. No answer is waited for if the message is too long
+/// for a frame, if it has no key, or if its frame is not on its way. Out of memory comes before anything is
+/// sent.
 pub fn send_over<W: Way>(
     way: &W,
     alloc: Global,
