@@ -1,12 +1,14 @@
 #!/usr/bin/env python3
 """Times `cardswitch run --config` with two hosts, of which one is silent: how long the other one's requests wait.
 
-    bench/hosts.py [--program PATH] [--requests N] [--rounds N] [--flying N] [--sessions N] [--timeout MS] [--retry MS]
+    bench/hosts.py [--program PATH] [--requests N] [--rounds N] [--flying N] [--sessions N] [--timeout MS] [--retry MS] [--echo S] [--dead]
 
 Both hosts are examples/hosts/host.py at named pipes. Alpha answers at once. Beta gives no answer to a request, so that each waits for
-the timeout. With --retry one of them does, and beta is not asked for so long after that. Beta accepts the advices that follow. The
-requests come over a pipe, so many in flight, and of a hundred of them 0, 1, 10 or 50 are of beta's cards, at random places. With threads
-the responses of a batch leave when all of it has ended, so that a request of alpha waits for those of beta in its batch.
+the timeout. With --retry one of them does, and beta is not asked for so long after that. Beta accepts the advices that follow. With
+--echo it gets echo tests, and answers them. With --dead it reads all that it is sent, and never answers anything: then its first request
+comes before those that are timed. The requests come over a pipe, so many in flight, and of a hundred of them 0, 1, 10 or 50 are of beta's
+cards, at random places. With threads the responses of a batch leave when all of it has ended, so that a request of alpha waits for those
+of beta in its batch.
 
 It prints one table: the requests a second, and of alpha's requests the median time until the response, and what 99 of 100 stay below.
 So many sessions as threads stand beside the same run without threads. Each figure is the middle one of the rounds, in which
@@ -45,6 +47,7 @@ to = "beta.to"
 from = "beta.from"
 timeout_ms = {timeout}
 retry_ms = {retry}
+echo_s = {echo}
 
 [[route]]
 prefix = "4"
@@ -71,16 +74,17 @@ def kinds(share, count):
 
 
 @contextlib.contextmanager
-def hosts(room):
+def hosts(room, is_dead):
     """Both hosts at their pipes. (Each end is opened for both ways, so that no opening waits.)"""
+    answers = [sys.executable, HOST]
     with contextlib.ExitStack() as ends:
-        for name in "alpha", "beta":
+        for name, command in ("alpha", answers), ("beta", ["sh", "-c", "exec cat > /dev/null"] if is_dead else answers):
             its = []
             for path in f"{room}/{name}.to", f"{room}/{name}.from":
                 os.mkfifo(path)
                 its.append(os.open(path, os.O_RDWR))
                 ends.callback(os.close, its[-1])
-            host = subprocess.Popen([sys.executable, HOST], stdin=its[0], stdout=its[1])
+            host = subprocess.Popen(command, stdin=its[0], stdout=its[1])
             ends.callback(host.wait)
             ends.callback(host.kill)
         yield
@@ -91,12 +95,12 @@ def measured(given, side, share):
     words = [os.path.abspath(given.program), "run", "--flow", run.EXAMPLE, "--config", "config.toml"]
     words += [] if side == "no threads" else ["--threads", "--sessions", str(side)]
     are_beta = kinds(share, given.requests)
-    early = collections.deque(frame(number, False) for number in range(EARLY))
+    early = collections.deque(frame(number, given.dead and number == 0) for number in range(EARLY))
     frames = collections.deque(frame(EARLY + number, its) for number, its in enumerate(are_beta))
     streams = {"stdin": subprocess.PIPE, "stdout": subprocess.PIPE, "bufsize": 0}
-    with tempfile.TemporaryDirectory() as room, hosts(room):
+    with tempfile.TemporaryDirectory() as room, hosts(room, given.dead):
         with open(f"{room}/config.toml", "w", encoding="utf-8") as it:
-            it.write(CONFIG.format(timeout=given.timeout, retry=given.retry))
+            it.write(CONFIG.format(timeout=given.timeout, retry=given.retry, echo=given.echo))
         with subprocess.Popen(words, cwd=room, **streams) as process:
             # (some are sent before, while the program begins and opens the pipes)
             collections.deque(talk(process, early, given.flying), maxlen=0)
@@ -128,6 +132,8 @@ def main():
     parser.add_argument("--sessions", type=int, default=16, help="how many sessions run as threads")
     parser.add_argument("--timeout", type=int, default=200, help="how long a request waits for beta, in milliseconds")
     parser.add_argument("--retry", type=int, default=0, help="how long beta is not asked after that, in milliseconds")
+    parser.add_argument("--echo", type=int, default=0, help="after how many seconds without a frame beta gets an echo test")
+    parser.add_argument("--dead", action="store_true", help="beta answers nothing at all")
     given = parser.parse_args()
     print(f"| {given.flying} in flight | no threads | {given.sessions} sessions as threads |")
     print("|---" * 3 + "|")

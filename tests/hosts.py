@@ -11,6 +11,7 @@ on the loopback, where it is installed. WORD picks the cases whose name has thes
 import argparse
 import contextlib
 import datetime
+import itertools
 import os
 import select
 import shutil
@@ -18,6 +19,7 @@ import signal
 import subprocess
 import sys
 import tempfile
+import threading
 import time
 
 sys.dont_write_bytecode = True
@@ -45,6 +47,8 @@ name = "beta"
 [limits]
 stand_in = 500
 """
+# A silent host is not asked for a second, and then gets echo tests until it answers. And the messages that a host answers.
+TESTED, ANSWERED = "retry_ms = 1000\necho_s = 30", (b"0100", b"0120", b"0121", b"0420", b"0421", b"0800")
 PIPES = 'to = "beta.to"\nfrom = "beta.from"\ntimeout_ms = 1500'
 
 
@@ -74,9 +78,9 @@ class Wire:
         ready, _, _ = select.select([self.reads], [], [], seconds)
         return os.read(self.reads, 65_536) if ready else b""
 
-    def get(self):
-        """The next message from the switch."""
-        until = time.monotonic() + SECONDS
+    def come(self, seconds):
+        """The next message from the switch, if one comes within so long."""
+        until = time.monotonic() + seconds
         while time.monotonic() < until:
             if len(self.bytes) >= 4 and len(self.bytes) >= 4 + int(self.bytes[:4]):
                 size = 4 + int(self.bytes[:4])
@@ -84,7 +88,14 @@ class Wire:
                 return frame[4:]
             self.bytes += self.read(0.05)
             time.sleep(0.001)
-        raise Wrong("no message came to the host")
+        return None
+
+    def get(self):
+        """The next message from the switch."""
+        message = self.come(SECONDS)
+        if message is None:
+            raise Wrong("no message came to the host")
+        return message
 
     def quiet(self, seconds):
         """Nothing comes to the host for so long."""
@@ -429,6 +440,120 @@ def retried(program, room):
         wanted("field 38 of a host that is asked again", run.receive()[1].get(38), b"BACK03")
 
 
+class Player(threading.Thread):
+    """Plays a host beside the requests: notes the types of the messages that come, and answers those of some types."""
+
+    def __init__(self, wire):
+        super().__init__(daemon=True)
+        self.wire, self.answered, self.came, self.over = wire, (), [], False
+
+    def run(self):
+        while not self.over:
+            message = self.wire.come(0.05)
+            if message is not None:
+                self.came.append(message[:4])
+                if message[:4] in self.answered:
+                    self.wire.put(reply(message))
+
+
+@contextlib.contextmanager
+def played(wire):
+    """A host that answers nothing yet."""
+    player = Player(wire)
+    player.start()
+    try:
+        yield player
+    finally:
+        player.over = True
+        player.join()
+
+
+def asked_for(run, stans, seconds):
+    """Sends a request each quarter of a second, for so long; how long each response took."""
+    until, took = time.monotonic() + seconds, []
+    while time.monotonic() < until:
+        response = run.ask(request(next(stans), 400))
+        wanted("field 39", code(response), b"00")
+        took.append(response[2])
+        time.sleep(0.25)
+    return took
+
+
+def at_once(took):
+    if max(took) > AT_ONCE:
+        raise Wrong(f"the switch stood in after {max(took):.2f} seconds, wanted at once")
+
+
+def back(run, player, stans, seconds):
+    """The host answers all that comes: after so long at most it is asked again, and no request waits meanwhile."""
+    began, player.answered = time.monotonic(), ANSWERED
+    while True:
+        response = run.ask(request(next(stans), 400))
+        at_once([response[2]])
+        if response[1].get(38) == b"HOST42":
+            break
+        time.sleep(0.05)
+    if time.monotonic() - began > seconds:
+        raise Wrong(f"the host was asked again after {time.monotonic() - began:.2f} seconds, wanted {seconds:.1f}")
+
+
+def silent_and_tested(program, room):
+    """A host falls silent to everything: one request waits, and no other one is sent before it has answered an echo test."""
+    for words in [], ["--threads", "--sessions", "4"]:
+        with tempfile.TemporaryDirectory(dir=room) as inner, switch(program, inner, *words, alpha=TESTED) as (run, wire), played(wire) as player:
+            stans = itertools.count(1)
+            if run.ask(request(next(stans), 400))[2] < TIMEOUT - 0.2:
+                raise Wrong("the switch did not wait for the first answer")
+            at_once(asked_for(run, stans, 5))
+            wanted("requests at the silent host", player.came.count(b"0100"), 1)
+            # (a second and a half after the first of them the direction is closed, for a second)
+            tests = player.came.count(b"0800")
+            if not 3 <= tests <= 6:
+                raise Wrong(f"{tests} echo tests came in five seconds, wanted about one a second")
+            back(run, player, stans, 1 + 1 + AT_ONCE)
+            run.end()
+
+
+def tested_and_never_answered(program, room):
+    """A host that answers echo tests alone is asked again, after `retry_ms` each time: one request waits, and the others do not."""
+    with switch(program, room, alpha=TESTED) as (run, wire), played(wire) as player:
+        player.answered = (b"0800",)
+        took = asked_for(run, itertools.count(1), 9)
+        waited = [it for it in took if it > TIMEOUT - 0.2]
+        at_once([it for it in took if it <= TIMEOUT - 0.2])
+        wanted("requests at the host", player.came.count(b"0100"), len(waited))
+        # (each of them waits for a second and a half, and a second goes by before the next one)
+        if not 2 <= len(waited) <= 4:
+            raise Wrong(f"{len(waited)} requests waited in nine seconds, wanted 2 to 4")
+
+
+def silent_while_idle(program, room):
+    """A host that answers no echo test is not asked before it has answered one: no request waits at all."""
+    with switch(program, room, alpha="retry_ms = 1000\necho_s = 1") as (run, wire), played(wire) as player:
+        stans, player.answered = itertools.count(1), ANSWERED
+        wanted("field 38 before", run.ask(request(next(stans)))[1].get(38), b"HOST42")
+        player.answered = ()
+        time.sleep(1 + TIMEOUT + 0.5)
+        at_once(asked_for(run, stans, 3))
+        wanted("requests at the host", player.came.count(b"0100"), 1)
+        back(run, player, stans, 1 + 1 + AT_ONCE)
+
+
+def counted(program, room):
+    """With `--stats` a line for each host that is reached by pipes follows the numbers of the run: what was not sent, and what was lost."""
+    with switch(program, room, "--stats", alpha="retry_ms = 60000\necho_s = 30") as (run, wire):
+        run.send(request(1, 400))
+        message = wire.get()
+        wanted("field 38 of a silent host", run.receive()[1].get(38), b"SI0001")
+        wire.put(reply(message))
+        for stan in 2, 3:
+            at_once([run.ask(request(stan, 400))[2]])
+        # (at the end three reversals and three advices are not sent either)
+        line = run.end().splitlines()[-1]
+        want = b"cardswitch: host alpha: not-asked=8 echo-tests=0 unanswered=0 late=1 unreadable=0 dropped=0"
+        wanted("the last line on standard error", line, want)
+
+
 def beside_a_silent_host(program, room):
     """With threads, a host that is silent holds its own participant alone: the other one answers meanwhile."""
     words = ["--threads", "--sessions", "4"]
@@ -494,6 +619,10 @@ CASES = [
     echo_answered,
     echo_unanswered,
     retried,
+    silent_and_tested,
+    tested_and_never_answered,
+    silent_while_idle,
+    counted,
     beside_a_silent_host,
     worked_host,
     behind_socat,

@@ -16,7 +16,8 @@ use Rattle.cli_run.specs.Ran.{Printed}
 use Rattle.cli_run.specs.declared.setup.Setup.{Setup}
 use Rattle.cli_setup.specs.Plans.{IsSetUp, journal_of, limit_of, no_config, plain_setup}
 use Rattle.cardswitch.specs.Journals.{IsFound, IsNewJournal, IsOfFile}
-use Rattle.cardswitch.specs.Runs.{Answered, AnsweredBy, IfTaken, IsConfigAt, IsConfigFault, IsFlowFault, IsOpenFault, IsRecoverFault, IsRunFault, IsRunFaultBy, IsServeFault, Recovered, Served, sender_of_setup}
+use Rattle.cardswitch.specs.Runs.{Answered, AnsweredBy, IfTaken, IsConfigAt, IsConfigFault, IsFlowFault, IsOpenFault, IsRecoverFault, IsRunFault, IsRunFaultBy}
+use Rattle.cardswitch.specs.Runs.{IsServeFault, Recovered, Served, sender_of_setup}
 use Rattle.cardswitch.specs.declared.error.RunError.{RunError}
 use Rattle.cardswitch.specs.declared.error.RunError.TheVariants as error
 
@@ -29,7 +30,8 @@ pub taken : {E : Type 0} (P : Flow → Config → Type 0) (code : Result Flow E)
     → code ≡ Ok flow → config ≡ Ok c → P flow c → IfTaken code config P
 taken P code config flow c one other h = rw (one, other) h
 
-answered_over : {S C : Type 0} (files : Ghosts S) (flow : Flow) (o : RunOptions) (c : Config) (setup : Setup (IssuerLink C)) (j : Seen) (unread before after : Option (List ℕ)) (r : Result (Unit {0}) RunError)
+answered_over : {S C : Type 0} (files : Ghosts S) (flow : Flow) (o : RunOptions) (c : Config) (setup : Setup (IssuerLink C)) (j : Seen)
+    (unread before after : Option (List ℕ)) (r : Result (Unit {0}) RunError)
     → IsSetUp o c setup → IsFound files (journal_of o c) j
     → OnOk r (Served setup.threads flow setup.sessions j (sender_of_setup (plain_setup setup)) setup.advices unread before after)
     → OnOk r (AnsweredBy files flow o c unread before after)
@@ -43,7 +45,8 @@ answered_over files flow o c setup j unread before after r set_up found h =
       served = served;
     }) h
 
-pub answered_by_file : {S C : Type 0} (files : Ghosts S) (flow : Flow) (o : RunOptions) (c : Config) (setup : Setup (IssuerLink C)) (path : List ℕ) (journal : Kept S) (unread before after : Option (List ℕ)) (r : Result (Unit {0}) RunError)
+pub answered_by_file : {S C : Type 0} (files : Ghosts S) (flow : Flow) (o : RunOptions) (c : Config) (setup : Setup (IssuerLink C)) (path : List ℕ)
+    (journal : Kept S) (unread before after : Option (List ℕ)) (r : Result (Unit {0}) RunError)
     → IsSetUp o c setup → Some path ≡ journal_of o c → IsOfFile files path journal
     → OnOk r (Served setup.threads flow setup.sessions (seen (kept files journal)) (sender_of_setup (plain_setup setup)) setup.advices unread before after)
     → OnOk r (AnsweredBy files flow o c unread before after)
@@ -51,9 +54,11 @@ answered_by_file files flow o c setup path journal unread before after r set_up 
     answered_over files flow o c setup (seen (kept files journal)) unread before after r set_up
     (subst (λ (x : Option (List ℕ)). IsFound files x (seen (kept files journal))) named (journal, opened, refl)) h
 
-pub answered_in_memory : {S C : Type 0} (files : Ghosts S) (flow : Flow) (o : RunOptions) (c : Config) (setup : Setup (IssuerLink C)) (journal : Kept MemStore) (unread before after : Option (List ℕ)) (r : Result (Unit {0}) RunError)
+pub answered_in_memory : {S C : Type 0} (files : Ghosts S) (flow : Flow) (o : RunOptions) (c : Config) (setup : Setup (IssuerLink C))
+    (journal : Kept MemStore) (unread before after : Option (List ℕ)) (r : Result (Unit {0}) RunError)
     → IsSetUp o c setup → None ≡ journal_of o c → IsNewJournal journal
-    → OnOk r (Served setup.threads flow setup.sessions (seen (kept over_memory journal)) (sender_of_setup (plain_setup setup)) setup.advices unread before after)
+    → OnOk r (Served setup.threads flow setup.sessions (seen (kept over_memory journal)) (sender_of_setup (plain_setup setup)) setup.advices unread before
+    after)
     → OnOk r (AnsweredBy files flow o c unread before after)
 answered_in_memory files flow o c setup journal unread before after r set_up none opened h =
     answered_over files flow o c setup (seen (kept over_memory journal)) unread before after r set_up
@@ -69,7 +74,8 @@ both P Q S K (Ok f) (Err e) (Ok done) checked stated refuses denies h = let diff
 both P Q S K (Ok f) (Ok c) (Ok done) checked stated refuses denies h = (f, checked, c, stated, h)
 
 -- the flow that was taken is checked, and the requests were answered by it and by the configuration
-pub answered_requests : {S : Type 0} (files : Ghosts S) (code : Result Flow RunError) (config : Result Config RunError) (o : RunOptions) (unread before after : Option (List ℕ)) (r : Result (Unit {0}) RunError)
+pub answered_requests : {S : Type 0} (files : Ghosts S) (code : Result Flow RunError) (config : Result Config RunError) (o : RunOptions)
+    (unread before after : Option (List ℕ)) (r : Result (Unit {0}) RunError)
     → IfOk code (λ f. IsChecked f) → IfOk config (IsConfigAt o.config)
     → IfErr code (λ e. (r ≡ Err e) × (after ≡ before)) → IfOk code (λ f. IfErr config (λ e. (r ≡ Err e) × (after ≡ before)))
     → IfTaken code config (λ f c. OnOk r (AnsweredBy files f o c unread before after))
@@ -77,7 +83,8 @@ pub answered_requests : {S : Type 0} (files : Ghosts S) (code : Result Flow RunE
 answered_requests files code config o unread before after r checked stated refuses denies h =
     on_ok ((f : Flow) × IsChecked f × (c : Config) × IsConfigAt o.config c × AnsweredBy files f o c unread before after) _ r
     (λ all. (all.0, all.1, record { config = all.2; stated = all.3; answered = all.4 }))
-    (both (λ f. IsChecked f) (IsConfigAt o.config) (λ f c. AnsweredBy files f o c unread before after) (after ≡ before) code config r checked stated refuses denies h)
+    (both (λ f. IsChecked f) (IsConfigAt o.config) (λ f c. AnsweredBy files f o c unread before after) (after ≡ before) code config r checked stated refuses
+    denies h)
 
 -- without a file nothing is stated
 none_stated : (path : Option (Bor (List ℕ))) → IsConfigAt path no_config
@@ -112,7 +119,8 @@ config_refused o before after (error.Step e) fault same = absurd fault
 config_refused o before after (error.Input e) fault same = absurd fault
 config_refused o before after (error.Text e) fault same = absurd fault
 
-run_refused : (o : RunOptions) (c : Config) (before after : Option (List ℕ)) (e : RunError) → IsConfigAt o.config c → IsRunFaultBy o c before after e → IsRunFault o before after e
+run_refused : (o : RunOptions) (c : Config) (before after : Option (List ℕ)) (e : RunError) → IsConfigAt o.config c → IsRunFaultBy o c before after e →
+    IsRunFault o before after e
 run_refused o c before after error.OutOfMemory stated fault = (c, stated, fault)
 run_refused o c before after error.BadLimit stated fault = (c, stated, fault)
 run_refused o c before after (error.JournalFile path cause) stated fault = (c, stated, fault)
@@ -142,7 +150,8 @@ refused (Ok f) (Err g) o before after (Err e) flow_fault config_fault stated ref
     config_refused o before after e (subst (IsConfigFault o.config) (same_error e g denies.0) config_fault) denies.1
 refused (Ok f) (Ok c) o before after (Err e) flow_fault config_fault stated refuses denies h = run_refused o c before after e stated h
 
-served_fault : (o : RunOptions) (c : Config) (before after : Option (List ℕ)) (e : RunError) → limit_of o c ≤ 999999999999999 → IsServeFault e → IsRunFaultBy o c before after e
+served_fault : (o : RunOptions) (c : Config) (before after : Option (List ℕ)) (e : RunError) → limit_of o c ≤ 999999999999999 → IsServeFault e →
+    IsRunFaultBy o c before after e
 served_fault o c before after (error.Serve e) limit h = (limit, h)
 served_fault o c before after error.OutOfMemory limit h = λ over. absurd (omega arith)
 served_fault o c before after (error.FlowFile path cause) limit h = absurd h
@@ -165,7 +174,8 @@ refused_after o c before after (Err e) limit h = served_fault o c before after e
 -- the journal's file is not opened
 pub unopened : (o : RunOptions) (c : Config) (path : List ℕ) (before after : Option (List ℕ)) (e : RunError)
     → limit_of o c ≤ 999999999999999 → Some path ≡ journal_of o c → after ≡ before → IsOpenFault path e → IsRunFaultBy o c before after e
-unopened o c path before after (error.JournalFile p cause) limit named same h = (limit, subst (λ (x : List ℕ). journal_of o c ≡ Some x) (sym h) (sym named), same)
+unopened o c path before after (error.JournalFile p cause) limit named same h =
+    (limit, subst (λ (x : List ℕ). journal_of o c ≡ Some x) (sym h) (sym named), same)
 unopened o c path before after (error.Serve e) limit named same h = (limit, h)
 unopened o c path before after error.OutOfMemory limit named same h = λ over. same
 unopened o c path before after (error.FlowFile q cause) limit named same h = absurd h
@@ -193,11 +203,13 @@ recover_fault o before after (error.Input e) h = absurd h
 recover_fault o before after (error.Text e) h = absurd h
 
 -- a recovery that is refused once its journal is open
-pub unrecovered : (o : RecoverOptions) (before after : Option (List ℕ)) (r : Result (Unit {0}) RunError) → IfErr r IsServeFault → IfErr r (IsRecoverFault o before after)
+pub unrecovered : (o : RecoverOptions) (before after : Option (List ℕ)) (r : Result (Unit {0}) RunError) → IfErr r IsServeFault →
+    IfErr r (IsRecoverFault o before after)
 unrecovered o before after (Ok u) h = tt
 unrecovered o before after (Err e) h = recover_fault o before after e h
 
-pub recovered : {S : Type 0} (files : Ghosts S) (flow : Flow) (sessions : ℕ) (path : List ℕ) (journal : Kept S) (before after : Option (List ℕ)) (r : Result (Unit {0}) RunError)
+pub recovered : {S : Type 0} (files : Ghosts S) (flow : Flow) (sessions : ℕ) (path : List ℕ) (journal : Kept S) (before after : Option (List ℕ))
+    (r : Result (Unit {0}) RunError)
     → IsChecked flow → sessions ≡ 1 → IsOfFile files path journal
     → OnOk r (Printed flow sessions (seen (kept files journal)) before after)
     → OnOk r ((f : Flow) × IsChecked f × Recovered files f path before after)

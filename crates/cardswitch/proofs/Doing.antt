@@ -11,7 +11,8 @@ use Rattle.cardswitch.specs.Done.{IsDone}
 use Rattle.cardswitch.specs.Runs.{Recovered}
 use Rattle.cardswitch.specs.declared.error.RunError.{RunError}
 
-pub recover_done : {S : Type 0} (files : Ghosts S) (o : Options) (recovering : RecoverOptions) (unread before after : Option (List ℕ)) (r : Result (Unit {0}) RunError)
+pub recover_done : {S : Type 0} (files : Ghosts S) (o : Options) (recovering : RecoverOptions) (unread before after : Option (List ℕ))
+    (r : Result (Unit {0}) RunError)
     → o ≡ Recover recovering → OnOk r ((f : Flow) × IsChecked f × Recovered files f recovering.journal.now before after)
     → OnOk r (IsDone files o unread before after)
 recover_done files o recovering unread before after r same h = subst (λ (x : Options). OnOk r (IsDone files x unread before after)) (sym same) h

@@ -23,7 +23,14 @@ opened_path path refused conn e refuses same = let differ : Ok conn ≡ Err e = 
 pub of_file : {S E F : Type 0} (g : Ghosts S) (path : List ℕ) (conn : Held S) (e : F) (r : Result (Kept S) E)
     → (path ≡ codes ":memory:" → Ok conn ≡ Err e) → IsNew conn → (HasCleanDisk (state g conn) → Opens (state g conn) × IsLive (state g conn))
     → IfOk r (IsOpenedOf g conn) → IfOk r (IsOfFile g path)
-of_file g path conn e (Ok j) memory is_new found opened = record { is_file = opened_path path (codes ":memory:") conn e memory; conn = conn; is_new = is_new; found = found; opened = opened }
+of_file g path conn e (Ok j) memory is_new found opened = record {
+  is_file = opened_path path (codes ":memory:") conn e memory;
+  conn = conn;
+  is_new =
+      is_new;
+  found = found;
+  opened = opened;
+}
 of_file g path conn e (Err f) memory is_new found opened = opened
 
 -- an empty database has no table

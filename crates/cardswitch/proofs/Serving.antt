@@ -31,7 +31,8 @@ served_of : (threads : Bool) (f : Flow) (n : ℕ) (j : Seen) (sender : PlainSend
     → RanTo threads f n j sender most unread before after k l Whole → Served threads f n j sender most unread before after
 served_of threads f n j sender most unread before after k l h = record { frames = h.0; reads = h.1; rounds = h.2; answers = h.3; ran = h.4 }
 
-pub served : {R : Type 0} (threads : Bool) (f : Flow) (n : ℕ) (j : Seen) (sender : PlainSender) (most : ℕ) (remaining : R → Option (List ℕ)) (before after : Option (List ℕ)) (k l : Log) (end : StreamEnd) (input : Option R)
+pub served : {R : Type 0} (threads : Bool) (f : Flow) (n : ℕ) (j : Seen) (sender : PlainSender) (most : ℕ) (remaining : R → Option (List ℕ))
+    (before after : Option (List ℕ)) (k l : Log) (end : StreamEnd) (input : Option R)
     → Ok tt ≡ result_of end
     → IfSome input (λ reader. RanTo threads f n j sender most (remaining reader) before after k l end)
     → IfSome input (λ reader. Served threads f n j sender most (remaining reader) before after)

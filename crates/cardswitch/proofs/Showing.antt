@@ -1,10 +1,9 @@
 -- Journals that were not shown whole.
 -- for: looking::look_into, looking::print_rows
-use Rattle.std.proofs.Common.{◌≡◌, ◌∙◌, ℕ, Bool, true, false, cond, List, Option, None, Some, Result, OnOk, ap, inl, inr, refl, subst, sym}
+use Rattle.std.proofs.Common.{◌≡◌, ℕ, List, Option, None, Some, ap, inl, inr, refl, subst}
 use Rattle.std.specs.Io.KnownBytes.{Appends}
-use Rattle.cli_decode.specs.declared.masking.Masking.{Masking}
-use Rattle.cli_journal.specs.Json.{journal_json}
-use Rattle.cli_journal.specs.Shown.{journal_text}
+use Rattle.cli_journal.specs.declared.form.Style.{Style}
+use Rattle.cli_journal.specs.Shown.{journal_in}
 use Rattle.cli_io.specs.Written.{AppendsBeginning}
 use Rattle.cli_io.specs.declared.error.WriteError.{WriteError}
 use Rattle.cli_io.specs.declared.error.WriteError.TheVariants as write
@@ -18,7 +17,7 @@ use Rattle.cli_run.specs.declared.error.ServeError.{ServeError}
 use Rattle.cli_run.specs.declared.error.ServeError.TheVariants as serve
 use Rattle.cardswitch.specs.Errors.{error_of_write}
 use Rattle.cardswitch.specs.Looking.{IsFoundFault, IsLookFault, IsLooked, IsRowFault, IsRowTold, IsSight}
-use Rattle.cardswitch.specs.Looking.{error_of_row, masking_by, seen_text, shown_text}
+use Rattle.cardswitch.specs.Looking.{error_of_row, seen_text, shown_text, style_by}
 use Rattle.cardswitch.specs.declared.looking.Sight.{Sight}
 use Rattle.cardswitch.specs.declared.looking.Sight.TheVariants.{Beside, Whole}
 use Rattle.cardswitch.specs.declared.error.RunError.{RunError}
@@ -34,6 +33,8 @@ row_untold o before (serve.NoStation t) h = absurd h
 row_untold o before (serve.DoubleStation t) h = absurd h
 row_untold o before (serve.BadLinkName t) h = absurd h
 row_untold o before (serve.BadSessions n) h = absurd h
+row_untold o before (serve.Seating e) h = absurd h
+row_untold o before (serve.Request n e) h = absurd h
 row_untold o before (serve.Engine e) h = absurd h
 row_untold o before (serve.Read e) h = absurd h
 row_untold o before (serve.Write e) h = absurd h
@@ -84,42 +85,7 @@ beside o before after s bad rest is sight written =
 
 -- ---- what is printed, by the options
 
-when_true : (b : Bool) (x y : List ℕ) → b ≡ true → cond b x y ≡ x
-when_true true x y h = refl
-when_true false x y h = cc
-
-when_false : (b : Bool) (x y : List ℕ) → b ≡ false → cond b x y ≡ y
-when_false true x y h = cc
-when_false false x y h = refl
-
-json_shown : (o : JournalOptions) (layout : ℕ) (out : List BadRow) (view : JournalView) (k : Masking) → o.json ≡ true → k ≡ masking_by o.clear → journal_json k layout out view ≡ shown_text o layout out view
+pub shown : (o : JournalOptions) (layout : ℕ) (out : List BadRow) (view : JournalView) (style : Style) → style ≡ style_by o →
+    journal_in style layout out view ≡ shown_text o layout out view
 unfolding shown_text
-json_shown o layout out view k json masking =
-    ap (λ (m : Masking). journal_json m layout out view) masking
-    ∙ sym (when_true o.json (journal_json (masking_by o.clear) layout out view) (journal_text (masking_by o.clear) layout out view) json)
-
-text_shown : (o : JournalOptions) (layout : ℕ) (out : List BadRow) (view : JournalView) (k : Masking) → o.json ≡ false → k ≡ masking_by o.clear → journal_text k layout out view ≡ shown_text o layout out view
-unfolding shown_text
-text_shown o layout out view k json masking =
-    ap (λ (m : Masking). journal_text m layout out view) masking
-    ∙ sym (when_false o.json (journal_json (masking_by o.clear) layout out view) (journal_text (masking_by o.clear) layout out view) json)
-
-pub json_written : {E : Type 0} (o : JournalOptions) (layout : ℕ) (out : List BadRow) (view : JournalView) (k : Masking) (before after : Option (List ℕ)) (r : Result (Unit {0}) E) → o.json ≡ true → k ≡ masking_by o.clear
-    → OnOk r (Appends before after (journal_json k layout out view)) → OnOk r (Appends before after (shown_text o layout out view))
-json_written o layout out view k before after r json masking h =
-    subst (λ (t : List ℕ). OnOk r (Appends before after t)) (json_shown o layout out view k json masking) h
-
-pub json_beginning : (o : JournalOptions) (layout : ℕ) (out : List BadRow) (view : JournalView) (k : Masking) (before after : Option (List ℕ)) → o.json ≡ true → k ≡ masking_by o.clear
-    → AppendsBeginning before after (journal_json k layout out view) → AppendsBeginning before after (shown_text o layout out view)
-json_beginning o layout out view k before after json masking h =
-    subst (λ (t : List ℕ). AppendsBeginning before after t) (json_shown o layout out view k json masking) h
-
-pub text_written : {E : Type 0} (o : JournalOptions) (layout : ℕ) (out : List BadRow) (view : JournalView) (k : Masking) (before after : Option (List ℕ)) (r : Result (Unit {0}) E) → o.json ≡ false → k ≡ masking_by o.clear
-    → OnOk r (Appends before after (journal_text k layout out view)) → OnOk r (Appends before after (shown_text o layout out view))
-text_written o layout out view k before after r json masking h =
-    subst (λ (t : List ℕ). OnOk r (Appends before after t)) (text_shown o layout out view k json masking) h
-
-pub text_beginning : (o : JournalOptions) (layout : ℕ) (out : List BadRow) (view : JournalView) (k : Masking) (before after : Option (List ℕ)) → o.json ≡ false → k ≡ masking_by o.clear
-    → AppendsBeginning before after (journal_text k layout out view) → AppendsBeginning before after (shown_text o layout out view)
-text_beginning o layout out view k before after json masking h =
-    subst (λ (t : List ℕ). AppendsBeginning before after t) (text_shown o layout out view k json masking) h
+shown o layout out view style is = ap (λ (s : Style). journal_in s layout out view) is

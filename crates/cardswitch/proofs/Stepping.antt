@@ -9,7 +9,8 @@ use Rattle.cli_step.specs.Runs.{Grows, IsRun}
 use Rattle.cli_step.specs.declared.error.StepError.{StepError}
 use Rattle.cli_step.specs.declared.error.StepError.TheVariants as step
 use Rattle.cardswitch.specs.Errors.{error_of_step}
-use Rattle.cardswitch.specs.Steps.{IsFileFlow, IsFileFlowFault, IsScriptFault, IsPromptFault, IsPromptedStep, IsSessionFault, IsStepFault, IsStepped, PromptsOver, RunsScript}
+use Rattle.cardswitch.specs.Steps.{IsFileFlow, IsFileFlowFault, IsScriptFault, IsPromptFault, IsPromptedStep, IsSessionFault, IsStepFault, IsStepped}
+use Rattle.cardswitch.specs.Steps.{PromptsOver, RunsScript}
 use Rattle.cardswitch.specs.declared.error.RunError.{RunError}
 use Rattle.cardswitch.specs.declared.error.RunError.TheVariants as error
 
@@ -107,7 +108,8 @@ session_error (step.Read e) fault = tt
 session_error (step.Write e) fault = tt
 session_error step.OutOfMemory fault = tt
 
-pub prompted : (path : Option (Bor (List ℕ))) (file : Result (Option Flow) RunError) (unread out err out_after err_after : Option (List ℕ)) (r : Result (Unit {0}) RunError)
+pub prompted : (path : Option (Bor (List ℕ))) (file : Result (Option Flow) RunError) (unread out err out_after err_after : Option (List ℕ))
+    (r : Result (Unit {0}) RunError)
     → IfOk file (IsFileFlow path) → IfErr file (λ e. (r ≡ Err e) × (out_after ≡ out))
     → IfOk file (λ flow. OnOk r (PromptsOver flow unread out err out_after err_after))
     → OnOk r (IsPromptedStep path unread out err out_after err_after)

@@ -49,7 +49,7 @@ IsDone files (Graph flow dot) unread written written_now = IsDrawn dot written w
 IsDone files (Decode mask) unread written written_now = IsDecodedStream (masking_of mask) unread written written_now false
 IsDone files Encode unread written written_now = IsEncodedText unread written written_now
 
--- why a flow file from standard input is refused: it has the fault that is told, and nothing is written
+-- why a flow file from standard input is refused: it has the fault that is reported, and nothing is written
 abbrev pub IsAsmError : Option (List ℕ) → Option (List ℕ) → Option (List ℕ) → RunError → Type 0
 IsAsmError unread written written_now (error.Input e) = RefusesFile unread e × IsUnwritten written written_now e
 IsAsmError unread written written_now (error.Read e) = written_now ≡ written

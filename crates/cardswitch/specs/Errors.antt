@@ -30,7 +30,7 @@ run_status (JournalFile path (fault.Read e)) = 1
 run_status (JournalFile path cause) = 3
 run_status _ = 1
 
--- what the errors of the parts become: out of memory is told as such, and all else is carried
+-- what the errors of the parts become: out of memory is reported as such, and all else is carried
 abbrev pub error_of_read : ReadError → RunError
 error_of_read read.OutOfMemory = OutOfMemory
 error_of_read e = Read e

@@ -67,7 +67,7 @@ IsSessionFault _ = ⊤
 abbrev pub IsPromptFault : Option (Bor (List ℕ)) → Option (List ℕ) → Option (List ℕ) → RunError → Type 0
 IsPromptFault path before after e = IsStepFault path before after e × IsSessionFault e
 
--- with a prompt or without one; of what is told at a prompt this says nothing
+-- with a prompt or without one; of what a prompt reports this says nothing
 abbrev pub IsSteppedBy : Bool → Option (Bor (List ℕ)) → Option (List ℕ) → Option (List ℕ) → Option (List ℕ) → Type 0
 IsSteppedBy false path unread before after = IsStepped path unread before after
 IsSteppedBy true path unread before after =

@@ -5,13 +5,14 @@ ghost use Rattle.std.specs.Io.KnownBytes.{Appends};
 ghost use Rattle.cli_io.specs.Written.{AppendsBeginning};
 ghost use Rattle.journal_copy.specs.Found.{IfBadRow, IfRest};
 ghost use Rattle.cardswitch.specs.Looking.{IsCopyFault, IsFoundFault, IsLookFault, IsLooked, IsSight};
-ghost use Rattle.cardswitch.specs.Looking.{error_of_row, masking_by, seen_text, shown_text};
+ghost use Rattle.cardswitch.specs.Looking.{error_of_row, form_by, masking_by, seen_text};
+ghost use Rattle.cardswitch.specs.Looking.{shown_text, style_by};
 
 use crate::error::{JournalFault, RunError};
 use crate::journals::refusal;
 use cli_decode::Masking;
 use cli_io::WriteError;
-use cli_journal::{show, show_json};
+use cli_journal::{Form, Style, show};
 use cli_options::choice::JournalOptions;
 use cli_run::ServeError;
 use journal_copy::{CopyError, Found, LookError, Rest, copy_files, look};
@@ -26,6 +27,21 @@ fn masking_by(clear: bool) -> Masking
     ensures { result ≡ masking_by clear }
 {
     if clear { Masking::Off } else { Masking::On }
+}
+
+fn form_by(json: bool) -> Form
+    ensures { result ≡ form_by json }
+{
+    if json { Form::Json } else { Form::Text }
+}
+
+fn style_by(options: &JournalOptions<'_>) -> Style
+    ensures { result ≡ style_by options.now }
+{
+    Style {
+        form: form_by(options.json),
+        masking: masking_by(options.clear),
+    }
 }
 
 // The error of a file that was not copied.
@@ -102,12 +118,8 @@ fn print_rows<O: Write>(
     ensures beginning { AppendsBeginning (O.contents out.old) (O.contents out.new)
         (shown_text options.now layout left_out.now view.now) }
 {
-    let masking = masking_by(options.clear);
-    let json = options.json;
-    if json {
-        return show_json(alloc, masking, layout, left_out, view, out);
-    }
-    show(alloc, masking, layout, left_out, view, out)
+    let style = style_by(options);
+    show(alloc, style, layout, left_out, view, out)
 }
 
 // Writes what is printed of a journal.

@@ -32,7 +32,7 @@ use std::thread::Threads;
 use std::time::Clock;
 
 /// Runs a subcommand, and gives the exit status: 0 where it is done, or else that of the error, which
-/// is told. What it prints goes to `out`, and the error's text to `err`. Files that the options name
+/// is reported. What it prints goes to `out`, and the error's text to `err`. Files that the options name
 /// are opened through `rt`, and sessions run as threads by `threads`.
 pub fn run<
     T: Threads + Wait + Clock + Sync + Clone + Drop + Send + 'static,

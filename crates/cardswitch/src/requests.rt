@@ -18,7 +18,7 @@ use crate::journals::{open_file, open_in_memory};
 use cli_config::Config;
 use cli_options::choice::{RecoverOptions, RunOptions, StatsLines, TraceForm};
 use cli_run::{Form, Setup, StandardError, Stats, SwitchLink, run};
-use cli_setup::{ConfigFileError, config_at, journal_path, recovery, setup};
+use cli_setup::{ConfigFileError, HostLines, config_at, journal_path, recovery, setup};
 use flow_asm::{Code, assemble};
 use sqlite::Alter;
 use sqlite_std_file::File;
@@ -32,25 +32,29 @@ use std::time::Clock;
 use sw_participant::Text;
 use tx_journal::Journal;
 
-// Runs over a journal.
+// Runs over a journal. Then the lines of the hosts are written, where the numbers of the run are wanted.
 fn serve<S: Alter + Drop, T: Threads + Wait + Clock + Sync, R: Read + Drop, O: Write, E: Write>(
     threads: &T,
     alloc: Global,
+    setup: Setup<SwitchLink>,
     code: &Code,
     journal: Journal<S>,
-    setup: Setup<SwitchLink>,
     input: Option<R>,
     out: &mut O,
     stderr: &mut StandardError<'_, E>,
 ) -> Result<(), RunError>
-    ensures served { OnOk result (IfSome input (λ reader. Served setup.threads code.now setup.sessions
+    ensures served { OnOk result (IfSome input
+        (λ reader. Served setup.threads code.now setup.sessions
         (seen (kept S.Store journal)) (sender_of_setup (plain_setup setup)) setup.advices
         (R.remaining reader) (O.contents out.old) (O.contents out.new))) }
     ensures printed { OnOk result (IfNone input (Printed code.now setup.sessions
         (seen (kept S.Store journal)) (O.contents out.old) (O.contents out.new))) }
     ensures failed { IfErr result IsServeFault }
 {
-    Ok(run(threads, alloc, code, journal, setup, input, out, stderr)?.into_result()?)
+    let hosts = HostLines::of(alloc, &setup)?;
+    let ended = run(threads, alloc, code, journal, setup, input, out, stderr);
+    hosts.show(stderr);
+    Ok(ended?.into_result()?)
 }
 
 // The steps of the flow in the file at a path.
@@ -72,13 +76,12 @@ fn config_for(alloc: Global, rt: &HostRuntime, path: Option<&str>) -> Result<Con
         Err(ConfigFileError::OutOfMemory) => return Err(RunError::OutOfMemory),
         Err(cause) => cause,
     };
-    match path {
-        Some(path) => Err(RunError::ConfigFile {
-            path: Text::from_str(alloc, path)?,
-            cause,
-        }),
-        None => Err(RunError::OutOfMemory),
-    }
+    // Without a path there is no file, and no error.
+    let Some(path) = path else { unreachable!() };
+    Err(RunError::ConfigFile {
+        path: Text::from_str(alloc, path)?,
+        cause,
+    })
 }
 
 // The form of the trace's lines, by that of the options.
@@ -128,10 +131,10 @@ fn stderr_by<'a, C: Clock, E>(
 // Answers the requests of an input by a flow and a configuration. (Both come as what became of their files, so that
 // contracts can say whose fault is the first.)
 fn answer_by<
-    T: Threads + Wait + Clock + Sync + Clone + Drop + Send + 'static,
     R: Read + Drop,
     O: Write,
     E: Write,
+    T: Threads + Wait + Clock + Sync + Clone + Drop + Send + 'static,
 >(
     threads: &T,
     alloc: Global,
@@ -159,33 +162,16 @@ fn answer_by<
     let config = config?;
     let setup = setup(threads, alloc, rt, options, &config)?;
     let path = journal_path(alloc, options, &config)?;
-    let mut stderr = stderr_by(threads, options, err);
+    let input = Some(input);
+    let stderr = &mut stderr_by(threads, options, err);
     match path {
         Some(path) => {
             let journal = open_file(alloc, rt, path.as_str())?;
-            serve(
-                threads,
-                alloc,
-                &code,
-                journal,
-                setup,
-                Some(input),
-                out,
-                &mut stderr,
-            )
+            serve(threads, alloc, setup, &code, journal, input, out, stderr)
         }
         None => {
             let journal = open_in_memory(alloc)?;
-            serve(
-                threads,
-                alloc,
-                &code,
-                journal,
-                setup,
-                Some(input),
-                out,
-                &mut stderr,
-            )
+            serve(threads, alloc, setup, &code, journal, input, out, stderr)
         }
     }
 }
@@ -193,8 +179,8 @@ fn answer_by<
 /// Answers the requests of an input. The journal is in memory, or in the file that the options or the
 /// configuration name.
 pub fn answer_requests<
-    T: Threads + Wait + Clock + Sync + Clone + Drop + Send + 'static,
     R: Read + Drop,
+    T: Threads + Wait + Clock + Sync + Clone + Drop + Send + 'static,
     O: Write,
     E: Write,
 >(
@@ -244,14 +230,6 @@ pub fn recover<T: Threads + Wait + Clock + Sync, O: Write>(
         passed: 0,
     };
     let input: Option<Empty> = None;
-    serve(
-        threads,
-        alloc,
-        &code,
-        journal,
-        setup,
-        input,
-        out,
-        &mut stderr,
-    )
+    let stderr = &mut stderr;
+    serve(threads, alloc, setup, &code, journal, input, out, stderr)
 }

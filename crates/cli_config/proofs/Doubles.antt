@@ -41,7 +41,8 @@ module _ (p : Section) (k : Key) where
   abbrev IsApart : List Members → Members → Type 0
   IsApart rest x = AllByRecursion (λ y. bytes_eq (text_at k x) y ≡ false) (map (text_at k) rest)
 
-  apart : (front rest : List Members) → first_at (double p k (front ++ rest)) (length front) rest ≡ None → AllByRecursion (IsApart rest) front × IsDistinct bytes_eq (map (text_at k) rest)
+  apart : (front rest : List Members) → first_at (double p k (front ++ rest)) (length front) rest ≡ None →
+      AllByRecursion (IsApart rest) front × IsDistinct bytes_eq (map (text_at k) rest)
   unfolding IsDistinct
   apart front [] h = (all_tt front, tt)
     where
@@ -50,13 +51,15 @@ module _ (p : Section) (k : Key) where
       all_tt (x ∷ xs) = (tt, all_tt xs)
   apart front (y ∷ ys) h =
       let free = not_refused _ _ (left_none _ _ h) in
-      let here : list_any (λ x. bytes_eq (text_at k x) (text_at k y)) front ≡ false = ap (λ (xs : List Members). is_taken xs k (text_at k y)) (sym (take-append_seam front (y ∷ ys))) ∙ free in
+      let here : list_any (λ x. bytes_eq (text_at k x) (text_at k y)) front ≡ false =
+      ap (λ (xs : List Members). is_taken xs k (text_at k y)) (sym (take-append_seam front (y ∷ ys))) ∙ free in
       let later : first_at (double p k ((front ++ y ∷ []) ++ ys)) (length (front ++ y ∷ [])) ys ≡ None =
       ap (λ (all : List Members). first_at (double p k all) (length (front ++ y ∷ [])) ys) (append_assoc front (y ∷ []) ys)
       ∙ ap (λ (n : ℕ). first_at (double p k (front ++ y ∷ ys)) n ys) (length_push front y)
       ∙ right_none _ _ h in
       let (rest, distinct) = apart (front ++ y ∷ []) ys later in (
-        all_both (λ x. bytes_eq (text_at k x) (text_at k y) ≡ false) (IsApart ys) front (none_passes (λ x. bytes_eq (text_at k x) (text_at k y)) front here) (all_front (IsApart ys) front y rest),
+        all_both (λ x. bytes_eq (text_at k x) (text_at k y) ≡ false) (IsApart ys) front (none_passes (λ x. bytes_eq (text_at k x) (text_at k y)) front here)
+            (all_front (IsApart ys) front y rest),
         (all_last (IsApart ys) front y rest, distinct),
       )
 

@@ -1,6 +1,7 @@
 -- What stands at the keys of a table without a fault.
 -- for: read::read_document
-use Rattle.std.proofs.Common.{◌≡◌, ◌≤◌, ℕ, pos, negsuc, Bool, true, false, ◌&&◌, not, nat_le, List, [], ◌∷◌, length, map, Option, Some, None, is_some, is_none, option_map, option_and_then, unwrap_or, IfSome, refl, arith, if◌then◌else◌}
+use Rattle.std.proofs.Common.{◌≡◌, ◌≤◌, ℕ, pos, negsuc, Bool, true, false, ◌&&◌, not, nat_le, List, [], ◌∷◌, length, map, Option, Some, None, is_some, is_none}
+use Rattle.std.proofs.Common.{option_map, option_and_then, unwrap_or, IfSome, refl, arith, if◌then◌else◌}
 use Rattle.std.specs.Char.{is_ascii_digit}
 use Rattle.std.specs.List.{AllByRecursion, list_all}
 use Rattle.std.proofs.lemmas.Bool.Decides.{nat_tests}
@@ -52,7 +53,8 @@ stands_if true false None h r e = absurd (cc)
 stands_if true false (Some k) h r e = absurd (cc)
 stands_if false there o h r e = absurd (cc)
 
-pub is_there : (p : TablePath) (ms : Members) (k : Key) → missing p ms k ≡ None → is_required k ≡ true → excluded_in ms k ≡ None → is_some (value_at k ms) ≡ true
+pub is_there : (p : TablePath) (ms : Members) (k : Key) → missing p ms k ≡ None → is_required k ≡ true → excluded_in ms k ≡ None →
+    is_some (value_at k ms) ≡ true
 is_there p ms k h r e = stands_if (is_required k) (stands ms k) (excluded_in ms k) (not_refused _ _ h) r e
 
 -- only strings may stand where a text is wanted
@@ -110,8 +112,12 @@ name_parts most s h = (and_first (is_name s) (nat_le (length s) most) h, at_most
 
 pub digits_parts : (most : ℕ) (s : List ℕ) → fits_text (want.Digits most) s ≡ true → IsIn 1 most (length s) × (list_all is_ascii_digit s ≡ true)
 digits_parts most s h =
-    let few : (nat_le (length s) most && list_all is_ascii_digit s) ≡ true = and_second (nat_le 1 (length s)) (nat_le (length s) most && list_all is_ascii_digit s) h in (
-      (at_most 1 (length s) (and_first (nat_le 1 (length s)) (nat_le (length s) most && list_all is_ascii_digit s) h), at_most (length s) most (and_first (nat_le (length s) most) (list_all is_ascii_digit s) few)),
+    let few : (nat_le (length s) most && list_all is_ascii_digit s) ≡ true =
+    and_second (nat_le 1 (length s)) (nat_le (length s) most && list_all is_ascii_digit s) h in (
+      (
+        at_most 1 (length s) (and_first (nat_le 1 (length s)) (nat_le (length s) most && list_all is_ascii_digit s) h),
+        at_most (length s) most (and_first (nat_le (length s) most) (list_all is_ascii_digit s) few),
+      ),
       and_second (nat_le (length s) most) (list_all is_ascii_digit s) few,
     )
 
@@ -121,7 +127,8 @@ path_fits None fit = tt
 path_fits (Some d) fit = long_enough _ (paths_are_texts d (fit d refl))
 
 -- the number at a key that may be there
-pub number_fits : (least most : ℕ) (o : Option Data) → AreFit (want.Number least most) o → IfSome (option_and_then whole (option_and_then as_integer o)) (IsIn least most)
+pub number_fits : (least most : ℕ) (o : Option Data) → AreFit (want.Number least most) o →
+    IfSome (option_and_then whole (option_and_then as_integer o)) (IsIn least most)
 number_fits least most None fit = tt
 number_fits least most (Some (integer (pos n))) fit = let h = fit (integer (pos n)) refl in grind (arith, nat_tests)
 number_fits least most (Some (integer (negsuc n))) fit = tt

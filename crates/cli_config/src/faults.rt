@@ -13,22 +13,12 @@ ghost use Rattle.cli_config.specs.Faults as spec;
 use crate::error::{Found, TableError};
 use crate::keys::{Key, Section, TablePath, Want};
 use crate::look::{tables_of, text_at, value_at};
+use flow_toml::are_tables;
 use std::alloc::{AllocError, Global};
 use sw_context::is_name;
 use sw_participant::Text;
 use toml::value::Array;
 use toml::{Table, Value};
-
-fn are_tables(array: &Array) -> bool
-    ensures { result ≡ are_tables (array_view array.now) }
-{
-    for item in array {
-        if !item.is_table() {
-            return false;
-        }
-    }
-    true
-}
 
 fn are_digits(text: &str) -> bool
     ensures { result ≡ list_all is_ascii_digit text.now }

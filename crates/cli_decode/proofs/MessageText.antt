@@ -1,6 +1,7 @@
 -- What is printed while a message is read is the text of the message that is read.
 -- for: text::write_paragraph
-use Rattle.std.proofs.Common.{◌≡◌, ℕ, Bool, true, false, cond, eqb, List, [], ◌∷◌, ◌++◌, length, Option, Some, None, Result, Ok, Err, refl, sym, ap, subst, ◌∙◌, append-nil, append_assoc}
+use Rattle.std.proofs.Common.{◌≡◌, ℕ, Bool, true, false, cond, eqb, List, [], ◌∷◌, ◌++◌, length, Option, Some, None, Result, Ok, Err, refl, sym, ap, subst, ◌∙◌}
+use Rattle.std.proofs.Common.{append-nil, append_assoc}
 use Rattle.std.specs.Prelude.{codes}
 use Rattle.std.specs.Fmt.{decimal}
 use Rattle.std.specs.List.{flat_map}
@@ -26,11 +27,14 @@ module _ (k : Masking) where
   abbrev fine : Result (Unit {0}) DecodeError
   fine = Ok tt
 
-  checked : (b : Bool) (form : Form) (text : List ℕ) (n : ℕ) (value : Part) → (cond b fine (Err (BadContent n)) >>= λ ok. lined (Some form) text n value) ≡ (cond b (Ok value) (Err (BadContent n)) >>= lined (Some form) text n)
+  checked : (b : Bool) (form : Form) (text : List ℕ) (n : ℕ) (value : Part) → (cond b fine (Err (BadContent n)) >>= λ ok. lined (Some form) text n value)
+      ≡ (cond b (Ok value) (Err (BadContent n)) >>= lined (Some form) text n)
   checked true form text n value = refl
   checked false form text n value = refl
 
-  field_by : (form : Form) (text : List ℕ) (n : ℕ) (r : Result Part DecodeError) → (r >>= λ value. content_is form n value.0 >>= λ ok. lined (Some form) text n value) ≡ ((r >>= λ value. cond (has_content form value.0) (Ok value) (Err (BadContent n))) >>= lined (Some form) text n)
+  field_by : (form : Form) (text : List ℕ) (n : ℕ) (r : Result Part DecodeError) →
+      (r >>= λ value. content_is form n value.0 >>= λ ok. lined (Some form) text n value)
+      ≡ ((r >>= λ value. cond (has_content form value.0) (Ok value) (Err (BadContent n))) >>= lined (Some form) text n)
   field_by form text n (Ok value) = checked (has_content form value.0) form text n value
   field_by form text n (Err e) = refl
 
@@ -50,8 +54,10 @@ module _ (k : Masking) where
       all_after y rest = Ok (y, rest)
   regroup text n v (Err e) = refl
 
-  step : (text : List ℕ) (n : ℕ) (ns : List ℕ) (r : Result Part DecodeError) → ((more bytes : List ℕ) → with_fields k more ns bytes ≡ (fields_at ns bytes >>= all_lined more))
-      → ((r >>= lined (form_of n) text n) >>= λ x. with_fields k x.0 ns x.1) ≡ ((r >>= λ value. fields_at ns value.1 >>= λ fields. Ok ((n, value.0) ∷ fields.0, fields.1)) >>= all_lined text)
+  step : (text : List ℕ) (n : ℕ) (ns : List ℕ) (r : Result Part DecodeError) →
+      ((more bytes : List ℕ) → with_fields k more ns bytes ≡ (fields_at ns bytes >>= all_lined more))
+      → ((r >>= lined (form_of n) text n) >>= λ x. with_fields k x.0 ns x.1)
+      ≡ ((r >>= λ value. fields_at ns value.1 >>= λ fields. Ok ((n, value.0) ∷ fields.0, fields.1)) >>= all_lined text)
   step text n ns (Ok value) h = h (text ++ (shown_line k) (n, value.0)) value.1 ∙ regroup text n value.0 (fields_at ns value.1)
   step text n ns (Err e) h = refl
 
@@ -72,8 +78,10 @@ module _ (k : Masking) where
   abbrev messaged : List ℕ → PlainMessage → Result (List ℕ) DecodeError
   messaged text m = Ok (text ++ (m.mti ++ (codes "\n" ++ flat_map (shown_line k) m.fields)))
 
-  end_is : (b : Bool) (text mti : List ℕ) (x : Fields × List ℕ) → cond b (Ok (((text ++ mti) ++ codes "\n") ++ flat_map (shown_line k) x.0)) (Err Trailing) ≡ (cond b (Ok (record { mti = mti; fields = x.0 })) (Err Trailing) >>= messaged text)
-  end_is true text mti x = ap ok_with (append_assoc (text ++ mti) (codes "\n") (flat_map (shown_line k) x.0) ∙ append_assoc text mti (codes "\n" ++ flat_map (shown_line k) x.0))
+  end_is : (b : Bool) (text mti : List ℕ) (x : Fields × List ℕ) → cond b (Ok (((text ++ mti) ++ codes "\n") ++ flat_map (shown_line k) x.0)) (Err Trailing)
+      ≡ (cond b (Ok (record { mti = mti; fields = x.0 })) (Err Trailing) >>= messaged text)
+  end_is true text mti x = ap ok_with (append_assoc (text ++ mti) (codes "\n") (flat_map (shown_line k) x.0) ∙ append_assoc text mti
+      (codes "\n" ++ flat_map (shown_line k) x.0))
     where
       ok_with : List ℕ → Result (List ℕ) DecodeError
       ok_with y = Ok y
@@ -82,12 +90,15 @@ module _ (k : Masking) where
   abbrev at_end : Part → Result (List ℕ) DecodeError
   at_end x = cond (eqb (length x.1) 0) (Ok x.0) (Err Trailing)
 
-  ends_are : (text mti : List ℕ) (r : Result (Fields × List ℕ) DecodeError) → ((r >>= all_lined ((text ++ mti) ++ codes "\n")) >>= at_end) ≡ ((r >>= λ fields. ended mti fields) >>= messaged text)
+  ends_are : (text mti : List ℕ) (r : Result (Fields × List ℕ) DecodeError) → ((r >>= all_lined ((text ++ mti) ++ codes "\n")) >>= at_end)
+      ≡ ((r >>= λ fields. ended mti fields) >>= messaged text)
   ends_are text mti (Ok x) = end_is (eqb (length x.1) 0) text mti x
   ends_are text mti (Err e) = refl
 
-  front_is : (text : List ℕ) (r : Result Front DecodeError) → (r >>= λ f. with_fields k ((text ++ f.0) ++ codes "\n") f.1 f.2 >>= at_end) ≡ ((r >>= then_fields) >>= messaged text)
-  front_is text (Ok f) = ap (λ (r : Result Part DecodeError). r >>= at_end) (with_fields_is f.1 ((text ++ f.0) ++ codes "\n") f.2) ∙ ends_are text f.0 (fields_at f.1 f.2)
+  front_is : (text : List ℕ) (r : Result Front DecodeError) → (r >>= λ f. with_fields k ((text ++ f.0) ++ codes "\n") f.1 f.2 >>= at_end)
+      ≡ ((r >>= then_fields) >>= messaged text)
+  front_is text (Ok f) = ap (λ (r : Result Part DecodeError). r >>= at_end) (with_fields_is f.1 ((text ++ f.0) ++ codes "\n") f.2)
+      ∙ ends_are text f.0 (fields_at f.1 f.2)
   front_is text (Err e) = refl
 
   pub with_message_is : (text bytes : List ℕ) → with_message k text bytes ≡ (read bytes >>= messaged text)
@@ -103,7 +114,8 @@ module _ (k : Masking) where
       ap whole (append_assoc (codes "message " ++ decimal n) (codes "\nmti ") rest ∙ append_assoc (codes "message ") (decimal n) (codes "\nmti " ++ rest))
   text_is n (Err e) = refl
 
-  pub paragraph_by : (text new bytes : List ℕ) (n : ℕ) (r : Result (Unit {0}) DecodeError) → text ≡ opening n → Gives (λ x. new) r (with_message k text bytes) → Gives (λ x. new) r (paragraph_of k n bytes)
+  pub paragraph_by : (text new bytes : List ℕ) (n : ℕ) (r : Result (Unit {0}) DecodeError) → text ≡ opening n →
+      Gives (λ x. new) r (with_message k text bytes) → Gives (λ x. new) r (paragraph_of k n bytes)
   paragraph_by text new bytes n r is g =
       subst (λ (s : Result (List ℕ) DecodeError). Gives (λ x. new) r s)
       (ap (λ (t : List ℕ). with_message k t bytes) is ∙ with_message_is (opening n) bytes ∙ text_is n (read bytes)) g

@@ -1,6 +1,7 @@
 -- What a piece adds to what was decoded.
 -- for: decoder::Decoder::piece
-use Rattle.std.proofs.Common.{◌≡◌, ℕ, ◌+◌, ◌-◌, ◌^◌, ◌<◌, ◌≤◌, min, Bool, List, [], ◌∷◌, ◌++◌, length, sym, ap, ◌∙◌, subst, arith, append-nil, append_assoc, length-append}
+use Rattle.std.proofs.Common.{◌≡◌, ℕ, ◌+◌, ◌-◌, ◌^◌, ◌<◌, ◌≤◌, min, Bool, List, [], ◌∷◌, ◌++◌, length, sym, ap, ◌∙◌, subst, arith, append-nil, append_assoc}
+use Rattle.std.proofs.Common.{length-append}
 use Rattle.std.specs.Prelude.{◌||◌}
 use Rattle.std.specs.List.{list_any}
 use Rattle.std.specs.Global.{Vec}
@@ -13,7 +14,7 @@ use Rattle.cli_decode.specs.Decoded.{frames_text, is_refused}
 use Rattle.cli_decode.specs.Progress.{IsDecoded}
 use Rattle.cli_decode.specs.declared.masking.Masking.{Masking}
 
--- three texts, one behind the other
+-- three texts, one after the other
 pub appended : (old first second new a b e : List ℕ) → first ≡ old ++ a → second ≡ first ++ b → new ≡ second ++ e → new ≡ old ++ (a ++ (b ++ e))
 appended old first second new a b e one two three =
     three ∙ ap (λ xs. xs ++ e) (two ∙ ap (λ xs. xs ++ b) one) ∙ append_assoc (old ++ a) b e ∙ append_assoc old a (b ++ e)
@@ -54,7 +55,8 @@ module _ (k : Masking) where
         record {
           stream = stream;
           counted = ends;
-          refused = whole ∙ ap (λ b. b || any) h.refused ∙ ap (λ b. list_any is_refused fs || b) (refused ∙ ap (λ ys. list_any is_refused (messages ys)) is) ∙ sym (list_any-append is_refused fs (messages ms));
+          refused = whole ∙ ap (λ b. b || any) h.refused ∙ ap (λ b. list_any is_refused fs || b) (refused ∙ ap (λ ys. list_any is_refused (messages ys)) is)
+              ∙ sym (list_any-append is_refused fs (messages ms));
         },
         text small ∙ ap (λ ys. old ++ frames_text k first (messages ys)) is ∙ ap (λ n. old ++ frames_text k n (messages ms)) begins,
       )

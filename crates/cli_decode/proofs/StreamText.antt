@@ -1,6 +1,7 @@
 -- A stream, piece after piece.
 -- for: stream::decode_stream
-use Rattle.std.proofs.Common.{◌≡◌, ℕ, ◌+◌, ◌*◌, ◌^◌, ◌<◌, ◌≤◌, ◌⊎◌, inl, inr, Bool, true, false, List, [], ◌∷◌, ◌++◌, length, take, not, Option, Some, None, IfSome, refl, sym, ap, ◌∙◌, subst, arith, append-nil, append_assoc, length-append, length-take-le}
+use Rattle.std.proofs.Common.{◌≡◌, ℕ, ◌+◌, ◌*◌, ◌^◌, ◌<◌, ◌≤◌, ◌⊎◌, inl, inr, Bool, true, false, List, [], ◌∷◌, ◌++◌, length, take, not, Option, Some, None}
+use Rattle.std.proofs.Common.{IfSome, refl, sym, ap, ◌∙◌, subst, arith, append-nil, append_assoc, length-append, length-take-le}
 use Rattle.std.specs.Prelude.{◌||◌}
 use Rattle.std.specs.Io.KnownBytes.{Consumes, Appends, IsAtEnd}
 use Rattle.std.proofs.KnownBytes.{Consumes-nil, Consumes-trans, Appends-nil, Appends-trans}
@@ -25,7 +26,8 @@ module _ (k : Masking) where
   frames_text-append n [] gs = ap (λ (j : ℕ). frames_text k j gs) (let e : n ≡ 0 + n = omega arith in e)
   frames_text-append n (f ∷ fs) gs =
       ap (λ ys. frame_text k n f ++ ys) (frames_text-append (n + 1) fs gs)
-      ∙ ap (λ (j : ℕ). frame_text k n f ++ (frames_text k (n + 1) fs ++ frames_text k j gs)) (let e : length fs + (n + 1) ≡ length (f ∷ fs) + n = omega arith in e)
+      ∙ ap (λ (j : ℕ). frame_text k n f ++ (frames_text k (n + 1) fs ++ frames_text k j gs)) (let e : length fs + (n + 1) ≡ length (f ∷ fs) + n =
+      omega arith in e)
       ∙ sym (append_assoc (frame_text k n f) (frames_text k (n + 1) fs) (frames_text k (length (f ∷ fs) + n) gs))
 
   -- one piece more
@@ -39,7 +41,8 @@ module _ (k : Masking) where
       let small : length (h.bytes ++ piece) < 2 ^ 63 = omega arith in
       let g = goes h.bytes h.frames h.decoded small in
       let printed : Appends start w1 (frames_text k 1 h.frames ++ text) = Appends-trans start w0 w1 (frames_text k 1 h.frames) text h.printed wrote in
-      let same : frames_text k 1 h.frames ++ text ≡ frames_text k 1 (h.frames ++ g.0) = ap (λ ys. frames_text k 1 h.frames ++ ys) g.2 ∙ sym (frames_text-append 1 h.frames g.0) in
+      let same : frames_text k 1 h.frames ++ text ≡ frames_text k 1 (h.frames ++ g.0) =
+      ap (λ ys. frames_text k 1 h.frames ++ ys) g.2 ∙ sym (frames_text-append 1 h.frames g.0) in
       record {
         bytes = h.bytes ++ piece;
         frames = h.frames ++ g.0;

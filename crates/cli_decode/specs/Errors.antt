@@ -8,17 +8,17 @@ use Rattle.cli_io.specs.declared.error.WriteError.TheVariants as write
 use Rattle.cli_decode.specs.declared.error.StreamError.{StreamError}
 use Rattle.cli_decode.specs.declared.error.StreamError.TheVariants.{OutOfMemory, Read, Write}
 
--- want of memory is told as such, and every other error of the input is carried
+-- out of memory is reported as such, and every other error of the input is carried
 abbrev pub error_of_read : ReadError → StreamError
 error_of_read read.OutOfMemory = OutOfMemory
 error_of_read e = Read e
 
--- want of memory is told as such, and every other error of the output is carried
+-- out of memory is reported as such, and every other error of the output is carried
 abbrev pub error_of_write : WriteError → StreamError
 error_of_write write.OutOfMemory = OutOfMemory
 error_of_write e = Write e
 
--- that there were too many reads is told of an input that has made all it may
+-- that there were too many reads is reported of an input that has made all it may
 abbrev pub IsReadToSpent : ℕ → StreamError → Type 0
 IsReadToSpent reads (Read e) = IsSpentAt reads e
 IsReadToSpent reads _ = ⊤

@@ -88,7 +88,7 @@ impl Decoder {
     }
 
     /// Takes the next piece of the stream, and adds the texts of the messages that are whole now. The
-    /// only refusal is want of memory, after which the stream is not decoded on.
+    /// only refusal is out of memory, after which the stream is not decoded on.
     pub fn piece(
         &mut self,
         alloc: Global,

@@ -23,7 +23,7 @@ pub enum StreamError {
     OutOfMemory,
 }
 
-// By hand: a person is shown the same text, and a derived `fmt` is dear to prove.
+// By hand: a person is shown the same text, and a derived `fmt` is slow to prove.
 impl fmt::Debug for StreamError {
     fn fmt<W: fmt::Write>(&self, f: &mut fmt::Formatter<W>) -> fmt::Result {
         fmt::Display::fmt(self, f)

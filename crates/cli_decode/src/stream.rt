@@ -82,7 +82,7 @@ fn finish<W: Write>(alloc: Global, decoder: &Decoder, out: &mut W) -> Result<boo
 /// Writes the text of the stream that an input gives, flushes, and answers whether anything of it was
 /// refused. It keeps no more than a piece of 65,536 bytes, its text and an unfinished frame.
 ///
-/// Too many reads are told only of an input that was read 1,048,576 times; what was written until an
+/// Too many reads are reported only of an input that was read 1,048,576 times; what was written until an
 /// error stands.
 pub fn decode_stream<R: Read, W: Write>(
     alloc: Global,

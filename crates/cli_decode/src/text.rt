@@ -212,7 +212,8 @@ pub fn push_frame(
     number: u64,
     bytes: &[u8],
 ) -> Result<bool, AllocError>
-    ensures text { OnOk result (text.new.items ≡ text.old.items ++ frame_text masking number bytes.now) }
+    ensures text { OnOk result (text.new.items ≡ text.old.items
+        ++ frame_text masking number bytes.now) }
     ensures refused { IfOk result (λ b. b ≡ is_refused bytes.now) }
 {
     match write_paragraph(paragraph, masking, number, bytes) {

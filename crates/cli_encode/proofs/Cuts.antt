@@ -1,6 +1,7 @@
 -- Bytes before and after a mark.
 -- for: cut, line
-use Rattle.std.proofs.Common.{◌≡◌, ◌∙◌, ◌≤◌, ◌<◌, ◌+◌, ◌-◌, ◌==◌, ◌||◌, ℕ, Bool, true, false, not, cond, List, [], ◌∷◌, ◌++◌, length, take, drop, Option, Some, None, get_or, nat_lt, unwrap_or, refl, sym, ap, subst, arith}
+use Rattle.std.proofs.Common.{◌≡◌, ◌∙◌, ◌≤◌, ◌<◌, ◌+◌, ◌-◌, ◌==◌, ◌||◌, ℕ, Bool, true, false, not, cond, List, [], ◌∷◌, ◌++◌, length, take, drop, Option, Some}
+use Rattle.std.proofs.Common.{None, get_or, nat_lt, unwrap_or, refl, sym, ap, subst, arith}
 use Rattle.std.proofs.Math.Numerals.{one-add}
 use Rattle.std.proofs.lemmas.Bool.{eqb-true, eqb-false}
 use Rattle.std.proofs.lemmas.Slice.Eq.{bytes_eq-Decides}
@@ -102,7 +103,8 @@ pub front_cancels : (front xs ys : List ℕ) → front ++ xs ≡ front ++ ys →
 front_cancels [] xs ys e = e
 front_cancels (f ∷ fs) xs ys e = front_cancels fs xs ys (tail_is f f (fs ++ xs) (fs ++ ys) e)
 
-pub not_front : (front rest bytes first : List ℕ) (b : Bool) → first ≡ take (length front) bytes → b ≡ bytes_eq first front → b ≡ false → front ++ rest ≡ bytes → ⊥
+pub not_front : (front rest bytes first : List ℕ) (b : Bool) → first ≡ take (length front) bytes → b ≡ bytes_eq first front → b ≡ false →
+    front ++ rest ≡ bytes → ⊥
 not_front front rest bytes first b p e h k =
     let same : first ≡ front = p ∙ ap (take (length front)) (sym k) ∙ front_of front rest in
     let yes : bytes_eq first front ≡ true = (bytes_eq-Decides first front).1 same in

@@ -10,7 +10,8 @@ use Rattle.iso_msg.specs.Table.{form_of}
 use Rattle.iso_msg.specs.Messages.{IsMti}
 use Rattle.sw_base.specs.Digits.{is_digit}
 use Rattle.cli_decode.specs.Decoded.{shown}
-use Rattle.cli_encode.specs.Lines.{PlainLine, Heading, MessageType, Field, has_byte, IsOnLine, IsLine, line_bytes, SaysNoField, SaysNothing, IsNoValueOf, IsNoNumber, IsNotBefore}
+use Rattle.cli_encode.specs.Lines.{PlainLine, Heading, MessageType, Field, has_byte, IsOnLine, IsLine, line_bytes, SaysNoField, SaysNothing, IsNoValueOf}
+use Rattle.cli_encode.specs.Lines.{IsNoNumber, IsNotBefore}
 use Rattle.std.proofs.lemmas.Bool.{leb-true}
 use Rattle.iso_msg.proofs.Bools.{and_both, eqb-false_from}
 use Rattle.cli_encode.proofs.Cuts.{cut_once, front_cancels, head_is, mark_within, none_in_both, none_in_parts, tail_is}
@@ -43,7 +44,10 @@ module _ (line word text : List ℕ) (whole : word ++ 32 ∷ text ≡ line) (cle
 
   pub says_field : (k : ℕ) (v : List ℕ) → k < 256 → decimal k ≡ word → shown (form_of k) v ≡ text → IsOnLine (form_of k) v
       → (line_bytes (Field k v) ≡ line) × IsLine (Field k v)
-  says_field k v small is shows fits = (ap (λ (w : List ℕ). w ++ 32 ∷ shown (form_of k) v) is ∙ ap (λ (t : List ℕ). word ++ 32 ∷ t) shows ∙ whole, (small, fits))
+  says_field k v small is shows fits = (
+    ap (λ (w : List ℕ). w ++ 32 ∷ shown (form_of k) v) is ∙ ap (λ (t : List ℕ). word ++ 32 ∷ t) shows ∙ whole,
+    (small, fits),
+  )
 
 -- ---- a value that is no binary one
 
@@ -72,7 +76,8 @@ only_field line heading type none (Heading w) h e = heading w e
 only_field line heading type none (MessageType d) h e = type d e
 only_field line heading type none (Field n v) h e = none n v h e
 
-pub says_heading : (line word : List ℕ) → codes "message " ++ word ≡ line → has_byte 10 line ≡ false → (line_bytes (Heading word) ≡ line) × IsLine (Heading word)
+pub says_heading : (line word : List ℕ) → codes "message " ++ word ≡ line → has_byte 10 line ≡ false →
+    (line_bytes (Heading word) ≡ line) × IsLine (Heading word)
 says_heading line word whole none = (whole, (none_in_parts 10 (codes "message ") word (subst (λ (l : List ℕ). has_byte 10 l ≡ false) (sym whole) none)).1)
 
 -- ---- a line says one thing

@@ -1,6 +1,7 @@
 -- Bytes in hexadecimal digits.
 -- for: line::read_octets
-use Rattle.std.proofs.Common.{◌≡◌, ◌∙◌, ◌≤◌, ◌<◌, ◌+◌, ◌-◌, ◌*◌, ◌/◌, ◌%◌, ◌&&◌, ◌||◌, ◌==◌, ◌⊎◌, inl, inr, ℕ, Bool, true, false, cond, leb, List, [], ◌∷◌, length, take, drop, Option, Some, None, Result, Ok, Err, refl, sym, ap, subst, arith}
+use Rattle.std.proofs.Common.{◌≡◌, ◌∙◌, ◌≤◌, ◌<◌, ◌+◌, ◌-◌, ◌*◌, ◌/◌, ◌%◌, ◌&&◌, ◌||◌, ◌==◌, ◌⊎◌, inl, inr, ℕ, Bool, true, false, cond, leb, List, [], ◌∷◌}
+use Rattle.std.proofs.Common.{length, take, drop, Option, Some, None, Result, Ok, Err, refl, sym, ap, subst, arith}
 use Rattle.std.specs.List.{flat_map, list_all}
 use Rattle.std.proofs.lemmas.Bool.{cases_lt, ltb-true, lt-ltb, le-ltb, le-leb, leb-true}
 use Rattle.iso_msg.proofs.Bools.{and_both, some_is}
@@ -27,7 +28,13 @@ hex_upper : (d : ℕ) → d < 16 → hex_value (upper d) ≡ Some d
 hex_upper d h =
     elim (cases_lt d 10) [
       | inl w ↦ rw (lt-ltb d 10 w, le-leb 48 (48 + d) (omega arith), le-leb (48 + d) 57 (omega arith)) (ap Some (omega arith))
-      | inr w ↦ rw (le-ltb d 10 w, le-leb 48 (55 + d) (omega arith), leb-false-from (55 + d) 57 (omega arith), le-leb 65 (55 + d) (omega arith), le-leb (55 + d) 70 (omega arith)) (ap Some (omega arith))
+      | inr w ↦ rw (
+        le-ltb d 10 w,
+        le-leb 48 (55 + d) (omega arith),
+        leb-false-from (55 + d) 57 (omega arith),
+        le-leb 65 (55 + d) (omega arith),
+        le-leb (55 + d) 70 (omega arith),
+      ) (ap Some (omega arith))
     ]
 
 pub octets_hex : (v : List ℕ) → list_all is_byte v ≡ true → octets (flat_map hex v) ≡ Some v
@@ -98,7 +105,8 @@ digit_of c d e low =
           ]
     ]
 
-both_is : {A B C : Type 0} (f : A → B → C) (x : Option A) (y : Option B) (z : C) → both f x y ≡ Some z → (a : A) × (b : B) × (x ≡ Some a) × (y ≡ Some b) × (f a b ≡ z)
+both_is : {A B C : Type 0} (f : A → B → C) (x : Option A) (y : Option B) (z : C) → both f x y ≡ Some z →
+    (a : A) × (b : B) × (x ≡ Some a) × (y ≡ Some b) × (f a b ≡ z)
 both_is f None y z e = absurd cc
 both_is f (Some a) None z e = absurd cc
 both_is f (Some a) (Some b) z e = (a, b, refl, refl, cc)
@@ -154,7 +162,8 @@ valued n o = or_fault o (BadContent n) >>= λ v. Ok (v, [])
 
 octets_all : (n : ℕ) (text : List ℕ) → length text ≡ 16 → octets_at n text ≡ valued n (octets text)
 unfolding octets_at
-octets_all n text long = ap (λ (r : Result (List ℕ × List ℕ) DecodeError). r >>= λ t. or_fault (octets t.0) (BadContent n) >>= λ v. Ok (v, t.1)) (part_all text long)
+octets_all n text long = ap (λ (r : Result (List ℕ × List ℕ) DecodeError). r >>= λ t. or_fault (octets t.0) (BadContent n) >>= λ v. Ok (v, t.1))
+    (part_all text long)
 
 value_is : (n : ℕ) (o : Option (List ℕ)) (v rest : List ℕ) → valued n o ≡ Ok (v, rest) → o ≡ Some v
 value_is n None v rest e = absurd cc

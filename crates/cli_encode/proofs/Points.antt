@@ -1,6 +1,7 @@
 -- What a line makes of what was read.
 -- for: encoder
-use Rattle.std.proofs.Common.{◌≡◌, ◌∙◌, ◌≤◌, ◌<◌, ◌+◌, ◌-◌, inl, ℕ, suc, ◌&&◌, Bool, true, false, not, cond, ltb, List, [], ◌∷◌, ◌++◌, length, map, get_or, Option, Some, None, refl, sym, ap, subst, arith, length-append}
+use Rattle.std.proofs.Common.{◌≡◌, ◌∙◌, ◌≤◌, ◌<◌, ◌+◌, ◌-◌, inl, ℕ, suc, ◌&&◌, Bool, true, false, not, cond, ltb, List, [], ◌∷◌, ◌++◌, length, map, get_or}
+use Rattle.std.proofs.Common.{Option, Some, None, refl, sym, ap, subst, arith, length-append}
 use Rattle.std.specs.Fmt.{decimal}
 use Rattle.std.specs.Option.{is_none}
 use Rattle.std.specs.Str.{bytes_eq}
@@ -20,7 +21,8 @@ use Rattle.cli_encode.specs.declared.encoder.Stage.{Stage}
 use Rattle.cli_encode.specs.declared.encoder.Stage.TheVariants.{Between, Headed, Open}
 use Rattle.cli_encode.specs.Frames.{AddsFrame}
 use Rattle.cli_encode.specs.Lines.{Heading, MessageType, Field}
-use Rattle.cli_encode.specs.Reading.{Point, IsAt, IsMessageIn, closed, closed_at, follows, headed, last_from, last_of, step, step_at, with_last, AddsField, Takes}
+use Rattle.cli_encode.specs.Reading.{Point, IsAt, IsMessageIn, closed, closed_at, follows, headed, last_from, last_of, step, step_at, with_last, AddsField}
+use Rattle.cli_encode.specs.Reading.{Takes}
 
 -- ---- the last field
 
@@ -114,12 +116,14 @@ headed_not done w k e h =
     ap (λ b. cond b (Some (record { done = done; stage = Headed })) None)
     (no_bool (bytes_eq w (decimal (length done + 1))) (λ t. h ((bytes_eq-Decides w (decimal (length done + 1))).0 t ∙ ap (λ n. decimal (n + 1)) (sym e))))
 
-pub headed_is : (done : List PlainMessage) (w : List ℕ) (k : ℕ) → k ≡ length done → w ≡ decimal (k + 1) → headed done w ≡ Some (record { done = done; stage = Headed })
+pub headed_is : (done : List PlainMessage) (w : List ℕ) (k : ℕ) → k ≡ length done → w ≡ decimal (k + 1) →
+    headed done w ≡ Some (record { done = done; stage = Headed })
 headed_is done w k e h =
     ap (λ b. cond b (Some (record { done = done; stage = Headed })) None)
     ((bytes_eq-Decides w (decimal (length done + 1))).1 (h ∙ ap (λ n. decimal (n + 1)) e))
 
-pub headed_at : (done : List PlainMessage) (s : Stage) (e e' : Encoder) → IsAt (closed_at done s) e → e'.stage ≡ Headed → e'.count ≡ e.count → e'.frames ≡ e.frames
+pub headed_at : (done : List PlainMessage) (s : Stage) (e e' : Encoder) → IsAt (closed_at done s) e → e'.stage ≡ Headed → e'.count ≡ e.count →
+    e'.frames ≡ e.frames
     → IsAt (record { done = (closed_at done s).done; stage = Headed }) e'
 headed_at done s e e' h stage count frames = record {
   stage = sym stage;

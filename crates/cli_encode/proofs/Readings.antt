@@ -1,6 +1,7 @@
 -- How far a text is read.
 -- for: text, stream
-use Rattle.std.proofs.Common.{◌≡◌, ◌∙◌, ◌<◌, ◌+◌, ◌^◌, ◌==◌, ◌⊎◌, inl, inr, ℕ, Bool, true, false, List, [], ◌∷◌, ◌++◌, length, Option, None, Result, Ok, Err, refl, sym, ap, subst, arith, append_assoc, append-nil, length-append}
+use Rattle.std.proofs.Common.{◌≡◌, ◌∙◌, ◌<◌, ◌+◌, ◌^◌, ◌==◌, ◌⊎◌, inl, inr, ℕ, Bool, true, false, List, [], ◌∷◌, ◌++◌, length, Option, None, Result, Ok, Err}
+use Rattle.std.proofs.Common.{refl, sym, ap, subst, arith, append_assoc, append-nil, length-append}
 use Rattle.std.specs.Prelude.{codes}
 use Rattle.std.specs.Result.{IfOk}
 use Rattle.std.specs.List.{count_by}
@@ -12,7 +13,8 @@ use Rattle.cli_encode.specs.declared.encoder.Encoder.{Encoder}
 use Rattle.cli_encode.specs.declared.encoder.Stage.{Stage}
 use Rattle.cli_encode.specs.declared.encoder.Stage.TheVariants.{Between, Headed, Open}
 use Rattle.cli_encode.specs.Lines.{PlainLine, IsLine, ended_line, has_byte, line_bytes, text_of_lines}
-use Rattle.cli_encode.specs.Reading.{Point, IsBlank, IsMessageIn, IsReadUpTo, IsReadWhole, IsSoFar, Finishes, Takes, TakesBytes, closed, closed_at, stage_text, start, step, text_of}
+use Rattle.cli_encode.specs.Reading.{Point, IsBlank, IsMessageIn, IsReadUpTo, IsReadWhole, IsSoFar, Finishes, Takes, TakesBytes, closed, closed_at, stage_text}
+use Rattle.cli_encode.specs.Reading.{start, step, text_of}
 use Rattle.cli_encode.specs.Refusals.{IsHead, IsRefusal}
 use Rattle.cli_encode.specs.Texts.{IsEncoded, messages_text}
 use Rattle.cli_encode.proofs.LineTexts.{line_once}
@@ -61,7 +63,8 @@ goes_on text rest line after lines e e' h cut takes =
       at = next.2;
       whole = h.whole ∙ ap (λ (t : List ℕ). text_of_lines h.read ++ t) (sym more)
           ∙ sym (append_assoc (text_of_lines h.read) (ended_line l) after)
-          ∙ ap (λ (t : List ℕ). t ++ after) (ap (λ (t : List ℕ). text_of_lines h.read ++ t) (sym (append-nil (ended_line l))) ∙ sym (lines_append h.read (l ∷ [])));
+          ∙ ap (λ (t : List ℕ). t ++ after) (ap (λ (t : List ℕ). text_of_lines h.read ++ t) (sym (append-nil (ended_line l)))
+          ∙ sym (lines_append h.read (l ∷ [])));
       counted = ap (λ n. n + 1) h.counted ∙ sym (length-append h.read (l ∷ []));
     }
 
@@ -87,8 +90,16 @@ up_to_line text rest line after lines e e' h cut clean small takes =
       whole = h.whole;
       begun = read_is text rest lines e h ∙ sym (same_text h.point r.1 r.2);
       counted = counted_is text rest lines e h;
-      refused = none_there text line after h.read h.point h.are_lines h.reached (h.whole ∙ ap (λ (t : List ℕ). text_of_lines h.read ++ t) (sym cut)) small clean r.0;
-      stuck = inr (line, after, sym cut, clean, λ more few. none_there (text_of_lines h.read ++ (line ++ 10 ∷ more)) line more h.read h.point h.are_lines h.reached refl few clean r.0);
+      refused = none_there text line after h.read h.point h.are_lines h.reached (h.whole ∙ ap (λ (t : List ℕ). text_of_lines h.read ++ t) (sym cut)) small
+          clean r.0;
+      stuck = inr (
+        line,
+        after,
+        sym cut,
+        clean,
+        λ more few. none_there (text_of_lines h.read ++ (line ++ 10 ∷ more)) line more h.read h.point h.are_lines
+            h.reached refl few clean r.0,
+      );
     }
 
 pub up_to_end : (text rest : List ℕ) (lines : ℕ) (e : Encoder) → IsSoFar text rest lines e → has_byte 10 rest ≡ false → (rest ≡ [] → ⊥)

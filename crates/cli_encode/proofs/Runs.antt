@@ -1,6 +1,7 @@
 -- A text is read to the messages whose text it is.
 -- for: text
-use Rattle.std.proofs.Common.{◌≡◌, ◌∙◌, ◌<◌, ◌≤◌, ◌+◌, ◌^◌, ◌==◌, ℕ, Bool, true, false, cond, List, [], ◌∷◌, ◌++◌, length, map, Option, Some, None, refl, sym, ap, subst, arith, append_assoc, append-nil, length-append}
+use Rattle.std.proofs.Common.{◌≡◌, ◌∙◌, ◌<◌, ◌≤◌, ◌+◌, ◌^◌, ◌==◌, ℕ, Bool, true, false, cond, List, [], ◌∷◌, ◌++◌, length, map, Option, Some, None, refl, sym}
+use Rattle.std.proofs.Common.{ap, subst, arith, append_assoc, append-nil, length-append}
 use Rattle.std.specs.Prelude.{codes, option_and_then}
 use Rattle.std.specs.Fmt.{decimal}
 use Rattle.std.specs.List.{All, flat_map, count_by}
@@ -25,7 +26,8 @@ use Rattle.iso_msg.specs.Messages.{Fields, PlainMessage, AreFields, IsMessage}
 use Rattle.cli_decode.specs.Decoded.{field_line, message_text, shown}
 use Rattle.cli_encode.specs.declared.encoder.Stage.{Stage}
 use Rattle.cli_encode.specs.declared.encoder.Stage.TheVariants.{Between, Headed, Open}
-use Rattle.cli_encode.specs.Lines.{PlainLine, Heading, MessageType, Field, IsLine, IsOnLine, ended_line, field_of, has_byte, line_bytes, lines_of_message, text_of_lines}
+use Rattle.cli_encode.specs.Lines.{PlainLine, Heading, MessageType, Field, IsLine, IsOnLine, ended_line, field_of, has_byte, line_bytes, lines_of_message}
+use Rattle.cli_encode.specs.Lines.{text_of_lines}
 use Rattle.cli_encode.specs.Reading.{Point, closed, closed_at, follows, headed, last_from, last_of, run, start, stage_text, step, step_at, text_of, with_last}
 use Rattle.cli_encode.specs.Refusals.{IsNoText}
 use Rattle.cli_encode.specs.Texts.{messages_text}
@@ -57,7 +59,8 @@ nothing (x ∷ xs) ys c e = absurd cc
 pub split : (us ts : List PlainLine) (rest : List ℕ) → All IsLine us → All IsLine ts → text_of_lines ts ≡ text_of_lines us ++ rest
     → (vs : List PlainLine) × (ts ≡ us ++ vs) × (text_of_lines vs ≡ rest)
 split [] ts rest a b e = (ts, refl, e)
-split (u ∷ us) [] rest a b e = absurd (nothing (line_bytes u) (text_of_lines us ++ rest) 10 (e ∙ ap (λ (t : List ℕ). t ++ rest) (front u us) ∙ append_assoc (line_bytes u) (10 ∷ text_of_lines us) rest))
+split (u ∷ us) [] rest a b e = absurd (nothing (line_bytes u) (text_of_lines us ++ rest) 10 (e ∙ ap (λ (t : List ℕ). t ++ rest) (front u us)
+    ∙ append_assoc (line_bytes u) (10 ∷ text_of_lines us) rest))
 split (u ∷ us) (t ∷ ts) rest a b e =
     let fu = All-head IsLine u us a in
     let ft = All-head IsLine t ts b in
@@ -174,7 +177,8 @@ some_bytes n m =
 pub few_messages : (n : ℕ) (ms : List PlainMessage) → length ms ≤ length (messages_text n ms)
 few_messages n [] = omega arith
 few_messages n (m ∷ ms) =
-    let e : length (messages_text n (m ∷ ms)) ≡ length (message_text n m) + length (messages_text (n + 1) ms) = length-append (message_text n m) (messages_text (n + 1) ms) in
+    let e : length (messages_text n (m ∷ ms)) ≡ length (message_text n m) + length (messages_text (n + 1) ms) =
+    length-append (message_text n m) (messages_text (n + 1) ms) in
     let one = some_bytes n m in
     let more = few_messages (n + 1) ms in omega (arith, e, one, more)
 
@@ -190,7 +194,8 @@ run_append [] vs p = refl
 run_append (u ∷ us) vs p = after_both vs us (step p u) (λ q. run_append us vs q)
 
 pub run_push : (us : List PlainLine) (l : PlainLine) (p q r : Point) → run p us ≡ Some q → step q l ≡ Some r → run p (us ++ l ∷ []) ≡ Some r
-run_push us l p q r h k = run_append us (l ∷ []) p ∙ ap (λ (o : Option Point). option_and_then (λ s. run s (l ∷ [])) o) h ∙ ap (λ (o : Option Point). option_and_then (λ s. run s []) o) k
+run_push us l p q r h k = run_append us (l ∷ []) p ∙ ap (λ (o : Option Point). option_and_then (λ s. run s (l ∷ [])) o) h
+    ∙ ap (λ (o : Option Point). option_and_then (λ s. run s []) o) k
 
 one_step : (l : PlainLine) (ls : List PlainLine) (p q : Point) → step p l ≡ Some q → run p (l ∷ ls) ≡ run q ls
 one_step l ls p q h = ap (λ (o : Option Point). option_and_then (λ s. run s ls) o) h

@@ -9,7 +9,7 @@ use Rattle.cli_encode.specs.declared.error.EncodeError.{EncodeError}
 use Rattle.cli_encode.specs.declared.error.EncodeError.TheVariants.{OutOfMemory, Read, Write, Text}
 use Rattle.cli_encode.specs.Refusals.{IsRefusal}
 
--- out of memory is told as such, and every other error of the input is carried
+-- out of memory is reported as such, and every other error of the input is carried
 abbrev pub error_of_read : ReadError → EncodeError
 error_of_read read.OutOfMemory = OutOfMemory
 error_of_read e = Read e
@@ -19,7 +19,7 @@ abbrev pub error_of_write : WriteError → EncodeError
 error_of_write write.OutOfMemory = OutOfMemory
 error_of_write e = Write e
 
--- too many reads are told of an input that has made all it may
+-- too many reads are reported of an input that has made all it may
 abbrev pub IsReadToSpent : ℕ → EncodeError → Type 0
 IsReadToSpent reads (Read e) = IsSpentAt reads e
 IsReadToSpent reads _ = ⊤

@@ -15,7 +15,7 @@ use std::io::{Read, Write};
 /// Writes the frames of the messages whose text an input gives, and flushes. The text is read whole, and the
 /// frames are written at its end, or where a line is refused: then those of the messages before the refused one.
 ///
-/// Too many reads are told only of an input that was read 1,048,576 times.
+/// Too many reads are reported only of an input that was read 1,048,576 times.
 pub fn encode_stream<R: Read, W: Write>(
     alloc: Global,
     input: &mut Input<R>,

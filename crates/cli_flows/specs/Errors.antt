@@ -45,7 +45,7 @@ IsImageRefusal bytes OutOfMemory = line_fault bytes ≡ None
 IsImageRefusal bytes (Image e found) = load_of bytes ≡ Err e
 IsImageRefusal bytes _ = ⊥
 
--- The same of bytes that are read, where they are known: a fault of them is told only where they have it,
+-- The same of bytes that are read, where they are known: a fault of them is reported only where they have it,
 -- and else the reading, the writing or the memory failed.
 abbrev pub RefusesFile : Option (List ℕ) → FlowsError → Type 0
 RefusesFile unread (NotText e) = IfSome unread (λ bytes. IsFileRefusal bytes (NotText e))

@@ -17,7 +17,8 @@ use std::io::{Read, Write};
 
 /// Reads a flow file and writes the image of its steps. Nothing is written of a file that is refused.
 pub fn asm<R: Read + Drop, W: Write>(alloc: Global, input: R, out: &mut W) -> Result<(), FlowsError>
-    ensures done { OnOk result (IsAssembled (R.remaining input) (W.contents out.old) (W.contents out.new)) }
+    ensures done { OnOk result (IsAssembled (R.remaining input) (W.contents out.old)
+        (W.contents out.new)) }
     ensures refused { IfErr result (RefusesFile (R.remaining input)) }
     ensures unwritten { IfErr result (IsUnwritten (W.contents out.old) (W.contents out.new)) }
 {
@@ -65,7 +66,8 @@ pub fn list<R: Read + Drop, W: Write>(
     input: R,
     out: &mut W,
 ) -> Result<(), FlowsError>
-    ensures done { OnOk result (IsListed (R.remaining input) (W.contents out.old) (W.contents out.new)) }
+    ensures done { OnOk result (IsListed (R.remaining input) (W.contents out.old)
+        (W.contents out.new)) }
     ensures refused { IfErr result (RefusesImage (R.remaining input)) }
     ensures unwritten { IfErr result (IsUnwritten (W.contents out.old) (W.contents out.new)) }
 {

@@ -1,6 +1,7 @@
 -- What was written, piece by piece, and a beginning of what was to be.
 -- for: write::write_some, write::write_whole, write::write_out
-use Rattle.std.proofs.Common.{◌≡◌, ◌∷◌, ◌++◌, ◌∙◌, [], ℕ, ◌+◌, zero, suc, List, Option, Some, None, drop, take, refl, ap, arith, append-nil, append_assoc, subst, sym, take-append-drop}
+use Rattle.std.proofs.Common.{◌≡◌, ◌∷◌, ◌++◌, ◌∙◌, [], ℕ, ◌+◌, zero, suc, List, Option, Some, None, drop, take, refl, ap, arith, append-nil, append_assoc}
+use Rattle.std.proofs.Common.{subst, sym, take-append-drop}
 use Rattle.std.proofs.KnownBytes.{Appends-nil, Appends-trans}
 use Rattle.std.specs.Io.KnownBytes.{Appends, Keeps}
 use Rattle.cli_io.specs.Written.{AppendsBeginning}

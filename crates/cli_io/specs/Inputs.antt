@@ -12,7 +12,7 @@ unread remaining input = remaining input.reader
 abbrev pub reads_made : {R : Type 0} → Input R → ℕ
 reads_made input = input.reads
 
--- that there were too many reads is told of an input that has made all it may
+-- that there were too many reads is reported of an input that has made all it may
 abbrev pub IsSpentAt : ℕ → ReadError → Type 0
 IsSpentAt reads TooManyReads = reads ≡ 1048576
 IsSpentAt reads _ = ⊤

@@ -1,2 +1,2 @@
-mod Items
 mod Listed
+mod OneMore

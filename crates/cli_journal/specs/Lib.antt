@@ -1,4 +1,7 @@
 pub mod Entries
+pub mod Items
+pub mod Owners
 pub mod LeftOut
-pub mod Shown
+pub mod Text
 pub mod Json
+pub mod Shown

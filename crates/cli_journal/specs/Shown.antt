@@ -1,93 +1,80 @@
--- The text of a journal: one fact a line.
-use Rattle.std.specs.Prelude.{ℕ, ◌-◌, Bool, true, false, List, [], ◌∷◌, ◌++◌, Option, Some, None, drop, codes}
-use Rattle.std.specs.Fmt.{decimal}
+-- What is shown of a journal, in either form.
+use Rattle.std.specs.Prelude.{ℕ, List, ◌++◌, Option, Some, None}
 use Rattle.std.specs.List.{flat_map}
-use Rattle.tx_machine.specs.declared.values.Phase.{Phase}
-use Rattle.tx_machine.specs.declared.values.Phase.TheVariants.{Preparing, Aborting, Committing, Undoing}
+use Rattle.sw_context.specs.Pairs.{Pairs}
+use Rattle.sw_json.specs.Contexts.{context_at}
 use Rattle.tx_history.specs.declared.journal.JournalView.{JournalView}
 use Rattle.tx_history.specs.declared.journal.Row.{Row}
 use Rattle.tx_history.specs.declared.journal.Waiting.{Waiting}
-use Rattle.tx_history.specs.History.{is_committing, to_tell}
 use Rattle.cli_decode.specs.declared.masking.Masking.{Masking}
 use Rattle.cli_decode.specs.Decoded.{frame_text}
 use Rattle.journal_rows.specs.declared.error.BadRow.{BadRow}
-use Rattle.cli_journal.specs.Entries.{Text, context_text}
-use Rattle.cli_journal.specs.LeftOut.{left_out_line}
+use Rattle.cli_journal.specs.declared.form.Form.{Form}
+use Rattle.cli_journal.specs.declared.form.Form.TheVariants as form
+use Rattle.cli_journal.specs.declared.form.Style.{Style}
+use Rattle.cli_journal.specs.declared.owner.Owner.{Owner}
+use Rattle.cli_journal.specs.declared.owner.Owner.TheVariants.{Transaction, Shelf}
+use Rattle.cli_journal.specs.Entries.{Text}
+use Rattle.cli_journal.specs.Json.{advised_json, entry_json, head_json, place_members, refused_json, row_json, waiting_json}
+use Rattle.cli_journal.specs.LeftOut.{left_out_as}
+use Rattle.cli_journal.specs.Owners.{id_of}
+use Rattle.cli_journal.specs.Text.{entry_text, head_text, place_text, refused_text, row_text, waiting_text}
 
--- `WORD N`
-abbrev pub number_line : Text → ℕ → Text
-number_line word n = word ++ (codes " " ++ (decimal n ++ codes "\n"))
+-- ---- a context
 
--- `WORD NAME NAME ..`
-abbrev pub spaced : Text → Text
-spaced name = codes " " ++ name
+abbrev pub entry_as : Form → Masking → Owner → Text × Text → Text
+entry_as form.Text k o e = entry_text k (id_of o) e
+entry_as form.Json k o e = entry_json k o e
 
-abbrev pub names_line : Text → List Text → Text
-names_line word names = word ++ (flat_map spaced names ++ codes "\n")
+abbrev pub refused_as : Form → Owner → Text
+refused_as form.Text o = refused_text
+refused_as form.Json o = refused_json o
 
--- ---- a transaction that is not finished
+abbrev pub entry_in : Style → Owner → Text × Text → Text
+entry_in s o e = entry_as s.form s.masking o e
 
-abbrev pub phase_name : Phase → Text
-phase_name Preparing = codes "preparing"
-phase_name Aborting = codes "aborting"
-phase_name Committing = codes "committing"
-phase_name Undoing = codes "undoing"
+abbrev pub entries_in : Style → Owner → Option Pairs → Text
+entries_in s o (Some es) = flat_map (entry_in s o) es
+entries_in s o None = refused_as s.form o
 
--- `transaction ID PHASE`
-abbrev pub head_line : ℕ → Phase → Text
-head_line id phase = codes "transaction " ++ (decimal id ++ (codes " " ++ (phase_name phase ++ codes "\n")))
+-- the lines of the context that bytes spell
+unfoldable pub context_in : Style → Owner → List ℕ → Text
+context_in s o bytes = entries_in s o (context_at bytes)
 
--- the participant that was being prepared, if one was
-abbrev pub doing_line : Option Text → Text
-doing_line (Some name) = names_line (codes "doing") (name ∷ [])
-doing_line None = []
+-- ---- the items
 
--- what a recovery notifies the participants of
-abbrev pub verdict_word : Bool → Text
-verdict_word true = codes "recovery commit"
-verdict_word false = codes "recovery abort"
+abbrev pub row_as : Form → ℕ → Row → Text
+row_as form.Text id r = row_text id r
+row_as form.Json id r = row_json id r
 
--- those whom a recovery notifies: the members that were not told yet, and the participant that was being prepared
-abbrev pub to_notify : Row → List Text
-to_notify r = drop r.told (to_tell r r.doing)
+abbrev pub row_in : Style → ℕ × Row → Text
+row_in s r = row_as s.form r.0 r.1 ++ context_in s (Transaction r.0) r.1.context
 
-abbrev pub recovery_line : Row → Text
-recovery_line r = names_line (verdict_word (is_committing r.phase)) (to_notify r)
+abbrev pub waiting_as : Form → ℕ → Waiting → Text
+waiting_as form.Text id w = waiting_text id w
+waiting_as form.Json id w = waiting_json id w
 
-abbrev pub facts_text : Row → Text
-facts_text r =
-    names_line (codes "joined") r.joined ++ (number_line (codes "told") r.told
-    ++ (doing_line r.doing ++ (number_line (codes "tries") r.tries ++ recovery_line r)))
+abbrev pub waiting_in : Style → ℕ × Waiting → Text
+waiting_in s w = waiting_as s.form w.0 w.1 ++ context_in s (Shelf w.0) w.1.context
 
-abbrev pub row_text : Masking → ℕ × Row → Text
-row_text k r = head_line r.0 r.1.phase ++ (facts_text r.1 ++ context_text k r.0 r.1.context)
+-- an advice of this place, and the lines of its message
+abbrev pub advice_as : Form → ℕ → ℕ × ℕ → Text → Text
+advice_as form.Text next_id place message = place_text next_id place ++ message
+advice_as form.Json next_id place message = place_members next_id place ++ advised_json message
 
--- ---- a context that waits to be tried again, and an advice
-
-abbrev pub shelf_text : Masking → ℕ × Waiting → Text
-shelf_text k w = number_line (codes "shelf") w.0 ++ (number_line (codes "tries") w.1.tries ++ context_text k w.0 w.1.context)
-
--- `advice ID PLACE`
-abbrev pub advice_line : ℕ × ℕ → Text
-advice_line place = codes "advice " ++ (decimal place.0 ++ (codes " " ++ (decimal place.1 ++ codes "\n")))
-
--- how many ids were given since, its own among them
-abbrev pub age_of : ℕ → ℕ → ℕ
-age_of next_id id = next_id - id
-
-abbrev pub advice_text : Masking → ℕ → (ℕ × ℕ) × List ℕ → Text
-advice_text k next_id a =
-    advice_line a.0 ++ (number_line (codes "age") (age_of next_id a.0.0) ++ frame_text k a.0.0 a.1)
+abbrev pub advice_in : Style → ℕ → (ℕ × ℕ) × List ℕ → Text
+advice_in s next_id a = advice_as s.form next_id a.0 (frame_text s.masking a.0.0 a.1)
 
 -- ---- the journal
 
-abbrev pub head_text : ℕ → ℕ → Text
-head_text layout next_id = number_line (codes "layout") layout ++ number_line (codes "next id") next_id
+abbrev pub head_as : Form → ℕ → ℕ → Text
+head_as form.Text layout next_id = head_text layout next_id
+head_as form.Json layout next_id = head_json layout next_id
 
-abbrev pub items_text : Masking → JournalView → Text
-items_text k v =
-    flat_map (row_text k) v.rows ++ (flat_map (shelf_text k) v.shelf ++ flat_map (advice_text k v.next_id) v.advices)
+abbrev pub items_in : Style → JournalView → Text
+items_in s v =
+    flat_map (row_in s) v.rows ++ (flat_map (waiting_in s) v.shelf ++ flat_map (advice_in s v.next_id) v.advices)
 
 -- the layout, the next id, the rows that are left out, and then transactions, shelf and advices, each in the order of the view
-abbrev pub journal_text : Masking → ℕ → List BadRow → JournalView → Text
-journal_text k layout out v = head_text layout v.next_id ++ (flat_map left_out_line out ++ items_text k v)
+abbrev pub journal_in : Style → ℕ → List BadRow → JournalView → Text
+journal_in s layout out v = head_as s.form layout v.next_id ++ (flat_map (left_out_as s.form) out ++ items_in s v)

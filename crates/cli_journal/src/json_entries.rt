@@ -1,16 +1,13 @@
-//! A context as lines of JSON.
+//! The line of JSON of an entry of a context.
 
-ghost use Rattle.std.specs.Prelude.{◌≡◌, ◌++◌, codes, OnOk};
-ghost use Rattle.std.specs.List.{flat_map};
-ghost use Rattle.cli_decode.specs.Decoded.{frame_text};
-ghost use Rattle.sw_json.specs.Json.{text as text_member};
+ghost use Rattle.std.specs.Prelude.{◌≡◌, ◌++◌, OnOk};
 ghost use Rattle.cli_journal.specs.Json as spec;
 
-use crate::entries::{is_masked, is_message, is_text, push_message};
+use crate::entries::{is_masked, is_message, is_text, message_text};
+use crate::owner::Owner;
 use cli_decode::Masking;
 use iso_codec::push_hex;
 use std::alloc::{AllocError, Global};
-use sw_context::{Context, ContextError};
 use sw_json::{push_number_member, push_opening, push_text_member};
 
 fn push_value(alloc: Global, text: &mut Vec<u8>, value: &[u8]) -> Result<(), AllocError>
@@ -22,22 +19,6 @@ fn push_value(alloc: Global, text: &mut Vec<u8>, value: &[u8]) -> Result<(), All
     let mut digits = Vec::new(alloc);
     push_hex(&mut digits, value)?;
     push_text_member(text, "hex", digits.as_slice())
-}
-
-/// Adds a message as `decode` prints it.
-pub fn push_message_member(
-    alloc: Global,
-    text: &mut Vec<u8>,
-    masking: Masking,
-    id: u64,
-    bytes: &[u8],
-) -> Result<(), AllocError>
-    ensures { OnOk result (text.new.items
-        ≡ text.old.items ++ text_member (codes "message") (frame_text masking id bytes.now)) }
-{
-    let mut message = Vec::new(alloc);
-    push_message(alloc, &mut message, masking, id, bytes)?;
-    push_text_member(text, "message", message.as_slice())
 }
 
 fn push_note(
@@ -55,56 +36,14 @@ fn push_note(
     }
 }
 
-fn push_members(
-    alloc: Global,
-    text: &mut Vec<u8>,
-    masking: Masking,
-    id: u64,
-    name: &str,
-    value: &[u8],
-) -> Result<(), AllocError>
-    ensures { OnOk result (text.new.items
-        ≡ text.old.items ++ spec.entry_members masking id name.now value.now) }
-{
-    if is_message(name) {
-        push_number_member(text, "bytes", value.len() as u64)?;
-        push_message_member(alloc, text, masking, id, value)
-    } else {
-        push_note(alloc, text, is_masked(masking, name), value)
-    }
-}
-
-/// Whose context is shown, by its id.
-#[derive(Clone, Copy)]
-pub enum Owner {
-    Transaction(u64),
-    Shelf(u64),
-}
-
-fn owner_word(owner: Owner) -> &'static str
-    ensures { result.now ≡ spec.owner_word owner }
-{
-    match owner {
-        Owner::Transaction(_) => "transaction",
-        Owner::Shelf(_) => "shelf",
-    }
-}
-
-fn owner_id(owner: Owner) -> u64
-    ensures { result ≡ spec.owner_id owner }
-{
-    match owner {
-        Owner::Transaction(id) | Owner::Shelf(id) => id,
-    }
-}
-
 fn push_owner(text: &mut Vec<u8>, owner: Owner) -> Result<(), AllocError>
     ensures { OnOk result (text.new.items ≡ text.old.items ++ spec.owner_opening owner) }
 {
-    push_opening(text, owner_word(owner), owner_id(owner))
+    push_opening(text, owner.word(), owner.id())
 }
 
-fn push_entry(
+/// Adds the line of an entry.
+pub fn push_entry(
     alloc: Global,
     text: &mut Vec<u8>,
     masking: Masking,
@@ -113,57 +52,24 @@ fn push_entry(
     value: &[u8],
 ) -> Result<(), AllocError>
     ensures { OnOk result (text.new.items
-        ≡ text.old.items ++ spec.entry_line masking owner (name.now, value.now)) }
+        ≡ text.old.items ++ spec.entry_json masking owner (name.now, value.now)) }
 {
     push_owner(text, owner)?;
     push_text_member(text, "entry", name.as_bytes())?;
-    push_members(alloc, text, masking, owner_id(owner), name, value)?;
+    if is_message(name) {
+        let message = message_text(alloc, masking, owner.id(), value)?;
+        push_number_member(text, "bytes", value.len() as u64)?;
+        push_text_member(text, "message", message.as_slice())?;
+    } else {
+        push_note(alloc, text, is_masked(masking, name), value)?;
+    }
     text.extend_from_slice(b"}\n")
 }
 
-fn push_entries(
-    alloc: Global,
-    text: &mut Vec<u8>,
-    masking: Masking,
-    owner: Owner,
-    context: &Context,
-) -> Result<(), AllocError>
-    ensures { OnOk result (text.new.items
-        ≡ text.old.items ++ flat_map (spec.entry_line masking owner) context.now) }
-{
-    for index in 0..context.len() {
-        let (Some(name), Some(value)) = (context.name_at(index), context.value_at(index)) else {
-            unreachable!()
-        };
-        push_entry(alloc, text, masking, owner, name, value)?;
-    }
-    Ok(())
-}
-
-fn push_refused(text: &mut Vec<u8>, owner: Owner) -> Result<(), AllocError>
-    ensures { OnOk result (text.new.items ≡ text.old.items
-        ++ (spec.owner_opening owner ++ codes ",\"context\":\"refused\"}\n")) }
+/// Adds the line of a context that is refused.
+pub fn push_refused(text: &mut Vec<u8>, owner: Owner) -> Result<(), AllocError>
+    ensures { OnOk result (text.new.items ≡ text.old.items ++ spec.refused_json owner) }
 {
     push_owner(text, owner)?;
     text.extend_from_slice(b",\"context\":\"refused\"}\n")
-}
-
-/// Adds a line for each entry of the context that bytes spell.
-#[tactic(auto, unfolding(crate::specs::Json::context_lines))]
-pub fn push_context_lines(
-    alloc: Global,
-    text: &mut Vec<u8>,
-    masking: Masking,
-    owner: Owner,
-    bytes: &[u8],
-) -> Result<(), AllocError>
-    ensures { OnOk result (text.new.items
-        ≡ text.old.items ++ spec.context_lines masking owner bytes.now) }
-{
-    match Context::from_bytes(alloc, bytes) {
-        Ok(context) => push_entries(alloc, text, masking, owner, &context),
-        Err(ContextError::BadBytes) => push_refused(text, owner),
-        Err(ContextError::OutOfMemory) => Err(AllocError),
-        Err(_) => unreachable!(),
-    }
 }

@@ -4,6 +4,7 @@ ghost use Rattle.std.specs.Prelude.{◌≡◌, ◌++◌, OnOk};
 ghost use Rattle.std.specs.List.{flat_map};
 ghost use Rattle.cli_journal.specs.LeftOut as spec;
 
+use crate::form::Form;
 use journal_rows::{BadRow, JournalTable};
 use std::alloc::{AllocError, Global};
 
@@ -39,24 +40,32 @@ fn push_object(alloc: Global, text: &mut Vec<u8>, bad: BadRow) -> Result<(), All
     text.extend_from_slice(line.as_bytes())
 }
 
-/// Adds the line of each row that is left out.
-pub fn push_lines(alloc: Global, text: &mut Vec<u8>, rows: &[BadRow]) -> Result<(), AllocError>
-    ensures { OnOk result (text.new.items
-        ≡ text.old.items ++ flat_map spec.left_out_line rows.now) }
+fn push_bad_row(
+    alloc: Global,
+    text: &mut Vec<u8>,
+    form: Form,
+    bad: BadRow,
+) -> Result<(), AllocError>
+    ensures { OnOk result (text.new.items ≡ text.old.items ++ spec.left_out_as form bad) }
 {
-    for bad in rows {
-        push_line(alloc, text, *bad)?;
+    match form {
+        Form::Text => push_line(alloc, text, bad),
+        Form::Json => push_object(alloc, text, bad),
     }
-    Ok(())
 }
 
-/// Adds the object of each row that is left out.
-pub fn push_objects(alloc: Global, text: &mut Vec<u8>, rows: &[BadRow]) -> Result<(), AllocError>
+/// Adds the line of each row that is left out.
+pub fn push_left_out(
+    alloc: Global,
+    text: &mut Vec<u8>,
+    form: Form,
+    rows: &[BadRow],
+) -> Result<(), AllocError>
     ensures { OnOk result (text.new.items
-        ≡ text.old.items ++ flat_map spec.left_out_json rows.now) }
+        ≡ text.old.items ++ flat_map (spec.left_out_as form) rows.now) }
 {
     for bad in rows {
-        push_object(alloc, text, *bad)?;
+        push_bad_row(alloc, text, form, *bad)?;
     }
     Ok(())
 }

@@ -2,7 +2,7 @@
 
 ghost use Rattle.std.specs.Prelude.{◌≡◌, ◌++◌, OnOk};
 ghost use Rattle.std.specs.List.{flat_map};
-ghost use Rattle.cli_journal.specs.Shown as spec;
+ghost use Rattle.cli_journal.specs.Text as spec;
 
 use cli_decode::push_number;
 use std::alloc::AllocError;

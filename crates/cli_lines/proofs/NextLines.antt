@@ -1,6 +1,7 @@
 -- The next line of what an input has to give.
 -- for: lines::Lines::next
-use Rattle.std.proofs.Common.{◌≡◌, ◌≢◌, ◌∙◌, ◌++◌, ◌∷◌, [], ◌+◌, ℕ, Bool, true, false, List, Option, Some, None, IfSome, MatchOption, ◌≤◌, length, option_map, refl, ap, sym, subst, append_assoc, append-nil, arith, length-append}
+use Rattle.std.proofs.Common.{◌≡◌, ◌≢◌, ◌∙◌, ◌++◌, ◌∷◌, [], ◌+◌, ℕ, Bool, true, false, List, Option, Some, None, IfSome, MatchOption, ◌≤◌, length, option_map}
+use Rattle.std.proofs.Common.{refl, ap, sym, subst, append_assoc, append-nil, arith, length-append}
 use Rattle.std.proofs.KnownBytes.{Consumes-kept, Consumes-trans}
 use Rattle.std.specs.Io.KnownBytes.{Consumes, IsAtEnd, Keeps, prepend_known}
 use Rattle.std.specs.List.{after_first}
@@ -85,5 +86,6 @@ found items None (Some xs) (Some ys) line left all rest given whole same taken p
 found items (Some v) (Some xs) (Some ys) line left all rest given whole same taken plain has = (
   λ none. has_some left has (no_front left ys (no_tail line (left ++ ys) (sym taken ∙ none))),
   given.1 ∙ whole ∙ ap (λ (l : List ℕ). line ++ l) (sym (first_whole left ys has)) ∙ sym (first_plain line (left ++ ys) plain) ∙ ap first_line (sym taken),
-  ap Some (ap (λ (l : List ℕ). l ++ ys) same ∙ sym (after_whole left ys has) ∙ sym (after_plain line (left ++ ys) plain) ∙ ap (after_first is_line_feed) (sym taken)),
+  ap Some (ap (λ (l : List ℕ). l ++ ys) same ∙ sym (after_whole left ys has) ∙ sym (after_plain line (left ++ ys) plain) ∙ ap (after_first is_line_feed)
+      (sym taken)),
 )

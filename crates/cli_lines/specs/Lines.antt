@@ -28,7 +28,7 @@ reads_for lines = reads_made lines.input
 abbrev pub room : {R : Type 0} → Lines R → ℕ
 room lines = 4096 * (1048576 - lines.pieces) + length (left lines.piece)
 
--- that there were too many reads is told where all that an input may make were made, or gave a piece
+-- that there were too many reads is reported where all that an input may make were made, or gave a piece
 abbrev pub IsSpent : {R : Type 0} → Lines R → ReadError → Type 0
 IsSpent lines TooManyReads = (reads_for lines ≡ 1048576) ⊎ (lines.pieces ≡ 1048576)
 IsSpent lines _ = ⊤

@@ -56,7 +56,8 @@ impl<R: Read> Lines<R> {
     // Reads the next piece where nothing is left of the last one; whether there is one.
     fn read_more(&mut self, alloc: Global) -> Result<bool, ReadError>
         requires { left self.old.piece ≡ [] }
-        ensures same { IfOk result (λ _. Keeps (to_come R.remaining self.old) (to_come R.remaining self.new)) }
+        ensures same { IfOk result (λ _. Keeps (to_come R.remaining self.old)
+            (to_come R.remaining self.new)) }
         ensures end { IfOk result (λ more. more ≡ false → IsAtEnd (to_come R.remaining self.new)) }
         ensures some { IfOk result (λ more. more ≡ true → left self.new.piece ≢ []) }
         ensures count { lines_given self.new ≡ lines_given self.old }
@@ -101,7 +102,8 @@ impl<R: Read> Lines<R> {
         ensures next { IfOk result (λ o. IsNextLine (to_come R.remaining self.old)
             (to_come R.remaining self.new) (option_map (λ line. line.items) o)) }
         ensures some { IfOk result (λ o. IfSome o (λ line. line.items ≢ [])) }
-        ensures count { IfOk result (λ o. MatchOption o (lines_given self.new ≡ lines_given self.old)
+        ensures count { IfOk result (λ o. MatchOption o
+            (lines_given self.new ≡ lines_given self.old)
             (λ _. lines_given self.new ≡ lines_given self.old + 1)) }
         ensures few { IfOk result (λ o. IfSome o (λ line.
             lines_given self.new + length line.items < 2 ^ 64)) }

@@ -28,7 +28,8 @@ impl Piece {
     /// Adds the bytes that are left up to the first line feed, and with it, to a line, or all of them
     /// where there is none; whether there is one.
     pub fn give(&mut self, line: &mut Vec<u8>) -> Result<bool, AllocError>
-        ensures gives { OnOk result (line.new.items ≡ line.old.items ++ first_line (left self.old)) }
+        ensures gives { OnOk result (line.new.items ≡ line.old.items
+            ++ first_line (left self.old)) }
         ensures leaves { OnOk result (left self.new ≡ after_first is_line_feed (left self.old)) }
         ensures ends { IfOk result (λ ends. ends ≡ has_line_feed (left self.old)) }
         ensures kept { OnErr result (left self.new ≡ left self.old) }

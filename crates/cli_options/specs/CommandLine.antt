@@ -1,6 +1,7 @@
 -- The command line of `cardswitch`: its subcommands as a table, and what words mean by it. clap's
 -- contracts say what a parse by such a table gives.
-use Rattle.std.specs.Prelude.{◌≡◌, ◌^◌, ℕ, Bool, true, false, List, [], ◌∷◌, Option, Some, None, bytes_eq, codes, option_and_then, option_map, nat_lt, ◌||◌, if◌then◌else◌}
+use Rattle.std.specs.Prelude.{◌≡◌, ◌^◌, ℕ, Bool, true, false, List, [], ◌∷◌, Option, Some, None, bytes_eq, codes, option_and_then, option_map, nat_lt, ◌||◌}
+use Rattle.std.specs.Prelude.{if◌then◌else◌}
 use Rattle.std.specs.Option.{option_map_or}
 use Rattle.sw_base.specs.Spelling.{number_spelled}
 use Rattle.std.specs.Borrow.{Bor}
@@ -77,7 +78,8 @@ encode_app = new_app (codes "encode")
 
 -- `recover --flow PATH [--config PATH] --journal PATH`
 abbrev pub recover_app : App
-recover_app = with_rule (with_rule (with_rule (new_app (codes "recover")) (needed_rule (codes "flow"))) (option_rule (codes "config"))) (needed_rule (codes "journal"))
+recover_app = with_rule (with_rule (with_rule (new_app (codes "recover")) (needed_rule (codes "flow"))) (option_rule (codes "config")))
+    (needed_rule (codes "journal"))
 
 -- `journal PATH [--json] [--clear]`
 abbrev pub journal_app : App
@@ -85,7 +87,10 @@ journal_app = with_rule (with_rule (with_rule (new_app (codes "journal")) (word_
 
 -- `run --flow PATH [--config PATH] [--journal PATH] [--sessions N] [--limit N] [--threads] [--trace[=FORM]] [--stats [N]]`
 abbrev pub run_app : App
-run_app = with_rule (with_rule (with_rule (with_rule (with_rule (with_rule (with_rule (with_rule (new_app (codes "run")) (needed_rule (codes "flow"))) (option_rule (codes "config"))) (option_rule (codes "journal"))) (option_rule (codes "sessions"))) (option_rule (codes "limit"))) (flag_rule (codes "threads"))) (optional_rule (codes "trace") (codes "text"))) (optional_rule (codes "stats") (codes "end"))
+run_app = with_rule (with_rule (with_rule (with_rule (with_rule
+    (with_rule (with_rule (with_rule (new_app (codes "run")) (needed_rule (codes "flow"))) (option_rule (codes "config"))) (option_rule (codes "journal")))
+    (option_rule (codes "sessions"))) (option_rule (codes "limit"))) (flag_rule (codes "threads"))) (optional_rule (codes "trace") (codes "text")))
+    (optional_rule (codes "stats") (codes "end"))
 
 -- the program itself: it has a version, and wants a subcommand
 abbrev pub program_app : App
@@ -95,7 +100,9 @@ program_app = record (new_app (codes "cardswitch")) {
 
 -- the program with its subcommands
 abbrev pub switch_app : App
-switch_app = with_subcommand (with_subcommand (with_subcommand (with_subcommand (with_subcommand (with_subcommand (with_subcommand (with_subcommand (with_subcommand program_app step_app.top) asm_app.top) list_app.top) graph_app.top) decode_app.top) encode_app.top) recover_app.top) journal_app.top) run_app.top
+switch_app = with_subcommand (with_subcommand (with_subcommand
+    (with_subcommand (with_subcommand (with_subcommand (with_subcommand (with_subcommand (with_subcommand program_app step_app.top) asm_app.top)
+    list_app.top) graph_app.top) decode_app.top) encode_app.top) recover_app.top) journal_app.top) run_app.top
 
 -- the text that a borrow shows
 abbrev pub text_of : Option (Bor Text) → Option Text

@@ -7,7 +7,7 @@ use Rattle.cli_options.specs.declared.error.OptionsError.{OptionsError}
 use Rattle.cli_options.specs.declared.error.OptionsError.TheVariants.{BadCommandLine, BadForm, BadNumber, NoSubcommand}
 use Rattle.cli_options.specs.declared.error.OptionsError.TheVariants.{OutOfMemory}
 
--- clap's error for want of memory is told as such, and every other error is carried
+-- clap's error for out of memory is reported as such, and every other error is carried
 abbrev pub Carries : Error → OptionsError → Type 0
 Carries e (BadCommandLine f) = (f ≡ e) × (kind_of e ≢ kind.OutOfMemory)
 Carries e NoSubcommand = ⊥

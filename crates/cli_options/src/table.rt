@@ -37,6 +37,13 @@ struct CommandRow<'a> {
     options: &'a [OptionRow<'a>],
 }
 
+const FLOW: OptionRow<'static> = OptionRow {
+    name: "flow",
+    given: Given::Value("PATH"),
+    help: "The flow file",
+    is_required: true,
+};
+
 const COMMANDS: [CommandRow<'static>; 9] = [
     CommandRow {
         name: "step",
@@ -70,12 +77,7 @@ const COMMANDS: [CommandRow<'static>; 9] = [
         name: "graph",
         about: "Prints a picture of the flow in a flow file, as a Mermaid flowchart",
         options: &[
-            OptionRow {
-                name: "flow",
-                given: Given::Value("PATH"),
-                help: "The flow file",
-                is_required: true,
-            },
+            FLOW,
             OptionRow {
                 name: "dot",
                 given: Given::Flag,
@@ -103,12 +105,7 @@ const COMMANDS: [CommandRow<'static>; 9] = [
         name: "recover",
         about: "Finishes what a journal has unfinished and prints one line for each step",
         options: &[
-            OptionRow {
-                name: "flow",
-                given: Given::Value("PATH"),
-                help: "The flow file",
-                is_required: true,
-            },
+            FLOW,
             OptionRow {
                 name: "config",
                 given: Given::Value("PATH"),
@@ -151,12 +148,7 @@ const COMMANDS: [CommandRow<'static>; 9] = [
         name: "run",
         about: "Answers the requests in frames from standard input, in frames of responses",
         options: &[
-            OptionRow {
-                name: "flow",
-                given: Given::Value("PATH"),
-                help: "The flow file",
-                is_required: true,
-            },
+            FLOW,
             OptionRow {
                 name: "config",
                 given: Given::Value("PATH"),

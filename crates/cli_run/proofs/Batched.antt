@@ -1,6 +1,7 @@
 -- A batch leaves a switch at rest, once its responses are given.
 -- for: batches::Switch, switch::Switch::run_alone
-use Rattle.std.proofs.Common.{◌≡◌, ◌<◌, ◌≤◌, ◌⊎◌, ℕ, ◌+◌, Bool, true, false, cond, inl, inr, List, [], ◌∷◌, ◌++◌, length, map, take, drop, take-append-drop, get_or, Option, Some, None, refl, sym, ap, subst, arith, ◌∙◌, append_assoc, append-nil}
+use Rattle.std.proofs.Common.{◌≡◌, ◌<◌, ◌≤◌, ◌⊎◌, ℕ, ◌+◌, Bool, true, false, cond, inl, inr, List, [], ◌∷◌, ◌++◌, length, map, take, drop, take-append-drop}
+use Rattle.std.proofs.Common.{get_or, Option, Some, None, refl, sym, ap, subst, arith, ◌∙◌, append_assoc, append-nil}
 use Rattle.std.specs.Global.{Vec}
 use Rattle.std.specs.Prelude.{option_to_list, ◌&&◌}
 use Rattle.std.proofs.lemmas.List.{length-append, map-append}
@@ -46,7 +47,8 @@ use Rattle.cli_run.proofs.Rounds.{gives_own, reports_none, reports_passed, rest_
 use Rattle.cli_run.proofs.Tracing.{lines_then}
 use Rattle.cli_run.proofs.Reporting.{for_then}
 use Rattle.cli_run.proofs.Readings.{requests_append, requests_next}
-use Rattle.cli_run.proofs.Stops.{halts_then, nothing_next, of_batches_append, offered_append, retries_are_of_batches, retries_offer_none, toward_before, toward_then}
+use Rattle.cli_run.proofs.Stops.{halts_then, nothing_next, of_batches_append, offered_append, retries_are_of_batches, retries_offer_none, toward_before}
+use Rattle.cli_run.proofs.Stops.{toward_then}
 
 together_seated : (xs : List Pairs) (p q : Point) → Seated p.plant.core → Together xs p q → Seated q.plant.core
 together_seated xs p q seated t = all_seated (Done t.turns t.outcomes ∷ []) t.acts.moved p.plant q.plant seated t.acts.driven
@@ -91,7 +93,8 @@ rest_below_by a n (e ∷ es) lt none = by_test (is_lt (nat_cmp a e.0)) refl none
   cons_nil : (x : ℕ × Pairs) (xs : List (ℕ × Pairs)) → x ∷ xs ≡ [] → ⊥
   cons_nil x xs e = cc
 
-  by_test : (b : Bool) → is_lt (nat_cmp a e.0) ≡ b → cond (b && true) (e ∷ above a es) (above a es) ≡ [] → (above a es ≡ [] → AreBelow n es) → AreBelow n (e ∷ es)
+  by_test : (b : Bool) → is_lt (nat_cmp a e.0) ≡ b → cond (b && true) (e ∷ above a es) (above a es) ≡ [] → (above a es ≡ [] → AreBelow n es) →
+      AreBelow n (e ∷ es)
   by_test true is nothing ih = absurd (cons_nil e (above a es) nothing)
   by_test false is nothing ih = (let le : e.0 ≤ a = ge_from_not_lt a e.0 is in omega (arith, le, lt), ih nothing)
 
@@ -129,14 +132,17 @@ together_rests xs p q rest t = let seated = together_seated xs p q rest.seated t
 
 lone_offered : (x : Pairs) (own : Option Pairs) (p e : Point) → IsAtRest p → (l : Lone x p own e) → IsAtRest l.offered
 lone_offered x own p e rest l =
-    offered_rest x l.outcome p l.offered rest l.offers (all_seated (doing (turn.Offer x) (l.outcome, l.offers.wrote) ∷ []) l.offers.acts.moved p.plant l.offered.plant rest.seated l.offers.acts.driven)
+    offered_rest x l.outcome p l.offered rest l.offers (all_seated (doing (turn.Offer x) (l.outcome, l.offers.wrote) ∷ []) l.offers.acts.moved p.plant
+    l.offered.plant rest.seated l.offers.acts.driven)
 
 pub lone_rests : (x : Pairs) (own : Option Pairs) (p e : Point) → IsAtRest p → Lone x p own e → Seated e.plant.core → RestsGiven e
 lone_rests x own p e rest l seated = rest_given l.offered e own (lone_offered x own p e rest l) l.transacts seated
 
 -- what the pool promises of a run over a list
-pub together_of : (xs : List Pairs) (rule : ℕ → Rule) (os ps : List (List ℕ)) (cs ds : List ℕ) (p q : Whole) (id : Progress) (source : Listing) (after : List Pairs) (ended : Bool) → source ≡ listing xs 0 false → Drove rule os cs p ps ds q → Grown p.core.world q.core.world
-    → Offered p.core.world q.core.world (given_of source) after ended → after ≡ source.list → IsSettled q.core.world → Together xs (record { plant = p; answered = id }) (record { plant = q; answered = id })
+pub together_of : (xs : List Pairs) (rule : ℕ → Rule) (os ps : List (List ℕ)) (cs ds : List ℕ) (p q : Whole) (id : Progress) (source : Listing)
+    (after : List Pairs) (ended : Bool) → source ≡ listing xs 0 false → Drove rule os cs p ps ds q → Grown p.core.world q.core.world
+    → Offered p.core.world q.core.world (given_of source) after ended → after ≡ source.list → IsSettled q.core.world →
+    Together xs (record { plant = p; answered = id }) (record { plant = q; answered = id })
 together_of xs rule os ps cs ds p q id source after ended is drove grown offered whole settled =
     let (m, driven, led, counts) = drove.drives in
     let none : given_of source ≡ [] = ap given_of is in
@@ -163,7 +169,8 @@ one_request xs (y ∷ rest) o x all is few =
     let one : length (option_to_list o) ≡ 1 = ap (λ (z : Option Pairs). length (option_to_list z)) is in
     absurd (omega (arith, len, sum, one, few))
 
-pub serves_nothing : (xs : List Pairs) (p : Point) (a : Option (List ℕ)) (l : Log) → xs ≡ [] → (rounds : List Round) × RoundsFor true xs rounds × Reports rounds 0 p a l p a l
+pub serves_nothing : (xs : List Pairs) (p : Point) (a : Option (List ℕ)) (l : Log) → xs ≡ [] → (rounds : List Round) × RoundsFor true xs rounds
+    × Reports rounds 0 p a l p a l
 serves_nothing xs p a l none = ([], (sym none, tt), reports_none p a l)
 
 -- these requests were answered
@@ -176,12 +183,13 @@ answers_same xs ys p q a b k l is h = subst (λ (zs : List Pairs). AnswersAll zs
 pub halts_same : (xs ys : List Pairs) (p : Point) (a b : Option (List ℕ)) → xs ≡ ys → HaltsToward true ys p a b → HaltsToward true xs p a b
 halts_same xs ys p a b is h = subst (λ (zs : List Pairs). HaltsToward true zs p a b) (sym is) h
 
--- what comes behind a batch
+-- what comes after a batch
 
 pub given_drains : (p q : Point) (a b : Option (List ℕ)) → q ≡ all_answered p → DrainsSome q a b → DrainsSome (all_answered p) a b
 given_drains p q a b same h = subst (λ (z : Point). DrainsSome z a b) same h
 
-pub finished : (text : List ℕ) (p q r t : Point) (a b c : Option (List ℕ)) (k l m : Log) → AreFramed text (responses (unanswered p)) → Appends a b text → q ≡ all_answered p → DrainsAll q b k r c l → Cuts r l t m → Finishes p a k t c m
+pub finished : (text : List ℕ) (p q r t : Point) (a b c : Option (List ℕ)) (k l m : Log) → AreFramed text (responses (unanswered p)) → Appends a b text →
+    q ≡ all_answered p → DrainsAll q b k r c l → Cuts r l t m → Finishes p a k t c m
 finished text p q r t a b c k l m framed gives same drains cuts = record {
   text = text;
   framed = framed;
@@ -204,7 +212,15 @@ pub batch_leads : (xs : List Pairs) (p e : Point) → 2 ≤ length xs → length
 batch_leads xs p e some few ready together = record {
   offers = λ rs. refl;
   of = (some, few);
-  goes = λ text framed. (ready, all_answered e, text, [], record { ended = e; together = together; gives = framed; answered = refl }, (refl, refl, refl), sym (append-nil text));
+  goes = λ text framed. (
+    ready,
+    all_answered e,
+    text,
+    [],
+    record { ended = e; together = together; gives = framed; answered = refl },
+    (refl, refl, refl),
+    sym (append-nil text),
+  );
   next = λ text framed. inr (record { ended = e; together = together; framed = framed });
 }
 
@@ -226,10 +242,12 @@ lone_leads x own p e ready l =
       next = λ text framed. inr (record { own = own; ended = e; lone = l; framed = gives_own l.offered e own text rest l.transacts framed });
     }
 
-abbrev round_given : (xs : List Pairs) (r : Round) (p e : Point) (text : List ℕ) (a b : Option (List ℕ)) → Leads xs r p e → AreFramed text (responses (unanswered e)) → Appends a b text → Serves (r ∷ []) p a (all_answered e) b
+abbrev round_given : (xs : List Pairs) (r : Round) (p e : Point) (text : List ℕ) (a b : Option (List ℕ)) → Leads xs r p e →
+    AreFramed text (responses (unanswered e)) → Appends a b text → Serves (r ∷ []) p a (all_answered e) b
 round_given xs r p e text a b leads framed appends = record { bytes = text; lines = []; goes = leads.goes text framed; appends = appends }
 
-pub serves_finished : (xs : List Pairs) (r : Round) (p e q : Point) (a b : Option (List ℕ)) (k l : Log) → Leads xs r p e → Finishes e a k q b l → AnswersAll xs p a k q b l
+pub serves_finished : (xs : List Pairs) (r : Round) (p e q : Point) (a b : Option (List ℕ)) (k l : Log) → Leads xs r p e → Finishes e a k q b l →
+    AnswersAll xs p a k q b l
 serves_finished xs r p e q a b k l leads f =
     let d = f.drains.drains in
     let rs = d.rounds in
@@ -247,7 +265,7 @@ serves_finished xs r p e q a b k l leads f =
       },
     )
 
--- they were run, up to an error behind them
+-- they were run, up to an error after them
 pub halts_finished : (xs : List Pairs) (r : Round) (p e : Point) (a b : Option (List ℕ)) → Leads xs r p e → Unfinished e a b → HaltsToward true xs p a b
 halts_finished xs r p e a b leads (inl (text, is, written)) = (
   r ∷ [],
@@ -272,18 +290,22 @@ halts_finished xs r p e a b leads (inr given) =
       r ∷ rs,
       (
         [],
-        sym (append-nil (offered_in (r ∷ rs)) ∙ (leads.offers rs ∙ (ap (λ (l : List Pairs). xs ++ l) (retries_offer_none rs given.drains.retries) ∙ append-nil xs))),
+        sym (append-nil (offered_in (r ∷ rs)) ∙ (leads.offers rs ∙ (ap (λ (l : List Pairs). xs ++ l) (retries_offer_none rs given.drains.retries)
+            ∙ append-nil xs))),
         (leads.of, retries_are_of_batches rs given.drains.retries),
       ),
-      halts_then (r ∷ []) rs p (all_answered e) a given.between b (round_given xs r p e given.text a given.between leads given.framed given.gives) given.drains.halts,
+      halts_then (r ∷ []) rs p (all_answered e) a given.between b (round_given xs r p e given.text a given.between leads given.framed given.gives)
+          given.drains.halts,
     )
 
 -- batches of a list of messages
 
-pub request_more : (list : List (Vec ℕ)) (i : ℕ) (m : Vec ℕ) (bytes : List ℕ) (found now : List Pairs) (o : Option Pairs) → i < length list → m ≡ get_or list i m → bytes ≡ m.items → found ≡ requests (messages (take i list))
+pub request_more : (list : List (Vec ℕ)) (i : ℕ) (m : Vec ℕ) (bytes : List ℕ) (found now : List Pairs) (o : Option Pairs) → i < length list →
+    m ≡ get_or list i m → bytes ≡ m.items → found ≡ requests (messages (take i list))
     → option_to_list o ≡ map request_of (if_read (read bytes) bytes) → now ≡ found ++ option_to_list o → now ≡ requests (messages (take (i + 1) list))
 request_more list i m bytes found now o lt at is so_far one more =
-    more ∙ (ap (λ (l : List Pairs). l ++ option_to_list o) so_far ∙ (ap (λ (l : List Pairs). requests (messages (take i list)) ++ l) one ∙ sym (requests_next list i m bytes lt at is)))
+    more ∙ (ap (λ (l : List Pairs). l ++ option_to_list o) so_far ∙ (ap (λ (l : List Pairs). requests (messages (take i list)) ++ l) one
+    ∙ sym (requests_next list i m bytes lt at is)))
 
 at_most_one : (o : Option Pairs) → length (option_to_list o) ≤ 1
 at_most_one None = omega arith
@@ -296,14 +318,17 @@ few_more found now o i more few =
     let one = at_most_one o in
     omega (arith, len, sum, one, few)
 
-pub split_more : (all rest front back : List (Vec ℕ)) (first : List (List ℕ)) (n : ℕ) → messages all ≡ first ++ messages rest → front ≡ take n rest → back ≡ drop n rest → messages all ≡ (first ++ messages front) ++ messages back
+pub split_more : (all rest front back : List (Vec ℕ)) (first : List (List ℕ)) (n : ℕ) → messages all ≡ first ++ messages rest → front ≡ take n rest →
+    back ≡ drop n rest → messages all ≡ (first ++ messages front) ++ messages back
 split_more all rest front back first n so_far is are =
-    let halves : messages (take n rest ++ drop n rest) ≡ messages (take n rest) ++ messages (drop n rest) = map-append (λ (v : Vec ℕ). v.items) (take n rest) (drop n rest) in
+    let halves : messages (take n rest ++ drop n rest) ≡ messages (take n rest) ++ messages (drop n rest) =
+    map-append (λ (v : Vec ℕ). v.items) (take n rest) (drop n rest) in
     let whole : messages rest ≡ messages front ++ messages back = ap messages (sym (take-append-drop n rest)) ∙ (halves ∙ rw (is, are) refl) in
     so_far ∙ (ap (λ (l : List (List ℕ)). first ++ l) whole ∙ sym (append_assoc first (messages front) (messages back)))
 
 -- the batches of more messages, some of which may be passed over first
-pub frames_then : (frames more : List (List ℕ)) (xs : List Pairs) (p q r : Point) (a b c : Option (List ℕ)) (k l m o : Log) → xs ≡ requests more → ReportsFor true frames p a k q b l → Tells [] (passed_over more) l m
+pub frames_then : (frames more : List (List ℕ)) (xs : List Pairs) (p q r : Point) (a b c : Option (List ℕ)) (k l m o : Log) → xs ≡ requests more →
+    ReportsFor true frames p a k q b l → Tells [] (passed_over more) l m
     → (rounds : List Round) × RoundsFor true xs rounds × Reports rounds 0 q b m r c o → ReportsFor true (frames ++ more) p a k r c o
 frames_then frames more xs p q r a b c k l m o is s passed (rounds, answers, reports) =
     for_then true frames more p q r a b c k l o s (record {
@@ -312,16 +337,20 @@ frames_then frames more xs p q r a b c k l m o is s passed (rounds, answers, rep
       reports = reports_passed rounds (passed_over more) q r b c l m o passed reports;
     })
 
--- a batch that failed, behind those before it
-pub frames_halt : (all : List (Vec ℕ)) (first more others : List (List ℕ)) (xs : List Pairs) (p q : Point) (a b c : Option (List ℕ)) → messages all ≡ (first ++ more) ++ others → xs ≡ requests more → ServesFor true (requests first) p a q b → HaltsToward true xs q b c → HaltsToward true (requests (messages all)) p a c
+-- a batch that failed, after those before it
+pub frames_halt : (all : List (Vec ℕ)) (first more others : List (List ℕ)) (xs : List Pairs) (p q : Point) (a b c : Option (List ℕ)) →
+    messages all ≡ (first ++ more) ++ others → xs ≡ requests more → ServesFor true (requests first) p a q b → HaltsToward true xs q b c →
+    HaltsToward true (requests (messages all)) p a c
 frames_halt all first more others xs p q a b c split is s h =
     let here = toward_then true (requests first) xs p q a b c s h in
     let whole : (requests first ++ xs) ++ requests others ≡ requests (messages all) =
-    ap (λ (l : List Pairs). (requests first ++ l) ++ requests others) is ∙ (ap (λ (l : List Pairs). l ++ requests others) (sym (requests_append first more)) ∙ (sym (requests_append (first ++ more) others) ∙ ap requests (sym split))) in
+    ap (λ (l : List Pairs). (requests first ++ l) ++ requests others) is ∙ (ap (λ (l : List Pairs). l ++ requests others) (sym (requests_append first more))
+    ∙ (sym (requests_append (first ++ more) others) ∙ ap requests (sym split))) in
     subst (λ (l : List Pairs). HaltsToward true l p a c) whole (toward_before true (requests first ++ xs) (requests others) p a c here)
 
 -- all batches were run
-pub frames_all : (all rest : List (Vec ℕ)) (first : List (List ℕ)) (p q : Point) (a b : Option (List ℕ)) (k l : Log) → messages all ≡ first ++ messages rest → length rest ≤ 0 → ReportsFor true first p a k q b l → ReportsFor true (messages all) p a k q b l
+pub frames_all : (all rest : List (Vec ℕ)) (first : List (List ℕ)) (p q : Point) (a b : Option (List ℕ)) (k l : Log) →
+    messages all ≡ first ++ messages rest → length rest ≤ 0 → ReportsFor true first p a k q b l → ReportsFor true (messages all) p a k q b l
 frames_all all [] first p q a b k l split none s = subst (λ (fs : List (List ℕ)). ReportsFor true fs p a k q b l) (sym (split ∙ append-nil first)) s
 frames_all all (m ∷ rest) first p q a b k l split none s = absurd (omega (arith, none))
 
@@ -329,5 +358,6 @@ frames_all all (m ∷ rest) first p q a b k l split none s = absurd (omega (arit
 pub for_these : (threads one : Bool) (xs : List Pairs) (rounds : List Round) → threads ≡ one → RoundsFor one xs rounds → RoundsFor threads xs rounds
 for_these threads one xs rounds is h = subst (λ (b : Bool). RoundsFor b xs rounds) (sym is) h
 
-pub some_for : (step : AdviceStep) (threads one : Bool) (input : Option (List ℕ)) (p : Point) (s : PlainAdvisor) (a b : Option (List ℕ)) → threads ≡ one → ServesSome step one input p s a b → ServesSome step threads input p s a b
+pub some_for : (step : AdviceStep) (threads one : Bool) (input : Option (List ℕ)) (p : Point) (s : PlainAdvisor) (a b : Option (List ℕ)) → threads ≡ one →
+    ServesSome step one input p s a b → ServesSome step threads input p s a b
 some_for step threads one input p s a b is h = subst (λ (t : Bool). ServesSome step t input p s a b) (sym is) h

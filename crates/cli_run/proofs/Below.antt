@@ -49,7 +49,8 @@ equal_at_most n m e = omega (arith, e)
 
 -- a take
 
-below_fate : (row : Option (ℕ × Option Row)) (item : Option (ℕ × Waiting)) (n : ℕ) (t : Seat) (es : List (ℕ × Pairs)) → t.id < n → AreBelow n es → AreBelow n (ended_by (fate_by row item) t es)
+below_fate : (row : Option (ℕ × Option Row)) (item : Option (ℕ × Waiting)) (n : ℕ) (t : Seat) (es : List (ℕ × Pairs)) → t.id < n → AreBelow n es →
+    AreBelow n (ended_by (fate_by row item) t es)
 below_fate None item n t es lt h = h
 below_fate (Some (k, Some r)) item n t es lt h = h
 below_fate (Some (k, None)) None n t es lt h = below_insert n t.id t.context es lt h
@@ -94,7 +95,8 @@ held_below p s l seated there =
     let serves = (holds_serves p.world.flow p.world.start p.world.past s l.id held).0 in
     (serves_below p.world.flow p.world.start p.world.past s l.id seated.engine.start.view.ordered serves).1
 
-adds_below : (p q : Core) (s : ℕ) → Seated p → next_id q.world.start q.world.past ≡ next_id p.world.start p.world.past → Adds s p q → EndedBelow p → EndedBelow q
+adds_below : (p q : Core) (s : ℕ) → Seated p → next_id q.world.start q.world.past ≡ next_id p.world.start p.world.past → Adds s p q → EndedBelow p →
+    EndedBelow q
 adds_below p q s seated same (inl none) h = below_kept p q h none (equal_at_most _ _ same)
 adds_below p q s seated same (inr (l, x, there, more)) h =
     subst (λ (n : ℕ). AreBelow n q.ended) (sym same) (subst (AreBelow (next_id p.world.start p.world.past)) (sym more)
@@ -107,7 +109,8 @@ stepped_below p q s m x seated stepped h =
 
 -- a write
 
-writes_next : (most : Option ℕ) (w to : World) (j k : Seen) (x : Result Outcome JournalError) → Writes most w j x to k → next_id to.start to.past ≡ next_id w.start w.past
+writes_next : (most : Option ℕ) (w to : World) (j k : Seen) (x : Result Outcome JournalError) → Writes most w j x to k →
+    next_id to.start to.past ≡ next_id w.start w.past
 writes_next most w to j k (Ok (outcome.Written n)) (a, e, b, c) = ap (λ (z : World). next_id z.start z.past) e
 writes_next most w to j k (Ok (outcome.Accepted n)) h = absurd h
 writes_next most w to j k (Ok (outcome.Refused n)) h = absurd h
@@ -118,7 +121,8 @@ writes_next most w to j k (Ok (outcome.Restarted n)) h = absurd h
 writes_next most w to j k (Ok (outcome.Cut n)) h = absurd h
 writes_next most w to j k (Err x) (e, b) = ap (λ (z : World). next_id z.start z.past) e
 
-world_below : (p q : Core) → q ≡ record p { world = q.world } → next_id q.world.start q.world.past ≡ next_id p.world.start p.world.past → EndedBelow p → EndedBelow q
+world_below : (p q : Core) → q ≡ record p { world = q.world } → next_id q.world.start q.world.past ≡ next_id p.world.start p.world.past → EndedBelow p →
+    EndedBelow q
 world_below p q is same h = below_kept p q h (ap (λ (c : Core). c.ended) is) (equal_at_most _ _ same)
 
 -- a stop
@@ -146,12 +150,15 @@ stopped_below m p q (Err e) s h = same_below m p.core q.core s.0 h
 logged_below : (t : Turn) (m : List Moved) (p q : Whole) (r : Result Outcome PlantError) → Logged t m p r q → EndedBelow p.core → EndedBelow q.core
 logged_below t m p q r (none, core, (x, raised, logs, journal)) h = world_below p.core q.core core (logged_still p.core.world q.core.world t x logs).next h
 
-turned_below : (t : Turn) (r : Result Outcome PlantError) (m : List Moved) (p q : Whole) → Seated p.core → Turned t r m p q → EndedBelow p.core → EndedBelow q.core
+turned_below : (t : Turn) (r : Result Outcome PlantError) (m : List Moved) (p q : Whole) → Seated p.core → Turned t r m p q → EndedBelow p.core →
+    EndedBelow q.core
 turned_below (turn.Take s) r m p q seated (x, raised, took, journal) h = takes_below p.core q.core s m x took h
 turned_below (turn.Step s) r m p q seated (x, raised, stepped, journal) h = stepped_below p.core q.core s m x seated stepped h
-turned_below (turn.Write most) r m p q seated (none, core, x, fault, writes) h = world_below p.core q.core core (writes_next most p.core.world q.core.world p.journal q.journal x writes) h
+turned_below (turn.Write most) r m p q seated (none, core, x, fault, writes) h =
+    world_below p.core q.core core (writes_next most p.core.world q.core.world p.journal q.journal x writes) h
 turned_below turn.Stop r m p q seated stops h = stopped_below m p q r stops h
-turned_below turn.Cut r m p q seated (none, core, (x, raised, cuts, journal)) h = world_below p.core q.core core (cut_still p.core.world q.core.world x cuts).next h
+turned_below turn.Cut r m p q seated (none, core, (x, raised, cuts, journal)) h =
+    world_below p.core q.core core (cut_still p.core.world q.core.world x cuts).next h
 turned_below (turn.Offer x) r m p q seated logged h = logged_below (turn.Offer x) m p q r logged h
 turned_below turn.Release r m p q seated logged h = logged_below turn.Release m p q r logged h
 turned_below (turn.Ack id place) r m p q seated logged h = logged_below (turn.Ack id place) m p q r logged h
@@ -159,7 +166,8 @@ turned_below (turn.Break name) r m p q seated logged h = logged_below (turn.Brea
 turned_below (turn.Clear name) r m p q seated logged h = logged_below (turn.Clear name) m p q r logged h
 turned_below (turn.LetGo s) r m p q seated logged h = logged_below (turn.LetGo s) m p q r logged h
 
-pub driven_below : (ts : List Turn) (os : List Outcome) (m : List Moved) (p q : Whole) → Seated p.core → Driven ts os m p q → EndedBelow p.core → EndedBelow q.core
+pub driven_below : (ts : List Turn) (os : List Outcome) (m : List Moved) (p q : Whole) → Seated p.core → Driven ts os m p q → EndedBelow p.core →
+    EndedBelow q.core
 driven_below [] [] m p q seated (none, same) h = subst (λ (z : Whole). EndedBelow z.core) (sym same) h
 driven_below (t ∷ ts) (o ∷ os) m p q seated (w, first, later, turned, driven, all, goes) h =
     driven_below ts os later w q (turned_seated t (Ok o) first p w seated goes turned) driven (turned_below t (Ok o) first p w seated turned h)

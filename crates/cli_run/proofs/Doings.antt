@@ -1,6 +1,7 @@
 -- Turns with the writes of their entries, one after the other.
 -- for: switch::Switch, serving::Switch, advices::send_advices
-use Rattle.std.proofs.Common.{◌≡◌, ◌≤◌, ℕ, ◌+◌, List, [], ◌∷◌, ◌++◌, length, Option, Some, None, Result, Ok, Err, refl, sym, ap, subst, arith, ◌∙◌, append_assoc}
+use Rattle.std.proofs.Common.{◌≡◌, ◌≤◌, ℕ, ◌+◌, List, [], ◌∷◌, ◌++◌, length, Option, Some, None, Result, Ok, Err, refl, sym, ap, subst, arith, ◌∙◌}
+use Rattle.std.proofs.Common.{append_assoc}
 use Rattle.std.proofs.lemmas.List.{length-append, length-drop}
 use Rattle.std.specs.Option.{option_to_list}
 use Rattle.std.specs.declared.alloc.AllocError.{AllocError}
@@ -40,14 +41,16 @@ acts_then ds es p q r a b = record {
 }
 
 -- one call of `drive`
-pub acts_once : (turns : List Turn) (outcomes : List Outcome) (m : List Moved) (p q : Whole) (id : Progress) → Driven turns outcomes m p q → Acts (Done turns outcomes ∷ []) (record { plant = p; answered = id }) (record { plant = q; answered = id })
+pub acts_once : (turns : List Turn) (outcomes : List Outcome) (m : List Moved) (p q : Whole) (id : Progress) → Driven turns outcomes m p q →
+    Acts (Done turns outcomes ∷ []) (record { plant = p; answered = id }) (record { plant = q; answered = id })
 acts_once turns outcomes m p q id driven = record { moved = m ++ []; driven = (q, m, [], driven, (refl, refl), refl); answered = refl }
 
 -- after a write of all entries every entry is written
 
 pub entries_length : (f : Flow) (v : Start) (past : List Event) → length (entries f v past) ≡ length past
 entries_length f v [] = refl
-entries_length f v (e ∷ past) = let h = entries_length f v past in omega (arith, h, length-append (entries f v past) (record { number = length past + 1; event = e; change = change f v (e ∷ past) } ∷ []))
+entries_length f v (e ∷ past) = let h = entries_length f v past in
+    omega (arith, h, length-append (entries f v past) (record { number = length past + 1; event = e; change = change f v (e ∷ past) } ∷ []))
 
 same_outcome : {E : Type 0} (x y : Outcome) → ◌≡◌ {A = Result Outcome E} (Ok x) (Ok y) → x ≡ y
 same_outcome x y e = cc
@@ -88,7 +91,8 @@ pub record Marked (p q : Whole) : Type 0 where
 
 marked_by : (o : Outcome) (m : List Moved) (p q : Whole) → Turned (turn.Write None) (Ok o) m p q → GoesOn (turn.Write None) p q → Marked p q
 marked_by o m p q (none, core, x, same, writes) go =
-    let w = wrote p.core.world q.core.world p.journal q.journal o (unfaulted (λ y. Writes None p.core.world p.journal y q.core.world q.journal) o x same writes) in
+    let w = wrote p.core.world q.core.world p.journal q.journal o (unfaulted (λ y. Writes None p.core.world p.journal y q.core.world q.journal) o x same
+    writes) in
     record {
       mark = w.mark;
       core = core ∙ ap (λ (z : World). record p.core { world = z }) w.world;
@@ -101,7 +105,7 @@ marked (o ∷ []) m p q (w, first, later, turned, (none, same), all, go) =
     (o, refl, subst (Marked p) (sym same) (marked_by o first p w turned go))
 marked (o ∷ x ∷ os) m p q (w, first, later, turned, driven, all, go) = absurd driven
 
--- the outcomes of a turn and of the write behind it
+-- the outcomes of a turn and of the write after it
 pub record Two (t : Turn) (os : List Outcome) (p q : Whole) : Type 0 where
   pub first : Outcome
   pub second : Outcome
@@ -141,7 +145,8 @@ did t o p q does = by_driven does.acts.driven where
 head_is : (o u : Outcome) (us vs : List Outcome) → o ∷ us ≡ u ∷ vs → o ≡ u
 head_is o u us vs e = cc
 
-pub does_turn : (t : Turn) (os rest : List Outcome) (m : List Moved) (p q : Whole) (id : Progress) (o : Outcome) → Driven (t ∷ turn.Write None ∷ []) os m p q → os ≡ o ∷ rest → IsDone o
+pub does_turn : (t : Turn) (os rest : List Outcome) (m : List Moved) (p q : Whole) (id : Progress) (o : Outcome) →
+    Driven (t ∷ turn.Write None ∷ []) os m p q → os ≡ o ∷ rest → IsDone o
     → Does t o (record { plant = p; answered = id }) (record { plant = q; answered = id })
 does_turn t os rest m p q id o driven is done =
     let two = both_done t os m p q driven in
@@ -149,7 +154,8 @@ does_turn t os rest m p q id o driven is done =
     let both : os ≡ o ∷ two.second ∷ [] = two.both ∙ ap (λ (u : Outcome). u ∷ two.second ∷ []) first in
     record {
       wrote = two.second;
-      acts = acts_once (t ∷ turn.Write None ∷ []) (o ∷ two.second ∷ []) m p q id (subst (λ (l : List Outcome). Driven (t ∷ turn.Write None ∷ []) l m p q) both driven);
+      acts = acts_once (t ∷ turn.Write None ∷ []) (o ∷ two.second ∷ []) m p q id (subst (λ (l : List Outcome). Driven (t ∷ turn.Write None ∷ []) l m p q)
+          both driven);
       done = done;
       written = two.written;
     }

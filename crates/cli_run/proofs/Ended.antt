@@ -1,6 +1,7 @@
 -- The contexts of the transactions that ended, above an id.
 -- for: given::text_above, given::last_above
-use Rattle.std.proofs.Common.{◌≡◌, ℕ, ◌<◌, ◌≤◌, ◌==◌, Bool, true, false, cond, List, [], ◌∷◌, ◌++◌, length, Option, Some, None, refl, sym, ap, subst, arith, ◌∙◌, suc, zero, append-nil}
+use Rattle.std.proofs.Common.{◌≡◌, ℕ, ◌<◌, ◌≤◌, ◌==◌, Bool, true, false, cond, List, [], ◌∷◌, ◌++◌, length, Option, Some, None, refl, sym, ap, subst, arith}
+use Rattle.std.proofs.Common.{◌∙◌, suc, zero, append-nil}
 use Rattle.std.specs.Prelude.{slice_get, All, nat_lt, ◌&&◌}
 use Rattle.std.specs.Ordering.{is_lt, nat_cmp}
 use Rattle.std.specs.declared.cmp.Ordering.TheVariants.{Equal, Greater}
@@ -40,7 +41,8 @@ last_of_any a b n [] lt h = absurd (omega (arith, lt, h))
 last_of_any a b n (e ∷ es) lt h = h
 
 -- the last context is the last above an id, if it is above
-pub last_is_above : (id : ℕ) (es : List (ℕ × Pairs)) (k n : ℕ) (x : Pairs) → suc k ≡ length es → slice_get es k ≡ Some (n, x) → id < n → last_id id (above id es) ≡ n
+pub last_is_above : (id : ℕ) (es : List (ℕ × Pairs)) (k n : ℕ) (x : Pairs) → suc k ≡ length es → slice_get es k ≡ Some (n, x) → id < n →
+    last_id id (above id es) ≡ n
 last_is_above id [] k n x long h lt = absurd (cc)
 last_is_above id (e ∷ es) zero n x long h lt =
     let same : e ≡ (n, x) = cc in
@@ -62,7 +64,8 @@ with_response_before (Some r) rs ss = refl
 
 responses_more : (es : List (ℕ × Pairs)) (e : ℕ × Pairs) → responses (es ++ e ∷ []) ≡ responses es ++ with_response (response e.1) []
 responses_more [] e = refl
-responses_more (f ∷ es) e = ap (with_response (response f.1)) (responses_more es e) ∙ with_response_before (response f.1) (responses es) (with_response (response e.1) [])
+responses_more (f ∷ es) e = ap (with_response (response f.1)) (responses_more es e) ∙ with_response_before (response f.1) (responses es)
+    (with_response (response e.1) [])
 
 pub one_frame : (o : Option (List ℕ)) (r text : List ℕ) → o ≡ Some r → Framed text r → AreFramed text (with_response o [])
 one_frame o r text is framed = rw is (text, [], sym (append-nil text), framed, refl)
@@ -71,8 +74,10 @@ pub no_frame : (o : Option (List ℕ)) → o ≡ None → AreFramed [] (with_res
 no_frame o is = rw is refl
 
 -- the frame of one context's response more
-pub framed_more : (text framed : List ℕ) (es : List (ℕ × Pairs)) (e : ℕ × Pairs) → AreFramed text (responses es) → AreFramed framed (with_response (response e.1) []) → AreFramed (text ++ framed) (responses (es ++ e ∷ []))
-framed_more text framed es e h k = subst (AreFramed (text ++ framed)) (sym (responses_more es e)) (AreFramed-append text (responses es) framed (with_response (response e.1) []) h k)
+pub framed_more : (text framed : List ℕ) (es : List (ℕ × Pairs)) (e : ℕ × Pairs) → AreFramed text (responses es) →
+    AreFramed framed (with_response (response e.1) []) → AreFramed (text ++ framed) (responses (es ++ e ∷ []))
+framed_more text framed es e h k = subst (AreFramed (text ++ framed)) (sym (responses_more es e))
+    (AreFramed-append text (responses es) framed (with_response (response e.1) []) h k)
 
 pub last_more : (id : ℕ) (es : List (ℕ × Pairs)) (e : ℕ × Pairs) → last_id id (es ++ e ∷ []) ≡ e.0
 last_more id [] e = refl

@@ -24,26 +24,32 @@ use Rattle.cli_run.proofs.Runs.{FirstRecovers, advisor_is, begun, begun_next}
 use Rattle.cli_run.proofs.Stops.{drains_all}
 
 pub unprinted : (f : Flow) (n : ℕ) (view : JournalView) (j : Seen) (made : Whole) (first : ℕ) (id : Progress) (r : Point) (a b : Option (List ℕ))
-    → IsMade f n view j made → first ≡ made.core.world.start.view.next_id → id ≡ begun_in made.core.world first → FirstRecovers (record { plant = made; answered = id }) r → AppendsBeginning a b (written_as Text (lines_in (world_at r))) → Unprinted f n j a b
+    → IsMade f n view j made → first ≡ made.core.world.start.view.next_id → id ≡ begun_in made.core.world first →
+    FirstRecovers (record { plant = made; answered = id }) r → AppendsBeginning a b (written_as Text (lines_in (world_at r))) → Unprinted f n j a b
 unprinted f n view j made first id r a b is first_at before recovers written = record {
   recovered = r;
   begins = begun f n view j made first id r is first_at before recovers;
   written = written;
 }
 
-pub stopped : (step : AdviceStep) (advisor : PlainAdvisor) (sender : PlainSender) (most : ℕ) (threads : Bool) (f : Flow) (n : ℕ) (view : JournalView) (j : Seen) (made : Whole) (first : ℕ) (id : Progress) (r : Point) (input a b : Option (List ℕ))
-    → IsMade f n view j made → first ≡ made.core.world.start.view.next_id → id ≡ begun_in made.core.world first → FirstRecovers (record { plant = made; answered = id }) r → advisor ≡ begun_advisor sender most first → Serving step threads input r advisor a b
+pub stopped : (step : AdviceStep) (advisor : PlainAdvisor) (sender : PlainSender) (most : ℕ) (threads : Bool) (f : Flow) (n : ℕ) (view : JournalView)
+    (j : Seen) (made : Whole) (first : ℕ) (id : Progress) (r : Point) (input a b : Option (List ℕ))
+    → IsMade f n view j made → first ≡ made.core.world.start.view.next_id → id ≡ begun_in made.core.world first →
+    FirstRecovers (record { plant = made; answered = id }) r → advisor ≡ begun_advisor sender most first → Serving step threads input r advisor a b
     → Stopped step sender most threads f n j input a b
 stopped step advisor sender most threads f n view j made first id r input a b is first_at before recovers by serves = record {
   recovered = r;
   begins = begun f n view j made first id r is first_at before recovers;
   serves = (let here : advisor ≡ begun_advisor sender most view.next_id = advisor_is f n view j made first advisor sender most is first_at by in
-      let begins : view.next_id ≡ (begun f n view j made first id r is first_at before recovers).view.next_id = sym (begun_next f n view j made first id r is first_at before recovers) in
+      let begins : view.next_id ≡ (begun f n view j made first id r is first_at before recovers).view.next_id =
+      sym (begun_next f n view j made first id r is first_at before recovers) in
       subst (λ (s : PlainAdvisor). Serving step threads input r s a b) (here ∙ ap (begun_advisor sender most) begins) serves);
 }
 
--- all was served, and what comes behind it failed
-pub served_all : (threads : Bool) (step : AdviceStep) (p : Point) (advisor : PlainAdvisor) (input a b : Option (List ℕ)) (end : StreamEnd) (frames : List (List ℕ)) (rounds : List Round) → ReadTo end input frames → RoundsFor threads (requests frames) rounds → ServesAll step rounds p advisor a b → Serving step threads input p advisor a b
+-- all was served, and what comes after it failed
+pub served_all : (threads : Bool) (step : AdviceStep) (p : Point) (advisor : PlainAdvisor) (input a b : Option (List ℕ)) (end : StreamEnd)
+    (frames : List (List ℕ)) (rounds : List Round) → ReadTo end input frames → RoundsFor threads (requests frames) rounds →
+    ServesAll step rounds p advisor a b → Serving step threads input p advisor a b
 served_all threads step p advisor input a b end frames rounds read are serves = record {
   begun = serves.begun;
   cut = serves.cut;
@@ -61,17 +67,27 @@ served_all threads step p advisor input a b end frames rounds read are serves = 
   });
 }
 
-pub stops_none : {R : Type 0} (step : AdviceStep) (sender : PlainSender) (most : ℕ) (threads : Bool) (remaining : R → Option (List ℕ)) (o : Option R) {f : Flow} {n : ℕ} {j : Seen} {a b : Option (List ℕ)} → o ≡ None → Unprinted f n j a b → StopsWith step sender most threads (option_map remaining o) f n j a b
-stops_none {R} step sender most threads remaining o {f} {n} {j} {a} {b} is h = subst (λ (z : Option R). StopsWith step sender most threads (option_map remaining z) f n j a b) (sym is) h
+pub stops_none : {R : Type 0} (step : AdviceStep) (sender : PlainSender) (most : ℕ) (threads : Bool) (remaining : R → Option (List ℕ)) (o : Option R)
+    {f : Flow} {n : ℕ} {j : Seen} {a b : Option (List ℕ)} → o ≡ None → Unprinted f n j a b →
+    StopsWith step sender most threads (option_map remaining o) f n j a b
+stops_none {R} step sender most threads remaining o {f} {n} {j} {a} {b} is h =
+    subst (λ (z : Option R). StopsWith step sender most threads (option_map remaining z) f n j a b) (sym is) h
 
-pub stops_some : {R : Type 0} (step : AdviceStep) (sender : PlainSender) (most : ℕ) (threads : Bool) (remaining : R → Option (List ℕ)) (o : Option R) (x : R) {f : Flow} {n : ℕ} {j : Seen} {a b : Option (List ℕ)} → o ≡ Some x → Stopped step sender most threads f n j (remaining x) a b
+pub stops_some : {R : Type 0} (step : AdviceStep) (sender : PlainSender) (most : ℕ) (threads : Bool) (remaining : R → Option (List ℕ)) (o : Option R)
+    (x : R) {f : Flow} {n : ℕ} {j : Seen} {a b : Option (List ℕ)} → o ≡ Some x → Stopped step sender most threads f n j (remaining x) a b
     → StopsWith step sender most threads (option_map remaining o) f n j a b
-stops_some {R} step sender most threads remaining o x {f} {n} {j} {a} {b} is h = subst (λ (z : Option R). StopsWith step sender most threads (option_map remaining z) f n j a b) (sym is) h
+stops_some {R} step sender most threads remaining o x {f} {n} {j} {a} {b} is h =
+    subst (λ (z : Option R). StopsWith step sender most threads (option_map remaining z) f n j a b) (sym is) h
 
-pub stopped_some : {R : Type 0} (step : AdviceStep) (advisor : PlainAdvisor) (sender : PlainSender) (most : ℕ) (threads : Bool) (remaining : R → Option (List ℕ)) (o : Option R) (x : R) → o ≡ Some x → (f : Flow) (n : ℕ) (view : JournalView) (j : Seen) (made : Whole) (first : ℕ) (id : Progress) (r : Point) (a b : Option (List ℕ))
-    → IsMade f n view j made → first ≡ made.core.world.start.view.next_id → id ≡ begun_in made.core.world first → FirstRecovers (record { plant = made; answered = id }) r → advisor ≡ begun_advisor sender most first → ServesSome step threads (remaining x) r advisor a b
+pub stopped_some : {R : Type 0} (step : AdviceStep) (advisor : PlainAdvisor) (sender : PlainSender) (most : ℕ) (threads : Bool) (remaining : R →
+    Option (List ℕ)) (o : Option R) (x : R) → o ≡ Some x → (f : Flow) (n : ℕ) (view : JournalView) (j : Seen) (made : Whole) (first : ℕ) (id : Progress)
+    (r : Point) (a b : Option (List ℕ))
+    → IsMade f n view j made → first ≡ made.core.world.start.view.next_id → id ≡ begun_in made.core.world first →
+    FirstRecovers (record { plant = made; answered = id }) r → advisor ≡ begun_advisor sender most first →
+    ServesSome step threads (remaining x) r advisor a b
     → IsStopped step sender most threads (option_map remaining o) f n j a b
 stopped_some step advisor sender most threads remaining o x at f n view j made first id r a b is first_at before recovers by some = by_some some where
   by_some : Keeps a b ⊎ Serving step threads (remaining x) r advisor a b → IsStopped step sender most threads (option_map remaining o) f n j a b
   by_some (inl keeps) = inl keeps
-  by_some (inr serves) = inr (stops_some step sender most threads remaining o x at (stopped step advisor sender most threads f n view j made first id r (remaining x) a b is first_at before recovers by serves))
+  by_some (inr serves) = inr (stops_some step sender most threads remaining o x at (stopped step advisor sender most threads f n view j made first id r
+      (remaining x) a b is first_at before recovers by serves))

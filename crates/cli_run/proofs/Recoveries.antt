@@ -1,6 +1,7 @@
 -- A new plant recovers, and is at rest then.
 -- for: serving::Switch::recover
-use Rattle.std.proofs.Common.{◌≡◌, ◌<◌, ◌≤◌, ℕ, zero, suc, ◌-◌, Bool, true, false, inl, inr, List, [], ◌∷◌, ◌++◌, get_or, Option, Some, None, Result, Ok, refl, sym, ap, subst, arith, ◌∙◌}
+use Rattle.std.proofs.Common.{◌≡◌, ◌<◌, ◌≤◌, ℕ, zero, suc, ◌-◌, Bool, true, false, inl, inr, List, [], ◌∷◌, ◌++◌, get_or, Option, Some, None, Result, Ok, refl}
+use Rattle.std.proofs.Common.{sym, ap, subst, arith, ◌∙◌}
 use Rattle.std.specs.Prelude.{◌⊎◌, replicate}
 use Rattle.std.specs.List.{AllByRecursion}
 use Rattle.std.specs.declared.alloc.AllocError.{AllocError}
@@ -56,7 +57,8 @@ AreBelow n es = AllByRecursion (λ e. e.0 < n) es
 pub below_insert : (n id : ℕ) (x : Pairs) (es : List (ℕ × Pairs)) → id < n → AreBelow n es → AreBelow n (insert_entry nat_cmp es id x)
 below_insert n id x [] lt h = (lt, tt)
 below_insert n id x (e ∷ es) lt h = by_order (nat_cmp id e.0) (below_insert n id x es lt h.1) where
-  by_order : (r : Ordering) → AreBelow n (insert_entry nat_cmp es id x) → AreBelow n (match_ordering r ((id, x) ∷ e ∷ es) ((e.0, x) ∷ es) (e ∷ insert_entry nat_cmp es id x))
+  by_order : (r : Ordering) → AreBelow n (insert_entry nat_cmp es id x) →
+      AreBelow n (match_ordering r ((id, x) ∷ e ∷ es) ((e.0, x) ∷ es) (e ∷ insert_entry nat_cmp es id x))
   by_order Less more = (lt, (h.0, h.1))
   by_order Equal more = (h.0, h.1)
   by_order Greater more = (h.0, more)
@@ -137,13 +139,16 @@ recovered_low view c l b there =
     let held : held_id w 0 ≡ Some l.id = sym (b.seated.seats 0) ∙ ap seat_id there in
     let ordered = b.seated.engine.start.view.ordered in
     who (serves_who w.flow w.start w.past 0 l.id (holds_serves w.flow w.start w.past 0 l.id held).0) where
-      who : ((recovering c.world.flow c.world.start c.world.past ≡ Some l.id) × ◌≡◌ {A = ℕ} 0 0) ⊎ (taken c.world.start c.world.past 0 ≡ Some l.id) → l.id < view.next_id
-      who (inl own) = subst (λ (v : JournalView). l.id < v.next_id) b.view_is (recovering_below c.world.flow c.world.start c.world.past l.id b.seated.engine.start.view.ordered own.0)
+      who : ((recovering c.world.flow c.world.start c.world.past ≡ Some l.id) × ◌≡◌ {A = ℕ} 0 0) ⊎ (taken c.world.start c.world.past 0 ≡ Some l.id) →
+          l.id < view.next_id
+      who (inl own) = subst (λ (v : JournalView). l.id < v.next_id) b.view_is
+          (recovering_below c.world.flow c.world.start c.world.past l.id b.seated.engine.start.view.ordered own.0)
       who (inr took) = absurd (let none = none_taken c.world.start c.world.past 0 b.taken in cc)
 
 low_then : (view : JournalView) (p q : Core) → Begun view p → Adds 0 p q → AreBelow view.next_id q.ended
 low_then view p q b (inl same) = subst (AreBelow view.next_id) (sym same) b.low
-low_then view p q b (inr (l, x, there, more)) = subst (AreBelow view.next_id) (sym more) (below_insert view.next_id l.id x p.ended (recovered_low view p l b there) b.low)
+low_then view p q b (inr (l, x, there, more)) = subst (AreBelow view.next_id) (sym more)
+    (below_insert view.next_id l.id x p.ended (recovered_low view p l b there) b.low)
 
 stepped : (view : JournalView) (p q : Core) (m : List Moved) (r : Result Outcome AllocError) → Begun view p → Seated q → Stepped p 0 m r q → Begun view q
 stepped view p q m r b seated h =
@@ -163,7 +168,16 @@ written : (view : JournalView) (p q : Core) (k : ℕ) → Begun view p → Seate
 written view p q k b seated is = by_seat seated where
   by_seat : Seated q → Begun view q
   by_seat s = (let at = subst Seated is s in
-      subst (Begun view) (sym is) (record { seated = at; view_is = b.view_is; taken = b.taken; arrived = b.arrived; unbroken = b.unbroken; low = b.low; others = b.others }))
+      subst (Begun view) (sym is) (record {
+        seated = at;
+        view_is = b.view_is;
+        taken = b.taken;
+        arrived = b.arrived;
+        unbroken = b.unbroken;
+        low =
+            b.low;
+        others = b.others;
+      }))
 
 mark_only : (o : Outcome) (m : List Moved) (p q : Whole) → Turned (turn.Write None) (Ok o) m p q → GoesOn (turn.Write None) p q → Marked p q
 mark_only o m p q turned go = (marked (o ∷ []) m p q (q, m, [], turned, (refl, refl), none m, go)).2 where
@@ -171,7 +185,8 @@ mark_only o m p q turned go = (marked (o ∷ []) m p q (q, m, [], turned, (refl,
   none [] = refl
   none (x ∷ l) = ap (λ (k : List Moved). x ∷ k) (none l)
 
-turned_on : (seats : TurnsSeat) (view : JournalView) (t : Turn) (o : Outcome) (m : List Moved) (p q : Whole) → IsRecovery t → Begun view p.core → Turned t (Ok o) m p q → GoesOn t p q → Begun view q.core
+turned_on : (seats : TurnsSeat) (view : JournalView) (t : Turn) (o : Outcome) (m : List Moved) (p q : Whole) → IsRecovery t → Begun view p.core →
+    Turned t (Ok o) m p q → GoesOn t p q → Begun view q.core
 turned_on seats view (turn.Write most) o m p q own b turned go =
     let all : Turned (turn.Write None) (Ok o) m p q = subst (λ (z : Option ℕ). Turned (turn.Write z) (Ok o) m p q) own turned in
     let on : GoesOn (turn.Write None) p q = subst (λ (z : Option ℕ). GoesOn (turn.Write z) p q) own go in
@@ -191,7 +206,8 @@ turned_on seats view (turn.LetGo s) o m p q own b turned go = absurd own
 turned_on seats view turn.Stop o m p q own b turned go = absurd own
 turned_on seats view turn.Cut o m p q own b turned go = absurd own
 
-driven_on : (seats : TurnsSeat) (view : JournalView) (ts : List Turn) (os : List Outcome) (m : List Moved) (p q : Whole) → AllByRecursion IsRecovery ts → Begun view p.core → Driven ts os m p q → Begun view q.core
+driven_on : (seats : TurnsSeat) (view : JournalView) (ts : List Turn) (os : List Outcome) (m : List Moved) (p q : Whole) → AllByRecursion IsRecovery ts →
+    Begun view p.core → Driven ts os m p q → Begun view q.core
 driven_on seats view [] [] m p q own b (none, same) = subst (λ (z : Whole). Begun view z.core) (sym same) b
 driven_on seats view [] (o ∷ os) m p q own b d = absurd d
 driven_on seats view (t ∷ ts) [] m p q own b d = absurd d
@@ -234,15 +250,18 @@ idle_all view c b none (suc s) = sym (b.seated.seats (suc s)) ∙ ap seat_id (b.
 no_waits : (w : World) → takes w.past ≡ 0 → arrivals w.flow w.start w.past ≡ [] → waits w ≡ []
 no_waits w start none = rw (start, none) refl
 
-pub recovers : (seats : TurnsSeat) (f : Flow) (n : ℕ) (j : Seen) (view : JournalView) (id : Progress) (ts : List Turn) (os us : List Outcome) (m k : List Moved) (p q r : Whole)
-    → IsMade f n view j p → Seated p.core → id.last ≡ view.next_id - 1 → AllByRecursion IsRecovery ts → Driven ts os m p q → IsRecovered q.core.world ⊎ IsHeld q.core.world → Driven (turn.Write None ∷ []) us k q r
+pub recovers : (seats : TurnsSeat) (f : Flow) (n : ℕ) (j : Seen) (view : JournalView) (id : Progress) (ts : List Turn) (os us : List Outcome)
+    (m k : List Moved) (p q r : Whole)
+    → IsMade f n view j p → Seated p.core → id.last ≡ view.next_id - 1 → AllByRecursion IsRecovery ts → Driven ts os m p q →
+    IsRecovered q.core.world ⊎ IsHeld q.core.world → Driven (turn.Write None ∷ []) us k q r
     → Recovers (record { plant = p; answered = id }) (record { plant = r; answered = id })
 recovers seats f n j view id ts os us m k p q r made seated begins own first over second =
     let b = driven_on seats view ts os m p q own (begun_new f n view j p made seated) first in
     let none = finished view q.core b over in
     let (u, alone, mark) = marked us k q r second in
     let e = driven_on seats view (turn.Write None ∷ []) us k q r (refl, tt) b second in
-    let still : recovering r.core.world.flow r.core.world.start r.core.world.past ≡ None = subst (λ (c : Core). recovering c.world.flow c.world.start c.world.past ≡ None) (sym mark.core) none in
+    let still : recovering r.core.world.flow r.core.world.start r.core.world.past ≡ None =
+    subst (λ (c : Core). recovering c.world.flow c.world.start c.world.past ≡ None) (sym mark.core) none in
     let start = e.taken in
     let ordered = e.seated.engine.start.view.ordered in
     let one : 1 ≤ view.next_id = subst (λ (v : JournalView). 1 ≤ v.next_id) e.view_is ordered.next in
@@ -252,8 +271,10 @@ recovers seats f n j view id ts os us m k p q r made seated begins own first ove
       outcomes = os;
       wrote = u;
       own = own;
-      acts = subst (λ (l : List Outcome). Acts (Done ts os ∷ Done (turn.Write None ∷ []) l ∷ []) (record { plant = p; answered = id }) (record { plant = r; answered = id })) alone
-          (acts_then (Done ts os ∷ []) (Done (turn.Write None ∷ []) us ∷ []) _ (record { plant = q; answered = id }) _ (acts_once ts os m p q id first) (acts_once (turn.Write None ∷ []) us k q r id second));
+      acts = subst (λ (l : List Outcome). Acts (Done ts os ∷ Done (turn.Write None ∷ []) l ∷ []) (record { plant = p; answered = id })
+          (record { plant = r; answered = id })) alone
+          (acts_then (Done ts os ∷ []) (Done (turn.Write None ∷ []) us ∷ []) _ (record { plant = q; answered = id }) _ (acts_once ts os m p q id first)
+          (acts_once (turn.Write None ∷ []) us k q r id second));
       rest = record {
         seated = e.seated;
         idle = idle_all view r.core e still;

@@ -1,6 +1,7 @@
 -- Turns by which no session goes on leave a switch at rest.
 -- for: switch::Switch, serving::Switch, advices::send_advices
-use Rattle.std.proofs.Common.{◌≡◌, ◌<◌, ◌≤◌, ℕ, ◌+◌, false, List, [], ◌∷◌, ◌++◌, drop, length, Option, Some, None, Ok, refl, sym, ap, subst, arith, ◌∙◌, ◌⊎◌, inl, inr}
+use Rattle.std.proofs.Common.{◌≡◌, ◌<◌, ◌≤◌, ℕ, ◌+◌, false, List, [], ◌∷◌, ◌++◌, drop, length, Option, Some, None, Ok, refl, sym, ap, subst, arith, ◌∙◌, ◌⊎◌}
+use Rattle.std.proofs.Common.{inl, inr}
 use Rattle.std.proofs.lemmas.List.{drop_all, length-append, length-drop}
 use Rattle.sw_context.specs.Pairs.{Pairs}
 use Rattle.sw_context.specs.Spelling.{bytes_of}
@@ -44,14 +45,16 @@ rest_kept p q rest apart seated written le = record {
 }
 
 -- nothing is recovered where session 0 is idle
-none_recovered : (w : World) (o : Option ℕ) → recovering w.flow w.start w.past ≡ o → ((id : ℕ) → o ≡ Some id → held_id w 0 ≡ Some id) → held_id w 0 ≡ None → o ≡ None
+none_recovered : (w : World) (o : Option ℕ) → recovering w.flow w.start w.past ≡ o → ((id : ℕ) → o ≡ Some id → held_id w 0 ≡ Some id) → held_id w 0 ≡ None →
+    o ≡ None
 none_recovered w None is holds free = refl
 none_recovered w (Some id) is holds free = absurd (let h = holds id refl in cc)
 
 pub at_rest_recovered : (p : Point) → IsAtRest p → recovering (world_at p).flow (world_at p).start (world_at p).past ≡ None
 at_rest_recovered p rest =
     let w = world_at p in
-    none_recovered w (recovering w.flow w.start w.past) refl (λ id is. holds_recovered w.flow w.start w.past id rest.seated.engine.start.view.ordered is) (rest.idle 0)
+    none_recovered w (recovering w.flow w.start w.past) refl (λ id is. holds_recovered w.flow w.start w.past id rest.seated.engine.start.view.ordered is)
+    (rest.idle 0)
 
 -- an event of the engine
 
@@ -70,14 +73,16 @@ recorded_by e refusal w to (outcome.Written n) h done = absurd h
 recorded_by e refusal w to (outcome.Restarted n) h done = absurd h
 recorded_by e refusal w to (outcome.Cut n) h done = absurd h
 
-apart_marked : (p q : Point) (b : Core) (k : ℕ) → b ≡ record p.plant.core { world = b.world } → q.plant.core ≡ record b { world = record b.world { mark = k } } → q.answered ≡ p.answered → Apart p q
+apart_marked : (p q : Point) (b : Core) (k : ℕ) → b ≡ record p.plant.core { world = b.world } →
+    q.plant.core ≡ record b { world = record b.world { mark = k } } → q.answered ≡ p.answered → Apart p q
 apart_marked p q b k core marked answered = record {
   core = (let world : world_at q ≡ record b.world { mark = k } = ap (λ (c : Core). c.world) marked in
       marked ∙ (ap (λ (c : Core). record c { world = record b.world { mark = k } }) core ∙ ap (λ (w : World). record p.plant.core { world = w }) (sym world)));
   answered = answered;
 }
 
-happens_by : (e : Event) (p q : Point) (b : Core) (k : ℕ) → Apart p q → b.world ≡ happened (world_at p) e → q.plant.core ≡ record b { world = record b.world { mark = k } } → Happens e p q
+happens_by : (e : Event) (p q : Point) (b : Core) (k : ℕ) → Apart p q → b.world ≡ happened (world_at p) e →
+    q.plant.core ≡ record b { world = record b.world { mark = k } } → Happens e p q
 happens_by e p q b k apart is marked = record {
   apart = apart;
   mark = k;
@@ -88,7 +93,8 @@ pub offers : (x : Pairs) (o : Outcome) (p q : Point) → Does (turn.Offer x) o p
 offers x o p q does =
     let d = did (turn.Offer x) o p q does in
     let b = d.between.core in
-    let logs = unraised (λ y. Logs (Some (event.Offered (bytes_of x))) (offer_refusal (world_at p)) (world_at p) y b.world) o d.turned.2.0 d.turned.2.1 d.turned.2.2 in
+    let logs = unraised (λ y. Logs (Some (event.Offered (bytes_of x))) (offer_refusal (world_at p)) (world_at p) y b.world) o d.turned.2.0 d.turned.2.1
+    d.turned.2.2 in
     happens_by _ p q b d.mark (apart_marked p q b d.mark d.turned.1 d.core does.acts.answered) (recorded_by _ _ _ _ o logs does.done) d.core
 
 pub releases : (o : Outcome) (p q : Point) → Does turn.Release o p q → Happens event.Released p q
@@ -102,7 +108,8 @@ pub acknowledges : (id place : ℕ) (o : Outcome) (p q : Point) → Does (turn.A
 acknowledges id place o p q does =
     let d = did (turn.Ack id place) o p q does in
     let b = d.between.core in
-    let logs = unraised (λ y. Logs (Some (event.Acked id place)) (ack_refusal (world_at p) (id, place)) (world_at p) y b.world) o d.turned.2.0 d.turned.2.1 d.turned.2.2 in
+    let logs = unraised (λ y. Logs (Some (event.Acked id place)) (ack_refusal (world_at p) (id, place)) (world_at p) y b.world) o d.turned.2.0 d.turned.2.1
+    d.turned.2.2 in
     happens_by _ p q b d.mark (apart_marked p q b d.mark d.turned.1 d.core does.acts.answered) (recorded_by _ _ _ _ o logs does.done) d.core
 
 -- a cut
@@ -158,7 +165,8 @@ may_keep p short = record { cuts = inl (refl, refl); short = short }
 cut_waits : (p q : Point) → CutTo p q → waits (world_at q) ≡ waits (world_at p)
 cut_waits p q cut = subst (λ (w : World). waits w ≡ waits (world_at p)) (sym cut.world) refl
 
-cuts_waits_by : (p q : Point) (lines : List Line) → ((q ≡ p) × (lines ≡ [])) ⊎ ((o : Outcome) × Does turn.Cut o p q × (lines ≡ lines_in (world_at p))) → waits (world_at q) ≡ waits (world_at p)
+cuts_waits_by : (p q : Point) (lines : List Line) → ((q ≡ p) × (lines ≡ [])) ⊎ ((o : Outcome) × Does turn.Cut o p q × (lines ≡ lines_in (world_at p))) →
+    waits (world_at q) ≡ waits (world_at p)
 cuts_waits_by p q lines (inl (same, none)) = ap (λ (z : Point). waits (world_at z)) same
 cuts_waits_by p q lines (inr (o, does, are)) = cut_waits p q (cut_to o p q does)
 

@@ -1,6 +1,7 @@
 -- Rounds one after the other, and what they give.
 -- for: switch::Switch, stream::Requests, serving::Switch
-use Rattle.std.proofs.Common.{◌≡◌, ◌<◌, ◌≤◌, ℕ, ◌+◌, Bool, true, false, cond, List, [], ◌∷◌, ◌++◌, Option, Some, None, Result, Ok, Err, refl, sym, ap, subst, arith, ◌∙◌, append_assoc, append-nil}
+use Rattle.std.proofs.Common.{◌≡◌, ◌<◌, ◌≤◌, ℕ, ◌+◌, Bool, true, false, cond, List, [], ◌∷◌, ◌++◌, Option, Some, None, Result, Ok, Err, refl, sym, ap, subst}
+use Rattle.std.proofs.Common.{arith, ◌∙◌, append_assoc, append-nil}
 use Rattle.std.specs.Prelude.{◌&&◌}
 use Rattle.std.specs.declared.cmp.Ordering.TheVariants.{Greater}
 use Rattle.std.specs.Ordering.{is_lt, nat_cmp}
@@ -22,15 +23,18 @@ use Rattle.tx_plant.specs.declared.turn.Turn.TheVariants as turn
 use Rattle.plant_outcome.specs.Seated.{Seated}
 use Rattle.sw_stats.specs.Tallies.{Tally, tallied}
 use Rattle.cli_run.specs.declared.progress.Progress.{Progress}
-use Rattle.cli_run.specs.Points.{IsAtRest, IsReady, Point, RestsGiven, above, all_answered, ended_at, last_id, next_at, response_of, responses, unanswered, with_ended, world_at}
+use Rattle.cli_run.specs.Points.{IsAtRest, IsReady, Point, RestsGiven, above, all_answered, ended_at, last_id, next_at, response_of, responses, unanswered}
+use Rattle.cli_run.specs.Points.{with_ended, world_at}
 use Rattle.cli_run.specs.Lines.{Line}
-use Rattle.cli_run.specs.Rounds.{Alone, Batched, Completed, Completes, Does, Goes, IsEmptied, IsRetry, MayCut, Offered, Released, Round, Serves, Transacts, Trimmed, answering}
+use Rattle.cli_run.specs.Rounds.{Alone, Batched, Completed, Completes, Does, Goes, IsEmptied, IsRetry, MayCut, Offered, Released, Round, Serves, Transacts}
+use Rattle.cli_run.specs.Rounds.{Trimmed, answering}
 use Rattle.cli_run.specs.Traces.{Cuts, DrainsAll, Log, Reports, Tells}
 use Rattle.cli_run.proofs.Ended.{is_above}
 use Rattle.cli_run.proofs.Tracing.{passed_then, tells_none, tells_then}
 use Rattle.cli_run.proofs.Resting.{at_rest_recovered, cuts_waits, offered_one}
 
-pub goes_append : (ds bs : List Round) (p q r : Point) (xs ys : List ℕ) (ls ms : List Line) → Goes ds p xs ls q → Goes bs q ys ms r → Goes (ds ++ bs) p (xs ++ ys) (ls ++ ms) r
+pub goes_append : (ds bs : List Round) (p q r : Point) (xs ys : List ℕ) (ls ms : List Line) → Goes ds p xs ls q → Goes bs q ys ms r →
+    Goes (ds ++ bs) p (xs ++ ys) (ls ++ ms) r
 goes_append [] bs p q r xs ys ls ms (none, nothing, same) h =
     subst (λ (l : List ℕ). Goes bs p (l ++ ys) (ls ++ ms) r) (sym none)
     (subst (λ (l : List Line). Goes bs p ys (l ++ ms) r) (sym nothing) (subst (λ (z : Point). Goes bs z ys ms r) same h))
@@ -67,13 +71,15 @@ serves_then ds bs p q r a b c s t = record {
   appends = Appends-trans a b c s.bytes t.bytes s.appends t.appends;
 }
 
-abbrev pub serves_offer : (x : Pairs) (o : Outcome) (p w q : Point) (ds : List Round) (a b : Option (List ℕ)) → IsReady p → Does (turn.Offer x) o p w → Serves ds w a q b → Serves (Offered x ∷ ds) p a q b
+abbrev pub serves_offer : (x : Pairs) (o : Outcome) (p w q : Point) (ds : List Round) (a b : Option (List ℕ)) → IsReady p → Does (turn.Offer x) o p w →
+    Serves ds w a q b → Serves (Offered x ∷ ds) p a q b
 serves_offer x o p w q ds a b ready does s = record { bytes = s.bytes; lines = s.lines; goes = (ready, o, w, does, s.goes); appends = s.appends }
 
 abbrev pub serves_release : (o : Outcome) (p q : Point) (a : Option (List ℕ)) → Does turn.Release o p q → Serves (Released ∷ []) p a q a
 serves_release o p q a does = record { bytes = []; lines = []; goes = (o, q, does, (refl, refl, refl)); appends = Appends-nil a }
 
-abbrev pub serves_completed : (p q : Point) (bytes : List ℕ) (lines : List Line) (a b : Option (List ℕ)) → Completes p bytes lines q → Appends a b bytes → Serves (Completed ∷ []) p a q b
+abbrev pub serves_completed : (p q : Point) (bytes : List ℕ) (lines : List Line) (a b : Option (List ℕ)) → Completes p bytes lines q → Appends a b bytes →
+    Serves (Completed ∷ []) p a q b
 serves_completed p q bytes lines a b completes appends = record {
   bytes = bytes;
   lines = lines;
@@ -82,11 +88,19 @@ serves_completed p q bytes lines a b completes appends = record {
 }
 
 abbrev pub serves_trimmed : (p q : Point) (lines : List Line) (a : Option (List ℕ)) → MayCut p lines q → Serves (Trimmed ∷ []) p a q a
-serves_trimmed p q lines a cuts = record { bytes = []; lines = lines; goes = (q, lines, [], cuts, (refl, refl, refl), sym (append-nil lines)); appends = Appends-nil a }
+serves_trimmed p q lines a cuts = record {
+  bytes = [];
+  lines = lines;
+  goes = (q, lines, [], cuts, (refl, refl, refl), sym (append-nil lines));
+  appends =
+      Appends-nil a;
+}
 
 -- the responses were given, and the contexts taken
-pub given_all : (c d : Core) (j k : Seen) (a : Progress) (n : ℕ) (t : Tally) → d ≡ without_ended c → k ≡ j → n ≡ last_id a.last (above a.last c.ended) → t ≡ tallied a.counts (above a.last c.ended)
-    → ◌≡◌ {A = Point} (record { plant = record { core = d; journal = k }; answered = record a { last = n; counts = t } }) (all_answered (record { plant = record { core = c; journal = j }; answered = a }))
+pub given_all : (c d : Core) (j k : Seen) (a : Progress) (n : ℕ) (t : Tally) → d ≡ without_ended c → k ≡ j → n ≡ last_id a.last (above a.last c.ended) →
+    t ≡ tallied a.counts (above a.last c.ended)
+    → ◌≡◌ {A = Point} (record { plant = record { core = d; journal = k }; answered = record a { last = n; counts = t } })
+    (all_answered (record { plant = record { core = c; journal = j }; answered = a }))
 given_all c d j k a n t core journal last counts = rw (core, journal, last, counts) refl
 
 -- the response of the transaction that ended is the only one that is not given
@@ -104,7 +118,8 @@ greater n k lt = grind (arith, nat_tests)
 above_inserted : (a n : ℕ) (x : Pairs) (es : List (ℕ × Pairs)) → a < n → above a es ≡ [] → above a (insert_entry nat_cmp es n x) ≡ (n, x) ∷ []
 above_inserted a n x [] lt none = rw (is_above a n lt) refl
 above_inserted a n x (e ∷ es) lt none = by_test (is_lt (nat_cmp a e.0)) refl none (above_inserted a n x es lt) where
-  by_test : (b : Bool) → is_lt (nat_cmp a e.0) ≡ b → cond (b && true) (e ∷ above a es) (above a es) ≡ [] → (above a es ≡ [] → above a (insert_entry nat_cmp es n x) ≡ (n, x) ∷ [])
+  by_test : (b : Bool) → is_lt (nat_cmp a e.0) ≡ b → cond (b && true) (e ∷ above a es) (above a es) ≡ [] →
+      (above a es ≡ [] → above a (insert_entry nat_cmp es n x) ≡ (n, x) ∷ [])
       → above a (insert_entry nat_cmp (e ∷ es) n x) ≡ (n, x) ∷ []
   by_test true is nothing ih = absurd (cons_nil e (above a es) nothing)
   by_test false is nothing ih =
@@ -128,7 +143,8 @@ same_answered p q own t = t.acts.answered
 
 pub own_unanswered : (p q : Point) (own : Option Pairs) → IsAtRest p → Transacts p own q → unanswered q ≡ own_list (next_at p) own
 own_unanswered p q own rest t =
-    ap (λ (g : Progress). above g.last (ended_at q)) t.acts.answered ∙ (ap (above p.answered.last) t.ended ∙ own_above p.answered.last (next_at p) own (ended_at p) rest.below rest.given)
+    ap (λ (g : Progress). above g.last (ended_at q)) t.acts.answered
+    ∙ (ap (above p.answered.last) t.ended ∙ own_above p.answered.last (next_at p) own (ended_at p) rest.below rest.given)
 
 pub seated_given : (c : Core) → Seated c → Seated (without_ended c)
 seated_given c h = record { engine = h.engine; sessions = h.sessions; places = h.places; seats = h.seats; replies = h.replies; waits = h.waits }
@@ -139,19 +155,22 @@ rest_given p q own rest t seated = record {
   idle = t.idle;
   written = t.written;
   given = refl;
-  below = (let at : last_id q.answered.last (unanswered q) ≡ last_id p.answered.last (own_list (next_at p) own) = ap (λ (g : Progress). last_id g.last (unanswered q)) t.acts.answered ∙ ap (last_id p.answered.last) (own_unanswered p q own rest t) in
+  below = (let at : last_id q.answered.last (unanswered q) ≡ last_id p.answered.last (own_list (next_at p) own) =
+      ap (λ (g : Progress). last_id g.last (unanswered q)) t.acts.answered ∙ ap (last_id p.answered.last) (own_unanswered p q own rest t) in
       let lt = own_last p.answered.last (next_at p) own rest.below in
       let next = t.next in
       omega (arith, at, lt, next));
 }
 
-pub gives_own : (p q : Point) (own : Option Pairs) (text : List ℕ) → IsAtRest p → Transacts p own q → AreFramed text (responses (unanswered q)) → AreFramed text (response_of own)
+pub gives_own : (p q : Point) (own : Option Pairs) (text : List ℕ) → IsAtRest p → Transacts p own q → AreFramed text (responses (unanswered q)) →
+    AreFramed text (response_of own)
 gives_own p q own text rest t framed =
     subst (AreFramed text) (ap responses (own_unanswered p q own rest t) ∙ own_responses (next_at p) own) framed
 
 -- ready for the next request
 
-pub ready_again : (x : Pairs) (o : Outcome) (p w q : Point) (bytes : List ℕ) (lines : List Line) → IsReady p → Does (turn.Offer x) o p w → Completes w bytes lines q → IsReady q
+pub ready_again : (x : Pairs) (o : Outcome) (p w q : Point) (bytes : List ℕ) (lines : List Line) → IsReady p → Does (turn.Offer x) o p w →
+    Completes w bytes lines q → IsReady q
 ready_again x o p w q bytes lines ready does c = record {
   rest = c.rest;
   recovered = at_rest_recovered q c.rest;
@@ -176,13 +195,15 @@ answering_append (x ∷ xs) ys = ap (λ (l : List Round). Offered x ∷ Complete
 pub reports_none : (p : Point) (o : Option (List ℕ)) (l : Log) → Reports [] 0 p o l p o l
 reports_none p o l = record { serves = serves_none p o; tells = tells_none l }
 
-pub reports_then : (ds bs : List Round) (m n : ℕ) (p q r : Point) (a b c : Option (List ℕ)) (k l o : Log) → Reports ds m p a k q b l → Reports bs n q b l r c o → Reports (ds ++ bs) (m + n) p a k r c o
+pub reports_then : (ds bs : List Round) (m n : ℕ) (p q r : Point) (a b c : Option (List ℕ)) (k l o : Log) → Reports ds m p a k q b l →
+    Reports bs n q b l r c o → Reports (ds ++ bs) (m + n) p a k r c o
 reports_then ds bs m n p q r a b c k l o s t = record {
   serves = serves_then ds bs p q r a b c s.serves t.serves;
   tells = tells_then s.serves.lines t.serves.lines m n k l o s.tells t.tells;
 }
 
-pub reports_offer : (x : Pairs) (o : Outcome) (p w q : Point) (ds : List Round) (n : ℕ) (a b : Option (List ℕ)) (k l : Log) → IsReady p → Does (turn.Offer x) o p w → Reports ds n w a k q b l → Reports (Offered x ∷ ds) n p a k q b l
+pub reports_offer : (x : Pairs) (o : Outcome) (p w q : Point) (ds : List Round) (n : ℕ) (a b : Option (List ℕ)) (k l : Log) → IsReady p →
+    Does (turn.Offer x) o p w → Reports ds n w a k q b l → Reports (Offered x ∷ ds) n p a k q b l
 reports_offer x o p w q ds n a b k l ready does s = record { serves = serves_offer x o p w q ds a b ready does s.serves; tells = s.tells }
 
 pub reports_release : (o : Outcome) (p q : Point) (a : Option (List ℕ)) (l : Log) → Does turn.Release o p q → Reports (Released ∷ []) 0 p a l q a l
@@ -191,11 +212,13 @@ reports_release o p q a l does = record { serves = serves_release o p q a does; 
 pub reports_trimmed : (p q : Point) (a : Option (List ℕ)) (k l : Log) → Cuts p k q l → Reports (Trimmed ∷ []) 0 p a k q a l
 reports_trimmed p q a k l c = record { serves = serves_trimmed p q c.lines a c.cuts; tells = c.tells }
 
-pub reports_passed : (rounds : List Round) (n : ℕ) (p q : Point) (a b : Option (List ℕ)) (k l o : Log) → Tells [] n k l → Reports rounds 0 p a l q b o → Reports rounds n p a k q b o
+pub reports_passed : (rounds : List Round) (n : ℕ) (p q : Point) (a b : Option (List ℕ)) (k l o : Log) → Tells [] n k l → Reports rounds 0 p a l q b o →
+    Reports rounds n p a k q b o
 reports_passed rounds n p q a b k l o passed s = record { serves = s.serves; tells = passed_then s.serves.lines n k l o passed s.tells }
 
 -- one after the other, of as many messages that are passed over
-pub reports_both : (ds bs : List Round) (m n k : ℕ) (p q r : Point) (a b c : Option (List ℕ)) (x y z : Log) → k ≡ m + n → Reports ds m p a x q b y → Reports bs n q b y r c z → Reports (ds ++ bs) k p a x r c z
+pub reports_both : (ds bs : List Round) (m n k : ℕ) (p q r : Point) (a b c : Option (List ℕ)) (x y z : Log) → k ≡ m + n → Reports ds m p a x q b y →
+    Reports bs n q b y r c z → Reports (ds ++ bs) k p a x r c z
 reports_both ds bs m n k p q r a b c x y z is s t = subst (λ (i : ℕ). Reports (ds ++ bs) i p a x r c z) (sym is) (reports_then ds bs m n p q r a b c x y z s t)
 
 -- the queue and the shelf are emptied by and by
@@ -213,7 +236,8 @@ pub record Empties (p : Point) (before : Option (List ℕ)) (a : Log) (q : Point
 pub empties_none : (p : Point) (a : Option (List ℕ)) (l : Log) → IsAtRest p → Empties p a l p a l
 empties_none p a l rest = record { rounds = []; retries = tt; reports = reports_none p a l; rest = rest }
 
-pub empties_then : (p q r : Point) (a b c : Option (List ℕ)) (k l o : Log) (rounds : List Round) → Empties p a k q b l → AllByRecursion IsRetry rounds → Reports rounds 0 q b l r c o → IsAtRest r → Empties p a k r c o
+pub empties_then : (p q r : Point) (a b c : Option (List ℕ)) (k l o : Log) (rounds : List Round) → Empties p a k q b l → AllByRecursion IsRetry rounds →
+    Reports rounds 0 q b l r c o → IsAtRest r → Empties p a k r c o
 empties_then p q r a b c k l o rounds e retries reports rest = record {
   rounds = e.rounds ++ rounds;
   retries = retries_append e.rounds rounds e.retries retries;
@@ -259,7 +283,8 @@ pub on_if : {T E : Type 0} {P : T → Type 0} {Q : Type 0} (r : Result T E) → 
 on_if (Ok x) f h = f x h
 on_if (Err e) f h = tt
 
-pub completed : (own : Option Pairs) (text : List ℕ) (p q r s : Point) (a b : Option (List ℕ)) (k l : Log) → IsAtRest p → Transacts p own q → AreFramed text (responses (unanswered q)) → r ≡ all_answered q → Cuts r k s l → IsAtRest s → Appends a b text → Reports (Completed ∷ []) 0 p a k s b l
+pub completed : (own : Option Pairs) (text : List ℕ) (p q r s : Point) (a b : Option (List ℕ)) (k l : Log) → IsAtRest p → Transacts p own q →
+    AreFramed text (responses (unanswered q)) → r ≡ all_answered q → Cuts r k s l → IsAtRest s → Appends a b text → Reports (Completed ∷ []) 0 p a k s b l
 completed own text p q r s a b k l rest transacts framed same c then appends = record {
   serves = serves_completed p s text c.lines a b (record {
     own = own;

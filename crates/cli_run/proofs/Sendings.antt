@@ -15,17 +15,20 @@ sends_more step [] a s t u p q r (sent, same) h =
 sends_more step (b ∷ bs) a s t u p q r (v, w, first, more) h =
     (v, w, first, sends_more step bs a v t u w q r more h)
 
-pub plain_next : (items : List Stored) (i : ℕ) (x : Stored) → i < length items → x ≡ get_or items i x → map plain (take (i + 1) items) ≡ map plain (take i items) ++ plain x ∷ []
+pub plain_next : (items : List Stored) (i : ℕ) (x : Stored) → i < length items → x ≡ get_or items i x →
+    map plain (take (i + 1) items) ≡ map plain (take i items) ++ plain x ∷ []
 plain_next items i x lt at =
     let more : take (i + 1) items ≡ take i items ++ x ∷ [] = take_more items i x lt ∙ ap (λ (y : Stored). take i items ++ y ∷ []) (sym at) in
     ap (map plain) more ∙ map-append plain (take i items) (x ∷ [])
 
-pub sends_whole : (step : AdviceStep) (items : List Stored) (n : ℕ) (bs : List ((ℕ × ℕ) × List ℕ)) (s t : PlainAdvisor) (p q : Point) → length items ≤ n → map plain items ≡ bs
+pub sends_whole : (step : AdviceStep) (items : List Stored) (n : ℕ) (bs : List ((ℕ × ℕ) × List ℕ)) (s t : PlainAdvisor) (p q : Point) → length items ≤ n →
+    map plain items ≡ bs
     → SendsAll step (map plain (take n items)) s p t q → SendsAll step bs s p t q
 sends_whole step items n bs s t p q le are h =
     let all : map plain (take n items) ≡ bs = ap (map plain) (take_all n items le) ∙ are in
     subst (λ (l : List ((ℕ × ℕ) × List ℕ)). SendsAll step l s p t q) all h
 
 -- these advices are those
-pub sends_these : {T E : Type 0} (r : Result T E) (step : AdviceStep) (cs bs : List ((ℕ × ℕ) × List ℕ)) (s t : PlainAdvisor) (p q : Point) → cs ≡ bs → OnOk r (SendsAll step cs s p t q) → OnOk r (SendsAll step bs s p t q)
+pub sends_these : {T E : Type 0} (r : Result T E) (step : AdviceStep) (cs bs : List ((ℕ × ℕ) × List ℕ)) (s t : PlainAdvisor) (p q : Point) → cs ≡ bs →
+    OnOk r (SendsAll step cs s p t q) → OnOk r (SendsAll step bs s p t q)
 sends_these r step cs bs s t p q is h = subst (λ (l : List ((ℕ × ℕ) × List ℕ)). OnOk r (SendsAll step l s p t q)) is h

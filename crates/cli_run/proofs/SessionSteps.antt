@@ -101,13 +101,15 @@ replies s w to l t m (Ok (outcome.Cut n)) stands = replies_rests s w to l t m st
 replies s w to l t m (Err e) (inl rests) = replies_rests s w to l t m rests.0 rests.1
 replies s w to l t m (Err e) (inr (r, (asked, same))) = record { enters = inl same; id = same_id _ _ l t m r asked }
 
-adds_by : (s : ℕ) (row : Option (ℕ × Option Row)) (item : Option (ℕ × Waiting)) (p : Core) (l t : Seat) (to : World) → seat_of p s ≡ Some l → t.id ≡ l.id → Adds s p (left p s (fate_by row item) t to)
+adds_by : (s : ℕ) (row : Option (ℕ × Option Row)) (item : Option (ℕ × Waiting)) (p : Core) (l t : Seat) (to : World) → seat_of p s ≡ Some l → t.id ≡ l.id →
+    Adds s p (left p s (fate_by row item) t to)
 adds_by s None item p l t to there id = inl refl
 adds_by s (Some (k, Some r)) item p l t to there id = inl refl
 adds_by s (Some (k, None)) None p l t to there id = inr (l, t.context, there, ap (λ (n : ℕ). insert_entry nat_cmp p.ended n t.context) id)
 adds_by s (Some (k, None)) (Some x) p l t to there id = inl refl
 
-adds_of : (s : ℕ) (r : Result Outcome AllocError) (p : Core) (l t : Seat) (w to : World) → seat_of p s ≡ Some l → t.id ≡ l.id → Adds s p (left p s (fate_after r w) t to)
+adds_of : (s : ℕ) (r : Result Outcome AllocError) (p : Core) (l t : Seat) (w to : World) → seat_of p s ≡ Some l → t.id ≡ l.id →
+    Adds s p (left p s (fate_after r w) t to)
 adds_of s (Ok (outcome.Accepted n)) p l t w to there id = adds_by s (change w.flow w.start w.past).row (change w.flow w.start w.past).shelved p l t to there id
 adds_of s (Ok (outcome.Refused e)) p l t w to there id = inl refl
 adds_of s (Ok outcome.Idle) p l t w to there id = inl refl
@@ -181,8 +183,10 @@ call_there id recovering due.Done None going = absurd (cc)
 
 call_is_next : (a b : Bool) (o : Option Call) (c : Call) → o ≡ Some c → next_by a b o ≡ next.Idle → ⊥
 call_is_next true b o c is none = let n : next_by true b (Some c) ≡ next.Idle = subst (λ (z : Option Call). next_by true b z ≡ next.Idle) is none in cc
-call_is_next false true o c is none = let n : next_by false true (Some c) ≡ next.Idle = subst (λ (z : Option Call). next_by false true z ≡ next.Idle) is none in cc
-call_is_next false false o c is none = let n : next_by false false (Some c) ≡ next.Idle = subst (λ (z : Option Call). next_by false false z ≡ next.Idle) is none in cc
+call_is_next false true o c is none = let n : next_by false true (Some c) ≡ next.Idle =
+    subst (λ (z : Option Call). next_by false true z ≡ next.Idle) is none in cc
+call_is_next false false o c is none = let n : next_by false false (Some c) ≡ next.Idle =
+    subst (λ (z : Option Call). next_by false false z ≡ next.Idle) is none in cc
 
 none_held_by : (w : World) (s : ℕ) (o : Option ℕ) → held_id w s ≡ o → next_in w s o ≡ next.Idle → o ≡ None
 none_held_by w s None held none = refl

@@ -1,4 +1,4 @@
--- Lines of a run's numbers among what is told.
+-- Lines of a run's numbers among what is reported.
 -- for: stats::Told, stats::Switch, stream::serve, batches::answer_batches
 use Rattle.std.proofs.Common.{◌≡◌, ℕ, Bool, true, false, List, [], ◌∷◌, ◌++◌, Option, refl, sym, subst, ◌∙◌, add-zero, append-nil}
 use Rattle.std.specs.Io.KnownBytes.{Appends}
@@ -58,12 +58,14 @@ shown_tells n a b s = record {
   stats = s.stats;
   count = λ small. s.passed ∙ sym (add-zero a.passed);
   before = s.before;
-  adds = λ h. subst (λ (l : List ℕ). Adds a.stats l 0 a.text b.text) (sym (none_wanted a.wanted)) (shown_adds a.stats n s.milliseconds a.text b.text (s.adds h));
+  adds = λ h. subst (λ (l : List ℕ). Adds a.stats l 0 a.text b.text) (sym (none_wanted a.wanted))
+      (shown_adds a.stats n s.milliseconds a.text b.text (s.adds h));
   some = subst (λ (l : List ℕ). AddsSome a.stats l 0 a.text b.text) (sym (none_wanted a.wanted)) (shown_some a.stats n s.milliseconds a.text b.text s.some);
 }
 
 -- after rounds
-pub reports_shown : (rounds : List Round) (k : ℕ) (p q : Point) (a b : Option (List ℕ)) (x y z : Log) → Reports rounds k p a x q b y → Tells [] 0 y z → Reports rounds k p a x q b z
+pub reports_shown : (rounds : List Round) (k : ℕ) (p q : Point) (a b : Option (List ℕ)) (x y z : Log) → Reports rounds k p a x q b y → Tells [] 0 y z →
+    Reports rounds k p a x q b z
 reports_shown rounds k p q a b x y z r s = record {
   serves = r.serves;
   tells = subst (λ (l : List Line). Tells l k x z) (append-nil r.serves.lines) (lines_then r.serves.lines [] k x y z r.tells s);
@@ -75,7 +77,8 @@ batch_shown xs p q a b x y z (rounds, answers, reports) s = (rounds, answers, re
 
 -- what a write tells
 
-pub not_shown : (n : Numbers) (w : Option Form) (s l : Bool) (k : ℕ) (t : Option (List ℕ)) → s ≡ false → Shows n (record { wanted = w; stats = s; passed = k; lost = l; text = t }) (record { wanted = w; stats = s; passed = k; lost = l; text = t })
+pub not_shown : (n : Numbers) (w : Option Form) (s l : Bool) (k : ℕ) (t : Option (List ℕ)) → s ≡ false →
+    Shows n (record { wanted = w; stats = s; passed = k; lost = l; text = t }) (record { wanted = w; stats = s; passed = k; lost = l; text = t })
 not_shown n w s l k t not = record {
   milliseconds = 0;
   wanted = refl;
@@ -86,10 +89,12 @@ not_shown n w s l k t not = record {
   some = subst (λ (b : Bool). AppendsBeginning t t (if_shown b (stats_line n 0))) (sym not) (beginning_none t []);
 }
 
-pub shown_whole : (n : Numbers) (time : ℕ) (line : List ℕ) (w : Option Form) (s l : Bool) (k : ℕ) (t u : Option (List ℕ)) → s ≡ true → line ≡ stats_line n time → Appends t u line
+pub shown_whole : (n : Numbers) (time : ℕ) (line : List ℕ) (w : Option Form) (s l : Bool) (k : ℕ) (t u : Option (List ℕ)) → s ≡ true →
+    line ≡ stats_line n time → Appends t u line
     → Shows n (record { wanted = w; stats = s; passed = k; lost = l; text = t }) (record { wanted = w; stats = s; passed = k; lost = l; text = u })
 shown_whole n time line w s l k t u is same written =
-    let all : Appends t u (if_shown s (stats_line n time)) = subst (λ (b : Bool). Appends t u (if_shown b (stats_line n time))) (sym is) (subst (Appends t u) same written) in
+    let all : Appends t u (if_shown s (stats_line n time)) = subst (λ (b : Bool). Appends t u (if_shown b (stats_line n time))) (sym is)
+    (subst (Appends t u) same written) in
     record {
       milliseconds = time;
       wanted = refl;
@@ -100,7 +105,8 @@ shown_whole n time line w s l k t u is same written =
       some = beginning_all t u (if_shown s (stats_line n time)) all;
     }
 
-pub shown_part : (n : Numbers) (time : ℕ) (line : List ℕ) (w : Option Form) (s l o : Bool) (k : ℕ) (t u : Option (List ℕ)) → s ≡ true → o ≡ true → line ≡ stats_line n time → AppendsBeginning t u line
+pub shown_part : (n : Numbers) (time : ℕ) (line : List ℕ) (w : Option Form) (s l o : Bool) (k : ℕ) (t u : Option (List ℕ)) → s ≡ true → o ≡ true →
+    line ≡ stats_line n time → AppendsBeginning t u line
     → Shows n (record { wanted = w; stats = s; passed = k; lost = l; text = t }) (record { wanted = w; stats = s; passed = k; lost = o; text = u })
 shown_part n time line w s l o k t u is lost same written = record {
   milliseconds = time;

@@ -1,6 +1,7 @@
 -- What is written where a switch ends with an error.
 -- for: switch::Switch, stream::Requests, serving::Switch, serving::Over, batches::Switch, batches::Requests
-use Rattle.std.proofs.Common.{◌≡◌, ◌<◌, ◌⊎◌, ℕ, ◌+◌, Bool, true, false, List, [], ◌∷◌, ◌++◌, length, map, take, drop, get_or, Option, Result, Ok, Err, refl, sym, ap, subst, ◌∙◌, append_assoc, append-nil, inl, inr}
+use Rattle.std.proofs.Common.{◌≡◌, ◌<◌, ◌⊎◌, ℕ, ◌+◌, Bool, true, false, List, [], ◌∷◌, ◌++◌, length, map, take, drop, get_or, Option, Result, Ok, Err, refl}
+use Rattle.std.proofs.Common.{sym, ap, subst, ◌∙◌, append_assoc, append-nil, inl, inr}
 use Rattle.std.specs.Global.{Vec}
 use Rattle.std.specs.Prelude.{IfOk, OnErr, OnOk}
 use Rattle.std.specs.Io.KnownBytes.{Appends}
@@ -16,7 +17,8 @@ use Rattle.tx_plant.specs.declared.turn.Turn.TheVariants as turn
 use Rattle.cli_run.specs.Points.{IsAtRest, IsReady, Point, responses, unanswered}
 use Rattle.cli_run.specs.Requests.{Reads, ReadsOn, if_read, request_of, requests}
 use Rattle.cli_run.specs.Lines.{Line}
-use Rattle.cli_run.specs.Rounds.{Alone, Batched, Completed, Does, Drains, IsOfBatches, IsRetry, MayCut, Offered, Released, Round, RoundsFor, Serves, ServesFor, Transacts, Trimmed, answering, offered_in, untrimmed}
+use Rattle.cli_run.specs.Rounds.{Alone, Batched, Completed, Does, Drains, IsOfBatches, IsRetry, MayCut, Offered, Released, Round, RoundsFor, Serves, ServesFor}
+use Rattle.cli_run.specs.Rounds.{Transacts, Trimmed, answering, offered_in, untrimmed}
 use Rattle.cli_run.specs.Stopped.{DrainsSome, GivesSome, Halts, HaltsOn, HaltsToward, IsOfNext}
 use Rattle.cli_run.proofs.Readings.{requests_front, requests_next}
 use Rattle.cli_run.specs.Traces.{Log}
@@ -96,7 +98,8 @@ halts_before ds bs p a b h = record {
   written = h.written;
 }
 
-pub halts_offer : (x : Pairs) (o : Outcome) (p w : Point) (ds : List Round) (a b : Option (List ℕ)) → IsReady p → Does (turn.Offer x) o p w → Halts ds w a b → Halts (Offered x ∷ ds) p a b
+pub halts_offer : (x : Pairs) (o : Outcome) (p w : Point) (ds : List Round) (a b : Option (List ℕ)) → IsReady p → Does (turn.Offer x) o p w →
+    Halts ds w a b → Halts (Offered x ∷ ds) p a b
 halts_offer x o p w ds a b ready does h = record {
   done = Offered x ∷ h.done;
   rest = h.rest;
@@ -122,20 +125,22 @@ halts_next p text a b is written = record {
   written = written;
 }
 
--- a transaction ran to its end, and its response was not written, or what comes behind it failed
+-- a transaction ran to its end, and its response was not written, or what comes after it failed
 pub halts_gives : (own : Option Pairs) (p q : Point) (a b : Option (List ℕ)) → IsAtRest p → Transacts p own q → GivesSome q a b → Halts (Completed ∷ []) p a b
 halts_gives own p q a b rest transacts (text, is, written) = halts_next p text a b (by_text is) written where
   by_text : (text ≡ []) ⊎ AreFramed text (responses (unanswered q)) → IsOfNext (Completed ∷ []) p text
   by_text (inl none) = inl none
   by_text (inr framed) = inr (record { own = own; ended = q; transacts = transacts; framed = gives_own p q own text rest transacts framed })
 
-pub halts_given : (own : Option Pairs) (text : List ℕ) (p q : Point) (a b : Option (List ℕ)) → IsAtRest p → Transacts p own q → AreFramed text (responses (unanswered q)) → Appends a b text → Halts (Completed ∷ []) p a b
+pub halts_given : (own : Option Pairs) (text : List ℕ) (p q : Point) (a b : Option (List ℕ)) → IsAtRest p → Transacts p own q →
+    AreFramed text (responses (unanswered q)) → Appends a b text → Halts (Completed ∷ []) p a b
 halts_given own text p q a b rest transacts framed written =
     halts_gives own p q a b rest transacts (text, inr framed, beginning_all a b text written)
 
 -- requests
 
-pub halts_answering : (xs ys : List Pairs) (p q : Point) (a b c : Option (List ℕ)) → Serves (answering xs) p a q b → Halts (answering ys) q b c → Halts (answering (xs ++ ys)) p a c
+pub halts_answering : (xs ys : List Pairs) (p q : Point) (a b c : Option (List ℕ)) → Serves (answering xs) p a q b → Halts (answering ys) q b c →
+    Halts (answering (xs ++ ys)) p a c
 halts_answering xs ys p q a b c serves h =
     subst (λ (l : List Round). Halts l p a c) (sym (answering_append xs ys)) (halts_then (answering xs) (answering ys) p q a b c serves h)
 
@@ -189,10 +194,12 @@ pub untrimmed_answering : (xs : List Pairs) → untrimmed (answering xs) ≡ ans
 untrimmed_answering [] = refl
 untrimmed_answering (x ∷ xs) = ap (λ (l : List Round). Offered x ∷ Completed ∷ l) (untrimmed_answering xs)
 
-both_answering : (xs ys : List Pairs) (rs ss : List Round) → untrimmed rs ≡ answering xs → untrimmed ss ≡ answering ys → untrimmed (rs ++ ss) ≡ answering (xs ++ ys)
+both_answering : (xs ys : List Pairs) (rs ss : List Round) → untrimmed rs ≡ answering xs → untrimmed ss ≡ answering ys →
+    untrimmed (rs ++ ss) ≡ answering (xs ++ ys)
 both_answering xs ys rs ss is are = untrimmed_append rs ss ∙ (rw (is, are) (sym (answering_append xs ys)))
 
-pub rounds_append : (threads : Bool) (xs ys : List Pairs) (rs ss : List Round) → RoundsFor threads xs rs → RoundsFor threads ys ss → RoundsFor threads (xs ++ ys) (rs ++ ss)
+pub rounds_append : (threads : Bool) (xs ys : List Pairs) (rs ss : List Round) → RoundsFor threads xs rs → RoundsFor threads ys ss →
+    RoundsFor threads (xs ++ ys) (rs ++ ss)
 rounds_append false xs ys rs ss is are = both_answering xs ys rs ss is are
 rounds_append true xs ys rs ss is are = (rw (sym is.0, sym are.0) (offered_append rs ss), of_batches_append rs ss is.1 are.1)
 
@@ -204,20 +211,27 @@ pub toward_none : (threads : Bool) (xs : List Pairs) (p : Point) (a : Option (Li
 toward_none false xs p a = (answering xs, untrimmed_answering xs, halts_none (answering xs) p a)
 toward_none true xs p a = ([], (xs, refl, tt), halts_none [] p a)
 
-pub toward_then : (threads : Bool) (xs ys : List Pairs) (p q : Point) (a b c : Option (List ℕ)) → ServesFor threads xs p a q b → HaltsToward threads ys q b c → HaltsToward threads (xs ++ ys) p a c
+pub toward_then : (threads : Bool) (xs ys : List Pairs) (p q : Point) (a b c : Option (List ℕ)) → ServesFor threads xs p a q b →
+    HaltsToward threads ys q b c → HaltsToward threads (xs ++ ys) p a c
 toward_then false xs ys p q a b c (rs, is, s) (ss, are, h) = (rs ++ ss, both_answering xs ys rs ss is are, halts_then rs ss p q a b c s h)
 toward_then true xs ys p q a b c (rs, is, s) (ss, (later, split, all), h) = (
   rs ++ ss,
   (
     later,
-    ap (λ (l : List Pairs). xs ++ l) split ∙ (ap (λ (l : List Pairs). l ++ (offered_in ss ++ later)) (sym is.0) ∙ (sym (append_assoc (offered_in rs) (offered_in ss) later) ∙ ap (λ (l : List Pairs). l ++ later) (sym (offered_append rs ss)))),
+    ap (λ (l : List Pairs). xs ++ l) split ∙ (ap (λ (l : List Pairs). l ++ (offered_in ss ++ later)) (sym is.0)
+        ∙ (sym (append_assoc (offered_in rs) (offered_in ss) later) ∙ ap (λ (l : List Pairs). l ++ later) (sym (offered_append rs ss)))),
     of_batches_append rs ss is.1 all,
   ),
   halts_then rs ss p q a b c s h,
 )
 
-pub toward_before : (threads : Bool) (xs ys : List Pairs) (p : Point) (a b : Option (List ℕ)) → HaltsToward threads xs p a b → HaltsToward threads (xs ++ ys) p a b
-toward_before false xs ys p a b (rs, is, h) = (rs ++ answering ys, both_answering xs ys rs (answering ys) is (untrimmed_answering ys), halts_before rs (answering ys) p a b h)
+pub toward_before : (threads : Bool) (xs ys : List Pairs) (p : Point) (a b : Option (List ℕ)) → HaltsToward threads xs p a b →
+    HaltsToward threads (xs ++ ys) p a b
+toward_before false xs ys p a b (rs, is, h) = (
+  rs ++ answering ys,
+  both_answering xs ys rs (answering ys) is (untrimmed_answering ys),
+  halts_before rs (answering ys) p a b h,
+)
 toward_before true xs ys p a b (rs, (later, split, all), h) = (
   rs,
   (later ++ ys, ap (λ (l : List Pairs). l ++ ys) split ∙ append_assoc (offered_in rs) later ys, all),
@@ -225,7 +239,8 @@ toward_before true xs ys p a b (rs, (later, split, all), h) = (
 )
 
 -- the history may be cut first
-pub toward_trimmed : (xs : List Pairs) (p q : Point) (lines : List Line) (a b : Option (List ℕ)) → MayCut p lines q → Halts (answering xs) q a b → HaltsToward false xs p a b
+pub toward_trimmed : (xs : List Pairs) (p q : Point) (lines : List Line) (a b : Option (List ℕ)) → MayCut p lines q → Halts (answering xs) q a b →
+    HaltsToward false xs p a b
 toward_trimmed xs p q lines a b cuts h =
     (Trimmed ∷ answering xs, untrimmed_answering xs, halts_then (Trimmed ∷ []) (answering xs) p q a a b (serves_trimmed p q lines a cuts) h)
 
@@ -254,7 +269,7 @@ pub on_ok_or_err : {T E : Type 0} {P Q R : Type 0} (r : Result T E) → (P → R
 on_ok_or_err (Ok x) f g h k = tt
 on_ok_or_err (Err e) f g h k = g k
 
--- of what was served, whatever came of the call behind it
+-- of what was served, whatever came of the call after it
 pub either_way : {T E : Type 0} {P : T → Type 0} {Q R : Type 0} (s r : Result T E) → IfOk s P → OnErr s Q → ((x : T) → P x → R) → (Q → R) → OnErr r R
 either_way s (Ok y) h k f g = tt
 either_way (Ok x) (Err e) h k f g = f x h
@@ -264,20 +279,28 @@ pub on_err_of : {T E : Type 0} {P : Type 0} (r : Result T E) → P → OnErr r P
 on_err_of (Ok x) h = tt
 on_err_of (Err e) h = h
 
--- one message of a list, behind those before it
-pub halts_message : (list : List (Vec ℕ)) (i : ℕ) (m : Vec ℕ) (bytes : List ℕ) (p q : Point) (a b c : Option (List ℕ)) → i < length list → m ≡ get_or list i m → bytes ≡ m.items
-    → Serves (answering (requests (messages (take i list)))) p a q b → Halts (answering (map request_of (if_read (read bytes) bytes))) q b c → Halts (answering (requests (messages list))) p a c
+-- one message of a list, after those before it
+pub halts_message : (list : List (Vec ℕ)) (i : ℕ) (m : Vec ℕ) (bytes : List ℕ) (p q : Point) (a b c : Option (List ℕ)) → i < length list →
+    m ≡ get_or list i m → bytes ≡ m.items
+    → Serves (answering (requests (messages (take i list)))) p a q b → Halts (answering (map request_of (if_read (read bytes) bytes))) q b c →
+    Halts (answering (requests (messages list))) p a c
 halts_message list i m bytes p q a b c lt at is serves h =
     let first : Halts (answering (requests (messages (take i list)) ++ map request_of (if_read (read bytes) bytes))) p a c =
     halts_answering (requests (messages (take i list))) (map request_of (if_read (read bytes) bytes)) p q a b c serves h in
-    let here : Halts (answering (requests (messages (take (i + 1) list)))) p a c = subst (λ (l : List Pairs). Halts (answering l) p a c) (sym (requests_next list i m bytes lt at is)) first in
+    let here : Halts (answering (requests (messages (take (i + 1) list)))) p a c =
+    subst (λ (l : List Pairs). Halts (answering l) p a c) (sym (requests_next list i m bytes lt at is)) first in
     subst (λ (l : List Pairs). Halts (answering l) p a c) (sym (requests_front list (i + 1)))
     (halts_answers (requests (messages (take (i + 1) list))) (requests (messages (drop (i + 1) list))) p a c here)
 
 -- a piece of an input
 
-pub halts_reads : (threads : Bool) (left then : Option (List ℕ)) (more : List (List ℕ)) (s t : State) (p : Point) (a b : Option (List ℕ)) → ReadsOn left s more then t → HaltsToward threads (requests more) p a b → HaltsOn threads left s p a b
+pub halts_reads : (threads : Bool) (left then : Option (List ℕ)) (more : List (List ℕ)) (s t : State) (p : Point) (a b : Option (List ℕ)) →
+    ReadsOn left s more then t → HaltsToward threads (requests more) p a b → HaltsOn threads left s p a b
 halts_reads threads left then more s t p a b on h = λ input frames reads. (more, record { left = then; state = t; reads = on input frames reads }, h)
 
 pub halts_unread : (threads : Bool) (left : Option (List ℕ)) (s : State) (p : Point) (a : Option (List ℕ)) → HaltsOn threads left s p a a
-halts_unread threads left s p a = λ input frames reads. ([], record { left = left; state = s; reads = subst (λ (l : List (List ℕ)). Reads input left l s) (sym (append-nil frames)) reads }, toward_none threads [] p a)
+halts_unread threads left s p a = λ input frames reads. (
+  [],
+  record { left = left; state = s; reads = subst (λ (l : List (List ℕ)). Reads input left l s) (sym (append-nil frames)) reads },
+  toward_none threads [] p a,
+)

@@ -1,6 +1,7 @@
--- What is told, one after the other.
+-- What is reported, one after the other.
 -- for: standard_error::Told, switch::Switch, stream::Requests, serving::Switch
-use Rattle.std.proofs.Common.{◌≡◌, ◌<◌, ℕ, ◌+◌, Bool, true, false, List, [], ◌∷◌, ◌++◌, length, take, get_or, min, ◌-◌, ◌^◌, Option, Some, None, Result, Ok, Err, refl, sym, ap, subst, arith, ◌∙◌, add-zero, zero-add, append-nil, append_assoc}
+use Rattle.std.proofs.Common.{◌≡◌, ◌<◌, ℕ, ◌+◌, Bool, true, false, List, [], ◌∷◌, ◌++◌, length, take, get_or, min, ◌-◌, ◌^◌, Option, Some, None, Result, Ok}
+use Rattle.std.proofs.Common.{Err, refl, sym, ap, subst, arith, ◌∙◌, add-zero, zero-add, append-nil, append_assoc}
 use Rattle.std.specs.Global.{Vec}
 use Rattle.std.specs.Io.KnownBytes.{Appends}
 use Rattle.std.proofs.KnownBytes.{Appends-nil, Appends-trans}
@@ -14,7 +15,8 @@ use Rattle.sw_frame.specs.Feeds.{messages}
 use Rattle.cli_io.specs.Written.{AppendsBeginning}
 use Rattle.cli_run.specs.declared.standard_error.Form.{Form}
 use Rattle.cli_run.specs.Lines.{Line, in_form, written_as}
-use Rattle.cli_run.specs.Traces.{Adds, AddsSome, AreBegun, Counted, IsQuiet, Log, Passed, Piece, Tells, Traced, counted_in, if_passed, if_wanted, passed_in, passed_line, passed_over, piece_text, text_of, traced_in}
+use Rattle.cli_run.specs.Traces.{Adds, AddsSome, AreBegun, Counted, IsQuiet, Log, Passed, Piece, Tells, Traced, counted_in, if_passed, if_wanted, passed_in}
+use Rattle.cli_run.specs.Traces.{passed_line, passed_over, piece_text, text_of, traced_in}
 
 text_append : (ps qs : List Piece) → text_of (ps ++ qs) ≡ text_of ps ++ text_of qs
 text_append [] qs = refl
@@ -63,7 +65,16 @@ adds_then w xs ys m n a b c s t = record {
 }
 
 adds_some : (w : Bool) (xs : List ℕ) (n : ℕ) (a b : Option (List ℕ)) → Adds w xs n a b → AddsSome w xs n a b
-adds_some w xs n a b s = record { pieces = s.pieces; traced = s.traced; count = s.count; quiet = s.quiet; text = text_of s.pieces; begun = all_begun s.pieces; written = s.written }
+adds_some w xs n a b s = record {
+  pieces = s.pieces;
+  traced = s.traced;
+  count = s.count;
+  quiet = s.quiet;
+  text = text_of s.pieces;
+  begun =
+      all_begun s.pieces;
+  written = s.written;
+}
 
 some_then : (w : Bool) (xs ys : List ℕ) (m n : ℕ) (a b c : Option (List ℕ)) → AddsSome w xs m a b → AddsSome w ys n b c → AddsSome w (xs ++ ys) (m + n) a c
 some_then w xs ys m n a b c s t = record {
@@ -77,7 +88,8 @@ some_then w xs ys m n a b c s t = record {
 }
 
 -- a beginning of one piece
-some_of : (w : Bool) (p : Piece) (a b : Option (List ℕ)) → IsQuiet w (p ∷ []) → AppendsBeginning a b (piece_text p) → AddsSome w (traced_in (p ∷ [])) (passed_in (p ∷ [])) a b
+some_of : (w : Bool) (p : Piece) (a b : Option (List ℕ)) → IsQuiet w (p ∷ []) → AppendsBeginning a b (piece_text p) →
+    AddsSome w (traced_in (p ∷ [])) (passed_in (p ∷ [])) a b
 some_of w p a b quiet (first, rest, is, written) = record {
   pieces = p ∷ [];
   quiet = quiet;
@@ -110,7 +122,8 @@ tells_none a = record {
   count = λ h. sym (add-zero a.passed);
   before = λ h. h;
   adds = λ h. subst (λ (l : List ℕ). Adds a.stats l 0 a.text a.text) (sym (none_wanted a.wanted)) (adds_none a.stats a.text);
-  some = subst (λ (l : List ℕ). AddsSome a.stats l 0 a.text a.text) (sym (none_wanted a.wanted)) (adds_some a.stats [] 0 a.text a.text (adds_none a.stats a.text));
+  some = subst (λ (l : List ℕ). AddsSome a.stats l 0 a.text a.text) (sym (none_wanted a.wanted))
+      (adds_some a.stats [] 0 a.text a.text (adds_none a.stats a.text));
 }
 
 pub tells_then : (xs ys : List Line) (m n : ℕ) (a b c : Log) → Tells xs m a b → Tells ys n b c → Tells (xs ++ ys) (m + n) a c
@@ -119,12 +132,15 @@ tells_then xs ys m n a b c s t = record {
   stats = t.stats ∙ s.stats;
   count = λ h. both_counted a.passed b.passed c.passed m n s.count t.count h;
   before = λ h. s.before (t.before h);
-  adds = λ h. (let more : Adds b.stats (if_wanted a.wanted ys) n b.text c.text = subst (λ (w : Option Form). Adds b.stats (if_wanted w ys) n b.text c.text) s.wanted (t.adds h) in
+  adds = λ h. (let more : Adds b.stats (if_wanted a.wanted ys) n b.text c.text = subst (λ (w : Option Form). Adds b.stats (if_wanted w ys) n b.text c.text)
+      s.wanted (t.adds h) in
       let same : Adds a.stats (if_wanted a.wanted ys) n b.text c.text = subst (λ (w : Bool). Adds w (if_wanted a.wanted ys) n b.text c.text) s.stats more in
       subst (λ (l : List ℕ). Adds a.stats l (m + n) a.text c.text) (sym (both_wanted a.wanted xs ys))
       (adds_then a.stats (if_wanted a.wanted xs) (if_wanted a.wanted ys) m n a.text b.text c.text (s.adds (t.before h)) same));
-  some = (let more : AddsSome b.stats (if_wanted a.wanted ys) n b.text c.text = subst (λ (w : Option Form). AddsSome b.stats (if_wanted w ys) n b.text c.text) s.wanted t.some in
-      let same : AddsSome a.stats (if_wanted a.wanted ys) n b.text c.text = subst (λ (w : Bool). AddsSome w (if_wanted a.wanted ys) n b.text c.text) s.stats more in
+  some = (let more : AddsSome b.stats (if_wanted a.wanted ys) n b.text c.text =
+      subst (λ (w : Option Form). AddsSome b.stats (if_wanted w ys) n b.text c.text) s.wanted t.some in
+      let same : AddsSome a.stats (if_wanted a.wanted ys) n b.text c.text = subst (λ (w : Bool). AddsSome w (if_wanted a.wanted ys) n b.text c.text) s.stats
+      more in
       subst (λ (l : List ℕ). AddsSome a.stats l (m + n) a.text c.text) (sym (both_wanted a.wanted xs ys))
       (some_then a.stats (if_wanted a.wanted xs) (if_wanted a.wanted ys) m n a.text b.text c.text s.some same));
 }
@@ -144,9 +160,18 @@ lines_before xs ys n a b c s t = subst (λ (k : ℕ). Tells (xs ++ ys) k a c) (z
 -- one write
 
 -- all is written
-told_whole : (lines : List Line) (n : ℕ) (w : Option Form) (s l : Bool) (k m : ℕ) (t u : Option (List ℕ)) → (k + n < 2 ^ 64 → m ≡ k + n) → Adds s (if_wanted w lines) n t u
+told_whole : (lines : List Line) (n : ℕ) (w : Option Form) (s l : Bool) (k m : ℕ) (t u : Option (List ℕ)) → (k + n < 2 ^ 64 → m ≡ k + n) →
+    Adds s (if_wanted w lines) n t u
     → Tells lines n (record { wanted = w; stats = s; passed = k; lost = l; text = t }) (record { wanted = w; stats = s; passed = m; lost = l; text = u })
-told_whole lines n w s l k m t u count all = record { wanted = refl; stats = refl; count = count; before = λ h. h; adds = λ h. all; some = adds_some s (if_wanted w lines) n t u all }
+told_whole lines n w s l k m t u count all = record {
+  wanted = refl;
+  stats = refl;
+  count = count;
+  before = λ h. h;
+  adds = λ h. all;
+  some =
+      adds_some s (if_wanted w lines) n t u all;
+}
 
 none_more : (k : ℕ) → k + 0 < 2 ^ 64 → k ≡ k + 0
 none_more k small = sym (add-zero k)
@@ -154,34 +179,42 @@ none_more k small = sym (add-zero k)
 one_more : (k m : ℕ) → m ≡ min (k + 1) (2 ^ 64 - 1) → k + 1 < 2 ^ 64 → m ≡ k + 1
 one_more k m is small = is ∙ min-eq_left (omega (arith, small))
 
-pub unwanted : (lines : List Line) (w : Option Form) (s l : Bool) (k : ℕ) (t : Option (List ℕ)) → w ≡ None → Tells lines 0 (record { wanted = w; stats = s; passed = k; lost = l; text = t }) (record { wanted = w; stats = s; passed = k; lost = l; text = t })
-unwanted lines w s l k t not = told_whole lines 0 w s l k k t t (none_more k) (subst (λ (b : Option Form). Adds s (if_wanted b lines) 0 t t) (sym not) (adds_none s t))
+pub unwanted : (lines : List Line) (w : Option Form) (s l : Bool) (k : ℕ) (t : Option (List ℕ)) → w ≡ None →
+    Tells lines 0 (record { wanted = w; stats = s; passed = k; lost = l; text = t }) (record { wanted = w; stats = s; passed = k; lost = l; text = t })
+unwanted lines w s l k t not = told_whole lines 0 w s l k k t t (none_more k) (subst (λ (b : Option Form). Adds s (if_wanted b lines) 0 t t) (sym not)
+    (adds_none s t))
 
-pub lines_told : (lines : List Line) (form : Form) (w : Option Form) (s l : Bool) (k : ℕ) (t u : Option (List ℕ)) → w ≡ Some form → Appends t u (written_as form lines) → Tells lines 0 (record { wanted = w; stats = s; passed = k; lost = l; text = t }) (record { wanted = w; stats = s; passed = k; lost = l; text = u })
-lines_told lines form w s l k t u is written = told_whole lines 0 w s l k k t u (none_more k) (subst (λ (b : Option Form). Adds s (if_wanted b lines) 0 t u) (sym is) (record {
-  pieces = Traced (written_as form lines) ∷ [];
-  traced = append-nil (written_as form lines);
-  count = refl;
-  quiet = λ not. refl;
-  written = subst (Appends t u) (sym (append-nil (written_as form lines))) written;
-}))
+pub lines_told : (lines : List Line) (form : Form) (w : Option Form) (s l : Bool) (k : ℕ) (t u : Option (List ℕ)) → w ≡ Some form →
+    Appends t u (written_as form lines) → Tells lines 0 (record { wanted = w; stats = s; passed = k; lost = l; text = t })
+    (record { wanted = w; stats = s; passed = k; lost = l; text = u })
+lines_told lines form w s l k t u is written = told_whole lines 0 w s l k k t u (none_more k)
+    (subst (λ (b : Option Form). Adds s (if_wanted b lines) 0 t u) (sym is) (record {
+      pieces = Traced (written_as form lines) ∷ [];
+      traced = append-nil (written_as form lines);
+      count = refl;
+      quiet = λ not. refl;
+      written = subst (Appends t u) (sym (append-nil (written_as form lines))) written;
+    }))
 
-pub passed_told : (number : ℕ) (cause line : List ℕ) (w : Option Form) (s l : Bool) (k m : ℕ) (t u : Option (List ℕ)) → m ≡ min (k + 1) (2 ^ 64 - 1) → line ≡ passed_line number cause → Appends t u line
+pub passed_told : (number : ℕ) (cause line : List ℕ) (w : Option Form) (s l : Bool) (k m : ℕ) (t u : Option (List ℕ)) → m ≡ min (k + 1) (2 ^ 64 - 1) →
+    line ≡ passed_line number cause → Appends t u line
     → Tells [] 1 (record { wanted = w; stats = s; passed = k; lost = l; text = t }) (record { wanted = w; stats = s; passed = m; lost = l; text = u })
-passed_told number cause line w s l k m t u more is written = told_whole [] 1 w s l k m t u (one_more k m more) (subst (λ (x : List ℕ). Adds s x 1 t u) (sym (none_wanted w)) (record {
-  pieces = Passed number cause ∷ [];
-  traced = refl;
-  count = refl;
-  quiet = λ not. refl;
-  written = subst (Appends t u) (is ∙ sym (append-nil (passed_line number cause))) written;
-}))
+passed_told number cause line w s l k m t u more is written =
+    told_whole [] 1 w s l k m t u (one_more k m more) (subst (λ (x : List ℕ). Adds s x 1 t u) (sym (none_wanted w)) (record {
+      pieces = Passed number cause ∷ [];
+      traced = refl;
+      count = refl;
+      quiet = λ not. refl;
+      written = subst (Appends t u) (is ∙ sym (append-nil (passed_line number cause))) written;
+    }))
 
 -- a write failed
 
 pub true_not_false : {A : Type 0} (b : Bool) → b ≡ true → b ≡ false → A
 true_not_false b is not = absurd (let both : true ≡ false = sym is ∙ not in cc)
 
-told_some : (lines : List Line) (n : ℕ) (w : Option Form) (s l o : Bool) (k m : ℕ) (t u : Option (List ℕ)) → (k + n < 2 ^ 64 → m ≡ k + n) → o ≡ true → AddsSome s (if_wanted w lines) n t u
+told_some : (lines : List Line) (n : ℕ) (w : Option Form) (s l o : Bool) (k m : ℕ) (t u : Option (List ℕ)) → (k + n < 2 ^ 64 → m ≡ k + n) → o ≡ true →
+    AddsSome s (if_wanted w lines) n t u
     → Tells lines n (record { wanted = w; stats = s; passed = k; lost = l; text = t }) (record { wanted = w; stats = s; passed = m; lost = o; text = u })
 told_some lines n w s l o k m t u count lost some = record {
   wanted = refl;
@@ -192,14 +225,17 @@ told_some lines n w s l o k m t u count lost some = record {
   some = some;
 }
 
-pub lines_lost : (lines : List Line) (form : Form) (w : Option Form) (s l o : Bool) (k : ℕ) (t u : Option (List ℕ)) → w ≡ Some form → o ≡ true → AppendsBeginning t u (written_as form lines)
+pub lines_lost : (lines : List Line) (form : Form) (w : Option Form) (s l o : Bool) (k : ℕ) (t u : Option (List ℕ)) → w ≡ Some form → o ≡ true →
+    AppendsBeginning t u (written_as form lines)
     → Tells lines 0 (record { wanted = w; stats = s; passed = k; lost = l; text = t }) (record { wanted = w; stats = s; passed = k; lost = o; text = u })
 lines_lost lines form w s l o k t u is lost written =
     let text : List ℕ = written_as form lines in
     let begun : AddsSome s (text ++ []) 0 t u = some_of s (Traced text) t u (λ not. refl) written in
-    told_some lines 0 w s l o k k t u (none_more k) lost (subst (λ (b : Option Form). AddsSome s (if_wanted b lines) 0 t u) (sym is) (subst (λ (x : List ℕ). AddsSome s x 0 t u) (append-nil text) begun))
+    told_some lines 0 w s l o k k t u (none_more k) lost (subst (λ (b : Option Form). AddsSome s (if_wanted b lines) 0 t u) (sym is)
+    (subst (λ (x : List ℕ). AddsSome s x 0 t u) (append-nil text) begun))
 
-pub passed_lost : (number : ℕ) (cause line : List ℕ) (w : Option Form) (s l o : Bool) (k m : ℕ) (t u : Option (List ℕ)) → m ≡ min (k + 1) (2 ^ 64 - 1) → line ≡ passed_line number cause → o ≡ true → AppendsBeginning t u line
+pub passed_lost : (number : ℕ) (cause line : List ℕ) (w : Option Form) (s l o : Bool) (k m : ℕ) (t u : Option (List ℕ)) → m ≡ min (k + 1) (2 ^ 64 - 1) →
+    line ≡ passed_line number cause → o ≡ true → AppendsBeginning t u line
     → Tells [] 1 (record { wanted = w; stats = s; passed = k; lost = l; text = t }) (record { wanted = w; stats = s; passed = m; lost = o; text = u })
 passed_lost number cause line w s l o k m t u more is lost written =
     let begun : AddsSome s [] 1 t u = some_of s (Passed number cause) t u (λ not. refl) (subst (AppendsBeginning t u) is written) in
@@ -217,7 +253,8 @@ pub passed_over_append : (ms ns : List (List ℕ)) → passed_over (ms ++ ns) �
 passed_over_append [] ns = sym (zero-add (passed_over ns))
 passed_over_append (m ∷ ms) ns = let ih = passed_over_append ms ns in omega (arith, ih)
 
-pub passed_over_next : (list : List (Vec ℕ)) (i : ℕ) (m : Vec ℕ) (bytes : List ℕ) → i < length list → m ≡ get_or list i m → bytes ≡ m.items → passed_over (messages (take (i + 1) list)) ≡ passed_over (messages (take i list)) + if_passed (read bytes)
+pub passed_over_next : (list : List (Vec ℕ)) (i : ℕ) (m : Vec ℕ) (bytes : List ℕ) → i < length list → m ≡ get_or list i m → bytes ≡ m.items →
+    passed_over (messages (take (i + 1) list)) ≡ passed_over (messages (take i list)) + if_passed (read bytes)
 passed_over_next list i m bytes lt at is =
     let more : take (i + 1) list ≡ take i list ++ m ∷ [] = take_more list i m lt ∙ ap (λ (v : Vec ℕ). take i list ++ v ∷ []) (sym at) in
     let halves : messages (take i list ++ m ∷ []) ≡ messages (take i list) ++ m.items ∷ [] = map-append (λ (v : Vec ℕ). v.items) (take i list) (m ∷ []) in
@@ -227,7 +264,9 @@ passed_over_next list i m bytes lt at is =
     whole ∙ ap (λ (k : ℕ). passed_over (messages (take i list)) + k) one
 
 -- of one message more
-pub passed_more : (list : List (Vec ℕ)) (i : ℕ) (m : Vec ℕ) (bytes : List ℕ) (a b c : Log) → i < length list → m ≡ get_or list i m → bytes ≡ m.items → Tells [] (passed_over (messages (take i list))) a b → Tells [] (if_passed (read bytes)) b c
+pub passed_more : (list : List (Vec ℕ)) (i : ℕ) (m : Vec ℕ) (bytes : List ℕ) (a b c : Log) → i < length list → m ≡ get_or list i m → bytes ≡ m.items →
+    Tells [] (passed_over (messages (take i list))) a b → Tells [] (if_passed (read bytes)) b c
     → Tells [] (passed_over (messages (take (i + 1) list))) a c
 passed_more list i m bytes a b c lt at is s t =
-    subst (λ (k : ℕ). Tells [] k a c) (sym (passed_over_next list i m bytes lt at is)) (tells_then [] [] (passed_over (messages (take i list))) (if_passed (read bytes)) a b c s t)
+    subst (λ (k : ℕ). Tells [] k a c) (sym (passed_over_next list i m bytes lt at is))
+    (tells_then [] [] (passed_over (messages (take i list))) (if_passed (read bytes)) a b c s t)

@@ -1,6 +1,7 @@
 -- One transaction, from its take to its end.
 -- for: switch::Switch::serve_next, switch::Switch::answer_next
-use Rattle.std.proofs.Common.{◌≡◌, ℕ, zero, suc, ◌+◌, ◌==◌, Bool, true, false, inl, inr, List, [], ◌∷◌, ◌++◌, map, drop, Option, Some, None, Ok, refl, sym, ap, subst, arith, ◌∙◌}
+use Rattle.std.proofs.Common.{◌≡◌, ℕ, zero, suc, ◌+◌, ◌==◌, Bool, true, false, inl, inr, List, [], ◌∷◌, ◌++◌, map, drop, Option, Some, None, Ok, refl, sym, ap}
+use Rattle.std.proofs.Common.{subst, arith, ◌∙◌}
 use Rattle.std.specs.Prelude.{◌⊎◌, is_some, nat_lt}
 use Rattle.std.specs.declared.cmp.Ordering.{Ordering}
 use Rattle.std.specs.declared.cmp.Ordering.TheVariants.{Less, Equal, Greater}
@@ -45,7 +46,8 @@ insert_twice : (n : ℕ) (x y : Pairs) (es : List (ℕ × Pairs)) → insert_ent
 insert_twice n x y [] = rw (cmp_self n) refl
 insert_twice n x y (e ∷ es) = by_order (nat_cmp n e.0) refl (insert_twice n x y es) where
   by_order : (r : Ordering) → nat_cmp n e.0 ≡ r → insert_entry nat_cmp (insert_entry nat_cmp es n x) n y ≡ insert_entry nat_cmp es n y
-      → insert_entry nat_cmp (match_ordering r ((n, x) ∷ e ∷ es) ((e.0, x) ∷ es) (e ∷ insert_entry nat_cmp es n x)) n y ≡ match_ordering r ((n, y) ∷ e ∷ es) ((e.0, y) ∷ es) (e ∷ insert_entry nat_cmp es n y)
+      → insert_entry nat_cmp (match_ordering r ((n, x) ∷ e ∷ es) ((e.0, x) ∷ es) (e ∷ insert_entry nat_cmp es n x)) n y ≡ match_ordering r ((n, y) ∷ e ∷ es)
+      ((e.0, y) ∷ es) (e ∷ insert_entry nat_cmp es n y)
   by_order Less is ih = rw (cmp_self n) refl
   by_order Equal is ih = rw is refl
   by_order Greater is ih = rw is (ap (λ (l : List (ℕ × Pairs)). e ∷ l) ih)
@@ -70,15 +72,40 @@ record GoesOn (w to : World) : Type 0 where
 goes_on_same : (w to : World) → to ≡ w → recovering w.flow w.start w.past ≡ None → GoesOn w to
 goes_on_same w to same none = rw same (record { waits = refl; next = refl; taken = refl; recovered = none })
 
-goes_on_by : (w : World) (r : Reply) (x : Pairs) → IsEngine (happened w (event_of 0 r x)) → recovering w.flow w.start w.past ≡ None → GoesOn w (happened w (event_of 0 r x))
+goes_on_by : (w : World) (r : Reply) (x : Pairs) → IsEngine (happened w (event_of 0 r x)) → recovering w.flow w.start w.past ≡ None →
+    GoesOn w (happened w (event_of 0 r x))
 goes_on_by w (reply.Answer byte) x engine none =
-    record { waits = refl; next = refl; taken = refl; recovered = recovered_stays w.flow w.start w.past (event_of 0 (reply.Answer byte) x) engine.start.view.ordered engine.lawful.lawful.0 none }
+    record {
+      waits = refl;
+      next = refl;
+      taken = refl;
+      recovered = recovered_stays w.flow w.start w.past (event_of 0 (reply.Answer byte) x)
+          engine.start.view.ordered engine.lawful.lawful.0 none;
+    }
 goes_on_by w (reply.Chosen text) x engine none =
-    record { waits = refl; next = refl; taken = refl; recovered = recovered_stays w.flow w.start w.past (event_of 0 (reply.Chosen text) x) engine.start.view.ordered engine.lawful.lawful.0 none }
+    record {
+      waits = refl;
+      next = refl;
+      taken = refl;
+      recovered = recovered_stays w.flow w.start w.past (event_of 0 (reply.Chosen text) x)
+          engine.start.view.ordered engine.lawful.lawful.0 none;
+    }
 goes_on_by w (reply.Told advice) x engine none =
-    record { waits = refl; next = refl; taken = refl; recovered = recovered_stays w.flow w.start w.past (event_of 0 (reply.Told advice) x) engine.start.view.ordered engine.lawful.lawful.0 none }
+    record {
+      waits = refl;
+      next = refl;
+      taken = refl;
+      recovered = recovered_stays w.flow w.start w.past (event_of 0 (reply.Told advice) x)
+          engine.start.view.ordered engine.lawful.lawful.0 none;
+    }
 goes_on_by w reply.Recovered x engine none =
-    record { waits = refl; next = refl; taken = refl; recovered = recovered_stays w.flow w.start w.past (event_of 0 reply.Recovered x) engine.start.view.ordered engine.lawful.lawful.0 none }
+    record {
+      waits = refl;
+      next = refl;
+      taken = refl;
+      recovered =
+          recovered_stays w.flow w.start w.past (event_of 0 reply.Recovered x) engine.start.view.ordered engine.lawful.lawful.0 none;
+    }
 
 goes_on : (w to : World) → IsEngine to → recovering w.flow w.start w.past ≡ None → Enters 0 w to → GoesOn w to
 goes_on w to engine none (inl same) = goes_on_same w to same none
@@ -89,7 +116,8 @@ goes_on w to engine none (inr (r, x, is)) = subst (GoesOn w) (sym is) (goes_on_b
 some_same : (i j : ℕ) → ◌≡◌ {A = Option ℕ} (Some i) (Some j) → i ≡ j
 some_same i j e = cc
 
-seat_is : (p : Core) (n : ℕ) (l : Seat) → Seated p → recovering p.world.flow p.world.start p.world.past ≡ None → taken p.world.start p.world.past 0 ≡ Some n → seat_of p 0 ≡ Some l → l.id ≡ n
+seat_is : (p : Core) (n : ℕ) (l : Seat) → Seated p → recovering p.world.flow p.world.start p.world.past ≡ None →
+    taken p.world.start p.world.past 0 ≡ Some n → seat_of p 0 ≡ Some l → l.id ≡ n
 seat_is p n l seated none took there =
     let held : held_id p.world 0 ≡ Some l.id = sym (seated.seats 0) ∙ ap seat_id there in
     let serves = (holds_serves p.world.flow p.world.start p.world.past 0 l.id held).0 in
@@ -125,7 +153,8 @@ none_there (Some x) h = absurd (cc)
 recovered_then : (w : World) → take_refusal w 0 ≡ None → recovering w.flow w.start w.past ≡ None
 recovered_then w h = none_there (recovering w.flow w.start w.past) (second_none _ (is_some (recovering w.flow w.start w.past)) _ _ _ h)
 
-ended_new : (row : Option (ℕ × Option Row)) (item : Option (ℕ × Waiting)) (n : ℕ) (x : Pairs) (es : List (ℕ × Pairs)) → (z : Option Pairs) × (ended_by (fate_by row item) (new_seat (n, x)) es ≡ with_ended n z es)
+ended_new : (row : Option (ℕ × Option Row)) (item : Option (ℕ × Waiting)) (n : ℕ) (x : Pairs) (es : List (ℕ × Pairs)) →
+    (z : Option Pairs) × (ended_by (fate_by row item) (new_seat (n, x)) es ≡ with_ended n z es)
 ended_new None item n x es = (None, refl)
 ended_new (Some (k, Some r)) item n x es = (None, refl)
 ended_new (Some (k, None)) None n x es = (Some x, refl)
@@ -178,12 +207,23 @@ begun_by p q m (outcome.Restarted n) h done = absurd h
 begun_by p q m (outcome.Cut n) h done = absurd h
 
 begun_marked : (p b q : Core) (n k : ℕ) → Begun p b n → q ≡ record b { world = record b.world { mark = k } } → Begun p q n
-begun_marked p b q n k h is = subst (λ (c : Core). Begun p c n) (sym is) (record { allowed = h.allowed; waits = h.waits; next = h.next; taken = h.taken; recovered = h.recovered; others = h.others; own = h.own; ended = h.ended })
+begun_marked p b q n k h is = subst (λ (c : Core). Begun p c n) (sym is) (record {
+  allowed = h.allowed;
+  waits = h.waits;
+  next = h.next;
+  taken =
+      h.taken;
+  recovered = h.recovered;
+  others = h.others;
+  own = h.own;
+  ended = h.ended;
+})
 
 pub took : (p q : Point) (o : Outcome) → Does (turn.Take 0) o p q → Seated q.plant.core → Under p q
 took p q o does seated =
     let d = did (turn.Take 0) o p q does in
-    let takes : Takes p.plant.core 0 d.moved (Ok o) d.between.core = unraised (λ x. Takes p.plant.core 0 d.moved x d.between.core) o d.turned.0 d.turned.1 d.turned.2 in
+    let takes : Takes p.plant.core 0 d.moved (Ok o) d.between.core = unraised (λ x. Takes p.plant.core 0 d.moved x d.between.core) o d.turned.0 d.turned.1
+    d.turned.2 in
     let b = begun_marked p.plant.core d.between.core q.plant.core (next_at p) d.mark (begun_by p.plant.core d.between.core d.moved o takes does.done) d.core in
     record {
       took = (o, does.wrote);
@@ -209,24 +249,35 @@ record Stays (n : ℕ) (p q : Core) : Type 0 where
   own : Option Pairs
   ended : q.ended ≡ with_ended n own p.ended
 
-adds_own : (n : ℕ) (p q : Core) → ((l : Seat) → seat_of p 0 ≡ Some l → l.id ≡ n) → (q.ended ≡ p.ended) ⊎ ((l : Seat) × (x : Pairs) × (seat_of p 0 ≡ Some l) × (q.ended ≡ insert_entry nat_cmp p.ended l.id x)) → (o : Option Pairs) × (q.ended ≡ with_ended n o p.ended)
+adds_own : (n : ℕ) (p q : Core) → ((l : Seat) → seat_of p 0 ≡ Some l → l.id ≡ n) →
+    (q.ended ≡ p.ended) ⊎ ((l : Seat) × (x : Pairs) × (seat_of p 0 ≡ Some l) × (q.ended ≡ insert_entry nat_cmp p.ended l.id x)) →
+    (o : Option Pairs) × (q.ended ≡ with_ended n o p.ended)
 adds_own n p q own (inl same) = (None, same)
 adds_own n p q own (inr (l, x, there, more)) = (Some x, more ∙ ap (λ (i : ℕ). insert_entry nat_cmp p.ended i x) (own l there))
 
-stays : (p b q : Core) (n k : ℕ) (m : List Moved) (o : Outcome) → Seated p → recovering p.world.flow p.world.start p.world.past ≡ None → taken p.world.start p.world.past 0 ≡ Some n → Stepped p 0 m (Ok o) b → IsEngine b.world → q ≡ record b { world = record b.world { mark = k } } → Stays n p q
+stays : (p b q : Core) (n k : ℕ) (m : List Moved) (o : Outcome) → Seated p → recovering p.world.flow p.world.start p.world.past ≡ None →
+    taken p.world.start p.world.past 0 ≡ Some n → Stepped p 0 m (Ok o) b → IsEngine b.world → q ≡ record b { world = record b.world { mark = k } } → Stays n p q
 stays p b q n k m o seated none took stepped engine is =
     let s = steps_of p b m (Ok o) stepped in
     let w = goes_on p.world b.world engine none s.enters in
     let own = adds_own n p b (λ l there. seat_is p n l seated none took there) s.adds in
-    subst (Stays n p) (sym is) (record { world = record { waits = w.waits; next = w.next; taken = w.taken; recovered = w.recovered }; others = s.others; own = own.0; ended = own.1 })
+    subst (Stays n p) (sym is) (record {
+      world = record { waits = w.waits; next = w.next; taken = w.taken; recovered = w.recovered };
+      others =
+          s.others;
+      own = own.0;
+      ended = own.1;
+    })
 
-one_more : (os : List (Outcome × Outcome)) (t : Outcome × Outcome) (o : Outcome × Outcome) → (doing (turn.Take 0) t ∷ map (doing (turn.Step 0)) os) ++ doing (turn.Step 0) o ∷ [] ≡ doing (turn.Take 0) t ∷ map (doing (turn.Step 0)) (os ++ o ∷ [])
+one_more : (os : List (Outcome × Outcome)) (t : Outcome × Outcome) (o : Outcome × Outcome) → (doing (turn.Take 0) t ∷ map (doing (turn.Step 0)) os)
+    ++ doing (turn.Step 0) o ∷ [] ≡ doing (turn.Take 0) t ∷ map (doing (turn.Step 0)) (os ++ o ∷ [])
 one_more os t o = ap (λ (l : List Drive). doing (turn.Take 0) t ∷ l) (sym (map-append (doing (turn.Step 0)) os (o ∷ [])))
 
 pub stepped : (p q r : Point) (o : Outcome) → Under p q → Does (turn.Step 0) o q r → Seated r.plant.core → Under p r
 stepped p q r o u does seated =
     let d = did (turn.Step 0) o q r does in
-    let step : Stepped q.plant.core 0 d.moved (Ok o) d.between.core = unraised (λ x. Stepped q.plant.core 0 d.moved x d.between.core) o d.turned.0 d.turned.1 d.turned.2 in
+    let step : Stepped q.plant.core 0 d.moved (Ok o) d.between.core = unraised (λ x. Stepped q.plant.core 0 d.moved x d.between.core) o d.turned.0
+    d.turned.1 d.turned.2 in
     let s = stays q.plant.core d.between.core r.plant.core (next_at p) d.mark d.moved o u.seated u.recovered u.taken step d.on.engine d.core in
     let twice = ended_twice (next_at p) u.own s.own (ended_at p) in
     record {
@@ -250,17 +301,20 @@ stepped p q r o u does seated =
 idle_then : (p q r : Point) → Under p q → Does (turn.Step 0) outcome.Idle q r → held_id (world_at r) 0 ≡ None
 idle_then p q r u does =
     let d = did (turn.Step 0) outcome.Idle q r does in
-    let step : Stepped q.plant.core 0 d.moved (Ok outcome.Idle) d.between.core = unraised (λ x. Stepped q.plant.core 0 d.moved x d.between.core) outcome.Idle d.turned.0 d.turned.1 d.turned.2 in
+    let step : Stepped q.plant.core 0 d.moved (Ok outcome.Idle) d.between.core =
+    unraised (λ x. Stepped q.plant.core 0 d.moved x d.between.core) outcome.Idle d.turned.0 d.turned.1 d.turned.2 in
     let none = none_held (world_at q) 0 (none_due q.plant.core d.between.core d.moved step) in
     let same : d.between.core.world ≡ world_at q = same_world q.plant.core d.between.core d.moved step in
     let here : held_id (record d.between.core.world { mark = d.mark }) 0 ≡ None = subst (λ (w : World). held_id w 0 ≡ None) (sym same) none in
     subst (λ (c : Core). held_id c.world 0 ≡ None) (sym d.core) here
 
-all_idle : (p r : Point) → IsAtRest p → Seated r.plant.core → ((s : ℕ) → seat_of r.plant.core (suc s) ≡ seat_of p.plant.core (suc s)) → held_id (world_at r) 0 ≡ None → (s : ℕ) → held_id (world_at r) s ≡ None
+all_idle : (p r : Point) → IsAtRest p → Seated r.plant.core → ((s : ℕ) → seat_of r.plant.core (suc s) ≡ seat_of p.plant.core (suc s)) →
+    held_id (world_at r) 0 ≡ None → (s : ℕ) → held_id (world_at r) s ≡ None
 all_idle p r rest seated others first zero = first
 all_idle p r rest seated others first (suc s) = sym (seated.seats (suc s)) ∙ (ap seat_id (others s) ∙ (rest.seated.seats (suc s) ∙ rest.idle (suc s)))
 
-pub transacted : (p q r : Point) (o : Outcome) → IsAtRest p → o ≡ outcome.Idle → Under p q → Does (turn.Step 0) o q r → Seated r.plant.core → (own : Option Pairs) × Transacts p own r
+pub transacted : (p q r : Point) (o : Outcome) → IsAtRest p → o ≡ outcome.Idle → Under p q → Does (turn.Step 0) o q r → Seated r.plant.core →
+    (own : Option Pairs) × Transacts p own r
 transacted p q r o rest is u does seated =
     let idle : Does (turn.Step 0) outcome.Idle q r = subst (λ (z : Outcome). Does (turn.Step 0) z q r) is does in
     let last = stepped p q r outcome.Idle u idle seated in (

@@ -6,8 +6,8 @@ use Rattle.tx_plant.specs.declared.turn.Outcome.{Outcome}
 use Rattle.tx_plant.specs.declared.turn.Turn.TheVariants as turn
 use Rattle.sw_stats.specs.Tallies.{with_delivered}
 use Rattle.cli_run.specs.Lines.{Line}
-use Rattle.cli_run.specs.Points.{Point, world_at}
-use Rattle.cli_run.specs.Rounds.{Does, MayCut}
+use Rattle.cli_run.specs.Points.{IsAtRest, Point, world_at}
+use Rattle.cli_run.specs.Rounds.{Does, IsEmptied, MayCut}
 use Rattle.cli_run.specs.Traces.{Log, Tells}
 
 -- how an advice is sent: its bytes, whether it is a repeat, the sender before, whether it was accepted, the sender after
@@ -54,6 +54,11 @@ pub record Sends (step : AdviceStep) (a : (ℕ × ℕ) × List ℕ) (s : PlainAd
   pub sent : step a.1 (is_repeat s a.0) s.sender accepted t.sender
   pub noted : t ≡ record s { sender = t.sender; last = last_with s a.0 }
   pub acks : Acks accepted a.0 p q
+
+-- The switch is at rest. Queue and shelf are empty where they were.
+pub record StaysAtRest (p q : Point) : Type 0 where
+  pub rest : IsAtRest q
+  pub emptied : IsEmptied (world_at p) → IsEmptied (world_at q)
 
 -- one after the other
 abbrev pub SendsAll : AdviceStep → List ((ℕ × ℕ) × List ℕ) → PlainAdvisor → Point → PlainAdvisor → Point → Type 0

@@ -1,5 +1,5 @@
 -- What the errors of the parts become.
-use Rattle.std.specs.Prelude.{◌≡◌, ⊤, ℕ, List, Some, Result, Ok, Err, option_map, slice_get}
+use Rattle.std.specs.Prelude.{◌≡◌, ⊤, ℕ, List, Some, None, Result, Ok, Err, option_map, slice_get}
 use Rattle.flow_model.specs.declared.flow.Flow.{Flow}
 use Rattle.flow_model.specs.declared.numbering.Part.{Part}
 use Rattle.flow_model.specs.Places.{parts_of}
@@ -19,7 +19,8 @@ use Rattle.tx_pool.specs.declared.refusal.Early.TheVariants as early
 use Rattle.tx_pool.specs.declared.refusal.PoolError.{PoolError}
 use Rattle.tx_pool.specs.declared.refusal.PoolError.TheVariants as pool
 use Rattle.cli_run.specs.declared.error.ServeError.{ServeError}
-use Rattle.cli_run.specs.declared.error.ServeError.TheVariants.{BadLength as BadFrameLength, BadSessions, DoubleStation, Engine, Journal, Mismatch, NoStation, OutOfMemory, Pool, Read, Truncated as TruncatedFrame, Write}
+use Rattle.cli_run.specs.declared.error.ServeError.TheVariants.{BadLength as BadFrameLength, BadSessions, DoubleStation, Engine, Journal, Mismatch, NoStation}
+use Rattle.cli_run.specs.declared.error.ServeError.TheVariants.{OutOfMemory, Pool, Read, Seating, Truncated as TruncatedFrame, Write}
 use Rattle.cli_run.specs.declared.stream.StreamEnd.{StreamEnd}
 use Rattle.cli_run.specs.declared.stream.StreamEnd.TheVariants.{Whole, BadLength, Truncated, Unread}
 
@@ -40,19 +41,21 @@ error_of_write e = Write e
 abbrev pub error_of_plant : PlantError → ServeError
 error_of_plant (plant.Engine e) = error_of_engine e
 error_of_plant (plant.Journal e) = Journal e
-error_of_plant (plant.Seating e) = OutOfMemory
+error_of_plant (plant.Seating e) = Seating e
 error_of_plant plant.OutOfMemory = OutOfMemory
 
--- the participant of this number has no station, or there was no memory for its name
+-- the participant of this number has no station, or there was no memory for its name; or the flow has no such number
 abbrev pub IsNoStation : Flow → ℕ → ServeError → Type 0
 IsNoStation f n (NoStation name) = option_map (λ (x : Part). x.name) (slice_get (parts_of f) n) ≡ Some name
 IsNoStation f n OutOfMemory = ⊤
+IsNoStation f n (Seating e) = slice_get (parts_of f) n ≡ None
 IsNoStation f n _ = ⊥
 
--- the station at this place has the name of an earlier one, or there was no memory to say so
+-- the station at this place has the name of an earlier one, or there was no memory to say so; or there is no such place
 abbrev pub IsDouble : List (List ℕ) → ℕ → ServeError → Type 0
 IsDouble names place (DoubleStation name) = slice_get names place ≡ Some name
 IsDouble names place OutOfMemory = ⊤
+IsDouble names place (Seating e) = slice_get names place ≡ None
 IsDouble names place _ = ⊥
 
 -- why no plant was made of stations with these names, and so many sessions

@@ -27,7 +27,8 @@ pub record Leg (step : AdviceStep) (rounds : List Round) (x : Stage) (lines : Li
 -- one after the other
 abbrev pub Legs : AdviceStep → List (List Round) → Stage → List Line → Stage → Type 0
 Legs step [] x lines y = (lines ≡ []) × (y ≡ x)
-Legs step (rs ∷ more) x lines y = (first : List Line) × (later : List Line) × (w : Stage) × Leg step rs x first w × Legs step more w later y × (lines ≡ first ++ later)
+Legs step (rs ∷ more) x lines y = (first : List Line) × (later : List Line) × (w : Stage) × Leg step rs x first w × Legs step more w later y
+    × (lines ≡ first ++ later)
 
 -- the rounds of all legs
 abbrev pub rounds_in : List (List Round) → List Round

@@ -44,15 +44,18 @@ pub record ServesAll (step : AdviceStep) (rounds : List Round) (p : Point) (advi
   pub emptied : IsEmptied (world_at end)
 
 -- the lines of the entries that were cut till then, each once, the oldest first
-abbrev pub lines_cut : {step : AdviceStep} {rounds : List Round} {p : Point} {advisor : PlainAdvisor} {before after : Option (List ℕ)} → ServesAll step rounds p advisor before after → List Line
+abbrev pub lines_cut : {step : AdviceStep} {rounds : List Round} {p : Point} {advisor : PlainAdvisor} {before after : Option (List ℕ)} →
+    ServesAll step rounds p advisor before after → List Line
 lines_cut s = s.cut ++ (lines_of s.serves ++ s.drains.serves.lines)
 
 -- and with those of the history that is left
-abbrev pub all_lines : {step : AdviceStep} {rounds : List Round} {p : Point} {advisor : PlainAdvisor} {before after : Option (List ℕ)} → ServesAll step rounds p advisor before after → List Line
+abbrev pub all_lines : {step : AdviceStep} {rounds : List Round} {p : Point} {advisor : PlainAdvisor} {before after : Option (List ℕ)} →
+    ServesAll step rounds p advisor before after → List Line
 all_lines s = lines_cut s ++ lines_in (world_at s.end)
 
 -- the queue and the shelf are emptied; then each stored advice is sent
-pub record Closes (step : AdviceStep) (p : Point) (advisor : PlainAdvisor) (before : Option (List ℕ)) (q : Point) (sent : PlainAdvisor) (after : Option (List ℕ)) : Type 0 where
+pub record Closes (step : AdviceStep) (p : Point) (advisor : PlainAdvisor) (before : Option (List ℕ)) (q : Point) (sent : PlainAdvisor)
+    (after : Option (List ℕ)) : Type 0 where
   pub drained : Point
   pub drains : Drains p before drained after
   pub sends : SendsAll step (stored_at drained) advisor drained sent q
@@ -60,7 +63,8 @@ pub record Closes (step : AdviceStep) (p : Point) (advisor : PlainAdvisor) (befo
   pub emptied : IsEmptied (world_at q)
 
 -- A run with an input: it recovers first. Between two reads it sends at most so many stored advices.
-pub record Ran (f : Flow) (sessions : ℕ) (j : Seen) (step : AdviceStep) (sender : PlainSender) (most : ℕ) (rounds : List Round) (before after : Option (List ℕ)) : Type 0 where
+pub record Ran (f : Flow) (sessions : ℕ) (j : Seen) (step : AdviceStep) (sender : PlainSender) (most : ℕ) (rounds : List Round)
+    (before after : Option (List ℕ)) : Type 0 where
   pub recovered : Point
   pub begins : Begins f sessions j recovered
   pub serves : ServesAll step rounds recovered (begun_advisor sender most begins.view.next_id) before after

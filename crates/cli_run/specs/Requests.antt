@@ -25,7 +25,7 @@ request_of bytes = (codes "request", bytes) ∷ []
 abbrev pub requests : List (List ℕ) → List Pairs
 requests frames = map request_of (readable frames)
 
--- how the stream ended: whole frames were read to the end of the input; or a length is none; or the input ends within a frame
+-- how the stream ended: whole frames were read to the end of the input; or a length is not four digits; or the input ends within a frame
 abbrev pub EndsAs : StreamEnd → State → Option (List ℕ) → Type 0
 EndsAs Whole s left = (s.failed ≡ false) × (s.pending ≡ []) × IsAtEnd left
 EndsAs BadLength s left = s.failed ≡ true

@@ -19,7 +19,8 @@ use Rattle.tx_pool.specs.Receipts.{offered_of, run_entries}
 use Rattle.tx_pool.specs.Settled.{IsSettled}
 use Rattle.tx_pool.specs.Went.{Grown}
 use Rattle.cli_run.specs.Lines.{Line, lines_in}
-use Rattle.cli_run.specs.Points.{IsAllWritten, IsAtRest, IsIdle, IsReady, Point, all_answered, ended_at, is_long, next_at, response_of, responses, unanswered, with_ended, world_at}
+use Rattle.cli_run.specs.Points.{IsAllWritten, IsAtRest, IsIdle, IsReady, Point, all_answered, ended_at, is_long, next_at, response_of, responses, unanswered}
+use Rattle.cli_run.specs.Points.{with_ended, world_at}
 
 -- calls of `drive`, one after the other; no response is given meanwhile
 pub record Acts (drives : List Drive) (p q : Point) : Type 0 where
@@ -120,9 +121,12 @@ Goes (Completed ∷ rs) p bytes lines q =
     (w : Point) × (first : List ℕ) × (later : List ℕ) × (cut : List Line) × (others : List Line)
     × Completes p first cut w × Goes rs w later others q × (bytes ≡ first ++ later) × (lines ≡ cut ++ others)
 Goes (Released ∷ rs) p bytes lines q = (o : Outcome) × (w : Point) × Does turn.Release o p w × Goes rs w bytes lines q
-Goes (Batched xs ∷ rs) p bytes lines q = IsReady p × (w : Point) × (first : List ℕ) × (later : List ℕ) × Runs xs p first w × Goes rs w later lines q × (bytes ≡ first ++ later)
-Goes (Alone x ∷ rs) p bytes lines q = IsReady p × (w : Point) × (first : List ℕ) × (later : List ℕ) × RunsLone x p first w × Goes rs w later lines q × (bytes ≡ first ++ later)
-Goes (Trimmed ∷ rs) p bytes lines q = (w : Point) × (cut : List Line) × (others : List Line) × MayCut p cut w × Goes rs w bytes others q × (lines ≡ cut ++ others)
+Goes (Batched xs ∷ rs) p bytes lines q = IsReady p × (w : Point) × (first : List ℕ) × (later : List ℕ) × Runs xs p first w × Goes rs w later lines q
+    × (bytes ≡ first ++ later)
+Goes (Alone x ∷ rs) p bytes lines q = IsReady p × (w : Point) × (first : List ℕ) × (later : List ℕ) × RunsLone x p first w × Goes rs w later lines q
+    × (bytes ≡ first ++ later)
+Goes (Trimmed ∷ rs) p bytes lines q = (w : Point) × (cut : List Line) × (others : List Line) × MayCut p cut w × Goes rs w bytes others q
+    × (lines ≡ cut ++ others)
 
 -- each request is offered, and the queue's first transaction runs to its end before the next is
 abbrev pub answering : List Pairs → List Round
@@ -167,7 +171,7 @@ abbrev pub RoundsFor : Bool → List Pairs → List Round → Type 0
 RoundsFor false requests rounds = untrimmed rounds ≡ answering requests
 RoundsFor true requests rounds = (offered_in rounds ≡ requests) × AllByRecursion IsOfBatches rounds
 
--- of batches that were not all run, those that are to come stand behind
+-- of batches that were not all run, those that are to come stand after them
 abbrev pub RoundsToward : Bool → List Pairs → List Round → Type 0
 RoundsToward false requests rounds = untrimmed rounds ≡ answering requests
 RoundsToward true requests rounds = (later : List Pairs) × (requests ≡ offered_in rounds ++ later) × AllByRecursion IsOfBatches rounds

@@ -24,7 +24,7 @@ pub record Shows (numbers : Numbers) (a b : Log) : Type 0 where
   pub adds : b.lost ≡ false → Appends a.text b.text (if_shown a.stats (stats_line numbers milliseconds))
   pub some : AppendsBeginning a.text b.text (if_shown a.stats (stats_line numbers milliseconds))
 
--- after how many requests a line is told
+-- after how many requests a line is reported
 abbrev pub every_of : Option Stats → Option ℕ
 every_of None = None
 every_of (Some s) = s.every

@@ -107,7 +107,7 @@ pub record Given (p : Point) (before after : Option (List ℕ)) : Type 0 where
   pub gives : Appends before between text
   pub drains : DrainsSome (all_answered p) between after
 
--- what comes behind a batch that was run: of its responses a beginning is written; or all are, and the shelf was run up to an
+-- what comes after a batch that was run: of its responses a beginning is written; or all are, and the shelf was run up to an
 -- error
 abbrev pub Unfinished : Point → Option (List ℕ) → Option (List ℕ) → Type 0
 Unfinished p before after = GivesSome p before after ⊎ Given p before after
@@ -124,7 +124,8 @@ pub record StopsBehind (step : AdviceStep) (threads : Bool) (input : Option (Lis
   pub drains : DrainsSome served.point served.out after
 
 -- the history may be cut, and what an input has was served, up to an error
-pub record Serving (step : AdviceStep) (threads : Bool) (input : Option (List ℕ)) (p : Point) (advisor : PlainAdvisor) (before after : Option (List ℕ)) : Type 0 where
+pub record Serving (step : AdviceStep) (threads : Bool) (input : Option (List ℕ)) (p : Point) (advisor : PlainAdvisor) (before after : Option (List ℕ)) :
+    Type 0 where
   pub begun : Point
   pub cut : List Line
   pub cuts : MayCut p cut begun
@@ -135,7 +136,8 @@ abbrev pub ServesSome : AdviceStep → Bool → Option (List ℕ) → Point → 
 ServesSome step threads input p advisor before after = Keeps before after ⊎ Serving step threads input p advisor before after
 
 -- a run with an input recovered, and served up to an error
-pub record Stopped (step : AdviceStep) (sender : PlainSender) (most : ℕ) (threads : Bool) (f : Flow) (sessions : ℕ) (j : Seen) (input before after : Option (List ℕ)) : Type 0 where
+pub record Stopped (step : AdviceStep) (sender : PlainSender) (most : ℕ) (threads : Bool) (f : Flow) (sessions : ℕ) (j : Seen)
+    (input before after : Option (List ℕ)) : Type 0 where
   pub recovered : Point
   pub begins : Begins f sessions j recovered
   pub serves : Serving step threads input recovered (begun_advisor sender most begins.view.next_id) before after

@@ -93,7 +93,14 @@ pub record Log : Type 0 where
   pub text : Option (List ℕ)
 
 abbrev pub log_of : {E : Type 0} → (E → Option (List ℕ)) → StandardError E → Log
-log_of contents stderr = record { wanted = stderr.trace; stats = is_some stderr.stats; passed = stderr.passed; lost = stderr.lost; text = contents stderr.err.now }
+log_of contents stderr = record {
+  wanted = stderr.trace;
+  stats = is_some stderr.stats;
+  passed = stderr.passed;
+  lost = stderr.lost;
+  text =
+      contents stderr.err.now;
+}
 
 abbrev pub if_wanted : Option Form → List Line → List ℕ
 if_wanted (Some form) lines = written_as form lines
@@ -129,12 +136,14 @@ pub record Cuts (p : Point) (a : Log) (q : Point) (b : Log) : Type 0 where
   pub tells : Tells lines 0 a b
 
 -- rounds were done, and the lines of the entries that were cut told, beside so many messages that are passed over
-pub record Reports (rounds : List Round) (passed : ℕ) (p : Point) (before : Option (List ℕ)) (a : Log) (q : Point) (after : Option (List ℕ)) (b : Log) : Type 0 where
+pub record Reports (rounds : List Round) (passed : ℕ) (p : Point) (before : Option (List ℕ)) (a : Log) (q : Point) (after : Option (List ℕ))
+    (b : Log) : Type 0 where
   pub serves : Serves rounds p before q after
   pub tells : Tells serves.lines passed a b
 
 -- the messages of these frames were answered, or passed over
-pub record ReportsFor (threads : Bool) (frames : List (List ℕ)) (p : Point) (before : Option (List ℕ)) (a : Log) (q : Point) (after : Option (List ℕ)) (b : Log) : Type 0 where
+pub record ReportsFor (threads : Bool) (frames : List (List ℕ)) (p : Point) (before : Option (List ℕ)) (a : Log) (q : Point) (after : Option (List ℕ))
+    (b : Log) : Type 0 where
   pub rounds : List Round
   pub answers : RoundsFor threads (requests frames) rounds
   pub reports : Reports rounds (passed_over frames) p before a q after b

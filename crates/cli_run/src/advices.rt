@@ -4,7 +4,7 @@ ghost use Rattle.std.specs.Prelude.{◌≡◌, map, option_map, take, IfOk, OnOk
 ghost use Rattle.sw_issuers.specs.Sending.{SendsAdvice};
 ghost use Rattle.tx_engine.specs.Calls.{waits};
 ghost use Rattle.tx_history.specs.Journal.{advices};
-ghost use Rattle.cli_run.specs.Advices.{Sends, SendsAll, SendsBetween};
+ghost use Rattle.cli_run.specs.Advices.{Sends, SendsAll, SendsBetween, StaysAtRest};
 ghost use Rattle.cli_run.specs.Advices.{begun_advisor, is_repeat, is_up_to, last_with, stored_at};
 ghost use Rattle.cli_run.specs.Points.{IsAtRest, IsReady, point_of, world_at};
 ghost use Rattle.cli_run.specs.Rounds.{IsEmptied};
@@ -198,11 +198,10 @@ fn send_advice<S: Alter, L: Link>(
     ensures sends { OnOk result (Sends (SendsAdvice L.sends L.receives L.starves (Unit {0}))
         (plain stored.now) advisor.old (point_of S.Store switch.old)
         advisor.new (point_of S.Store switch.new)) }
-    ensures rest { OnOk result (IsAtRest (point_of S.Store switch.new)) }
+    ensures rests { OnOk result (StaysAtRest
+        (point_of S.Store switch.old) (point_of S.Store switch.new)) }
     ensures queue { OnOk result (waits switch.new.plant.running.engine
         ≡ waits switch.old.plant.running.engine) }
-    ensures emptied { OnOk result (IsEmptied (world_at (point_of S.Store switch.old))
-        → IsEmptied (world_at (point_of S.Store switch.new))) }
 {
     let accepted = advisor.send(stored)?;
     if !accepted {
@@ -224,11 +223,10 @@ fn send_each<S: Alter, L: Link>(
     ensures sends { OnOk result (SendsAll (SendsAdvice L.sends L.receives L.starves (Unit {0}))
         (map plain list.now) advisor.old (point_of S.Store switch.old)
         advisor.new (point_of S.Store switch.new)) }
-    ensures rest { OnOk result (IsAtRest (point_of S.Store switch.new)) }
+    ensures rests { OnOk result (StaysAtRest
+        (point_of S.Store switch.old) (point_of S.Store switch.new)) }
     ensures queue { OnOk result (waits switch.new.plant.running.engine
         ≡ waits switch.old.plant.running.engine) }
-    ensures emptied { OnOk result (IsEmptied (world_at (point_of S.Store switch.old))
-        → IsEmptied (world_at (point_of S.Store switch.new))) }
 {
     for stored in list {
         send_advice(alloc, switch, advisor, stored)?;

@@ -69,37 +69,6 @@ impl<S: Alter + Drop> Switch<S> {
         self.finish(alloc, out, stderr)
     }
 
-    // Answers requests as one batch. Where it ends with an error, the lines of the batch are written all the
-    // same, if it was run.
-    fn answer_together<T: Threads + Wait + Sync, O: Write, E: Write>(
-        self,
-        rt: &T,
-        alloc: Global,
-        requests: Vec<Context>,
-        out: &mut O,
-        stderr: &mut StandardError<'_, E>,
-    ) -> Result<Switch<S>, ServeError>
-        requires ready { IsReady (point_of S.Store self) }
-        requires some { 2 ≤ vec_len requests }
-        requires few { vec_len requests ≤ 256 }
-        ensures serves { IfOk result (λ switch. (rounds : List Round)
-            × RoundsFor true requests.items rounds × Reports rounds 0
-            (point_of S.Store self) (O.contents out.old) (log_of E.contents stderr.old)
-            (point_of S.Store switch) (O.contents out.new) (log_of E.contents stderr.new)) }
-        ensures ready { IfOk result (λ switch. IsReady (point_of S.Store switch)) }
-        ensures halts { OnErr result (HaltsToward true requests.items
-            (point_of S.Store self) (O.contents out.old) (O.contents out.new)) }
-    {
-        let mut switch = self.run_together(rt, alloc, requests)?;
-        match switch.finish(alloc, out, stderr) {
-            Ok(()) => Ok(switch),
-            Err(error) => {
-                let _lines = stderr.trace(alloc, switch.engine());
-                Err(error)
-            }
-        }
-    }
-
     // Answers requests that came at once: two or more as one batch, and one alone. Where it ends with an
     // error, the lines of the history are written all the same, unless a batch was given up.
     fn answer_batch<T: Threads + Wait + Sync, O: Write, E: Write>(
@@ -124,7 +93,14 @@ impl<S: Alter + Drop> Switch<S> {
             return Ok(self);
         }
         if requests.len() > 1 {
-            return self.answer_together(rt, alloc, requests, out, stderr);
+            let mut switch = self.run_together(rt, alloc, requests)?;
+            return match switch.finish(alloc, out, stderr) {
+                Ok(()) => Ok(switch),
+                Err(error) => {
+                    let _lines = stderr.trace(alloc, switch.engine());
+                    Err(error)
+                }
+            };
         }
         let mut requests = requests;
         let Some(request) = requests.pop() else {

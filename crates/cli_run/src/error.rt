@@ -8,7 +8,9 @@ ghost use Rattle.cli_run.specs.declared.error.ServeError.TheVariants as serve;
 use cli_io::{ReadError, WriteError};
 use sqlite::Alter;
 use std::alloc::{AllocError, AllocFailed};
+use sw_context::ContextError;
 use sw_participant::{NoMemory, Text};
+use sw_seating::SeatingError;
 use thiserror::Error;
 use tx_engine::EngineError;
 use tx_journal::JournalError;
@@ -28,6 +30,12 @@ pub enum ServeError {
     /// A link has this name.
     #[error("bad link name {}; expected at most 26 bytes of a-z A-Z 0-9 _ - .", .0.as_str())]
     BadLinkName(Text),
+    /// The stations do not suit the flow, by a place that neither has. No run ends so.
+    #[error("{0}")]
+    Seating(SeatingError),
+    /// The message of this number makes no context. No message does so.
+    #[error("message {0}: {1}")]
+    Request(u64, ContextError),
     /// The engine may not have so many sessions.
     #[error("--sessions: {0} is not 1 to 16")]
     BadSessions(usize),
@@ -56,7 +64,7 @@ pub enum ServeError {
     #[error("the pool did not run: {0}")]
     Pool(Early),
     /// This entry of the history contradicts what a thread recorded of it.
-    #[error("entry {0} of the history is none that a thread recorded")]
+    #[error("entry {0} of the history was not recorded by a thread")]
     Mismatch(usize),
     /// A transaction took more steps than one has, or came back from the shelf more often than it may. No
     /// transaction does.
@@ -140,7 +148,8 @@ impl From<PlantError> for ServeError {
         match error {
             PlantError::Engine(error) => ServeError::from(error),
             PlantError::Journal(error) => ServeError::from(error),
-            PlantError::Seating(_) | PlantError::OutOfMemory => ServeError::OutOfMemory,
+            PlantError::Seating(error) => ServeError::Seating(error),
+            PlantError::OutOfMemory => ServeError::OutOfMemory,
         }
     }
 }

@@ -160,8 +160,8 @@ impl<S: Alter + Drop> Switch<S> {
         self,
         rt: &T,
         alloc: Global,
-        advisor: &mut Advisor<L>,
         input: R,
+        advisor: &mut Advisor<L>,
         out: &mut O,
         stderr: &mut StandardError<'_, E>,
     ) -> Result<StreamEnd, ServeError>
@@ -295,7 +295,7 @@ impl<S: Alter + Drop, R: Read + Drop, L: Link> Over<S, R, L> {
             return Ok(StreamEnd::Whole);
         };
         if threads {
-            return switch.serve_together(rt, alloc, &mut advisor, input, out, stderr);
+            return switch.serve_together(rt, alloc, input, &mut advisor, out, stderr);
         }
         let served = switch.serve_to_end(rt, alloc, &mut advisor, input, out, stderr);
         let traced = stderr.trace(alloc, switch.engine());

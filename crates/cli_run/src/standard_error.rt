@@ -1,10 +1,10 @@
 //! What a run writes to standard error.
 
-ghost use Rattle.std.specs.Prelude.{◌≡◌, ◌+◌, ◌∷◌, ◌++◌, [], None, IfOk, OnErr, OnOk, is_some};
-ghost use Rattle.std.specs.Prelude.{if◌then◌else◌, option_map, string_bytes};
+ghost use Rattle.std.specs.Prelude.{◌≡◌, ◌+◌, ◌∷◌, ◌++◌, [], None, IfOk, OnErr, OnOk};
+ghost use Rattle.std.specs.Prelude.{option_map, string_bytes};
 ghost use Rattle.std.specs.Io.KnownBytes.{Appends};
 ghost use Rattle.cli_io.specs.Written.{AppendsBeginning};
-ghost use Rattle.tx_trace.specs.Follow.{Follows, count_of};
+ghost use Rattle.tx_trace.specs.Follow.{Follows, count_of, lines_given};
 ghost use Rattle.tx_trace.specs.Lines.{at_number};
 ghost use Rattle.cli_run.specs.Lines.{in_form, line_at, lines_in, written_as};
 ghost use Rattle.cli_run.specs.declared.standard_error.Form.TheVariants.{Text};
@@ -118,8 +118,7 @@ fn next_line(
     ensures line { IfOk result (λ line. option_map (λ l. l.items) line
         ≡ at_number (λ past e. in_form form (line_at engine.now.flow engine.now.start past e))
         engine.now.past (count_of tracer.old + 1)) }
-    ensures on { IfOk result (λ line. count_of tracer.new
-        ≡ (if is_some line then count_of tracer.old + 1 else count_of tracer.old)) }
+    ensures on { count_of tracer.new ≡ count_of tracer.old + lines_given result }
     ensures follows { Follows engine.now tracer.new }
 {
     match form {

@@ -22,12 +22,12 @@ use crate::error::ServeError;
 use crate::standard_error::StandardError;
 use crate::switch::Switch;
 use cli_io::ReadError;
-use iso_codec::{DecodeError, decode};
+use iso_codec::{DecodeError, decode, type_in};
 use sqlite::Alter;
 use std::alloc::Global;
 use std::io::{self, ErrorKind, Read, Write};
 use std::time::Clock;
-use sw_context::Context;
+use sw_context::{Context, ContextError};
 use sw_frame::{FrameError, Framer};
 use sw_parts::Link;
 
@@ -85,6 +85,18 @@ impl Drop for Requests {
     }
 }
 
+// The context that the request of this number is offered in.
+fn context_of(alloc: Global, number: u64, message: &[u8]) -> Result<Context, ServeError>
+    ensures { IfOk result (λ request. request ≡ request_of message.now) }
+{
+    let mut request = Context::new(alloc);
+    match request.put("request", message) {
+        Ok(()) => Ok(request),
+        Err(ContextError::OutOfMemory) => Err(ServeError::OutOfMemory),
+        Err(error) => Err(ServeError::Request(number, error)),
+    }
+}
+
 // The context of a request; a message that cannot be read is passed over, and its number is written.
 pub(crate) fn request_in<E: Write>(
     alloc: Global,
@@ -97,14 +109,12 @@ pub(crate) fn request_in<E: Write>(
     ensures tells { OnOk result (Tells [] (if_passed (read message.now))
         (log_of E.contents stderr.old) (log_of E.contents stderr.new)) }
 {
+    // A message that can be read is looked over here, and decoded where its fields are looked at.
+    if type_in(message).is_some() {
+        return Ok(Some(context_of(alloc, number, message)?));
+    }
     match decode(alloc, message) {
-        Ok(_) => {
-            let mut request = Context::new(alloc);
-            match request.put("request", message) {
-                Ok(()) => Ok(Some(request)),
-                Err(_) => Err(ServeError::OutOfMemory),
-            }
-        }
+        Ok(_) => unreachable!(),
         Err(DecodeError::OutOfMemory) => Err(ServeError::OutOfMemory),
         Err(error) => {
             stderr.pass_over(alloc, number, &error)?;

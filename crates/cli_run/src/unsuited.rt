@@ -16,7 +16,7 @@ fn no_station(alloc: Global, code: &Code, number: usize) -> ServeError
     ensures { IsNoStation code.now number result }
 {
     let Some(part) = code.participants().get(number) else {
-        return ServeError::OutOfMemory;
+        return ServeError::Seating(SeatingError::NoStation(number));
     };
     match Text::from_str(alloc, part.name.as_str()) {
         Ok(name) => ServeError::NoStation(name),
@@ -29,7 +29,7 @@ fn double_station(alloc: Global, stations: &[Station], place: usize) -> ServeErr
     ensures { IsDouble (names_of stations.now) place result }
 {
     let Some(station) = stations.get(place) else {
-        return ServeError::OutOfMemory;
+        return ServeError::Seating(SeatingError::DoubleStation(place));
     };
     match Text::from_str(alloc, station.name()) {
         Ok(name) => ServeError::DoubleStation(name),

@@ -7,7 +7,8 @@ use Rattle.sw_context.specs.Names.{is_name}
 use Rattle.sw_scripted.specs.declared.puts.Put.{Put}
 use Rattle.sw_base.specs.Spelling.{number_spelled}
 use Rattle.cli_script.specs.Bytes.{byte_spelled, hex_spelled}
-use Rattle.cli_script.specs.Forms.{Meaning, ack_line, ack_numbers, advice_line, answer_byte, answer_line, bare_line, choose_line, flow_line, meant, name_line, name_or, or_refuse, restore_line, write_line}
+use Rattle.cli_script.specs.Forms.{Meaning, ack_line, ack_numbers, advice_line, answer_byte, answer_line, bare_line, choose_line, flow_line, meant, name_line}
+use Rattle.cli_script.specs.Forms.{name_or, or_refuse, restore_line, write_line}
 use Rattle.cli_script.specs.Grammar.{Answers, Row, action_rows, meaning_at, meaning_of, query_rows, rows, unless_refused, whole_rows, words_refusal}
 use Rattle.cli_script.specs.Puts.{puts_spelled}
 use Rattle.cli_script.specs.Scripts.{IsMeant}

@@ -1,6 +1,7 @@
 -- The settings at the head of a script, one line after the other.
 -- for: script::read_head, script::next_setting, script::open_script, script::open_settings, actions::Actions::next
-use Rattle.std.proofs.Common.{◌≡◌, ◌≢◌, ◌∙◌, ◌+◌, ◌<◌, ◌++◌, ◌∷◌, [], ℕ, Bool, false, List, length, Option, None, Some, Result, Ok, Err, inl, inr, is_some, refl, sym, ap, arith, length-append, length-drop, append-nil}
+use Rattle.std.proofs.Common.{◌≡◌, ◌≢◌, ◌∙◌, ◌+◌, ◌<◌, ◌++◌, ◌∷◌, [], ℕ, Bool, false, List, length, Option, None, Some, Result, Ok, Err, inl, inr, is_some}
+use Rattle.std.proofs.Common.{refl, sym, ap, arith, length-append, length-drop, append-nil}
 use Rattle.std.proofs.lemmas.List.Concat.{flat_map-append}
 use Rattle.std.proofs.lemmas.List.Folds.{list_any-append}
 use Rattle.std.specs.List.{flat_map, list_any}
@@ -10,8 +11,10 @@ use Rattle.flow_model.specs.declared.error.FlowError.{FlowError}
 use Rattle.flow_model.specs.declared.flow.Flow.{Flow}
 use Rattle.cli_script.proofs.Causes.{memory_meant}
 use Rattle.cli_script.specs.Grammar.{Answers, meaning_of}
-use Rattle.cli_script.specs.Scripts.{BeginsWith, BeginsWithAction, HasNoSetting, IsBehind, IsHeadRead, IsActionRefusal, IsHeadRefused, IsLineRefusal, IsMeant, IsRefusedAt, IsRefusalBehind, IsScriptRefused, IsUnstated, error_at, is_misplaced, others_of}
-use Rattle.cli_script.specs.Settings.{AddsSetting, IsKeptOf, advices_in, answers_in, choices_in, groups_in, last_in, restores_in, retries_in, sessions_in, stated_flow}
+use Rattle.cli_script.specs.Scripts.{BeginsWith, BeginsWithAction, HasNoSetting, IsBehind, IsHeadRead, IsActionRefusal, IsHeadRefused, IsLineRefusal, IsMeant}
+use Rattle.cli_script.specs.Scripts.{IsRefusedAt, IsRefusalBehind, IsScriptRefused, IsUnstated, error_at, is_misplaced, others_of}
+use Rattle.cli_script.specs.Settings.{AddsSetting, IsKeptOf, advices_in, answers_in, choices_in, groups_in, last_in, restores_in, retries_in, sessions_in}
+use Rattle.cli_script.specs.Settings.{stated_flow}
 use Rattle.cli_script.specs.declared.error.LineError.{LineError}
 use Rattle.cli_script.specs.declared.error.LineError.TheVariants.{OutOfMemory}
 use Rattle.cli_script.specs.declared.error.ScriptError.{ScriptError}

@@ -1,7 +1,8 @@
 -- Words that are read as a list, each of them spelling one item, and looked over again where that fails.
 -- for: group::read_entries, group::read_flow, group::spelled_entries, puts::read_puts
 use Rattle.std.specs.Borrow.{Bor}
-use Rattle.std.proofs.Common.{◌≡◌, ◌≢◌, ◌∙◌, ◌||◌, ℕ, ◌+◌, ◌<◌, Bool, true, false, List, [], ◌∷◌, ◌++◌, length, drop, get_or, map, Option, None, Some, Err, is_none, refl, sym, ap, append_assoc, option_map, option_and_then}
+use Rattle.std.proofs.Common.{◌≡◌, ◌≢◌, ◌∙◌, ◌||◌, ℕ, ◌+◌, ◌<◌, Bool, true, false, List, [], ◌∷◌, ◌++◌, length, drop, get_or, map, Option, None, Some, Err}
+use Rattle.std.proofs.Common.{is_none, refl, sym, ap, append_assoc, option_map, option_and_then}
 use Rattle.std.proofs.lemmas.List.{drop_more}
 use Rattle.cli_script.specs.Forms.{flow_line, group_line, or_refuse}
 use Rattle.cli_script.specs.Grammar.{Answers}
@@ -54,7 +55,8 @@ module _ {A : Type 0} where
   regroup front x (Some es) = ap Some (sym (append_assoc front (x ∷ []) es))
 
   -- one word more, as a loop reads it
-  pub spelled_more : (spelled : List ℕ → Option A) (front new : List A) (words : List (Bor (List ℕ))) (i : ℕ) (d : Bor (List ℕ)) (x : A) (total : Option (List A))
+  pub spelled_more : (spelled : List ℕ → Option A) (front new : List A) (words : List (Bor (List ℕ))) (i : ℕ) (d : Bor (List ℕ)) (x : A)
+      (total : Option (List A))
       → new ≡ front ++ x ∷ [] → i < length words → Some x ≡ spelled (get_or words i d).now
       → option_map (λ es. front ++ es) (all_spelled spelled (map (λ w. w.now) (drop i words))) ≡ total
       → option_map (λ es. new ++ es) (all_spelled spelled (map (λ w. w.now) (drop (i + 1) words))) ≡ total

@@ -16,7 +16,7 @@ MayPrecede bytes more = (more ≡ []) ⊎ AreWhole bytes
 abbrev pub IsPlacedSetting : Bool → List ℕ → Type 0
 IsPlacedSetting has_file line = (s : Setting) × BeginsWith line s × (is_misplaced has_file s ≡ false)
 
--- it is none
+-- it is not such a setting
 abbrev pub IsNoSetting : Bool → List ℕ → Type 0
 IsNoSetting has_file line = (s : Setting) → BeginsWith line s → is_misplaced has_file s ≡ true
 
@@ -25,7 +25,7 @@ abbrev pub AreSettings : Bool → List ℕ → Type 0
 AreSettings has_file bytes =
     (ss : List Setting) × IsBehind ss bytes [] × (list_any (is_misplaced has_file) ss ≡ false)
 
--- settings, and a line that is none
+-- settings, and a line that is not one
 pub record EndsAtLine (has_file : Bool) (head : List ℕ) : Type 0 where
   pub settings : List ℕ
   pub line : List ℕ
@@ -35,7 +35,7 @@ pub record EndsAtLine (has_file : Bool) (head : List ℕ) : Type 0 where
   pub some : line ≢ []
   pub last : IsNoSetting has_file line
 
--- the head of a script: its settings and the first line that is none, or the whole script where each is one
+-- the head of a script: its settings and the first line that is not one, or the whole script where each is one
 pub record IsHead (has_file : Bool) (script head rest : List ℕ) : Type 0 where
   pub whole : script ≡ head ++ rest
   pub ends : MayPrecede head rest

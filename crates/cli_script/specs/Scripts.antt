@@ -41,7 +41,7 @@ abbrev pub IsBehind : List Setting → List ℕ → List ℕ → Type 0
 IsBehind [] script rest = rest ≡ script
 IsBehind (s ∷ ss) script rest = BeginsWith script s × IsBehind ss (others_of script) rest
 
--- the line has a meaning, as every line at which out of memory is told
+-- the line has a meaning, as every line at which out of memory is reported
 abbrev pub IsMeant : Result ScriptLine LineError → Type 0
 IsMeant meaning = (x : ScriptLine) × (meaning ≡ Ok x)
 
@@ -65,7 +65,7 @@ abbrev pub error_at : ℕ → List ℕ → LineError → ScriptError
 error_at n text refusal.OutOfMemory = error.OutOfMemory
 error_at n text cause = error.Line n cause (quoted text)
 
--- the line of this number is told, and its text
+-- the line of this number is reported, and its text
 abbrev pub Tells : ℕ → List ℕ → ℕ → List ℕ → Type 0
 Tells number text n found = (n ≡ number) × (found ≡ quoted text)
 
@@ -117,7 +117,7 @@ IsRefusalBehind file ss rest (error.Flow n cause) =
     (n ≡ length ss + 1) × BeginsWithAction rest × (first_fault (stated_flow file ss) ≡ Some cause)
 IsRefusalBehind file ss rest e = IsRefusedAt (is_some file) (length ss) rest e
 
--- the lines before the one that is told are settings where they may stand, so that it is the first fault
+-- the lines before the one that is reported are settings where they may stand, so that it is the first fault
 pub record IsScriptRefused (file : Option Flow) (script : List ℕ) (e : ScriptError) : Type 0 where
   pub stated : List Setting
   pub rest : List ℕ

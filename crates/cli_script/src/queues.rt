@@ -28,7 +28,8 @@ impl<T: Drop> Queues<T> {
 
     /// Puts an item after those of its name.
     pub fn push(&mut self, name: String, item: T) -> Result<(), AllocError>
-        ensures { OnOk result (PutsBehind (queue_at self.old) (queue_at self.new) (string_bytes name) item) }
+        ensures { OnOk result (PutsBehind (queue_at self.old) (queue_at self.new)
+            (string_bytes name) item) }
     {
         self.held.entry(name)?.or_default().push_back(item)?;
         Ok(())

@@ -46,7 +46,8 @@ impl Replies {
 
     /// Queues the answer of a participant's next preparation but those that are queued.
     pub fn queue_answer(&mut self, name: Text, answer: QueuedAnswer) -> Result<(), AllocError>
-        ensures queued { OnOk result (PutsBehind (answers_at self.old) (answers_at self.new) name answer) }
+        ensures queued { OnOk result (PutsBehind (answers_at self.old)
+            (answers_at self.new) name answer) }
         ensures others { self.new ≡ record self.old { answers = self.new.answers } }
     {
         self.answers.push(name.into_string(), answer)
@@ -54,7 +55,8 @@ impl Replies {
 
     /// The same of the text of its next selection.
     pub fn queue_choice(&mut self, name: Text, text: Text) -> Result<(), AllocError>
-        ensures queued { OnOk result (PutsBehind (choices_at self.old) (choices_at self.new) name text) }
+        ensures queued { OnOk result (PutsBehind (choices_at self.old)
+            (choices_at self.new) name text) }
         ensures others { self.new ≡ record self.old { choices = self.new.choices } }
     {
         self.choices.push(name.into_string(), text)
@@ -62,7 +64,8 @@ impl Replies {
 
     /// The same of the advice of its next commit or abort.
     pub fn queue_advice(&mut self, name: Text, body: Bytes) -> Result<(), AllocError>
-        ensures queued { OnOk result (PutsBehind (advices_at self.old) (advices_at self.new) name body) }
+        ensures queued { OnOk result (PutsBehind (advices_at self.old)
+            (advices_at self.new) name body) }
         ensures others { self.new ≡ record self.old { advices = self.new.advices } }
     {
         self.advices.push(name.into_string(), body)
@@ -70,7 +73,8 @@ impl Replies {
 
     /// The same of the entries that its next `recover` puts into the context.
     pub fn queue_restore(&mut self, name: Text, puts: Sequence<Put>) -> Result<(), AllocError>
-        ensures queued { OnOk result (PutsBehind (restores_at self.old) (restores_at self.new) name puts) }
+        ensures queued { OnOk result (PutsBehind (restores_at self.old)
+            (restores_at self.new) name puts) }
         ensures others { self.new ≡ record self.old { restores = self.new.restores } }
     {
         self.restores.push(name.into_string(), puts)

@@ -61,9 +61,10 @@ struct Head<'a> {
     lines: usize,
 }
 
-/// Keeps the settings at the head of a script, up to the first line that is none.
+/// Keeps the settings at the head of a script, up to the first line that is not a setting.
 fn read_head(alloc: Global, has_file: bool, script: &[u8]) -> Result<Head<'_>, ScriptError>
-    ensures head { IfOk result (λ h. IsHeadRead has_file script.entry.now h.settings h.rest.now h.lines) }
+    ensures head { IfOk result (λ h. IsHeadRead has_file script.entry.now h.settings
+        h.rest.now h.lines) }
     ensures all { IfOk result (λ h. HasNoSetting h.rest.now) }
     ensures few { IfOk result (λ h. h.lines + length h.rest.now ≤ length script.entry.now) }
     ensures refused { IfErr result (IsHeadRefused has_file script.entry.now) }

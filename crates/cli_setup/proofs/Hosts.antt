@@ -10,7 +10,8 @@ use Rattle.cli_setup.specs.declared.links.Links.{Links}
 
 next_link : (hosts : List Host) (i : ℕ) (h : Host) → i < length hosts → h ≡ get_or hosts i h
     → map host_link (take i hosts) ++ host_link h ∷ [] ≡ map host_link (take (i + 1) hosts)
-next_link hosts i h lt at = subst (λ (x : Host). map host_link (take i hosts) ++ host_link x ∷ [] ≡ map host_link (take (i + 1) hosts)) (sym at) (sym (map_more host_link hosts i h lt))
+next_link hosts i h lt at = subst (λ (x : Host). map host_link (take i hosts) ++ host_link x ∷ [] ≡ map host_link (take (i + 1) hosts)) (sym at)
+    (sym (map_more host_link hosts i h lt))
 
 pub link_more : (hosts : List Host) (i : ℕ) (h : Host) (before after : Links) → i < length hosts → h ≡ get_or hosts i h
     → AreLinksOf (map host_link (take i hosts)) before → AddsLink (host_link h) before after → AreLinksOf (map host_link (take (i + 1) hosts)) after

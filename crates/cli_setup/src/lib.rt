@@ -5,14 +5,17 @@
 //! - [`setup`] makes the book, the routes and the links of a run. A host that is reached by streams gets threads of its
 //!   own, which open nothing before the first message is sent.
 //! - [`recovery`] makes what a recovery needs: the same participants, over links that nothing is sent on.
+//! - [`HostLines`] writes a line with the counts of each host that is reached by streams.
 //! - [`journal_path`] is the path of the journal, if it is in a file.
 #![tactic(auto)]
 
 mod error;
 mod file;
+mod host_lines;
 mod links;
 mod plan;
 
 pub use error::{ConfigFileError, SetupError};
 pub use file::config_at;
+pub use host_lines::HostLines;
 pub use plan::{journal_path, recovery, setup};

@@ -1,6 +1,7 @@
 -- Texts that are added one after the other.
--- for: auto::auto, auto::auto_step, auto::auto_steps, actions::run_action, script::run_actions
-use Rattle.std.proofs.Common.{◌≡◌, ◌∷◌, ◌++◌, ◌∙◌, [], ℕ, Result, Ok, Err, OnErr, OnOk, ◌+◌, List, length, inl, inr, true, false, refl, ap, append-nil, append_assoc, length-append, sym}
+-- for: auto::auto, auto::auto_step, actions::run_action, script::run_actions
+use Rattle.std.proofs.Common.{◌≡◌, ◌∷◌, ◌++◌, ◌∙◌, [], ℕ, Result, Ok, Err, OnErr, OnOk, ◌+◌, List, length, inl, inr, true, false, refl, ap, append-nil}
+use Rattle.std.proofs.Common.{append_assoc, length-append, sym}
 use Rattle.std.specs.Bool.{⊤}
 use Rattle.tx_plant.specs.declared.turn.Outcome.{Outcome}
 use Rattle.tx_plant.specs.declared.turn.Outcome.TheVariants as outcome
@@ -44,13 +45,25 @@ none_gone p x = ([], ([], tt, refl, (refl, refl)), sym (append-nil x))
 
 pub goes_on : (n : ℕ) (o : Outcome) (p w q : Point) (x y z : Text) → Adds (λ t. Going n p t w) x y → is_accepted o ≡ true
     → Adds (λ t. Round o w t q) y z → Adds (λ t. Going (n + 1) p t q) x z
-goes_on n o p w q x y z (text, (os, all, count, rounds), grown) one (more, round, more_grown) =
-    (text ++ more, (os ++ o ∷ [], accepted_more os o all one, length-append os (o ∷ []) ∙ ap (λ k. k + 1) count, round_more os o p w q text more rounds round), more_grown ∙ ap (λ l. l ++ more) grown ∙ append_assoc x text more)
+goes_on n o p w q x y z (text, (os, all, count, rounds), grown) one (more, round, more_grown) = (
+  text ++ more,
+  (
+    os ++ o ∷ [],
+    accepted_more os o all one,
+    length-append os (o ∷ []) ∙ ap (λ k. k + 1) count,
+    round_more os o p w q text more rounds round,
+  ),
+  more_grown ∙ ap (λ l. l ++ more) grown ∙ append_assoc x text more,
+)
 
 pub ends : (n : ℕ) (o : Outcome) (p w q : Point) (x y z : Text) → Adds (λ t. Going n p t w) x y → is_accepted o ≡ false
     → Adds (λ t. Round o w t q) y z → Adds (λ t. ToEnd p t q) x z
-ends n o p w q x y z (text, (os, all, count, rounds), grown) last (more, round, more_grown) =
-    (text ++ more, (os ++ o ∷ [], inl (os, o, all, last, refl), round_more os o p w q text more rounds round), more_grown ∙ ap (λ l. l ++ more) grown ∙ append_assoc x text more)
+ends n o p w q x y z (text, (os, all, count, rounds), grown) last (more, round, more_grown) = (
+  text ++ more,
+  (os ++ o ∷ [], inl (os, o, all, last, refl), round_more os o p w q text more rounds round),
+  more_grown ∙ ap (λ l. l ++ more) grown
+      ∙ append_assoc x text more,
+)
 
 pub gives_up : (p q : Point) (x y : Text) → Adds (λ t. Going 1048577 p t q) x y → Adds (λ t. ToEnd p t q) x y
 gives_up p q x y (text, (os, all, count, rounds), grown) = (text, (os, inr (all, count), rounds), grown)

@@ -14,4 +14,5 @@ pub counted : {A : Type 0} (named : A → List ℕ) (count : A → ℕ) (xs : Li
     → calls_made (map named xs) (map count xs) name ≡ unwrap_or (option_map count (find (λ s. bytes_eq (named s) name) xs)) 0
 counted named count [] name = refl
 counted named count (x ∷ xs) name =
-    by_test count x (bytes_eq (named x) name) (calls_made (map named xs) (map count xs) name) (find (λ s. bytes_eq (named s) name) xs) (counted named count xs name)
+    by_test count x (bytes_eq (named x) name) (calls_made (map named xs) (map count xs) name) (find (λ s. bytes_eq (named s) name) xs)
+    (counted named count xs name)

@@ -1,16 +1,16 @@
 -- The lines of a script's head, one after the other.
 -- for: head::is_setting, head::read_head
-use Rattle.std.proofs.Common.{◌≡◌, ◌≢◌, ◌∙◌, ◌++◌, [], ℕ, Bool, true, false, List, Option, None, Some, Result, Ok, Err, inl, inr, is_some, refl, sym, ap, append_assoc, append-nil, subst}
+use Rattle.std.proofs.Common.{◌≡◌, ◌≢◌, ◌∙◌, ◌++◌, [], ℕ, Bool, true, false, List, Option, None, Some, Ok, Err, inl, inr, is_some, refl, sym, ap}
+use Rattle.std.proofs.Common.{append_assoc, subst}
 use Rattle.std.specs.Borrow.{Bor}
 use Rattle.cli_lines.proofs.FirstLines.{first_parts}
 use Rattle.cli_lines.specs.Feeds.{first_line}
 use Rattle.cli_lines.specs.Lines.{IsNextLine}
 use Rattle.cli_script.proofs.Continued.{both_precede, first_precedes, settings_more}
-use Rattle.cli_script.specs.Heads.{AreSettings, AreWhole, EndsAtLine, HeadOf, IsHead, IsNoSetting, IsPlacedSetting, MayPrecede}
-use Rattle.cli_script.specs.Scripts.{HasNoSetting, IsNextSetting, is_misplaced, others_of}
+use Rattle.cli_script.specs.Heads.{AreSettings, AreWhole, HeadOf, IsNoSetting, IsPlacedSetting, MayPrecede}
+use Rattle.cli_script.specs.Scripts.{IsNextSetting, is_misplaced, others_of}
 use Rattle.cli_script.specs.declared.error.ScriptError.{ScriptError}
 use Rattle.cli_script.specs.declared.error.ScriptError.TheVariants as script
-use Rattle.cli_script.specs.declared.line.ScriptLine.TheVariants as line
 use Rattle.cli_script.specs.declared.line.Setting.{Setting}
 
 pub placed_next : (has_file : Bool) (n : ℕ) (text : List ℕ) (o : Option (Setting × Bor (List ℕ))) → IsNextSetting has_file n text (Ok o)

@@ -1,15 +1,15 @@
 -- Lines that are read and run one after the other.
 -- for: script::run_rest, script::play_over, script::run_lines
-use Rattle.std.proofs.Common.{◌≡◌, ◌≢◌, ◌∙◌, ◌+◌, ◌≤◌, ◌<◌, ◌^◌, ◌++◌, ◌∷◌, [], ℕ, Bool, List, length, Option, None, Some, IfSome, Result, Err, Ok, OnErr, inl, inr, is_some, refl, sym, ap, arith, length-append, append-nil, append_assoc, subst}
+use Rattle.std.proofs.Common.{◌≡◌, ◌≢◌, ◌∙◌, ◌+◌, ◌≤◌, ◌<◌, ◌^◌, ◌++◌, ◌∷◌, [], ℕ, List, length, Option, None, Some, IfSome, Result, Err, Ok, OnErr, inl}
+use Rattle.std.proofs.Common.{inr, is_some, refl, sym, ap, arith, length-append, append-nil, append_assoc, subst}
 use Rattle.std.proofs.KnownBytes.{Appends-nil, Appends-trans}
-use Rattle.std.specs.Io.KnownBytes.{Appends, Keeps}
+use Rattle.std.specs.Io.KnownBytes.{Keeps}
 use Rattle.cli_lines.proofs.FirstLines.{first_parts}
-use Rattle.cli_lines.specs.Feeds.{first_line}
 use Rattle.cli_lines.specs.Lines.{IsNextLine}
 use Rattle.cli_script.proofs.Continued.{both_precede, first_precedes, line_continues, only_settings, opened_on, others_continue, others_precede}
 use Rattle.cli_script.proofs.Heads.{fewer}
 use Rattle.cli_script.specs.Grammar.{meaning_of}
-use Rattle.cli_script.specs.Heads.{AreWhole, HeadOf, MayPrecede}
+use Rattle.cli_script.specs.Heads.{HeadOf, MayPrecede}
 use Rattle.cli_script.specs.Scripts.{IsOpened, IsOpenedAs, others_of}
 use Rattle.cli_script.specs.declared.actions.Actions.{Actions}
 use Rattle.cli_script.specs.declared.line.Action.{Action}
@@ -46,8 +46,15 @@ plays_then : (acts others : List Action) (p w q : Point) (text more : Text) → 
     → Plays (acts ++ others) p (text ++ more) q
 plays_then [] others p w q text more done later =
     subst (λ (t : Text). Plays others p t q) (ap (λ (t : Text). t ++ more) (sym done.0)) (subst (λ v. Plays others v more q) done.1 later)
-plays_then (a ∷ acts) others p w q text more done later =
-    (done.0, done.1, done.2 ++ more, done.3, plays_then acts others done.0 w q done.2 more done.4 later, ap (λ (t : Text). t ++ more) done.5 ∙ append_assoc done.1 done.2 more)
+plays_then (a ∷ acts) others p w q text more done later = (
+  done.0,
+  done.1,
+  done.2 ++ more,
+  done.3,
+  plays_then acts others done.0 w q done.2 more done.4 later,
+  ap (λ (t : Text). t ++ more) done.5
+      ∙ append_assoc done.1 done.2 more,
+)
 
 ran_none : (p : Point) (before : Known) → RanAll [] p before p before
 ran_none p before = record {

@@ -1,6 +1,7 @@
 -- The lines of a script, run one after the other.
 -- for: script::run_actions
-use Rattle.std.proofs.Common.{◌≡◌, ◌∷◌, ◌++◌, ◌∙◌, ◌⊎◌, [], ℕ, suc, ◌+◌, List, length, take, Option, Some, Result, Ok, Err, IfErr, OnErr, OnOk, inl, inr, refl, ap, append-nil, append_assoc, arith, length-append, subst, sym}
+use Rattle.std.proofs.Common.{◌≡◌, ◌∷◌, ◌++◌, ◌∙◌, ◌⊎◌, [], ℕ, suc, ◌+◌, List, length, take, Option, Some, Result, Ok, Err, IfErr, OnErr, OnOk, inl, inr, refl}
+use Rattle.std.proofs.Common.{ap, append-nil, append_assoc, arith, length-append, subst, sym}
 use Rattle.std.proofs.KnownBytes.{Appends-kept, Appends-nil, Appends-trans}
 use Rattle.std.proofs.lemmas.List.{take_all}
 use Rattle.std.specs.Io.KnownBytes.{Appends, Keeps}

@@ -1,9 +1,9 @@
 -- A session at a prompt, one line after the other.
 -- for: prompt::ask, prompt::leave, prompt::tell, prompt::show_request, prompt::answer, prompt::talk, opening::talk_over, opening::run_prompted
-use Rattle.std.proofs.Common.{◌≡◌, ◌≢◌, ◌∙◌, ◌⊎◌, ◌++◌, ◌∷◌, [], ℕ, ◌+◌, ◌≤◌, Bool, true, false, List, length, Option, None, Some, IfSome, Result, Err, Ok, IfErr, IfOk, OnErr, OnOk, inl, inr, refl, sym, ap, arith, append_assoc, subst}
+use Rattle.std.proofs.Common.{◌≡◌, ◌≢◌, ◌∙◌, ◌++◌, ◌∷◌, [], ℕ, ◌+◌, Bool, true, false, List, Option, None, Some, IfSome, Result, Err, Ok}
+use Rattle.std.proofs.Common.{IfErr, IfOk, OnErr, OnOk, inl, inr, refl, sym, subst}
 use Rattle.std.specs.Bool.{⊤}
 use Rattle.std.specs.Borrow.{Bor}
-use Rattle.std.proofs.KnownBytes.{Appends-nil, Appends-trans}
 use Rattle.std.specs.Io.KnownBytes.{Appends}
 use Rattle.cli_io.specs.Written.{AppendsBeginning}
 use Rattle.cli_io.specs.declared.error.ReadError.{ReadError}
@@ -30,7 +30,9 @@ use Rattle.cli_step.proofs.Adding.{on_err, on_ok}
 use Rattle.cli_step.proofs.Joining.{Known, if_some}
 use Rattle.cli_step.specs.Doing.{Point}
 use Rattle.cli_step.specs.Errors.{at_line, error_of_read, error_of_write}
-use Rattle.cli_step.specs.Prompts.{Answers, AnswersBy, AreFirst, HasBadSessions, HeadAnswers, HeadPrompted, HeadTalks, Heading, IsFaultOf, IsHeadLine, IsHeadLineBy, IsLeft, IsPrompted, IsRunOrTold, IsTold, IsUnopened, OpenedAt, OpenedOver, Prompted, Scene, Talked, TalkedOver, Talks, heading, is_of_sessions, scene}
+use Rattle.cli_step.specs.Prompts.{Answers, AnswersBy, AreFirst, HasBadSessions, HeadAnswers, HeadPrompted, HeadTalks, Heading, IsFaultOf, IsHeadLine}
+use Rattle.cli_step.specs.Prompts.{IsHeadLineBy, IsLeft, IsPrompted, IsRunOrTold, IsTold, IsUnopened, OpenedAt, OpenedOver, Prompted, Scene, Talked, TalkedOver}
+use Rattle.cli_step.specs.Prompts.{Talks, heading, is_of_sessions, scene}
 use Rattle.cli_step.specs.PromptWords.{prompt_word_of}
 use Rattle.cli_step.specs.Runs.{Begun, Grows, IsLineFailed, IsOfJournal, IsWriting, Means, RunsLine}
 use Rattle.cli_step.specs.declared.error.ActionError.{ActionError}

@@ -3,19 +3,10 @@ use Rattle.std.specs.Prelude.{ℕ, List, [], ◌++◌, codes, Option, Some, None
 use Rattle.std.specs.List.{flat_map}
 use Rattle.std.specs.Fmt.{decimal}
 use Rattle.sw_context.specs.Pairs.{Pairs}
-use Rattle.sw_participant.specs.declared.call.Act.{Act}
-use Rattle.sw_participant.specs.declared.call.Act.TheVariants as act
 use Rattle.flow_model.specs.declared.flow.Flow.{Flow}
 use Rattle.tx_trace.specs.declared.places.Place.{Place}
+use Rattle.tx_trace.specs.Acts.{act_word}
 use Rattle.tx_trace.specs.Trace.{Text, group_name, hex_text, part_name, phase_text}
-
-abbrev pub act_word : Act → Text
-act_word act.Prepare = codes "prepare"
-act_word act.PrepareForAbort = codes "prepare_for_abort"
-act_word act.Select = codes "select"
-act_word (act.Commit recovering) = codes "commit"
-act_word (act.Abort recovering) = codes "abort"
-act_word (act.Recover commit) = codes "recover"
 
 -- `CALL NAME`
 abbrev pub call_text : Flow → Place → Text

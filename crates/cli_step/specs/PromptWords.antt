@@ -1,5 +1,5 @@
 -- The lines that a prompt has beside those of a script, and what they show.
-use Rattle.std.specs.Prelude.{ℕ, zero, suc, List, [], ◌∷◌, ◌++◌, codes, length, Option, Some, None, option_and_then, option_map, if◌then◌else◌}
+use Rattle.std.specs.Prelude.{ℕ, zero, suc, List, [], ◌++◌, codes, length, Option, Some, None, option_and_then, option_map, if◌then◌else◌}
 use Rattle.std.specs.Fmt.{decimal}
 use Rattle.std.specs.Str.{bytes_eq}
 use Rattle.flow_load.specs.Image.{image_of}
@@ -7,7 +7,6 @@ use Rattle.tx_history.specs.History.{queue, shelf}
 use Rattle.tx_history.specs.Journal.{entries}
 use Rattle.tx_engine.specs.World.{World}
 use Rattle.tx_trace.specs.Trace.{Text}
-use Rattle.tx_trace.specs.declared.places.Place.{Place}
 use Rattle.cli_step.specs.Said.{place_of, where_line, whole_line}
 use Rattle.cli_step.specs.declared.prompt_words.PromptWord.{PromptWord}
 use Rattle.cli_step.specs.declared.prompt_words.PromptWord.TheVariants as word

@@ -36,7 +36,7 @@ fn is_accepted(outcome: &Outcome) -> bool
     matches!(outcome, Outcome::Accepted(_))
 }
 
-// Does a turn of which only a refusal is told.
+// Does a turn, and adds its line only where it is refused.
 fn quiet_turn<S: Alter>(
     alloc: Global,
     plant: &mut Plant<S>,
@@ -69,7 +69,8 @@ fn auto_step<S: Alter>(
     ensures round { IfOk result (λ more. (o : AnOutcome) × (is_accepted o ≡ more)
         × Adds (λ t. Round o (point_of S.Store plant.old) t (point_of S.Store plant.new))
         (string_bytes text.old) (string_bytes text.new)) }
-    ensures failed { OnErr result (Adds (λ more. ⊤) (string_bytes text.old) (string_bytes text.new)) }
+    ensures failed { OnErr result
+        (Adds (λ more. ⊤) (string_bytes text.old) (string_bytes text.new)) }
     ensures follows { OnOk result (Follows plant.new.running.engine tracer.new) }
 {
     quiet_turn(alloc, plant, tracer, Turn::Write(None), text)?;
@@ -79,28 +80,6 @@ fn auto_step<S: Alter>(
     }
     say(alloc, plant.engine(), tracer, 0, &outcome, text)?;
     Ok(is_accepted(&outcome))
-}
-
-// Makes the due calls of session 0, all written before each, until it does not go on.
-fn auto_steps<S: Alter>(
-    alloc: Global,
-    plant: &mut Plant<S>,
-    tracer: &mut Tracer,
-    text: &mut String,
-) -> Result<(), ActionError>
-    requires { Follows plant.old.running.engine tracer.old }
-    ensures rounds { OnOk result (Adds (λ more.
-        ToEnd (point_of S.Store plant.old) more (point_of S.Store plant.new))
-        (string_bytes text.old) (string_bytes text.new)) }
-    ensures failed { OnErr result (Adds (λ more. ⊤) (string_bytes text.old) (string_bytes text.new)) }
-    ensures follows { OnOk result (Follows plant.new.running.engine tracer.new) }
-{
-    for _ in 0..MOST_STEPS {
-        if !auto_step(alloc, plant, tracer, text)? {
-            return Ok(());
-        }
-    }
-    Ok(())
 }
 
 /// Offers an empty context, takes with session 0, and makes that session's due calls, all written before
@@ -115,12 +94,17 @@ pub fn auto<S: Alter>(
     ensures autos { OnOk result (Adds (λ more.
         Autos (point_of S.Store plant.old) more (point_of S.Store plant.new))
         (string_bytes text.old) (string_bytes text.new)) }
-    ensures failed { OnErr result (Adds (λ more. ⊤) (string_bytes text.old) (string_bytes text.new)) }
+    ensures failed { OnErr result
+        (Adds (λ more. ⊤) (string_bytes text.old) (string_bytes text.new)) }
     ensures follows { OnOk result (Follows plant.new.running.engine tracer.new) }
 {
     let context = Context::new(alloc);
     quiet_turn(alloc, plant, tracer, Turn::Offer(context), text)?;
     quiet_turn(alloc, plant, tracer, Turn::Take(0), text)?;
-    auto_steps(alloc, plant, tracer, text)?;
+    for _ in 0..MOST_STEPS {
+        if !auto_step(alloc, plant, tracer, text)? {
+            break;
+        }
+    }
     quiet_turn(alloc, plant, tracer, Turn::Write(None), text)
 }

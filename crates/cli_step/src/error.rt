@@ -19,7 +19,7 @@ pub enum StepError {
     /// A line of the script or its flow is refused.
     #[error("{0}")]
     Script(ScriptError),
-    /// No plant can be made of what the settings state, at the first line that is none.
+    /// No plant can be made of what the settings state. The line is the first that is not a setting.
     #[error("line {line}: {cause}")]
     Plant { line: usize, cause: PlantError },
     /// The journal refused.

@@ -22,7 +22,7 @@ fn is_setting(alloc: Global, has_file: bool, line: &[u8]) -> Result<bool, StepEr
     }
 }
 
-/// Reads the head of a script: its settings, and the first line that is none, if there is one.
+/// Reads the head of a script: its settings, and the first line that is not a setting, if there is one.
 pub fn read_head<R: Read>(
     alloc: Global,
     has_file: bool,

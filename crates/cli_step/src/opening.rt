@@ -1,13 +1,14 @@
 //! A session at a prompt: its settings, and the line at which a plant is made of them.
 
-ghost use Rattle.std.specs.Prelude.{◌≡◌, ◌≢◌, ◌+◌, ◌<◌, ◌^◌, ⊤, [], false, true, IfErr, IfOk, IfSome};
-ghost use Rattle.std.specs.Prelude.{OnErr, OnOk, length};
+ghost use Rattle.std.specs.Prelude.{◌≡◌, ◌≢◌, ◌+◌, ◌<◌, ◌^◌, [], false, true, IfErr, IfOk, IfSome};
+ghost use Rattle.std.specs.Prelude.{OnErr, OnOk, is_some, length};
 ghost use Rattle.cli_lines.specs.Lines.{lines_given, to_come};
 ghost use Rattle.flow_model.specs.Check.{IsChecked};
-ghost use Rattle.cli_step.specs.Prompts.{AreSame, HasBadSessions, HeadAnswers, IsFaultOf, IsHeadLine};
-ghost use Rattle.cli_step.specs.Prompts.{IsScriptHeadLine, is_of_sessions};
-ghost use Rattle.cli_step.specs.Prompts.{IsMade, IsPrompted, IsTold, IsUnopened, OpenedAt, OpenedOver};
-ghost use Rattle.cli_step.specs.Prompts.{SomeIsMade, TalkedOver, heading};
+ghost use Rattle.cli_step.specs.Prompts.{AreSame, HasBadSessions, HeadAnswers, IsFaultOf};
+ghost use Rattle.cli_step.specs.Prompts.{IsHeadLine, IsMade, IsPrompted, IsTold, IsUnopened};
+ghost use Rattle.cli_step.specs.Prompts.{OpenedOver, SomeIsMade, TalkedOver, heading};
+ghost use Rattle.cli_step.specs.Prompts.{is_of_sessions};
+ghost use Rattle.cli_step.specs.declared.opening.HeadLine.TheVariants as head;
 ghost use Rattle.cli_step.specs.Runs.{Grows};
 
 use crate::error::{ActionError, StepError};
@@ -40,26 +41,7 @@ enum HeadLine {
     Refused(ScriptError),
 }
 
-// What a line of a script is where no flow is opened yet. So many lines came before it.
-fn script_head_line(
-    alloc: Global,
-    has_file: bool,
-    before: usize,
-    line: &[u8],
-) -> Result<HeadLine, StepError>
-    requires { before + length line.now < 2 ^ 64 }
-    ensures is { IfOk result (IsScriptHeadLine has_file line.now) }
-    ensures fault { IfErr result (IsFaultOf ⊤) }
-    ensures head_fault { IfErr result (IsFaultOf SomeIsMade) }
-{
-    match next_setting(alloc, has_file, before, line) {
-        Ok(Some(_)) => Ok(HeadLine::Setting),
-        Ok(None) => Ok(HeadLine::Opens),
-        Err(error) => Ok(HeadLine::Refused(refusal(error)?)),
-    }
-}
-
-// The same of any line.
+// What a line is where no flow is opened yet. So many lines came before it.
 fn head_line(
     alloc: Global,
     has_file: bool,
@@ -68,14 +50,16 @@ fn head_line(
 ) -> Result<HeadLine, StepError>
     requires { before + length line.now < 2 ^ 64 }
     ensures is { IfOk result (IsHeadLine has_file line.now) }
-    ensures fault { IfErr result (IsFaultOf ⊤) }
-    ensures head_fault { IfErr result (IsFaultOf SomeIsMade) }
+    ensures fault { IfErr result (IsFaultOf SomeIsMade) }
 {
     match prompt_word_at(line) {
         Some(PromptWord::Help) => Ok(HeadLine::Help),
-        Some(PromptWord::List) => Ok(HeadLine::Opens),
-        Some(PromptWord::Info) => Ok(HeadLine::Opens),
-        None => script_head_line(alloc, has_file, before, line),
+        Some(PromptWord::List | PromptWord::Info) => Ok(HeadLine::Opens),
+        None => match next_setting(alloc, has_file, before, line) {
+            Ok(Some(_)) => Ok(HeadLine::Setting),
+            Ok(None) => Ok(HeadLine::Opens),
+            Err(error) => Ok(HeadLine::Refused(refusal(error)?)),
+        },
     }
 }
 
@@ -134,8 +118,8 @@ fn talk_over<R: Read, W: Write, E: Write>(
     requires few { lines_given lines.old + length line.now < 2 ^ 64 }
     requires given { lines_given lines.old ≢ 0 }
     ensures talked { IfOk result (λ r. OnOk r (IfSome (to_come R.remaining lines.old) (λ others.
-        TalkedOver code.now sessions line.now others (W.contents out.old) (E.contents err.old)
-        (W.contents out.new) (E.contents err.new)))) }
+        TalkedOver code.now sessions line.now others
+        (W.contents out.old) (E.contents err.old) (W.contents out.new) (E.contents err.new)))) }
     ensures refused { IfOk result (λ r. OnErr r (HasBadSessions code.now sessions)) }
     ensures stays { IfOk result (λ r. OnErr r
         (AreSame lines.old lines.new out.old out.new err.old err.new)) }
@@ -173,8 +157,8 @@ fn open_over<R: Read, W: Write, E: Write>(
     requires few { lines_given lines.old + length line.now < 2 ^ 64 }
     requires given { lines_given lines.old ≢ 0 }
     ensures talked { IfOk result (λ r. OnOk r (IfSome (to_come R.remaining lines.old) (λ others.
-        TalkedOver opening.flow opening.sessions line.now others (W.contents out.old) (E.contents err.old)
-        (W.contents out.new) (E.contents err.new)))) }
+        TalkedOver opening.flow opening.sessions line.now others
+        (W.contents out.old) (E.contents err.old) (W.contents out.new) (E.contents err.new)))) }
     ensures refused { IfOk result (λ r. OnErr r (HasBadSessions opening.flow opening.sessions)) }
     ensures stays { IfOk result (λ r. OnErr r
         (AreSame lines.old lines.new out.old out.new err.old err.new)) }
@@ -190,13 +174,9 @@ fn open_over<R: Read, W: Write, E: Write>(
     } = opening;
     let mut stations = Vec::new(alloc);
     for part in code.participants() {
-        let name = part.name.as_str();
-        let participant = Scripted::new(alloc, replies.take(alloc, name));
-        // A checked flow has no bad name, so the only refusal is out of memory.
-        match Station::new(alloc, name, Box::new(alloc, participant)?) {
-            Ok(station) => stations.push(station)?,
-            Err(_) => return Err(StepError::OutOfMemory),
-        }
+        let replies = replies.take(alloc, part.name.as_str());
+        let participant = Box::new(alloc, Scripted::new(alloc, replies))?;
+        stations.push(Station::from_parts(part.name.copy()?, participant, 0))?;
     }
     talk_over(
         alloc,
@@ -210,38 +190,8 @@ fn open_over<R: Read, W: Write, E: Write>(
     )
 }
 
-// Opens the flow that the settings state at a line, and answers it and all that are still to come; or gives why it is not
-// opened.
-fn open_at<R: Read, W: Write, E: Write>(
-    alloc: Global,
-    file: &Option<Code>,
-    settings: &[u8],
-    line: &[u8],
-    lines: &mut Lines<R>,
-    out: &mut W,
-    err: &mut E,
-) -> Result<Result<(), StepError>, StepError>
-    requires some { line.now ≢ [] }
-    requires few { lines_given lines.old + length line.now < 2 ^ 64 }
-    requires given { lines_given lines.old ≢ 0 }
-    ensures opened { IfOk result (λ r. OnOk r (IfSome (to_come R.remaining lines.old) (λ others.
-        OpenedOver file.now settings.now line.now others (W.contents out.old) (E.contents err.old)
-        (W.contents out.new) (E.contents err.new)))) }
-    ensures refused { IfOk result (λ r. OnErr r (IsUnopened file.now settings.now)) }
-    ensures stays { IfOk result (λ r. OnErr r
-        (AreSame lines.old lines.new out.old out.new err.old err.new)) }
-    ensures grows_out { Grows (W.contents out.old) (W.contents out.new) }
-    ensures grows_err { Grows (E.contents err.old) (E.contents err.new) }
-    ensures fault { IfErr result (IsFaultOf SomeIsMade) }
-{
-    let flow = flow_of(alloc, file)?;
-    match open_settings(alloc, flow, settings, lines.count()) {
-        Ok(opening) => open_over(alloc, opening, line, lines, out, err),
-        Err(error) => Ok(Err(StepError::Script(refusal(error)?))),
-    }
-}
-
-// The same, with the refusal told; whether it is opened.
+// Opens the flow that the settings state, and answers a line and then all that are still to come; or tells why the flow
+// is not opened. Whether it is.
 fn open_or_tell<R: Read, W: Write, E: Write>(
     alloc: Global,
     file: &Option<Code>,
@@ -256,8 +206,8 @@ fn open_or_tell<R: Read, W: Write, E: Write>(
     requires given { lines_given lines.old ≢ 0 }
     ensures opened { IfOk result (λ opened. opened ≡ true →
         IfSome (to_come R.remaining lines.old) (λ others.
-        OpenedOver file.now settings.now line.now others (W.contents out.old) (E.contents err.old)
-        (W.contents out.new) (E.contents err.new))) }
+        OpenedOver file.now settings.now line.now others
+        (W.contents out.old) (E.contents err.old) (W.contents out.new) (E.contents err.new))) }
     ensures refused { IfOk result (λ opened. opened ≡ false → IsUnopened file.now settings.now) }
     ensures told { IfOk result (λ opened. opened ≡ false →
         IsTold (E.contents err.old) (E.contents err.new)) }
@@ -267,42 +217,46 @@ fn open_or_tell<R: Read, W: Write, E: Write>(
     ensures grows_err { Grows (E.contents err.old) (E.contents err.new) }
     ensures fault { IfErr result (IsFaultOf SomeIsMade) }
 {
-    match open_at(alloc, file, settings, line, lines, out, err)? {
-        Ok(()) => Ok(true),
-        Err(cause) => {
-            tell(alloc, &cause, err)?;
+    let flow = flow_of(alloc, file)?;
+    match open_settings(alloc, flow, settings, lines.count()) {
+        Ok(opening) => match open_over(alloc, opening, line, lines, out, err)? {
+            Ok(()) => Ok(true),
+            Err(cause) => {
+                tell(alloc, &cause, err)?;
+                Ok(false)
+            }
+        },
+        Err(error) => {
+            tell(alloc, &StepError::Script(refusal(error)?), err)?;
             Ok(false)
         }
     }
 }
 
-// Answers a line where no flow is opened yet; whether it opened one, over which all lines were answered that were still to
-// come.
-fn answer_head<R: Read, W: Write, E: Write>(
+// Answers a line where no flow is opened yet, unless the flow is to be opened for it; whether it is. So many lines came
+// before it.
+fn answer_head<W: Write, E: Write>(
     alloc: Global,
     file: &Option<Code>,
     settings: &mut Vec<u8>,
     line: &[u8],
-    lines: &mut Lines<R>,
+    before: usize,
     out: &mut W,
     err: &mut E,
 ) -> Result<bool, StepError>
-    requires some { line.now ≢ [] }
-    requires few { lines_given lines.old + length line.now < 2 ^ 64 }
-    requires given { lines_given lines.old ≢ 0 }
-    ensures head { IfOk result (λ opened. opened ≡ false → HeadAnswers file.now line.now
+    requires { before + length line.now < 2 ^ 64 }
+    ensures head { IfOk result (λ opens. opens ≡ false → HeadAnswers file.now line.now
         (heading settings.old.items (W.contents out.old) (E.contents err.old))
         (heading settings.new.items (W.contents out.new) (E.contents err.new))) }
-    ensures stays { IfOk result (λ opened. opened ≡ false → lines.new ≡ lines.old) }
-    ensures opened { IfOk result (λ opened. opened ≡ true →
-        IfSome (to_come R.remaining lines.old) (λ others.
-        OpenedAt file.now settings.old.items line.now others (W.contents out.old) (E.contents err.old)
-        (W.contents out.new) (E.contents err.new))) }
+    ensures opens { IfOk result (λ opens. opens ≡ true →
+        IsHeadLine (is_some file.now) line.now head.Opens) }
+    ensures stays { IfOk result (λ opens. opens ≡ true →
+        AreSame settings.old settings.new out.old out.new err.old err.new) }
     ensures grows_out { Grows (W.contents out.old) (W.contents out.new) }
     ensures grows_err { Grows (E.contents err.old) (E.contents err.new) }
     ensures fault { IfErr result (IsFaultOf SomeIsMade) }
 {
-    match head_line(alloc, file.is_some(), lines.count() - 1, line)? {
+    match head_line(alloc, file.is_some(), before, line)? {
         HeadLine::Help => {
             write_out(out, HELP.as_bytes())?;
             Ok(false)
@@ -311,7 +265,7 @@ fn answer_head<R: Read, W: Write, E: Write>(
             settings.extend_from_slice(line)?;
             Ok(false)
         }
-        HeadLine::Opens => open_or_tell(alloc, file, settings.as_slice(), line, lines, out, err),
+        HeadLine::Opens => Ok(true),
         HeadLine::Refused(cause) => {
             tell(alloc, &StepError::Script(cause), err)?;
             Ok(false)
@@ -319,12 +273,12 @@ fn answer_head<R: Read, W: Write, E: Write>(
     }
 }
 
-/// Runs a session at a prompt: writes the prompt, reads a line, and answers it before the next prompt, up to the end of the
-/// input, which ends the last prompt's line. The settings stand first. At the first line that needs a plant the flow is the
-/// one that they state, over that of a flow file if there is one.
+/// Runs a session at a prompt: writes the prompt, reads a line, and answers it before the next prompt, up to the end of
+/// the input, which ends the last prompt's line. The settings stand first. At the first line that needs a plant the
+/// flow is the one that they state, over that of a flow file if there is one.
 ///
-/// A line that is refused is told on `err` and changes nothing, and the session goes on. Where the flow or the number of
-/// sessions is refused, the settings stay, and more may follow.
+/// A line that is refused is reported on `err` and changes nothing, and the session goes on. Where the flow or the
+/// number of sessions is refused, the settings stay, and more may follow.
 pub fn run_prompted<R: Read, W: Write, E: Write>(
     alloc: Global,
     file: Option<Flow>,
@@ -343,15 +297,9 @@ pub fn run_prompted<R: Read, W: Write, E: Write>(
     let steps = code_of(alloc, file)?;
     let mut settings = Vec::new(alloc);
     while let Some(line) = ask(alloc, lines, out)? {
-        if answer_head(
-            alloc,
-            &steps,
-            &mut settings,
-            line.as_slice(),
-            lines,
-            out,
-            err,
-        )? {
+        let (line, before) = (line.as_slice(), lines.count() - 1);
+        let opens = answer_head(alloc, &steps, &mut settings, line, before, out, err)?;
+        if opens && open_or_tell(alloc, &steps, settings.as_slice(), line, lines, out, err)? {
             return Ok(());
         }
     }

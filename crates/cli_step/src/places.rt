@@ -1,25 +1,11 @@
 //! Where transactions stand, as lines show it.
 
-ghost use Rattle.std.specs.Prelude.{◌≡◌, Some};
-ghost use Rattle.cli_step.specs.Places.{act_word, call_text, called_entry, held_text, step_text};
-ghost use Rattle.cli_step.specs.Places.{calls_text, where_text};
+ghost use Rattle.std.specs.Prelude.{Some};
+ghost use Rattle.cli_step.specs.Places.{call_text, called_entry, calls_text, held_text, step_text};
+ghost use Rattle.cli_step.specs.Places.{where_text};
 
 use std::fmt;
-use sw_participant::Act;
-use tx_trace::{Names, PhaseText, Place};
-
-fn act_word(act: Act) -> &'static str
-    ensures { result.now ≡ act_word act }
-{
-    match act {
-        Act::Prepare => "prepare",
-        Act::PrepareForAbort => "prepare_for_abort",
-        Act::Select => "select",
-        Act::Commit { .. } => "commit",
-        Act::Abort { .. } => "abort",
-        Act::Recover { .. } => "recover",
-    }
-}
+use tx_trace::{Names, PhaseText, Place, act_word};
 
 /// `CALL NAME`
 #[derive(Drop)]

@@ -6,7 +6,7 @@ ghost use Rattle.std.specs.Io.KnownBytes.{Appends};
 ghost use Rattle.cli_lines.specs.Lines.{IsNextLine, lines_given, room, to_come};
 ghost use Rattle.tx_trace.specs.Follow.{Follows};
 ghost use Rattle.cli_step.specs.Doing.{point_of, world_of};
-ghost use Rattle.cli_step.specs.Prompts.{Answers, IsFaultOf, IsRunOrTold, IsTold, SomeIsMade};
+ghost use Rattle.cli_step.specs.Prompts.{Answers, IsFaultOf, IsTold, SomeIsMade};
 ghost use Rattle.cli_step.specs.Prompts.{Talked, prompt, scene};
 ghost use Rattle.cli_script.specs.declared.error.ScriptError.TheVariants as script;
 ghost use Rattle.cli_step.specs.PromptWords.{prompt_word_text};
@@ -113,35 +113,6 @@ pub fn refusal(error: ScriptError) -> Result<ScriptError, StepError>
     }
 }
 
-// Runs a line that is an action, or tells why it is refused. So many lines came before it.
-fn run_or_tell<S: Alter, W: Write, E: Write>(
-    alloc: Global,
-    plant: &mut Plant<S>,
-    tracer: &mut Tracer,
-    line: &[u8],
-    before: usize,
-    out: &mut W,
-    err: &mut E,
-) -> Result<(), StepError>
-    requires follows { Follows plant.old.running.engine tracer.old }
-    requires some { line.now ≢ [] }
-    requires few { before + length line.now < 2 ^ 64 }
-    ensures answers { OnOk result (IsRunOrTold line.now
-        (scene (point_of S.Store plant.old) (W.contents out.old) (E.contents err.old))
-        (scene (point_of S.Store plant.new) (W.contents out.new) (E.contents err.new))) }
-    ensures follows { OnOk result (Follows plant.new.running.engine tracer.new) }
-    ensures grows_out { Grows (W.contents out.old) (W.contents out.new) }
-    ensures grows_err { Grows (E.contents err.old) (E.contents err.new) }
-    ensures fault { IfErr result (IsFaultOf ⊤) }
-{
-    let mut actions = Actions::new(line, before);
-    match actions.next(alloc) {
-        Ok(Some(action)) => run_line(alloc, plant, tracer, action, before + 1, out),
-        Ok(None) => unreachable!(),
-        Err(error) => tell(alloc, &StepError::Script(refusal(error)?), err),
-    }
-}
-
 /// Answers a line: shows what it asks for, runs it, or tells why it is refused. So many lines came before it.
 pub fn answer<S: Alter, W: Write, E: Write>(
     alloc: Global,
@@ -163,9 +134,14 @@ pub fn answer<S: Alter, W: Write, E: Write>(
     ensures grows_err { Grows (E.contents err.old) (E.contents err.new) }
     ensures fault { IfErr result (IsFaultOf ⊤) }
 {
-    match prompt_word_at(line) {
-        Some(word) => show_word(alloc, plant, word, out),
-        None => run_or_tell(alloc, plant, tracer, line, before, out, err),
+    if let Some(word) = prompt_word_at(line) {
+        return show_word(alloc, plant, word, out);
+    }
+    let mut actions = Actions::new(line, before);
+    match actions.next(alloc) {
+        Ok(Some(action)) => run_line(alloc, plant, tracer, action, before + 1, out),
+        Ok(None) => unreachable!(),
+        Err(error) => tell(alloc, &StepError::Script(refusal(error)?), err),
     }
 }
 

@@ -82,7 +82,7 @@ impl fmt::Display for TotalsText {
     }
 }
 
-// What this word is; `None` where it is none.
+// The word of the prompt that these bytes are, if they are one.
 fn prompt_word_of(word: &[u8]) -> Option<PromptWord>
     ensures { result ≡ prompt_word_of word.now }
 {
@@ -97,7 +97,7 @@ fn prompt_word_of(word: &[u8]) -> Option<PromptWord>
     }
 }
 
-/// The word of the prompt that a line is, its line feed aside; `None` where it is none.
+/// The word of the prompt that a line is, without its line feed; `None` for any other line.
 pub fn prompt_word_at(line: &[u8]) -> Option<PromptWord>
     ensures { result ≡ prompt_word_of (line_of line.now) }
 {

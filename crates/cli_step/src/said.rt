@@ -74,7 +74,8 @@ pub fn where_line(alloc: Global, engine: &Engine, s: usize) -> Result<String, Al
 }
 
 /// What `step` prints of a turn of this session that made no entry: a refusal, `idle S`, `unwritten S`,
-/// `held S NEXT`, `written MARK`, `restart UNFINISHED`, `cut NEXTID`. Empty for an entry, whose line is that of the trace.
+/// `held S NEXT`, `written MARK`, `restart UNFINISHED`, `cut NEXTID`. Empty for an entry, whose line is that of the
+/// trace.
 pub fn told(
     alloc: Global,
     engine: &Engine,
@@ -118,7 +119,8 @@ fn said(
 ) -> Result<Option<String>, AllocError>
     requires follows { Follows engine.now tracer.old }
     requires ahead { IsAhead tracer.old outcome.now }
-    ensures line { IfOk result (λ line. option_map string_bytes line ≡ said engine.now s outcome.now) }
+    ensures line { IfOk result (λ line.
+        option_map string_bytes line ≡ said engine.now s outcome.now) }
     ensures follows { OnOk result (Follows engine.now tracer.new) }
 {
     match outcome {

@@ -145,8 +145,8 @@ fn play_over<R: Read, W: Write>(
     lines: &mut Lines<R>,
     out: &mut W,
 ) -> Result<(), StepError>
-    ensures played { OnOk result (IfSome (to_come R.remaining lines.old) (λ others. PlayedOn code.now
-        sessions actions.old others (W.contents out.old) (W.contents out.new))) }
+    ensures played { OnOk result (IfSome (to_come R.remaining lines.old) (λ others.
+        PlayedOn code.now sessions actions.old others (W.contents out.old) (W.contents out.new))) }
     ensures few { OnOk result (IfSome (to_come R.remaining lines.old)
         (λ bytes. length bytes ≤ room lines.old)) }
     ensures grown { OnErr result (Grows (W.contents out.old) (W.contents out.new)) }
@@ -191,13 +191,9 @@ fn play<R: Read, W: Write>(
     } = script;
     let mut stations = Vec::new(alloc);
     for part in code.participants() {
-        let name = part.name.as_str();
-        let participant = Scripted::new(alloc, replies.take(alloc, name));
-        // A checked flow has no bad name, so the only refusal is out of memory.
-        match Station::new(alloc, name, Box::new(alloc, participant)?) {
-            Ok(station) => stations.push(station)?,
-            Err(_) => return Err(StepError::OutOfMemory),
-        }
+        let replies = replies.take(alloc, part.name.as_str());
+        let participant = Box::new(alloc, Scripted::new(alloc, replies))?;
+        stations.push(Station::from_parts(part.name.copy()?, participant, 0))?;
     }
     play_over(
         alloc,

@@ -124,7 +124,7 @@ fn saved_line(alloc: Global, engine: &Engine, s: usize) -> Result<String, AllocE
     }
 }
 
-// How many calls were made of the station of this name, none where there is no such station.
+// How many calls were made of the station of this name; 0 where there is no such station.
 fn calls_made<S: Alter>(plant: &Plant<S>, name: &str) -> u64
     ensures { result ≡ calls_made (point_of S.Store plant.now).names
         (point_of S.Store plant.now).calls name.now }
@@ -134,8 +134,8 @@ fn calls_made<S: Alter>(plant: &Plant<S>, name: &str) -> u64
 
 // The line of `calls NAME`.
 fn calls_line<S: Alter>(alloc: Global, plant: &Plant<S>, name: &str) -> Result<String, AllocError>
-    ensures { IfOk result (λ line. string_bytes line ≡ calls_text name.now
-        (calls_made (point_of S.Store plant.now).names (point_of S.Store plant.now).calls name.now)) }
+    ensures { IfOk result (λ line. string_bytes line ≡ calls_text name.now (calls_made
+        (point_of S.Store plant.now).names (point_of S.Store plant.now).calls name.now)) }
 {
     let calls = CallsText {
         name,
@@ -144,7 +144,7 @@ fn calls_line<S: Alter>(alloc: Global, plant: &Plant<S>, name: &str) -> Result<S
     format!(in alloc; "{calls}")
 }
 
-// The line of an action that only shows something; of another one none.
+// The line of an action that only shows something; `None` for any other action.
 fn shown<S: Alter>(
     alloc: Global,
     plant: &Plant<S>,
@@ -163,7 +163,7 @@ fn shown<S: Alter>(
     }
 }
 
-/// Adds the line of an action that only shows something; of another one nothing.
+/// Adds the line of an action that only shows something, and nothing for any other action.
 pub fn show<S: Alter>(
     alloc: Global,
     plant: &Plant<S>,

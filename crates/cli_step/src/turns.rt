@@ -9,7 +9,7 @@ use std::alloc::Global;
 use tx_plant::{Outcome, Plant, PlantError, Turn};
 use tx_trace::{Tracer, tracers_go_on};
 
-// Does a turn. The tracer is one of the plant's history still, unless that began anew.
+// Does a turn. The tracer still follows the plant's history, unless that began anew.
 fn drive_one<S: Alter>(
     alloc: Global,
     plant: &mut Plant<S>,
@@ -40,7 +40,7 @@ fn is_fresh(outcome: &Outcome) -> bool
     matches!(outcome, Outcome::Restarted(_) | Outcome::Cut(_))
 }
 
-/// Does a turn. Where the history begins anew by it, so does the tracer.
+/// Does a turn. Where it begins the history anew, the tracer begins anew too.
 pub fn do_turn<S: Alter>(
     alloc: Global,
     plant: &mut Plant<S>,

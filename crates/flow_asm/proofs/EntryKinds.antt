@@ -1,6 +1,7 @@
 -- The number in a call leads to the participant's kind.
 -- for: code::Code::look
-use Rattle.std.proofs.Common.{◌≡◌, ℕ, zero, suc, ◌+◌, ◌<◌, Bool, true, false, inl, inr, List, [], ◌∷◌, ◌++◌, length, Some, refl, sym, ap, ◌∙◌, subst, if◌then◌else◌}
+use Rattle.std.proofs.Common.{◌≡◌, ℕ, zero, suc, ◌+◌, ◌<◌, Bool, true, false, inl, inr, List, [], ◌∷◌, ◌++◌, length, Some, refl, sym, ap, ◌∙◌, subst}
+use Rattle.std.proofs.Common.{if◌then◌else◌}
 use Rattle.std.specs.Prelude.{slice_get}
 use Rattle.std.specs.List.{flat_map}
 use Rattle.std.proofs.lemmas.Option.{none-some}
@@ -47,27 +48,39 @@ picks_get P (AtCall t ∷ xs) (suc k) s h e = picks_get P xs k s h.1 e
 picks_get P (AtReturn ∷ xs) zero s h e = absurd cc
 picks_get P (AtReturn ∷ xs) (suc k) s h e = picks_get P xs k s h e
 
-calls_group : (parts : List Part) (all : List Entry) (g i : ℕ) (es : List Entry) (more : List Stage) → ((e : Entry) → In es e → In all e) → Calls (IsOf parts all) more → Calls (IsOf parts all) (stages_of_group (placed_from parts g i es) ++ more)
+calls_group : (parts : List Part) (all : List Entry) (g i : ℕ) (es : List Entry) (more : List Stage) → ((e : Entry) → In es e → In all e) →
+    Calls (IsOf parts all) more → Calls (IsOf parts all) (stages_of_group (placed_from parts g i es) ++ more)
 calls_group parts all g i [] more s h = h
-calls_group parts all g i (e ∷ es) more s h = by e.kind.selector (record { entry = e; here = s e (inl refl); number = refl; kind = refl }) (calls_group parts all g (i + 1) es more (λ x w. s x (inr w)) h)
+calls_group parts all g i (e ∷ es) more s h = by e.kind.selector (record { entry = e; here = s e (inl refl); number = refl; kind = refl })
+    (calls_group parts all g (i + 1) es more (λ x w. s x (inr w)) h)
   where
     placed : PlacedEntry
     placed = placed_entry parts g i e
 
-    by : (b : Bool) → IsOf parts all placed → Calls (IsOf parts all) (stages_of_group (placed_from parts g (i + 1) es) ++ more) → Calls (IsOf parts all) (((if b then AtCall placed ∷ AtPick placed ∷ [] else AtCall placed ∷ []) ++ stages_of_group (placed_from parts g (i + 1) es)) ++ more)
+    by : (b : Bool) → IsOf parts all placed → Calls (IsOf parts all) (stages_of_group (placed_from parts g (i + 1) es) ++ more) →
+        Calls (IsOf parts all) (((if b then AtCall placed ∷ AtPick placed ∷ [] else AtCall placed ∷ []) ++ stages_of_group (placed_from parts g (i + 1) es))
+        ++ more)
     by true w r = (w, (w, r))
     by false w r = (w, r)
 
-calls_groups : (parts : List Part) (all : List Entry) (g : ℕ) (gs : List Group) → ((e : Entry) → In (flat_map (λ (x : Group). x.entries) gs) e → In all e) → Calls (IsOf parts all) (flat_map stages_of_group (groups_from parts g gs))
+calls_groups : (parts : List Part) (all : List Entry) (g : ℕ) (gs : List Group) → ((e : Entry) → In (flat_map (λ (x : Group). x.entries) gs) e → In all e) →
+    Calls (IsOf parts all) (flat_map stages_of_group (groups_from parts g gs))
 calls_groups parts all g [] s = tt
 calls_groups parts all g (x ∷ gs) s =
-    calls_group parts all g 0 x.entries (flat_map stages_of_group (groups_from parts (g + 1) gs)) (λ e i. s e (in_left x.entries (flat_map (λ (y : Group). y.entries) gs) e i)) (calls_groups parts all (g + 1) gs (λ e i. s e (in_right x.entries (flat_map (λ (y : Group). y.entries) gs) e i)))
+    calls_group parts all g 0 x.entries (flat_map stages_of_group (groups_from parts (g + 1) gs))
+    (λ e i. s e (in_left x.entries (flat_map (λ (y : Group). y.entries) gs) e i))
+    (calls_groups parts all (g + 1) gs (λ e i. s e (in_right x.entries (flat_map (λ (y : Group). y.entries) gs) e i)))
 
 -- the participant of a call, with the call's kind
-pub kind_at : (f : Flow) (k : ℕ) (s : PlacedEntry) → IsChecked f → slice_get (stages f) k ≡ Some (AtCall s) → (p : Part) × (slice_get (parts_of f) s.participant ≡ Some p) × (p.kind ≡ s.kind)
+pub kind_at : (f : Flow) (k : ℕ) (s : PlacedEntry) → IsChecked f → slice_get (stages f) k ≡ Some (AtCall s) →
+    (p : Part) × (slice_get (parts_of f) s.participant ≡ Some p) × (p.kind ≡ s.kind)
 kind_at f k s c h =
-    let w = calls_get (IsOf (parts_of f) (all_entries f)) (stages f) k s (calls_groups (parts_of f) (all_entries f) 0 f.groups (λ e i. i)) h in
-    (record { name = w.entry.participant; kind = w.entry.kind }, ap (slice_get (parts_of f)) w.number ∙ numbered (all_entries f) w.entry (one_kind f c) w.here, sym w.kind)
+    let w = calls_get (IsOf (parts_of f) (all_entries f)) (stages f) k s (calls_groups (parts_of f) (all_entries f) 0 f.groups (λ e i. i)) h in (
+      record { name = w.entry.participant; kind = w.entry.kind },
+      ap (slice_get (parts_of f)) w.number ∙ numbered (all_entries f) w.entry (one_kind f c)
+          w.here,
+      sym w.kind,
+    )
 
 -- the numbers of a call and of a pick are the participants'
 pub call_participant : (f : Flow) (k : ℕ) (s : PlacedEntry) → slice_get (stages f) k ≡ Some (AtCall s) → s.participant < length (parts_of f)

@@ -1,6 +1,7 @@
 -- The group of a name, found by the table of first steps.
 -- for: code::Code::find_group
-use Rattle.std.proofs.Common.{◌≡◌, ℕ, zero, suc, ◌+◌, ◌<◌, ◌≤◌, Bool, true, false, List, [], ◌∷◌, length, drop, get_or, slice_get, Some, refl, sym, ap, ◌∙◌, subst, arith, if◌then◌else◌}
+use Rattle.std.proofs.Common.{◌≡◌, ℕ, zero, suc, ◌+◌, ◌<◌, ◌≤◌, Bool, true, false, List, [], ◌∷◌, length, drop, get_or, slice_get, Some, refl, sym, ap, ◌∙◌}
+use Rattle.std.proofs.Common.{subst, arith, if◌then◌else◌}
 use Rattle.std.specs.Str.{bytes_eq}
 use Rattle.std.specs.Prelude.{◌||◌}
 use Rattle.std.proofs.lemmas.List.{drop_all}
@@ -38,33 +39,46 @@ group_of f ps g h (suc k) (x ∷ gs) d l =
     }
 
 -- the table's entry at a place
-group_here : (f : Flow) (starts : List GroupStart) (k : ℕ) (d : GroupStart) → starts ≡ starts_of f → k < length starts → IsGroup (parts_of f) 0 f.groups k (get_or starts k d).name
+group_here : (f : Flow) (starts : List GroupStart) (k : ℕ) (d : GroupStart) → starts ≡ starts_of f → k < length starts →
+    IsGroup (parts_of f) 0 f.groups k (get_or starts k d).name
 group_here f starts k d e h =
-    subst (λ (xs : List GroupStart). IsGroup (parts_of f) 0 f.groups k (get_or xs k d).name) (sym e) (group_of f (parts_of f) 0 0 k f.groups d (subst (λ n. k < n) (ap length e ∙ length-starts f ∙ length-groups_from (parts_of f) 0 f.groups) h))
+    subst (λ (xs : List GroupStart). IsGroup (parts_of f) 0 f.groups k (get_or xs k d).name) (sym e)
+    (group_of f (parts_of f) 0 0 k f.groups d (subst (λ n. k < n) (ap length e ∙ length-starts f ∙ length-groups_from (parts_of f) 0 f.groups) h))
 
 pub group_within : (f : Flow) (starts : List GroupStart) (k : ℕ) → starts ≡ starts_of f → k < length starts → k < length (layout f)
 group_within f starts k e h = subst (λ n. k < n) (ap length e ∙ length-starts f) h
 
 -- the table has the name at that place
-pub start_named : (f : Flow) (starts : List GroupStart) (k : ℕ) (d : GroupStart) (name : List ℕ) → starts ≡ starts_of f → k < length starts → bytes_eq (get_or starts k d).name name ≡ true → option_map (λ (s : GroupStart). s.name) (slice_get (starts_of f) k) ≡ Some name
+pub start_named : (f : Flow) (starts : List GroupStart) (k : ℕ) (d : GroupStart) (name : List ℕ) → starts ≡ starts_of f → k < length starts →
+    bytes_eq (get_or starts k d).name name ≡ true → option_map (λ (s : GroupStart). s.name) (slice_get (starts_of f) k) ≡ Some name
 start_named f starts k d name e h same =
-    ap (λ (xs : List GroupStart). option_map (λ (s : GroupStart). s.name) (slice_get xs k)) (sym e) ∙ ap (option_map (λ (s : GroupStart). s.name)) (slice_get-get_or starts k d h) ∙ ap Some ((bytes_eq-Decides (get_or starts k d).name name).0 same)
+    ap (λ (xs : List GroupStart). option_map (λ (s : GroupStart). s.name) (slice_get xs k)) (sym e) ∙ ap (option_map (λ (s : GroupStart). s.name))
+    (slice_get-get_or starts k d h) ∙ ap Some ((bytes_eq-Decides (get_or starts k d).name name).0 same)
 
 -- its entries are those of the name
-pub named_here : (f : Flow) (starts : List GroupStart) (k : ℕ) (d : GroupStart) (name : List ℕ) → starts ≡ starts_of f → k < length starts → bytes_eq (get_or starts k d).name name ≡ true → named_from (parts_of f) k (drop k f.groups) name ≡ entries_named f name → entries_named f name ≡ group_at (layout f) k
+pub named_here : (f : Flow) (starts : List GroupStart) (k : ℕ) (d : GroupStart) (name : List ℕ) → starts ≡ starts_of f → k < length starts →
+    bytes_eq (get_or starts k d).name name ≡ true → named_from (parts_of f) k (drop k f.groups) name ≡ entries_named f name →
+    entries_named f name ≡ group_at (layout f) k
 named_here f starts k d name e h same is =
     let w = group_here f starts k d e h in
     let yes_ : bytes_eq w.group.name name ≡ true = ap (λ n. bytes_eq n name) w.name ∙ same in
-    sym is ∙ ap (λ gs. named_from (parts_of f) k gs name) w.cut ∙ ap (λ (b : Bool). if b then placed_from (parts_of f) k 0 w.group.entries else named_from (parts_of f) (k + 1) (drop (k + 1) f.groups) name) yes_ ∙ ap (λ n. placed_from (parts_of f) n 0 w.group.entries) (let z : k ≡ 0 + k = omega arith in z) ∙ sym w.placed_entries
+    sym is ∙ ap (λ gs. named_from (parts_of f) k gs name) w.cut
+    ∙ ap (λ (b : Bool). if b then placed_from (parts_of f) k 0 w.group.entries else named_from (parts_of f) (k + 1) (drop (k + 1) f.groups) name) yes_
+    ∙ ap (λ n. placed_from (parts_of f) n 0 w.group.entries) (let z : k ≡ 0 + k = omega arith in z) ∙ sym w.placed_entries
 
 -- it has another name
-pub named_later : (f : Flow) (starts : List GroupStart) (k : ℕ) (d : GroupStart) (name : List ℕ) → starts ≡ starts_of f → k < length starts → bytes_eq (get_or starts k d).name name ≡ false → named_from (parts_of f) k (drop k f.groups) name ≡ entries_named f name → named_from (parts_of f) (k + 1) (drop (k + 1) f.groups) name ≡ entries_named f name
+pub named_later : (f : Flow) (starts : List GroupStart) (k : ℕ) (d : GroupStart) (name : List ℕ) → starts ≡ starts_of f → k < length starts →
+    bytes_eq (get_or starts k d).name name ≡ false → named_from (parts_of f) k (drop k f.groups) name ≡ entries_named f name →
+    named_from (parts_of f) (k + 1) (drop (k + 1) f.groups) name ≡ entries_named f name
 named_later f starts k d name e h other is =
     let w = group_here f starts k d e h in
     let no_ : bytes_eq w.group.name name ≡ false = ap (λ n. bytes_eq n name) w.name ∙ other in
-    sym (ap (λ gs. named_from (parts_of f) k gs name) w.cut ∙ ap (λ (b : Bool). if b then placed_from (parts_of f) k 0 w.group.entries else named_from (parts_of f) (k + 1) (drop (k + 1) f.groups) name) no_) ∙ is
+    sym (ap (λ gs. named_from (parts_of f) k gs name) w.cut ∙ ap (λ (b : Bool). if b then placed_from (parts_of f) k 0 w.group.entries else named_from
+    (parts_of f) (k + 1) (drop (k + 1) f.groups) name) no_) ∙ is
 
-pub known_later : (f : Flow) (starts : List GroupStart) (k : ℕ) (d : GroupStart) (name : List ℕ) → starts ≡ starts_of f → k < length starts → bytes_eq (get_or starts k d).name name ≡ false → is_named name (drop k f.groups) ≡ is_named name f.groups → is_named name (drop (k + 1) f.groups) ≡ is_named name f.groups
+pub known_later : (f : Flow) (starts : List GroupStart) (k : ℕ) (d : GroupStart) (name : List ℕ) → starts ≡ starts_of f → k < length starts →
+    bytes_eq (get_or starts k d).name name ≡ false → is_named name (drop k f.groups) ≡ is_named name f.groups →
+    is_named name (drop (k + 1) f.groups) ≡ is_named name f.groups
 known_later f starts k d name e h other is =
     let w = group_here f starts k d e h in
     let no_ : bytes_eq w.group.name name ≡ false = ap (λ n. bytes_eq n name) w.name ∙ other in
@@ -74,8 +88,10 @@ known_later f starts k d name e h other is =
 none_left : (f : Flow) (starts : List GroupStart) (k : ℕ) → starts ≡ starts_of f → length starts ≤ k → drop k f.groups ≡ []
 none_left f starts k e h = drop_all k f.groups (subst (λ n. n ≤ k) (ap length e ∙ length-starts f ∙ length-groups_from (parts_of f) 0 f.groups) h)
 
-pub none_named : (f : Flow) (starts : List GroupStart) (k : ℕ) (name : List ℕ) → starts ≡ starts_of f → length starts ≤ k → named_from (parts_of f) k (drop k f.groups) name ≡ entries_named f name → entries_named f name ≡ []
+pub none_named : (f : Flow) (starts : List GroupStart) (k : ℕ) (name : List ℕ) → starts ≡ starts_of f → length starts ≤ k →
+    named_from (parts_of f) k (drop k f.groups) name ≡ entries_named f name → entries_named f name ≡ []
 none_named f starts k name e h is = sym is ∙ ap (λ gs. named_from (parts_of f) k gs name) (none_left f starts k e h)
 
-pub none_known : (f : Flow) (starts : List GroupStart) (k : ℕ) (name : List ℕ) → starts ≡ starts_of f → length starts ≤ k → is_named name (drop k f.groups) ≡ is_named name f.groups → is_named name f.groups ≡ false
+pub none_known : (f : Flow) (starts : List GroupStart) (k : ℕ) (name : List ℕ) → starts ≡ starts_of f → length starts ≤ k →
+    is_named name (drop k f.groups) ≡ is_named name f.groups → is_named name f.groups ≡ false
 none_known f starts k name e h is = sym is ∙ ap (is_named name) (none_left f starts k e h)

@@ -1,6 +1,7 @@
 -- What stands at a step, and where a group's steps begin.
 -- for: places::place, code::Code::look, code::Code::find_group
-use Rattle.std.proofs.Common.{◌≡◌, ℕ, zero, suc, ◌+◌, ◌<◌, ◌≤◌, List, [], ◌∷◌, ◌++◌, length, map, take, drop, get_or, Option, Some, None, refl, sym, ap, ◌∙◌, subst, arith, length-append}
+use Rattle.std.proofs.Common.{◌≡◌, ℕ, zero, suc, ◌+◌, ◌<◌, ◌≤◌, List, [], ◌∷◌, ◌++◌, length, map, take, drop, get_or, Option, Some, None, refl, sym, ap, ◌∙◌}
+use Rattle.std.proofs.Common.{subst, arith, length-append}
 use Rattle.std.specs.Prelude.{slice_get}
 use Rattle.std.specs.List.{flat_map}
 use Rattle.std.proofs.lemmas.List.{drop_more, drop_at, drop-drop, length-map}
@@ -13,7 +14,8 @@ use Rattle.flow_model.specs.Places.{parts_of}
 use Rattle.flow_asm.specs.declared.code.GroupStart.{GroupStart}
 use Rattle.flow_asm.specs.declared.code.Step.{Step}
 use Rattle.flow_asm.specs.declared.code.Step.TheVariants.{Call, Pick, Return}
-use Rattle.flow_asm.specs.Steps.{Stage, AtCall, AtPick, AtReturn, first_step, groups_from, layout, stages, stages_of_group, starts_from, starts_of, step_of, steps_of}
+use Rattle.flow_asm.specs.Steps.{Stage, AtCall, AtPick, AtReturn, first_step, groups_from, layout, stages, stages_of_group, starts_from, starts_of, step_of}
+use Rattle.flow_asm.specs.Steps.{steps_of}
 use Rattle.flow_asm.specs.Places.{group_at}
 
 -- the front of what is left at a step
@@ -36,7 +38,8 @@ shows (AtPick s ∷ xs) zero x h = sym (same_Some _ _ h)
 shows (AtReturn ∷ xs) zero x h = sym (same_Some _ _ h)
 shows (s ∷ xs) (suc k) x h = shows xs k x h
 
-pub call_shown : (xs : List Stage) (k p : ℕ) → slice_get (map step_of xs) k ≡ Some (Call p) → (s : PlacedEntry) × (slice_get xs k ≡ Some (AtCall s)) × (s.participant ≡ p)
+pub call_shown : (xs : List Stage) (k p : ℕ) → slice_get (map step_of xs) k ≡ Some (Call p) → (s : PlacedEntry) × (slice_get xs k ≡ Some (AtCall s))
+    × (s.participant ≡ p)
 call_shown xs k p h = by (slice_get xs k) refl (shows xs k (Call p) h)
   where
     by : (o : Option Stage) → slice_get xs k ≡ o → Shows o (Call p) → (s : PlacedEntry) × (slice_get xs k ≡ Some (AtCall s)) × (s.participant ≡ p)
@@ -45,7 +48,8 @@ call_shown xs k p h = by (slice_get xs k) refl (shows xs k (Call p) h)
     by (Some (AtPick s)) e w = absurd cc
     by (Some AtReturn) e w = absurd cc
 
-pub pick_shown : (xs : List Stage) (k p : ℕ) → slice_get (map step_of xs) k ≡ Some (Pick p) → (s : PlacedEntry) × (slice_get xs k ≡ Some (AtPick s)) × (s.participant ≡ p)
+pub pick_shown : (xs : List Stage) (k p : ℕ) → slice_get (map step_of xs) k ≡ Some (Pick p) → (s : PlacedEntry) × (slice_get xs k ≡ Some (AtPick s))
+    × (s.participant ≡ p)
 pick_shown xs k p h = by (slice_get xs k) refl (shows xs k (Pick p) h)
   where
     by : (o : Option Stage) → slice_get xs k ≡ o → Shows o (Pick p) → (s : PlacedEntry) × (slice_get xs k ≡ Some (AtPick s)) × (s.participant ≡ p)
@@ -64,21 +68,25 @@ return_shown xs k h = by (slice_get xs k) refl (shows xs k Return h)
     by (Some AtReturn) e w = e
 
 -- the step that was read
-pub read_step : (f : Flow) (steps : List Step) (k : ℕ) (d x : Step) → steps ≡ steps_of f → k < length steps → get_or steps k d ≡ x → slice_get (map step_of (stages f)) k ≡ Some x
+pub read_step : (f : Flow) (steps : List Step) (k : ℕ) (d x : Step) → steps ≡ steps_of f → k < length steps → get_or steps k d ≡ x →
+    slice_get (map step_of (stages f)) k ≡ Some x
 read_step f steps k d x e h r = ap (λ xs. slice_get xs k) (sym e) ∙ slice_get-get_or steps k d h ∙ ap Some r
 
 pub length-steps : (f : Flow) → length (steps_of f) ≡ length (stages f)
 length-steps f = length-map (stages f) step_of
 
 -- from a group's first step on
-pub group_front : (gs : List (List PlacedEntry)) (g : ℕ) → g < length gs → drop (length (flat_map stages_of_group (take g gs))) (flat_map stages_of_group gs) ≡ stages_of_group (group_at gs g) ++ flat_map stages_of_group (drop (suc g) gs)
+pub group_front : (gs : List (List PlacedEntry)) (g : ℕ) → g < length gs →
+    drop (length (flat_map stages_of_group (take g gs))) (flat_map stages_of_group gs) ≡ stages_of_group (group_at gs g) ++ flat_map stages_of_group
+    (drop (suc g) gs)
 group_front [] g h = absurd (omega (arith, h))
 group_front (ss ∷ gs) zero h = refl
 group_front (ss ∷ gs) (suc g) h =
     let a : List Stage = stages_of_group ss in
     let b : List Stage = flat_map stages_of_group gs in
     let t : List Stage = flat_map stages_of_group (take g gs) in
-    ap (λ n. drop n (a ++ b)) (length-append a t) ∙ sym (drop-drop (length t) (length a) (a ++ b)) ∙ ap (λ l. drop (length t) l) (drop_at a b (length a) refl) ∙ group_front gs g (omega arith)
+    ap (λ n. drop n (a ++ b)) (length-append a t) ∙ sym (drop-drop (length t) (length a) (a ++ b)) ∙ ap (λ l. drop (length t) l)
+    (drop_at a b (length a) refl) ∙ group_front gs g (omega arith)
 
 pub length-groups_from : (ps : List Part) (g : ℕ) (xs : List Group) → length (groups_from ps g xs) ≡ length xs
 length-groups_from ps g [] = refl

@@ -18,18 +18,31 @@ use Rattle.flow_asm.proofs.Stages.{length-steps}
 few_entry_steps : (parts : List Part) (e : Entry) → length (entry_steps parts e) ≤ 2
 few_entry_steps parts e = by e.kind.selector
   where
-    by : (b : Bool) → length (if b then Call (number_in parts e.participant) ∷ Pick (number_in parts e.participant) ∷ [] else Call (number_in parts e.participant) ∷ []) ≤ 2
+    by : (b : Bool) → length (if b then Call (number_in parts e.participant) ∷ Pick (number_in parts e.participant) ∷ [] else Call
+        (number_in parts e.participant) ∷ []) ≤ 2
     by true = omega arith
     by false = omega arith
 
 few_group_steps : (parts : List Part) (es : List Entry) → length (flat_map (entry_steps parts) es) ≤ 2 * length es
 few_group_steps parts [] = omega arith
-few_group_steps parts (e ∷ es) = omega (arith, length-append (entry_steps parts e) (flat_map (entry_steps parts) es), few_entry_steps parts e, few_group_steps parts es)
+few_group_steps parts (e ∷ es) = omega (
+  arith,
+  length-append (entry_steps parts e) (flat_map (entry_steps parts) es),
+  few_entry_steps parts e,
+  few_group_steps parts es,
+)
 
 few_steps : (parts : List Part) (gs : List Group) → length (all_steps parts gs) ≤ 2 * length (entries_of gs) + length gs
 few_steps parts [] = omega arith
 few_steps parts (x ∷ gs) =
-    omega (arith, length-append (group_steps parts x) (all_steps parts gs), length-append (flat_map (entry_steps parts) x.entries) (Return ∷ []), length-append x.entries (entries_of gs), few_group_steps parts x.entries, few_steps parts gs)
+    omega (
+      arith,
+      length-append (group_steps parts x) (all_steps parts gs),
+      length-append (flat_map (entry_steps parts) x.entries) (Return ∷ []),
+      length-append x.entries (entries_of gs),
+      few_group_steps parts x.entries,
+      few_steps parts gs,
+    )
 
 -- two for an entry, one for a group
 pub few_all_steps : (f : Flow) → IsChecked f → length (all_steps (parts_of f) f.groups) ≤ 33024

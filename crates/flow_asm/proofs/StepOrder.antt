@@ -1,6 +1,7 @@
 -- What follows a step: a selector's call has its pick next, and no other pick stands anywhere.
 -- for: places::place
-use Rattle.std.proofs.Common.{◌≡◌, ℕ, zero, suc, ◌+◌, ◌<◌, Bool, true, false, ◌⊎◌, inl, inr, List, [], ◌∷◌, ◌++◌, length, drop, Some, refl, sym, ap, ◌∙◌, subst, arith, append_assoc, length-append, if◌then◌else◌}
+use Rattle.std.proofs.Common.{◌≡◌, ℕ, zero, suc, ◌+◌, ◌<◌, Bool, true, false, ◌⊎◌, inl, inr, List, [], ◌∷◌, ◌++◌, length, drop, Some, refl, sym, ap, ◌∙◌, subst}
+use Rattle.std.proofs.Common.{arith, append_assoc, length-append, if◌then◌else◌}
 use Rattle.std.specs.Prelude.{slice_get}
 use Rattle.std.specs.List.{flat_map}
 use Rattle.std.proofs.lemmas.List.{append-nil, length-drop}
@@ -45,7 +46,8 @@ ordered_group : (ss : List PlacedEntry) (more : List Stage) → IsOrdered more �
 ordered_group [] more h = h
 ordered_group (s ∷ ss) more h = by s.kind.selector refl (goes_group ss more) (ordered_group ss more h)
   where
-    by : (b : Bool) → s.kind.selector ≡ b → Goes (stages_of_group ss ++ more) → IsOrdered (stages_of_group ss ++ more) → IsOrdered (((if b then AtCall s ∷ AtPick s ∷ [] else AtCall s ∷ []) ++ stages_of_group ss) ++ more)
+    by : (b : Bool) → s.kind.selector ≡ b → Goes (stages_of_group ss ++ more) → IsOrdered (stages_of_group ss ++ more) →
+        IsOrdered (((if b then AtCall s ∷ AtPick s ∷ [] else AtCall s ∷ []) ++ stages_of_group ss) ++ more)
     by true e g o = (inl (e, refl), (g, o))
     by false e g o = (inr (e, g), o)
 
@@ -106,7 +108,8 @@ at_end : (ys : List Stage) → slice_get (ys ++ AtReturn ∷ []) (length ys) ≡
 at_end [] = refl
 at_end (y ∷ ys) = at_end ys
 
-pub last_return : (gs : List (List PlacedEntry)) (n : ℕ) → 0 < length (flat_map stages_of_group gs) → n + 1 ≡ length (flat_map stages_of_group gs) → slice_get (flat_map stages_of_group gs) n ≡ Some AtReturn
+pub last_return : (gs : List (List PlacedEntry)) (n : ℕ) → 0 < length (flat_map stages_of_group gs) → n + 1 ≡ length (flat_map stages_of_group gs) →
+    slice_get (flat_map stages_of_group gs) n ≡ Some AtReturn
 last_return [] n h e = absurd (omega (arith, h))
 last_return (ss ∷ gs) n h e =
     let w = ends_groups ss gs in

@@ -9,7 +9,8 @@ use Rattle.flow_asm.specs.declared.code.Step.{Step}
 use Rattle.flow_asm.specs.declared.code.Step.TheVariants.{Call, Pick, Return}
 
 abbrev pub entry_steps : List Part → Entry → List Step
-entry_steps parts e = if e.kind.selector then Call (number_in parts e.participant) ∷ Pick (number_in parts e.participant) ∷ [] else Call (number_in parts e.participant) ∷ []
+entry_steps parts e = if e.kind.selector then Call (number_in parts e.participant) ∷ Pick (number_in parts e.participant) ∷ [] else Call
+    (number_in parts e.participant) ∷ []
 
 abbrev pub group_steps : List Part → Group → List Step
 group_steps parts g = flat_map (entry_steps parts) g.entries ++ Return ∷ []

@@ -18,7 +18,7 @@ groups_from parts g (x ∷ xs) = placed_from parts g 0 x.entries ∷ groups_from
 abbrev pub layout : Flow → List (List PlacedEntry)
 layout f = groups_from (parts_of f) 0 f.groups
 
--- what a step stands for: an entry's call, the question to a selector, or the end of a group
+-- what a step represents: an entry's call, the question to a selector, or the end of a group
 pub data Stage : Type 0 where
   AtCall : (s : PlacedEntry) → Stage
   AtPick : (s : PlacedEntry) → Stage

@@ -9,6 +9,7 @@ use Rattle.flow_asm.specs.Steps.{AtCall, AtPick, AtReturn, stages}
 
 -- A call or a pick is that of an entry, whose participant is one of the flow's.
 abbrev pub IsStepView : Flow → ℕ → StepView → Type 0
-IsStepView f step (view.Call p kind) = (s : PlacedEntry) × (slice_get (stages f) step ≡ Some (AtCall s)) × (s.participant ≡ p) × (s.kind ≡ kind) × (p < length (parts_of f))
+IsStepView f step (view.Call p kind) = (s : PlacedEntry) × (slice_get (stages f) step ≡ Some (AtCall s)) × (s.participant ≡ p) × (s.kind ≡ kind)
+    × (p < length (parts_of f))
 IsStepView f step (view.Pick p) = (s : PlacedEntry) × (slice_get (stages f) step ≡ Some (AtPick s)) × (s.participant ≡ p) × (p < length (parts_of f))
 IsStepView f step view.Return = slice_get (stages f) step ≡ Some AtReturn

@@ -23,7 +23,8 @@ pub(crate) fn steps_from(steps: &[Step], first: usize) -> &[Step]
 /// Adds the entry of the participant of this number; none where no participant has it. The only
 /// refusal is out of memory.
 pub fn add_entry(entries: &mut Vec<Entry>, parts: &[Part], number: usize) -> Result<(), AllocError>
-    ensures ok { OnOk result (AddsEntry entries.old.items entries.new.items (slice_get parts.now number)) }
+    ensures ok { OnOk result (AddsEntry entries.old.items entries.new.items
+        (slice_get parts.now number)) }
     ensures err { OnErr result (entries.new.items ≡ entries.old.items) }
 {
     if let Some(part) = parts.get(number) {

@@ -64,7 +64,8 @@ pub fn number_groups<'a>(
     groups: &'a [Group],
 ) -> Result<(), AllocError>
     requires { IsNumbering parts.old.items numbers.old }
-    ensures parts { OnOk result (parts.new.items ≡ parts_from parts.old.items (entries_of groups.now)) }
+    ensures parts { OnOk result (parts.new.items
+        ≡ parts_from parts.old.items (entries_of groups.now)) }
     ensures numbers { OnOk result (IsNumbering parts.new.items numbers.new) }
 {
     for group in groups {

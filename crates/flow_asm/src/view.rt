@@ -46,7 +46,8 @@ impl Code {
         ensures within { IfSome result (λ g. g < length (layout self.now)) }
         ensures named { IfSome result
             (λ g. option_map (λ s. s.name) (slice_get (starts_of self.now) g) ≡ Some name.now) }
-        ensures found { IfSome result (λ g. entries_named self.now name.now ≡ group_at (layout self.now) g) }
+        ensures found { IfSome result (λ g. entries_named self.now name.now
+            ≡ group_at (layout self.now) g) }
         ensures none { IfNone result (entries_named self.now name.now ≡ []) }
         ensures unknown { IfNone result (is_named name.now self.now.groups ≡ false) }
     {

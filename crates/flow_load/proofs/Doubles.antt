@@ -2,7 +2,8 @@
 -- for: groups::first_double
 use Rattle.std.specs.Prelude.{min, is_some}
 use Rattle.std.specs.Str.{bytes_eq}
-use Rattle.std.proofs.Common.{◌≡◌, ℕ, zero, suc, ◌+◌, ◌<◌, ◌≤◌, Bool, true, false, List, [], ◌∷◌, ◌++◌, length, take, drop, get_or, Some, None, refl, sym, ap, ◌∙◌, arith, inl, inr, nat_lt, cond}
+use Rattle.std.proofs.Common.{◌≡◌, ℕ, zero, suc, ◌+◌, ◌<◌, ◌≤◌, Bool, true, false, List, [], ◌∷◌, ◌++◌, length, take, drop, get_or, Some, None, refl, sym, ap}
+use Rattle.std.proofs.Common.{◌∙◌, arith, inl, inr, nat_lt, cond}
 use Rattle.std.proofs.lemmas.List.{take_more, drop_more, length-take-le}
 use Rattle.std.proofs.lemmas.Bool.{cases_Bool}
 use Rattle.std.proofs.lemmas.Bool.Decides.{nat_tests}
@@ -46,12 +47,14 @@ seen_is parts n name h =
 front_is : (parts : List Part) (n : ℕ) (p : Part) → n < length parts → p ≡ get_or parts n p → drop n parts ≡ p ∷ drop (n + 1) parts
 front_is parts n p h is = drop_more parts n p h ∙ ap (λ q. q ∷ drop (n + 1) parts) (sym is)
 
-pub double_here : (parts : List Part) (n : ℕ) (p : Part) → n < length parts → p ≡ get_or parts n p → is_some (known (take n parts) p.name) ≡ true → double_from parts n (drop n parts) ≡ Some n
+pub double_here : (parts : List Part) (n : ℕ) (p : Part) → n < length parts → p ≡ get_or parts n p → is_some (known (take n parts) p.name) ≡ true →
+    double_from parts n (drop n parts) ≡ Some n
 double_here parts n p h is seen =
     let test : nat_lt (number_in parts p.name) n ≡ true = sym (seen_is parts n p.name (omega arith)) ∙ seen in
     ap (double_from parts n) (front_is parts n p h is) ∙ ap (λ b. cond b (Some n) (double_from parts (n + 1) (drop (n + 1) parts))) test
 
-pub double_later : (parts : List Part) (n : ℕ) (p : Part) → n < length parts → p ≡ get_or parts n p → is_some (known (take n parts) p.name) ≡ false → double_from parts n (drop n parts) ≡ double_from parts (n + 1) (drop (n + 1) parts)
+pub double_later : (parts : List Part) (n : ℕ) (p : Part) → n < length parts → p ≡ get_or parts n p → is_some (known (take n parts) p.name) ≡ false →
+    double_from parts n (drop n parts) ≡ double_from parts (n + 1) (drop (n + 1) parts)
 double_later parts n p h is seen =
     let test : nat_lt (number_in parts p.name) n ≡ false = sym (seen_is parts n p.name (omega arith)) ∙ seen in
     ap (double_from parts n) (front_is parts n p h is) ∙ ap (λ b. cond b (Some n) (double_from parts (n + 1) (drop (n + 1) parts))) test

@@ -3,7 +3,8 @@
 use Rattle.std.specs.Prelude.{option_map}
 use Rattle.std.specs.List.{flat_map}
 use Rattle.std.specs.Str.{bytes_eq}
-use Rattle.std.proofs.Common.{◌≡◌, ℕ, suc, ◌+◌, ◌<◌, ◌≤◌, max, Bool, true, false, List, [], ◌∷◌, ◌++◌, length, get_or, Some, None, if◌then◌else◌, Ok, refl, sym, ap, ◌∙◌, subst, append_assoc, length-append, arith, inl, inr, nat_le, nat_lt, slice_get, eq-eqb}
+use Rattle.std.proofs.Common.{◌≡◌, ℕ, suc, ◌+◌, ◌<◌, ◌≤◌, max, Bool, true, false, List, [], ◌∷◌, ◌++◌, length, get_or, Some, None, if◌then◌else◌, Ok, refl, sym}
+use Rattle.std.proofs.Common.{ap, ◌∙◌, subst, append_assoc, length-append, arith, inl, inr, nat_le, nat_lt, slice_get, eq-eqb}
 use Rattle.std.proofs.lemmas.List.{append-nil, get_or_append_left, get_or_at, length_push}
 use Rattle.std.proofs.lemmas.Option.{slice_get_within, get_or_from_slice_get, slice_get-get_or, none-some}
 use Rattle.std.proofs.lemmas.Bool.{cases_Bool, cases_lt}
@@ -80,7 +81,11 @@ grows ps (e ∷ es) =
     let g = grows (add_new ps e) es in
     by_entry ps e (Grows ps (parts_from (add_new ps e) es))
     (λ k. record { more = g.more; is = g.is ∙ ap (λ qs. qs ++ g.more) k.is })
-    (λ n. record { more = record { name = e.participant; kind = e.kind } ∷ g.more; is = g.is ∙ ap (λ qs. qs ++ g.more) n.is ∙ append_assoc ps (record { name = e.participant; kind = e.kind } ∷ []) g.more })
+    (λ n. record {
+      more = record { name = e.participant; kind = e.kind } ∷ g.more;
+      is =
+          g.is ∙ ap (λ qs. qs ++ g.more) n.is ∙ append_assoc ps (record { name = e.participant; kind = e.kind } ∷ []) g.more;
+    })
 
 -- the number of an entry's participant, where the participants ps were seen before it
 record IsNext (parts ps : List Part) (e : Entry) : Type 0 where
@@ -93,14 +98,16 @@ next_is parts ps e es is =
     let whole : parts ≡ add_new ps e ++ g.more = is ∙ g.is in
     by_entry ps e (IsNext parts ps e)
     (λ k.
-    let here : number_in parts e.participant ≡ number_in ps e.participant = ap (λ qs. number_in qs e.participant) (whole ∙ ap (λ qs. qs ++ g.more) k.is) ∙ number_kept ps g.more e.participant k.low in
+    let here : number_in parts e.participant ≡ number_in ps e.participant = ap (λ qs. number_in qs e.participant) (whole ∙ ap (λ qs. qs ++ g.more) k.is)
+    ∙ number_kept ps g.more e.participant k.low in
     let len : length (add_new ps e) ≡ length ps = ap length k.is in
     record { low = omega (arith, here, k.low); seen = omega (arith, here, k.low, len) })
     (λ n.
     let q : Part = record { name = e.participant; kind = e.kind } in
     let pushed : number_in (ps ++ q ∷ []) e.participant ≡ length ps = number_push ps q n.last in
     let len : length (ps ++ q ∷ []) ≡ length ps + 1 = length_push ps q in
-    let kept : number_in ((ps ++ q ∷ []) ++ g.more) e.participant ≡ number_in (ps ++ q ∷ []) e.participant = number_kept (ps ++ q ∷ []) g.more e.participant (omega (arith, pushed, len)) in
+    let kept : number_in ((ps ++ q ∷ []) ++ g.more) e.participant ≡ number_in (ps ++ q ∷ []) e.participant =
+    number_kept (ps ++ q ∷ []) g.more e.participant (omega (arith, pushed, len)) in
     let here : number_in parts e.participant ≡ length ps = ap (λ qs. number_in qs e.participant) (whole ∙ ap (λ qs. qs ++ g.more) n.is) ∙ kept ∙ pushed in
     let grown : length (add_new ps e) ≡ length ps + 1 = ap length n.is ∙ len in
     record { low = omega (arith, here); seen = omega (arith, here, grown) })
@@ -110,22 +117,27 @@ abbrev pub Fits : List Part → Entry → Type 0
 Fits parts e = slice_get parts (number_in parts e.participant) ≡ Some (record { name = e.participant; kind = e.kind })
 
 call_step : (parts : List Part) (line g at seen p : ℕ) (x : Part) (xs : List Step) → slice_get parts p ≡ Some x → p ≤ seen
-    → walk parts line g None at seen (Call p ∷ xs) ≡ (walk parts line g (wanted p (Some x)) (at + 1) (max seen (p + 1)) xs >>= λ w. Ok (with_entries (entry_at x ∷ []) w))
+    → walk parts line g None at seen (Call p ∷ xs) ≡ (walk parts line g (wanted p (Some x)) (at + 1) (max seen (p + 1)) xs >>= λ w. Ok
+    (with_entries (entry_at x ∷ []) w))
 call_step parts line g at seen p x xs is low =
     let inside : p < length parts = slice_get_within parts p x is in
     let below : nat_lt p (length parts) ≡ true = grind (arith, nat_tests) in
     let known : nat_le p seen ≡ true = grind (arith, nat_tests) in
     rw (below, known, is) refl
 
-pick_step : (parts : List Part) (line g at seen p : ℕ) (xs : List Step) → walk parts line g (Some p) at seen (Pick p ∷ xs) ≡ walk parts line g None (at + 1) seen xs
+pick_step : (parts : List Part) (line g at seen p : ℕ) (xs : List Step) → walk parts line g (Some p) at seen (Pick p ∷ xs) ≡ walk parts line g None (at + 1)
+    seen xs
 pick_step parts line g at seen p xs = rw (eq-eqb p p refl) refl
 
-pub walk_again : (parts : List Part) (line g : ℕ) (ps : List Part) (es later : List Entry) (at n : ℕ) (more : List Step) → ((e : Entry) → In es e → Fits parts e) → parts ≡ parts_from ps (es ++ later) → n ≡ at + length (flat_map (entry_steps parts) es) + 1
-    → walk parts line g None at (length ps) (flat_map (entry_steps parts) es ++ Return ∷ more) ≡ Ok (record { entries = es; at = n; seen = length (parts_from ps es); rest = more })
+pub walk_again : (parts : List Part) (line g : ℕ) (ps : List Part) (es later : List Entry) (at n : ℕ) (more : List Step) →
+    ((e : Entry) → In es e → Fits parts e) → parts ≡ parts_from ps (es ++ later) → n ≡ at + length (flat_map (entry_steps parts) es) + 1
+    → walk parts line g None at (length ps) (flat_map (entry_steps parts) es ++ Return ∷ more)
+    ≡ Ok (record { entries = es; at = n; seen = length (parts_from ps es); rest = more })
 walk_again parts line g ps [] later at n more fit is e =
     let next : at + 1 ≡ n = omega (arith, e) in
     ap (λ m. Ok (record { entries = []; at = m; seen = length ps; rest = more })) next
-walk_again parts line g ps (x ∷ es) later at n more fit is e = by x.kind.selector refl (λ m h. walk_again parts line g (add_new ps x) es later m n more (λ y i. fit y (inr i)) is h)
+walk_again parts line g ps (x ∷ es) later at n more fit is e =
+    by x.kind.selector refl (λ m h. walk_again parts line g (add_new ps x) es later m n more (λ y i. fit y (inr i)) is h)
   where
     p : ℕ
     p = number_in parts x.participant
@@ -139,51 +151,75 @@ walk_again parts line g ps (x ∷ es) later at n more fit is e = by x.kind.selec
     order : IsNext parts ps x
     order = next_is parts ps x (es ++ later) is
 
-    called : (xs : List Step) → walk parts line g None at (length ps) (Call (number_in parts x.participant) ∷ xs) ≡ (walk parts line g (if x.kind.selector then Some (number_in parts x.participant) else None) (at + 1) (length (add_new ps x)) xs >>= λ w. Ok (with_entries (x ∷ []) w))
+    called : (xs : List Step) → walk parts line g None at (length ps) (Call (number_in parts x.participant) ∷ xs)
+        ≡ (walk parts line g (if x.kind.selector then Some (number_in parts x.participant) else None) (at + 1) (length (add_new ps x)) xs >>= λ w. Ok
+        (with_entries (x ∷ []) w))
     called xs =
         call_step parts line g at (length ps) (number_in parts x.participant) (record { name = x.participant; kind = x.kind }) xs (fit x (inl refl)) order.low
-        ∙ ap (λ m. walk parts line g (if x.kind.selector then Some (number_in parts x.participant) else None) (at + 1) m xs >>= λ w. Ok (with_entries (x ∷ []) w)) order.seen
+        ∙ ap (λ m. walk parts line g (if x.kind.selector then Some (number_in parts x.participant) else None) (at + 1) m xs >>= λ w. Ok
+        (with_entries (x ∷ []) w)) order.seen
 
     Rest : Type 0
-    Rest = (m : ℕ) → n ≡ m + length (flat_map (entry_steps parts) es) + 1 → walk parts line g None m (length (add_new ps x)) (flat_map (entry_steps parts) es ++ Return ∷ more) ≡ Ok (record { entries = es; at = n; seen = length (parts_from (add_new ps x) es); rest = more })
+    Rest = (m : ℕ) → n ≡ m + length (flat_map (entry_steps parts) es) + 1 →
+        walk parts line g None m (length (add_new ps x)) (flat_map (entry_steps parts) es ++ Return ∷ more)
+        ≡ Ok (record { entries = es; at = n; seen = length (parts_from (add_new ps x) es); rest = more })
 
-    by : (b : Bool) → x.kind.selector ≡ b → Rest → walk parts line g None at (length ps) (flat_map (entry_steps parts) (x ∷ es) ++ Return ∷ more) ≡ Ok (record { entries = x ∷ es; at = n; seen = length (parts_from (add_new ps x) es); rest = more })
+    by : (b : Bool) → x.kind.selector ≡ b → Rest → walk parts line g None at (length ps) (flat_map (entry_steps parts) (x ∷ es) ++ Return ∷ more)
+        ≡ Ok (record { entries = x ∷ es; at = n; seen = length (parts_from (add_new ps x) es); rest = more })
     by true picks go =
-        let listed : flat_map (entry_steps parts) (x ∷ es) ++ Return ∷ more ≡ Call p ∷ Pick p ∷ tail = ap (λ b. ((if b then Call p ∷ Pick p ∷ [] else Call p ∷ []) ++ flat_map (entry_steps parts) es) ++ Return ∷ more) picks in
-        let long : length (flat_map (entry_steps parts) (x ∷ es)) ≡ 2 + length (flat_map (entry_steps parts) es) = ap (λ b. length ((if b then Call p ∷ Pick p ∷ [] else Call p ∷ []) ++ flat_map (entry_steps parts) es)) picks ∙ (let two : suc (suc (length (flat_map (entry_steps parts) es))) ≡ 2 + length (flat_map (entry_steps parts) es) = omega arith in two) in
+        let listed : flat_map (entry_steps parts) (x ∷ es) ++ Return ∷ more ≡ Call p ∷ Pick p ∷ tail =
+        ap (λ b. ((if b then Call p ∷ Pick p ∷ [] else Call p ∷ []) ++ flat_map (entry_steps parts) es) ++ Return ∷ more) picks in
+        let long : length (flat_map (entry_steps parts) (x ∷ es)) ≡ 2 + length (flat_map (entry_steps parts) es) =
+        ap (λ b. length ((if b then Call p ∷ Pick p ∷ [] else Call p ∷ []) ++ flat_map (entry_steps parts) es)) picks
+        ∙ (let two : suc (suc (length (flat_map (entry_steps parts) es))) ≡ 2 + length (flat_map (entry_steps parts) es) = omega arith in two) in
         let ih = go (at + 1 + 1) (omega (arith, e, long)) in
-        let select_due : walk parts line g (if x.kind.selector then Some p else None) (at + 1) (length (add_new ps x)) (Pick p ∷ tail) ≡ walk parts line g (Some p) (at + 1) (length (add_new ps x)) (Pick p ∷ tail) = ap (λ b. walk parts line g (if b then Some p else None) (at + 1) (length (add_new ps x)) (Pick p ∷ tail)) picks in
-        ap (walk parts line g None at (length ps)) listed ∙ called (Pick p ∷ tail) ∙ ap (λ r. r >>= λ w. Ok (with_entries (x ∷ []) w)) (select_due ∙ pick_step parts line g (at + 1) (length (add_new ps x)) p tail ∙ ih)
+        let select_due : walk parts line g (if x.kind.selector then Some p else None) (at + 1) (length (add_new ps x)) (Pick p ∷ tail)
+        ≡ walk parts line g (Some p) (at + 1) (length (add_new ps x)) (Pick p ∷ tail) =
+        ap (λ b. walk parts line g (if b then Some p else None) (at + 1) (length (add_new ps x)) (Pick p ∷ tail)) picks in
+        ap (walk parts line g None at (length ps)) listed ∙ called (Pick p ∷ tail) ∙ ap (λ r. r >>= λ w. Ok (with_entries (x ∷ []) w))
+        (select_due ∙ pick_step parts line g (at + 1) (length (add_new ps x)) p tail ∙ ih)
     by false plain go =
-        let listed : flat_map (entry_steps parts) (x ∷ es) ++ Return ∷ more ≡ Call p ∷ tail = ap (λ b. ((if b then Call p ∷ Pick p ∷ [] else Call p ∷ []) ++ flat_map (entry_steps parts) es) ++ Return ∷ more) plain in
-        let long : length (flat_map (entry_steps parts) (x ∷ es)) ≡ 1 + length (flat_map (entry_steps parts) es) = ap (λ b. length ((if b then Call p ∷ Pick p ∷ [] else Call p ∷ []) ++ flat_map (entry_steps parts) es)) plain ∙ (let one : suc (length (flat_map (entry_steps parts) es)) ≡ 1 + length (flat_map (entry_steps parts) es) = omega arith in one) in
+        let listed : flat_map (entry_steps parts) (x ∷ es) ++ Return ∷ more ≡ Call p ∷ tail =
+        ap (λ b. ((if b then Call p ∷ Pick p ∷ [] else Call p ∷ []) ++ flat_map (entry_steps parts) es) ++ Return ∷ more) plain in
+        let long : length (flat_map (entry_steps parts) (x ∷ es)) ≡ 1 + length (flat_map (entry_steps parts) es) =
+        ap (λ b. length ((if b then Call p ∷ Pick p ∷ [] else Call p ∷ []) ++ flat_map (entry_steps parts) es)) plain
+        ∙ (let one : suc (length (flat_map (entry_steps parts) es)) ≡ 1 + length (flat_map (entry_steps parts) es) = omega arith in one) in
         let ih = go (at + 1) (omega (arith, e, long)) in
-        let select_due : walk parts line g (if x.kind.selector then Some p else None) (at + 1) (length (add_new ps x)) tail ≡ walk parts line g None (at + 1) (length (add_new ps x)) tail = ap (λ b. walk parts line g (if b then Some p else None) (at + 1) (length (add_new ps x)) tail) plain in
+        let select_due : walk parts line g (if x.kind.selector then Some p else None) (at + 1) (length (add_new ps x)) tail ≡ walk parts line g None
+        (at + 1) (length (add_new ps x)) tail = ap (λ b. walk parts line g (if b then Some p else None) (at + 1) (length (add_new ps x)) tail) plain in
         ap (walk parts line g None at (length ps)) listed ∙ called tail ∙ ap (λ r. r >>= λ w. Ok (with_entries (x ∷ []) w)) (select_due ∙ ih)
 
-start_step : (parts : List Part) (line g at seen : ℕ) (xs : List Step) (x : Group) (ss : List GroupStart) (v : Walk) (more : Walks) → walk parts line g None at seen xs ≡ Ok v → v.entries ≡ x.entries → walks parts line (g + 1) v.at v.seen v.rest ss ≡ Ok more
+start_step : (parts : List Part) (line g at seen : ℕ) (xs : List Step) (x : Group) (ss : List GroupStart) (v : Walk) (more : Walks) →
+    walk parts line g None at seen xs ≡ Ok v → v.entries ≡ x.entries → walks parts line (g + 1) v.at v.seen v.rest ss ≡ Ok more
     → walks parts line g at seen xs (record { name = x.name; first = at } ∷ ss) ≡ Ok (with_groups (x ∷ []) more)
 start_step parts line g at seen xs x ss v more is same others =
     rw (eq-eqb at at refl, is, others) (ap (λ es. Ok (with_groups (record { name = x.name; entries = es } ∷ []) more)) same)
 
-pub walks_again : (parts : List Part) (line g : ℕ) (ps : List Part) (gs : List Group) (at n : ℕ) → ((e : Entry) → In (entries_in gs) e → Fits parts e) → parts ≡ parts_from ps (entries_in gs) → n ≡ at + length (all_steps parts gs)
+pub walks_again : (parts : List Part) (line g : ℕ) (ps : List Part) (gs : List Group) (at n : ℕ) → ((e : Entry) → In (entries_in gs) e → Fits parts e) →
+    parts ≡ parts_from ps (entries_in gs) → n ≡ at + length (all_steps parts gs)
     → walks parts line g at (length ps) (all_steps parts gs) (starts_at parts at gs) ≡ Ok (record { groups = gs; at = n; seen = length parts; rest = [] })
 walks_again parts line g ps [] at n fit is e =
     let same : at ≡ n = omega (arith, e) in
-    ap (λ m. Ok (record { groups = []; at = at; seen = m; rest = [] })) (ap length (sym is)) ∙ ap (λ m. Ok (record { groups = []; at = m; seen = length parts; rest = [] })) same
+    ap (λ m. Ok (record { groups = []; at = at; seen = m; rest = [] })) (ap length (sym is))
+    ∙ ap (λ m. Ok (record { groups = []; at = m; seen = length parts; rest = [] })) same
 walks_again parts line g ps (x ∷ gs) at n fit is e =
     let next : ℕ = at + length (group_steps parts x) in
-    let here : next ≡ at + length (flat_map (entry_steps parts) x.entries) + 1 = omega (arith, length-append (flat_map (entry_steps parts) x.entries) (Return ∷ [])) in
+    let here : next ≡ at + length (flat_map (entry_steps parts) x.entries) + 1 =
+    omega (arith, length-append (flat_map (entry_steps parts) x.entries) (Return ∷ [])) in
     let later : parts ≡ parts_from (parts_from ps x.entries) (entries_in gs) = is ∙ parts_from-append ps x.entries (entries_in gs) in
     let whole : n ≡ next + length (all_steps parts gs) = omega (arith, e, length-append (group_steps parts x) (all_steps parts gs)) in
-    let one = walk_again parts line g ps x.entries (entries_in gs) at next (all_steps parts gs) (λ y i. fit y (in_left x.entries (entries_in gs) y i)) is here in
+    let one = walk_again parts line g ps x.entries (entries_in gs) at next (all_steps parts gs) (λ y i. fit y (in_left x.entries (entries_in gs) y i)) is
+    here in
     let others = walks_again parts line (g + 1) (parts_from ps x.entries) gs next n (λ y i. fit y (in_right x.entries (entries_in gs) y i)) later whole in
-    ap (λ xs. walks parts line g at (length ps) xs (starts_at parts at (x ∷ gs))) (append_assoc (flat_map (entry_steps parts) x.entries) (Return ∷ []) (all_steps parts gs))
-    ∙ start_step parts line g at (length ps) _ x (starts_at parts next gs) (record { entries = x.entries; at = next; seen = length (parts_from ps x.entries); rest = all_steps parts gs }) _ one refl others
+    ap (λ xs. walks parts line g at (length ps) xs (starts_at parts at (x ∷ gs))) (append_assoc (flat_map (entry_steps parts) x.entries) (Return ∷ [])
+    (all_steps parts gs))
+    ∙ start_step parts line g at (length ps) _ x (starts_at parts next gs)
+    (record { entries = x.entries; at = next; seen = length (parts_from ps x.entries); rest = all_steps parts gs }) _ one refl others
 
 -- no name stands twice among numbered participants
 
-no_double_from : (parts : List Part) (n : ℕ) (ps : List Part) → ((i : ℕ) (x : Part) → slice_get ps i ≡ Some x → number_in parts x.name ≡ n + i) → double_from parts n ps ≡ None
+no_double_from : (parts : List Part) (n : ℕ) (ps : List Part) → ((i : ℕ) (x : Part) → slice_get ps i ≡ Some x → number_in parts x.name ≡ n + i) →
+    double_from parts n ps ≡ None
 no_double_from parts n [] h = refl
 no_double_from parts n (p ∷ ps) h =
     let here : number_in parts p.name ≡ n + 0 = h 0 p refl in
@@ -235,6 +271,8 @@ flow_again f c =
     let steps : (lines_of f).steps ≡ all_steps (parts_of f) f.groups = map_groups (parts_of f) 0 f.groups in
     let starts : (lines_of f).starts ≡ starts_at (parts_of f) 0 f.groups = sym (starts_are f [] f.groups 0 0 refl refl refl) in
     let distinct : double_fault (parts_of f) ≡ None = ap (option_map (λ n. BadTarget (2 + n))) (no_doubles (parts_of f) (numbered_parts f)) in
-    let walked : walks (parts_of f) line 0 0 0 (lines_of f).steps (lines_of f).starts ≡ Ok (record { groups = f.groups; at = 0 + length (all_steps (parts_of f) f.groups); seen = length (parts_of f); rest = [] }) =
-    ap (λ xs. walks (parts_of f) line 0 0 0 xs (lines_of f).starts) steps ∙ ap (walks (parts_of f) line 0 0 0 (all_steps (parts_of f) f.groups)) starts ∙ walks_again (parts_of f) line 0 [] f.groups 0 (0 + length (all_steps (parts_of f) f.groups)) fit refl refl in
+    let walked : walks (parts_of f) line 0 0 0 (lines_of f).steps (lines_of f).starts
+    ≡ Ok (record { groups = f.groups; at = 0 + length (all_steps (parts_of f) f.groups); seen = length (parts_of f); rest = [] }) =
+    ap (λ xs. walks (parts_of f) line 0 0 0 xs (lines_of f).starts) steps ∙ ap (walks (parts_of f) line 0 0 0 (all_steps (parts_of f) f.groups)) starts
+    ∙ walks_again (parts_of f) line 0 [] f.groups 0 (0 + length (all_steps (parts_of f) f.groups)) fit refl refl in
     rw (distinct, walked, end_again (parts_of f) line (0 + length (all_steps (parts_of f) f.groups)) f.groups) refl

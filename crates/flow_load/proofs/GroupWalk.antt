@@ -1,6 +1,7 @@
 -- Walking through the steps of a group, as a loop does.
 -- for: groups::read_group
-use Rattle.std.proofs.Common.{◌≡◌, ℕ, ◌+◌, ◌≤◌, ◌<◌, List, ◌++◌, length, drop, get_or, max, Option, None, Result, Ok, Err, refl, sym, ap, ◌∙◌, append_assoc, arith, slice_get}
+use Rattle.std.proofs.Common.{◌≡◌, ℕ, ◌+◌, ◌≤◌, ◌<◌, List, ◌++◌, length, drop, get_or, max, Option, None, Result, Ok, Err, refl, sym, ap, ◌∙◌, append_assoc}
+use Rattle.std.proofs.Common.{arith, slice_get}
 use Rattle.std.proofs.lemmas.List.{append-nil, drop_all, drop_more}
 use Rattle.flow_model.specs.declared.flow.Entry.{Entry}
 use Rattle.flow_model.specs.declared.numbering.Part.{Part}
@@ -35,10 +36,12 @@ module _ (parts : List Part) (line group at k : ℕ) (due : Option ℕ) (seen : 
   stopped d e lt walked is = sym (on d (Err e) lt is walked)
 
   pub called : (d : Step) (p : ℕ) → k < length steps → role_of parts (line + at + k) due seen (get_or steps k d) ≡ Ok (Calls p) → IsWalked
-      → behind (es ++ entry_of (slice_get parts p)) (walk parts line group (wanted p (slice_get parts p)) (at + (k + 1)) (max seen (p + 1)) (drop (k + 1) steps)) ≡ total
+      → behind (es ++ entry_of (slice_get parts p)) (walk parts line group (wanted p (slice_get parts p)) (at + (k + 1)) (max seen (p + 1))
+      (drop (k + 1) steps)) ≡ total
   called d p lt is walked =
       let next : at + (k + 1) ≡ at + k + 1 = omega arith in
-      rw next (sym (merged es (entry_of (slice_get parts p)) (walk parts line group (wanted p (slice_get parts p)) (at + k + 1) (max seen (p + 1)) (drop (k + 1) steps))) ∙ on d (Ok (Calls p)) lt is walked)
+      rw next (sym (merged es (entry_of (slice_get parts p)) (walk parts line group (wanted p (slice_get parts p)) (at + k + 1) (max seen (p + 1))
+      (drop (k + 1) steps))) ∙ on d (Ok (Calls p)) lt is walked)
 
   pub picked : (d : Step) → k < length steps → role_of parts (line + at + k) due seen (get_or steps k d) ≡ Ok Picks → IsWalked
       → behind es (walk parts line group None (at + (k + 1)) seen (drop (k + 1) steps)) ≡ total
@@ -49,7 +52,8 @@ module _ (parts : List Part) (line group at k : ℕ) (due : Option ℕ) (seen : 
   pub returned : (d : Step) → k < length steps → role_of parts (line + at + k) due seen (get_or steps k d) ≡ Ok Returns → IsWalked
       → total ≡ Ok (record { entries = es; at = at + k + 1; seen = seen; rest = drop (k + 1) steps })
   returned d lt is walked =
-      sym (on d (Ok Returns) lt is walked) ∙ ap (λ (xs : List Entry). Ok (record { entries = xs; at = at + k + 1; seen = seen; rest = drop (k + 1) steps })) (append-nil es)
+      sym (on d (Ok Returns) lt is walked) ∙ ap (λ (xs : List Entry). Ok (record { entries = xs; at = at + k + 1; seen = seen; rest = drop (k + 1) steps }))
+      (append-nil es)
 
   pub ended : length steps ≤ k → k ≤ length steps → IsWalked → total ≡ Err (cut_off group (line + at + length steps) due)
   ended le ge walked =

@@ -1,7 +1,8 @@
 -- A checked flow lays out lines within the limits of an image.
 -- for: reader::load
 use Rattle.std.specs.List.{flat_map}
-use Rattle.std.proofs.Common.{◌≡◌, ℕ, suc, ◌+◌, ◌≤◌, Bool, true, false, List, [], ◌∷◌, ◌++◌, length, Some, None, refl, sym, ap, subst, arith, cond, if◌then◌else◌, length-append}
+use Rattle.std.proofs.Common.{◌≡◌, ℕ, suc, ◌+◌, ◌≤◌, Bool, true, false, List, [], ◌∷◌, ◌++◌, length, Some, None, refl, sym, ap, subst, arith, cond}
+use Rattle.std.proofs.Common.{if◌then◌else◌, length-append}
 use Rattle.flow_model.specs.declared.flow.Flow.{Flow}
 use Rattle.flow_model.specs.declared.flow.Group.{Group}
 use Rattle.flow_model.specs.declared.flow.Entry.{Entry}
@@ -45,7 +46,10 @@ IsNamedGroup g = is_name g.name ≡ true
 
 entries_named : (g i : ℕ) (es : List Entry) → first_at (bad_entry g) i es ≡ None → Each IsNamedEntry es
 entries_named g i [] h = tt
-entries_named g i (e ∷ es) h = (no_else (is_name e.participant) _ (left_none (bad_entry g i e) (first_at (bad_entry g) (i + 1) es) h), entries_named g (i + 1) es (right_none (bad_entry g i e) (first_at (bad_entry g) (i + 1) es) h))
+entries_named g i (e ∷ es) h = (
+  no_else (is_name e.participant) _ (left_none (bad_entry g i e) (first_at (bad_entry g) (i + 1) es) h),
+  entries_named g (i + 1) es (right_none (bad_entry g i e) (first_at (bad_entry g) (i + 1) es) h),
+)
 
 groups_named : (g : ℕ) (gs : List Group) → first_at bad_group g gs ≡ None → Each IsNamedGroup gs × Each IsNamedEntry (entries_in gs)
 groups_named g [] h = (tt, tt)
@@ -63,26 +67,34 @@ parts_named ps (e ∷ es) a b =
     (λ k. subst (Each IsNamedPart) (sym k.is) a)
     (λ n. subst (Each IsNamedPart) (sym n.is) (each_append IsNamedPart ps (record { name = e.participant; kind = e.kind } ∷ []) a (b.0, tt)))) b.1
 
-starts_small : (parts : List Part) (at : ℕ) (gs : List Group) → Each IsNamedGroup gs → at + length (all_steps parts gs) ≤ 100000 → Each IsSmallStart (starts_at parts at gs)
+starts_small : (parts : List Part) (at : ℕ) (gs : List Group) → Each IsNamedGroup gs → at + length (all_steps parts gs) ≤ 100000 →
+    Each IsSmallStart (starts_at parts at gs)
 starts_small parts at [] a h = tt
-starts_small parts at (x ∷ gs) a h =
-    (record { name = a.0; first = omega (arith, h) }, starts_small parts (at + length (group_steps parts x)) gs a.1 (omega (arith, h, length-append (group_steps parts x) (all_steps parts gs))))
+starts_small parts at (x ∷ gs) a h = (
+  record { name = a.0; first = omega (arith, h) },
+  starts_small parts (at + length (group_steps parts x)) gs a.1
+      (omega (arith, h, length-append (group_steps parts x) (all_steps parts gs))),
+)
 
 entry_steps_small : (parts : List Part) (e : Entry) → length parts ≤ 100000 → Each IsSmallStep (entry_steps parts e)
 entry_steps_small parts e h = by e.kind.selector (omega (arith, number_within parts e.participant))
   where
-    by : (b : Bool) → number_in parts e.participant ≤ 100000 → Each IsSmallStep (if b then Call (number_in parts e.participant) ∷ Pick (number_in parts e.participant) ∷ [] else Call (number_in parts e.participant) ∷ [])
+    by : (b : Bool) → number_in parts e.participant ≤ 100000 →
+        Each IsSmallStep (if b then Call (number_in parts e.participant) ∷ Pick (number_in parts e.participant) ∷ [] else Call
+        (number_in parts e.participant) ∷ [])
     by true le = (le, (le, tt))
     by false le = (le, tt)
 
 group_steps_small : (parts : List Part) (es : List Entry) → length parts ≤ 100000 → Each IsSmallStep (flat_map (entry_steps parts) es)
 group_steps_small parts [] h = tt
-group_steps_small parts (e ∷ es) h = each_append IsSmallStep (entry_steps parts e) (flat_map (entry_steps parts) es) (entry_steps_small parts e h) (group_steps_small parts es h)
+group_steps_small parts (e ∷ es) h = each_append IsSmallStep (entry_steps parts e) (flat_map (entry_steps parts) es) (entry_steps_small parts e h)
+    (group_steps_small parts es h)
 
 steps_small : (parts : List Part) (gs : List Group) → length parts ≤ 100000 → Each IsSmallStep (all_steps parts gs)
 steps_small parts [] h = tt
 steps_small parts (x ∷ gs) h =
-    each_append IsSmallStep (group_steps parts x) (all_steps parts gs) (each_append IsSmallStep (flat_map (entry_steps parts) x.entries) (Return ∷ []) (group_steps_small parts x.entries h) (tt, tt)) (steps_small parts gs h)
+    each_append IsSmallStep (group_steps parts x) (all_steps parts gs) (each_append IsSmallStep (flat_map (entry_steps parts) x.entries) (Return ∷ [])
+    (group_steps_small parts x.entries h) (tt, tt)) (steps_small parts gs h)
 
 version_small : (parts : List Part) → (1 ≤ version_of parts) × (version_of parts ≤ 2)
 version_small parts = by (has_recovering parts)

@@ -3,7 +3,8 @@
 use Rattle.std.specs.Prelude.{◌==◌, slice_index, not, ◌&&◌, ◌||◌, find, if◌then◌else◌}
 use Rattle.std.specs.Fmt.{decimal}
 use Rattle.std.specs.Str.{bytes_eq, all_ascii_digits}
-use Rattle.std.proofs.Common.{◌≡◌, ℕ, zero, suc, ◌+◌, ◌-◌, ◌*◌, ◌^◌, ◌<◌, ◌≤◌, Bool, true, false, List, [], ◌∷◌, ◌++◌, length, get_or, Option, Some, None, option_map, Result, Ok, Err, refl, sym, ap, ◌∙◌, subst, append_assoc, arith, inl, inr, nat_le, cond, codes, rules}
+use Rattle.std.proofs.Common.{◌≡◌, ℕ, zero, suc, ◌+◌, ◌-◌, ◌*◌, ◌^◌, ◌<◌, ◌≤◌, Bool, true, false, List, [], ◌∷◌, ◌++◌, length, get_or, Option, Some, None}
+use Rattle.std.proofs.Common.{option_map, Result, Ok, Err, refl, sym, ap, ◌∙◌, subst, append_assoc, arith, inl, inr, nat_le, cond, codes, rules}
 use Rattle.std.proofs.lemmas.Bool.{cases_Bool}
 use Rattle.std.proofs.lemmas.Bool.Decides.{nat_tests}
 use Rattle.std.proofs.lemmas.List.{append-nil}
@@ -22,8 +23,10 @@ use Rattle.flow_load.specs.declared.lines.ImageHeader.{ImageHeader}
 use Rattle.flow_load.specs.declared.lines.Lines.{Lines}
 use Rattle.flow_load.specs.Image.{Text, kind_text, part_text, group_text, step_text, lines_text, header_text, spelled}
 use Rattle.flow_load.specs.Reads.{◌>>=◌, found}
-use Rattle.flow_load.specs.Words.{cut, value_on, is_plain, number, kinds, is_spelled, kind_of, word_at, number_of, number_at, word_is, name_of, name_at, is_within}
-use Rattle.flow_load.specs.Forms.{ended, in_place, part_form, group_form, step_named, step_of, step_form, is_header, header_form, header_at, line_at, items_at, lines_in}
+use Rattle.flow_load.specs.Words.{cut, value_on, is_plain, number, kinds, is_spelled, kind_of, word_at, number_of, number_at, word_is, name_of, name_at}
+use Rattle.flow_load.specs.Words.{is_within}
+use Rattle.flow_load.specs.Forms.{ended, in_place, part_form, group_form, step_named, step_of, step_form, is_header, header_form, header_at, line_at, items_at}
+use Rattle.flow_load.specs.Forms.{lines_in}
 
 abbrev okay : {A : Type 0} → A → Result A LoadError
 okay x = Ok x
@@ -39,7 +42,8 @@ if_ok true r e y h = (refl, h)
 if_ok false r e y h = absurd (cc)
 
 -- what a bind read, for the rest of a proof
-pub with_bind : {A B : Type 0} (P : Type 0) (r : Result A LoadError) (f : A → Result B LoadError) (y : B) → ((x : A) → r ≡ Ok x → f x ≡ Ok y → P) → (r >>= f) ≡ Ok y → P
+pub with_bind : {A B : Type 0} (P : Type 0) (r : Result A LoadError) (f : A → Result B LoadError) (y : B) → ((x : A) → r ≡ Ok x → f x ≡ Ok y → P) →
+    (r >>= f) ≡ Ok y → P
 with_bind P (Ok x) f y go h = go x refl h
 with_bind P (Err e) f y go h = absurd (cc)
 
@@ -49,7 +53,8 @@ then_word w rest = w ++ 32 ∷ rest
 abbrev front : ℕ → Option (Text × Text) → Option (Text × Text)
 front x o = option_map (λ p. (x ∷ p.0, p.1)) o
 
-deeper : (b x : ℕ) (xs : Text) (o : Option (Text × Text)) → ((q : Text × Text) → o ≡ Some q → xs ≡ q.0 ++ b ∷ q.1) → (p : Text × Text) → front x o ≡ Some p → x ∷ xs ≡ p.0 ++ b ∷ p.1
+deeper : (b x : ℕ) (xs : Text) (o : Option (Text × Text)) → ((q : Text × Text) → o ≡ Some q → xs ≡ q.0 ++ b ∷ q.1) → (p : Text × Text) →
+    front x o ≡ Some p → x ∷ xs ≡ p.0 ++ b ∷ p.1
 deeper b x xs None ih p h = absurd (cc)
 deeper b x xs (Some q) ih p h =
     let e : (x ∷ q.0, q.1) ≡ p = cc in
@@ -125,7 +130,8 @@ number_at_ok e text y h =
     done : (w : Text × Text) (m : ℕ) (y : ℕ × Text) → word_at e text ≡ Ok w → number_of e w.0 ≡ Ok m → okay (m, w.1) ≡ Ok y → text ≡ then_word (decimal y.0) y.1
     done w m y a b h =
         let same = same_pair (m, w.1) y h in
-        word_at_ok e text w a ∙ ap (λ v. then_word v w.1) (number_of_ok e w.0 m b) ∙ ap (λ n. then_word (decimal n) w.1) same.0 ∙ ap (λ r. then_word (decimal y.0) r) same.1
+        word_at_ok e text w a ∙ ap (λ v. then_word v w.1) (number_of_ok e w.0 m b) ∙ ap (λ n. then_word (decimal n) w.1) same.0
+        ∙ ap (λ r. then_word (decimal y.0) r) same.1
 
 word_is_ok : (e : LoadError) (w text rest : Text) → word_is e w text ≡ Ok rest → text ≡ then_word w rest
 word_is_ok e w text rest h =
@@ -156,11 +162,13 @@ kind_ok : (e : LoadError) (w : Text) (k : Kind) → found e (kind_of w) ≡ Ok k
 unfolding kind_of
 kind_ok e w k h = sym ((bytes_eq-Decides (kind_text k) w).0 (find_ok (is_spelled w) kinds k (found_ok e (find (is_spelled w) kinds) k h)))
 
-part_done : (text rest : Text) (n : ℕ × Text) (name : Text × Text) (k : Kind) (y : ℕ × Part) → text ≡ then_word (codes "part") rest → rest ≡ then_word (decimal n.0) n.1 → n.1 ≡ then_word name.0 name.1 → name.1 ≡ kind_text k
+part_done : (text rest : Text) (n : ℕ × Text) (name : Text × Text) (k : Kind) (y : ℕ × Part) → text ≡ then_word (codes "part") rest →
+    rest ≡ then_word (decimal n.0) n.1 → n.1 ≡ then_word name.0 name.1 → name.1 ≡ kind_text k
     → okay (n.0, record { name = name.0; kind = k }) ≡ Ok y → text ≡ part_text y.0 y.1
 part_done text rest n name k y a b c d h =
     let same = same_pair (n.0, record { name = name.0; kind = k }) y h in
-    let line : text ≡ part_text n.0 (record { name = name.0; kind = k }) = a ∙ ap (then_word (codes "part")) (b ∙ ap (then_word (decimal n.0)) (c ∙ ap (then_word name.0) d)) in
+    let line : text ≡ part_text n.0 (record { name = name.0; kind = k }) =
+    a ∙ ap (then_word (codes "part")) (b ∙ ap (then_word (decimal n.0)) (c ∙ ap (then_word name.0) d)) in
     line ∙ ap (λ m. part_text m (record { name = name.0; kind = k })) same.0 ∙ ap (λ p. part_text y.0 p) same.1
 
 pub part_ok : (e : LoadError) (text : Text) (y : ℕ × Part) → part_form e text ≡ Ok y → text ≡ part_text y.0 y.1
@@ -170,13 +178,16 @@ part_ok e text y h =
     with_bind _ (number_at e rest) _ y (λ n is2 more2.
     with_bind _ (name_at e n.1) _ y (λ name is3 more3.
     with_bind _ (found e (kind_of name.1)) _ y (λ k is4 last.
-    part_done text rest n name k y (word_is_ok e (codes "part") text rest is) (number_at_ok e rest n is2) (name_at_ok e n.1 name is3) (kind_ok e name.1 k is4) last) more3) more2) more) h
+    part_done text rest n name k y (word_is_ok e (codes "part") text rest is) (number_at_ok e rest n is2) (name_at_ok e n.1 name is3)
+    (kind_ok e name.1 k is4) last) more3) more2) more) h
 
-group_done : (text rest : Text) (n : ℕ × Text) (name : Text × Text) (k : ℕ) (y : ℕ × GroupStart) → text ≡ then_word (codes "group") rest → rest ≡ then_word (decimal n.0) n.1 → n.1 ≡ then_word name.0 name.1 → name.1 ≡ decimal k
+group_done : (text rest : Text) (n : ℕ × Text) (name : Text × Text) (k : ℕ) (y : ℕ × GroupStart) → text ≡ then_word (codes "group") rest →
+    rest ≡ then_word (decimal n.0) n.1 → n.1 ≡ then_word name.0 name.1 → name.1 ≡ decimal k
     → okay (n.0, record { name = name.0; first = k }) ≡ Ok y → text ≡ group_text y.0 y.1
 group_done text rest n name k y a b c d h =
     let same = same_pair (n.0, record { name = name.0; first = k }) y h in
-    let line : text ≡ group_text n.0 (record { name = name.0; first = k }) = a ∙ ap (then_word (codes "group")) (b ∙ ap (then_word (decimal n.0)) (c ∙ ap (then_word name.0) d)) in
+    let line : text ≡ group_text n.0 (record { name = name.0; first = k }) =
+    a ∙ ap (then_word (codes "group")) (b ∙ ap (then_word (decimal n.0)) (c ∙ ap (then_word name.0) d)) in
     line ∙ ap (λ m. group_text m (record { name = name.0; first = k })) same.0 ∙ ap (λ p. group_text y.0 p) same.1
 
 pub group_ok : (e : LoadError) (text : Text) (y : ℕ × GroupStart) → group_form e text ≡ Ok y → text ≡ group_text y.0 y.1
@@ -186,7 +197,8 @@ group_ok e text y h =
     with_bind _ (number_at e rest) _ y (λ n is2 more2.
     with_bind _ (name_at e n.1) _ y (λ name is3 more3.
     with_bind _ (number_of e name.1) _ y (λ k is4 last.
-    group_done text rest n name k y (word_is_ok e (codes "group") text rest is) (number_at_ok e rest n is2) (name_at_ok e n.1 name is3) (number_of_ok e name.1 k is4) last) more3) more2) more) h
+    group_done text rest n name k y (word_is_ok e (codes "group") text rest is) (number_at_ok e rest n is2) (name_at_ok e n.1 name is3)
+    (number_of_ok e name.1 k is4) last) more3) more2) more) h
 
 -- a step's line after its own number
 abbrev step_rest : Step → Text
@@ -230,15 +242,20 @@ step_ok e text y h =
     with_bind _ (number_at e text) _ y (λ n is more.
     with_bind _ (step_of e n.1) _ y (λ s is2 last.
     let same = same_pair (n.0, s) y last in
-    number_at_ok e text n is ∙ ap (then_word (decimal n.0)) (step_of_ok e n.1 s is2) ∙ step_spelled n.0 s ∙ ap (λ m. step_text m s) same.0 ∙ ap (step_text y.0) same.1) more) h
+    number_at_ok e text n is ∙ ap (then_word (decimal n.0)) (step_of_ok e n.1 s is2) ∙ step_spelled n.0 s ∙ ap (λ m. step_text m s) same.0
+    ∙ ap (step_text y.0) same.1) more) h
 
 abbrev header_line : ImageHeader → Text
 header_line h = header_text h.version h.retries h.parts h.groups h.steps
 
-header_done : (text rest : Text) (v r p g : ℕ × Text) (s : ℕ) (y : ImageHeader) → text ≡ then_word (codes "image") rest → rest ≡ then_word (decimal v.0) v.1 → v.1 ≡ then_word (decimal r.0) r.1 → r.1 ≡ then_word (decimal p.0) p.1 → p.1 ≡ then_word (decimal g.0) g.1 → g.1 ≡ decimal s
+header_done : (text rest : Text) (v r p g : ℕ × Text) (s : ℕ) (y : ImageHeader) → text ≡ then_word (codes "image") rest →
+    rest ≡ then_word (decimal v.0) v.1 → v.1 ≡ then_word (decimal r.0) r.1 → r.1 ≡ then_word (decimal p.0) p.1 → p.1 ≡ then_word (decimal g.0) g.1 →
+    g.1 ≡ decimal s
     → okay (record { version = v.0; retries = r.0; parts = p.0; groups = g.0; steps = s }) ≡ Ok y → text ≡ header_line y
 header_done text rest v r p g s y a b c d e f h =
-    a ∙ ap (then_word (codes "image")) (b ∙ ap (then_word (decimal v.0)) (c ∙ ap (then_word (decimal r.0)) (d ∙ ap (then_word (decimal p.0)) (e ∙ ap (then_word (decimal g.0)) f)))) ∙ ap header_line (same_value (record { version = v.0; retries = r.0; parts = p.0; groups = g.0; steps = s }) y h)
+    a ∙ ap (then_word (codes "image")) (b ∙ ap (then_word (decimal v.0))
+    (c ∙ ap (then_word (decimal r.0)) (d ∙ ap (then_word (decimal p.0)) (e ∙ ap (then_word (decimal g.0)) f))))
+    ∙ ap header_line (same_value (record { version = v.0; retries = r.0; parts = p.0; groups = g.0; steps = s }) y h)
 
 header_form_ok : (text : Text) (y : ImageHeader) → header_form text ≡ Ok y → text ≡ header_line y
 unfolding header_form
@@ -249,7 +266,9 @@ header_form_ok text y h =
     with_bind _ (number_at BadHeader r.1) _ y (λ p is4 more4.
     with_bind _ (number_at BadHeader p.1) _ y (λ g is5 more5.
     with_bind _ (number_of BadHeader g.1) _ y (λ s is6 last.
-    header_done text rest v r p g s y (word_is_ok BadHeader (codes "image") text rest is) (number_at_ok BadHeader rest v is2) (number_at_ok BadHeader v.1 r is3) (number_at_ok BadHeader r.1 p is4) (number_at_ok BadHeader p.1 g is5) (number_of_ok BadHeader g.1 s is6) last) more5) more4) more3) more2) more) h
+    header_done text rest v r p g s y (word_is_ok BadHeader (codes "image") text rest is) (number_at_ok BadHeader rest v is2)
+    (number_at_ok BadHeader v.1 r is3) (number_at_ok BadHeader r.1 p is4) (number_at_ok BadHeader p.1 g is5) (number_of_ok BadHeader g.1 s is6) last)
+    more5) more4) more3) more2) more) h
 
 header_at_ok : (text : Text) (y : ImageHeader × Text) → header_at text ≡ Ok y → text ≡ header_line y.0 ++ 10 ∷ y.1
 unfolding header_at
@@ -258,31 +277,37 @@ header_at_ok text y h =
     with_bind _ (header_form line.0) _ y (λ x is2 more2.
     let last = if_ok (is_header x) (Ok (x, line.1)) BadHeader y more2 in
     let same = same_pair (x, line.1) y last.1 in
-    cut_ok 10 text line (found_ok BadHeader (cut 10 text) line is) ∙ ap (λ l. l ++ 10 ∷ line.1) (header_form_ok line.0 x is2 ∙ ap header_line same.0) ∙ ap (λ r. header_line y.0 ++ 10 ∷ r) same.1) more) h
+    cut_ok 10 text line (found_ok BadHeader (cut 10 text) line is) ∙ ap (λ l. l ++ 10 ∷ line.1) (header_form_ok line.0 x is2 ∙ ap header_line same.0)
+    ∙ ap (λ r. header_line y.0 ++ 10 ∷ r) same.1) more) h
 
 module _ {A : Type 0} (form : LoadError → Text → Result (ℕ × A) LoadError) (spell : ℕ → A → Text) where
-  line_done : (k : ℕ) (bytes : Text) (line : Text × Text) (y : ℕ × A) (z : A × Text) → bytes ≡ line.0 ++ 10 ∷ line.1 → line.0 ≡ spell y.0 y.1 → (y.0 == k) ≡ true → okay (y.1, line.1) ≡ Ok z → bytes ≡ spell k z.0 ++ 10 ∷ z.1
+  line_done : (k : ℕ) (bytes : Text) (line : Text × Text) (y : ℕ × A) (z : A × Text) → bytes ≡ line.0 ++ 10 ∷ line.1 → line.0 ≡ spell y.0 y.1 →
+      (y.0 == k) ≡ true → okay (y.1, line.1) ≡ Ok z → bytes ≡ spell k z.0 ++ 10 ∷ z.1
   line_done k bytes line y z a b t h =
       let same = same_pair (y.1, line.1) z h in
       let number : y.0 ≡ k = grind (arith, nat_tests) in
       a ∙ ap (λ l. l ++ 10 ∷ line.1) (b ∙ ap (λ n. spell n y.1) number ∙ ap (spell k) same.0) ∙ ap (λ r. spell k z.0 ++ 10 ∷ r) same.1
 
-  line_ok : ((e : LoadError) (text : Text) (y : ℕ × A) → form e text ≡ Ok y → text ≡ spell y.0 y.1) → (k at : ℕ) (bytes : Text) (z : A × Text) → line_at form k at bytes ≡ Ok z → bytes ≡ spell k z.0 ++ 10 ∷ z.1
+  line_ok : ((e : LoadError) (text : Text) (y : ℕ × A) → form e text ≡ Ok y → text ≡ spell y.0 y.1) → (k at : ℕ) (bytes : Text) (z : A × Text) →
+      line_at form k at bytes ≡ Ok z → bytes ≡ spell k z.0 ++ 10 ∷ z.1
   line_ok each k at bytes z h =
       with_bind _ (found (BadLine at) (cut 10 bytes)) _ z (λ line is more.
       with_bind _ (form (BadLine at) line.0) _ z (λ y formed more2.
       with_bind _ (in_place y.0 k at) _ z (λ u placed last.
       let own = if_ok (y.0 == k) (Ok tt) (BadNumber at) u placed in
-      line_done k bytes line y z (cut_ok 10 bytes line (found_ok (BadLine at) (cut 10 bytes) line is)) (each (BadLine at) line.0 y formed) own.0 last) more2) more) h
+      line_done k bytes line y z (cut_ok 10 bytes line (found_ok (BadLine at) (cut 10 bytes) line is)) (each (BadLine at) line.0 y formed) own.0 last)
+      more2) more) h
 
-  items_more : (k : ℕ) (count : ℕ) (bytes : Text) (x : A × Text) (ys z : List A × Text) → bytes ≡ spell k x.0 ++ 10 ∷ x.1 → (x.1 ≡ lines_text spell (k + 1) ys.0 ++ ys.1) × (length ys.0 ≡ count) → okay (x.0 ∷ ys.0, ys.1) ≡ Ok z
+  items_more : (k : ℕ) (count : ℕ) (bytes : Text) (x : A × Text) (ys z : List A × Text) → bytes ≡ spell k x.0 ++ 10 ∷ x.1 →
+      (x.1 ≡ lines_text spell (k + 1) ys.0 ++ ys.1) × (length ys.0 ≡ count) → okay (x.0 ∷ ys.0, ys.1) ≡ Ok z
       → (bytes ≡ lines_text spell k z.0 ++ z.1) × (length z.0 ≡ suc count)
   items_more k count bytes x ys z a b h =
       let text : bytes ≡ lines_text spell k (x.0 ∷ ys.0) ++ ys.1 = a ∙ ap (λ r. spell k x.0 ++ 10 ∷ r) b.0 ∙ simp append_assoc in
       subst (λ (v : List A × Text). (bytes ≡ lines_text spell k v.0 ++ v.1) × (length v.0 ≡ suc count)) (same_value (x.0 ∷ ys.0, ys.1) z h) (text, ap suc b.1)
 
   -- as many lines as were asked for
-  items_ok : ((e : LoadError) (text : Text) (y : ℕ × A) → form e text ≡ Ok y → text ≡ spell y.0 y.1) → (count k at : ℕ) (bytes : Text) (z : List A × Text) → items_at form count k at bytes ≡ Ok z → (bytes ≡ lines_text spell k z.0 ++ z.1) × (length z.0 ≡ count)
+  items_ok : ((e : LoadError) (text : Text) (y : ℕ × A) → form e text ≡ Ok y → text ≡ spell y.0 y.1) → (count k at : ℕ) (bytes : Text) (z : List A × Text) →
+      items_at form count k at bytes ≡ Ok z → (bytes ≡ lines_text spell k z.0 ++ z.1) × (length z.0 ≡ count)
   unfolding items_at
   items_ok each zero k at bytes z h =
       subst (λ (v : List A × Text). (bytes ≡ lines_text spell k v.0 ++ v.1) × (length v.0 ≡ 0)) (same_value ([], bytes) z h) (refl, refl)
@@ -295,13 +320,22 @@ nothing_left : (xs : Text) → (length xs == 0) ≡ true → xs ≡ []
 nothing_left [] h = refl
 nothing_left (x ∷ xs) h = absurd (grind (arith, nat_tests))
 
-lines_done : (bytes : Text) (h : ImageHeader × Text) (ps : List Part × Text) (gs : List GroupStart × Text) (ss : List Step × Text) (l : Lines) → bytes ≡ header_line h.0 ++ 10 ∷ h.1
-    → (h.1 ≡ lines_text part_text 0 ps.0 ++ ps.1) × (length ps.0 ≡ h.0.parts) → (ps.1 ≡ lines_text group_text 0 gs.0 ++ gs.1) × (length gs.0 ≡ h.0.groups) → (gs.1 ≡ lines_text step_text 0 ss.0 ++ ss.1) × (length ss.0 ≡ h.0.steps) → ss.1 ≡ []
+lines_done : (bytes : Text) (h : ImageHeader × Text) (ps : List Part × Text) (gs : List GroupStart × Text) (ss : List Step × Text) (l : Lines) →
+    bytes ≡ header_line h.0 ++ 10 ∷ h.1
+    → (h.1 ≡ lines_text part_text 0 ps.0 ++ ps.1) × (length ps.0 ≡ h.0.parts) → (ps.1 ≡ lines_text group_text 0 gs.0 ++ gs.1) × (length gs.0 ≡ h.0.groups) →
+    (gs.1 ≡ lines_text step_text 0 ss.0 ++ ss.1) × (length ss.0 ≡ h.0.steps) → ss.1 ≡ []
     → okay (record { version = h.0.version; retries = h.0.retries; parts = ps.0; starts = gs.0; steps = ss.0 }) ≡ Ok l → bytes ≡ spelled l
 lines_done bytes h ps gs ss l a b c d e last =
-    let text : h.1 ≡ lines_text part_text 0 ps.0 ++ (lines_text group_text 0 gs.0 ++ lines_text step_text 0 ss.0) = b.0 ∙ ap (λ r. lines_text part_text 0 ps.0 ++ r) (c.0 ∙ ap (λ r. lines_text group_text 0 gs.0 ++ r) (d.0 ∙ ap (λ r. lines_text step_text 0 ss.0 ++ r) e ∙ append-nil (lines_text step_text 0 ss.0))) in
-    let head : header_line h.0 ≡ header_text h.0.version h.0.retries (length ps.0) (length gs.0) (length ss.0) = ap (λ n. header_text h.0.version h.0.retries n h.0.groups h.0.steps) (sym b.1) ∙ ap (λ n. header_text h.0.version h.0.retries (length ps.0) n h.0.steps) (sym c.1) ∙ ap (λ n. header_text h.0.version h.0.retries (length ps.0) (length gs.0) n) (sym d.1) in
-    a ∙ ap (λ r. header_line h.0 ++ 10 ∷ r) text ∙ ap (λ t. t ++ 10 ∷ (lines_text part_text 0 ps.0 ++ (lines_text group_text 0 gs.0 ++ lines_text step_text 0 ss.0))) head ∙ ap spelled (same_value (record { version = h.0.version; retries = h.0.retries; parts = ps.0; starts = gs.0; steps = ss.0 }) l last)
+    let text : h.1 ≡ lines_text part_text 0 ps.0 ++ (lines_text group_text 0 gs.0 ++ lines_text step_text 0 ss.0) =
+    b.0 ∙ ap (λ r. lines_text part_text 0 ps.0 ++ r) (c.0 ∙ ap (λ r. lines_text group_text 0 gs.0 ++ r)
+    (d.0 ∙ ap (λ r. lines_text step_text 0 ss.0 ++ r) e ∙ append-nil (lines_text step_text 0 ss.0))) in
+    let head : header_line h.0 ≡ header_text h.0.version h.0.retries (length ps.0) (length gs.0) (length ss.0) =
+    ap (λ n. header_text h.0.version h.0.retries n h.0.groups h.0.steps) (sym b.1)
+    ∙ ap (λ n. header_text h.0.version h.0.retries (length ps.0) n h.0.steps) (sym c.1)
+    ∙ ap (λ n. header_text h.0.version h.0.retries (length ps.0) (length gs.0) n) (sym d.1) in
+    a ∙ ap (λ r. header_line h.0 ++ 10 ∷ r) text ∙ ap (λ t. t
+    ++ 10 ∷ (lines_text part_text 0 ps.0 ++ (lines_text group_text 0 gs.0 ++ lines_text step_text 0 ss.0))) head
+    ∙ ap spelled (same_value (record { version = h.0.version; retries = h.0.retries; parts = ps.0; starts = gs.0; steps = ss.0 }) l last)
 
 -- the lines that are read are spelled so
 pub lines_ok : (bytes : Text) (l : Lines) → lines_in bytes ≡ Ok l → bytes ≡ spelled l
@@ -313,4 +347,6 @@ lines_ok bytes l h =
     with_bind _ (items_at step_form x.0.steps 0 (2 + x.0.parts + x.0.groups) gs.1) _ l (λ ss is4 more4.
     with_bind _ (ended x.0 ss.1) _ l (λ u whole last.
     let end = if_ok (length ss.1 == 0) (Ok tt) _ u whole in
-    lines_done bytes x ps gs ss l (header_at_ok bytes x is) (items_ok part_form part_text part_ok x.0.parts 0 2 x.1 ps is2) (items_ok group_form group_text group_ok x.0.groups 0 (2 + x.0.parts) ps.1 gs is3) (items_ok step_form step_text step_ok x.0.steps 0 (2 + x.0.parts + x.0.groups) gs.1 ss is4) (nothing_left ss.1 end.0) last) more4) more3) more2) more) h
+    lines_done bytes x ps gs ss l (header_at_ok bytes x is) (items_ok part_form part_text part_ok x.0.parts 0 2 x.1 ps is2)
+    (items_ok group_form group_text group_ok x.0.groups 0 (2 + x.0.parts) ps.1 gs is3)
+    (items_ok step_form step_text step_ok x.0.steps 0 (2 + x.0.parts + x.0.groups) gs.1 ss is4) (nothing_left ss.1 end.0) last) more4) more3) more2) more) h

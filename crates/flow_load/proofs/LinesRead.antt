@@ -4,7 +4,8 @@ use Rattle.std.specs.Prelude.{◌==◌, not, ◌||◌}
 use Rattle.std.specs.Fmt.{decimal}
 use Rattle.std.specs.Str.{all_ascii_digits}
 use Rattle.std.specs.List.{list_all}
-use Rattle.std.proofs.Common.{◌≡◌, ℕ, zero, suc, ◌+◌, ◌-◌, ◌*◌, ◌<◌, ◌≤◌, Bool, true, false, List, [], ◌∷◌, ◌++◌, length, get_or, Some, Result, Ok, refl, sym, ap, ◌∙◌, append_assoc, arith, nat_le, codes, eq-eqb}
+use Rattle.std.proofs.Common.{◌≡◌, ℕ, zero, suc, ◌+◌, ◌-◌, ◌*◌, ◌<◌, ◌≤◌, Bool, true, false, List, [], ◌∷◌, ◌++◌, length, get_or, Some, Result, Ok, refl, sym}
+use Rattle.std.proofs.Common.{ap, ◌∙◌, append_assoc, arith, nat_le, codes, eq-eqb}
 use Rattle.std.proofs.lemmas.Bool.Decides.{nat_tests}
 use Rattle.std.proofs.lemmas.List.{append-nil}
 use Rattle.std.proofs.lemmas.List.Folds.{list_all-append}
@@ -49,14 +50,20 @@ digit_differs b c h d = grind (arith, nat_tests)
 
 digits_lack : (b : ℕ) (w : Text) → b < 48 → all_ascii_digits w ≡ true → lacks b w ≡ true
 digits_lack b [] h d = refl
-digits_lack b (c ∷ cs) h d = rw (digit_differs b c h (first_part (is_within 48 57 c) (all_ascii_digits cs) d), digits_lack b cs h (second_part (is_within 48 57 c) (all_ascii_digits cs) d)) refl
+digits_lack b (c ∷ cs) h d = rw (
+  digit_differs b c h (first_part (is_within 48 57 c) (all_ascii_digits cs) d),
+  digits_lack b cs h (second_part (is_within 48 57 c) (all_ascii_digits cs) d),
+) refl
 
 name_byte_differs : (b c : ℕ) → b < 45 → is_name_byte c ≡ true → not (c == b) ≡ true
 name_byte_differs b c h d = grind (arith, nat_tests)
 
 name_bytes_lack : (b : ℕ) (w : Text) → b < 45 → list_all is_name_byte w ≡ true → lacks b w ≡ true
 name_bytes_lack b [] h d = refl
-name_bytes_lack b (c ∷ cs) h d = rw (name_byte_differs b c h (first_part (is_name_byte c) (list_all is_name_byte cs) d), name_bytes_lack b cs h (second_part (is_name_byte c) (list_all is_name_byte cs) d)) refl
+name_bytes_lack b (c ∷ cs) h d = rw (
+  name_byte_differs b c h (first_part (is_name_byte c) (list_all is_name_byte cs) d),
+  name_bytes_lack b cs h (second_part (is_name_byte c) (list_all is_name_byte cs) d),
+) refl
 
 name_lacks : (b : ℕ) (w : Text) → b < 45 → is_name w ≡ true → lacks b w ≡ true
 name_lacks b w h n = name_bytes_lack b w h (name-bytes w n)
@@ -132,15 +139,21 @@ part_again e n p le h = rw (number_at_again e n (p.name ++ 32 ∷ kind_text p.ki
 
 part_lacks : (n : ℕ) (p : Part) → n ≤ 100000 → is_name p.name ≡ true → lacks 10 (part_text n p) ≡ true
 part_lacks n p le h =
-    lacks_word (decimal n) (p.name ++ 32 ∷ kind_text p.kind) (decimal_lacks 10 n (omega arith) le) (lacks_word p.name (kind_text p.kind) (name_lacks 10 p.name (omega arith) h) (kind_word_lacks p.kind.selector p.kind.abort_aware p.kind.recovers))
+    lacks_word (decimal n) (p.name ++ 32 ∷ kind_text p.kind) (decimal_lacks 10 n (omega arith) le)
+    (lacks_word p.name (kind_text p.kind) (name_lacks 10 p.name (omega arith) h) (kind_word_lacks p.kind.selector p.kind.abort_aware p.kind.recovers))
 
 group_again : (e : LoadError) (n : ℕ) (s : GroupStart) → n ≤ 100000 → is_name s.name ≡ true → s.first ≤ 100000 → group_form e (group_text n s) ≡ Ok (n, s)
 unfolding group_form
-group_again e n s le h low = rw (number_at_again e n (s.name ++ 32 ∷ decimal s.first) le, name_at_again e s.name (decimal s.first) h, number_of_again e s.first low) refl
+group_again e n s le h low = rw (
+  number_at_again e n (s.name ++ 32 ∷ decimal s.first) le,
+  name_at_again e s.name (decimal s.first) h,
+  number_of_again e s.first low,
+) refl
 
 group_lacks : (n : ℕ) (s : GroupStart) → n ≤ 100000 → is_name s.name ≡ true → s.first ≤ 100000 → lacks 10 (group_text n s) ≡ true
 group_lacks n s le h low =
-    lacks_word (decimal n) (s.name ++ 32 ∷ decimal s.first) (decimal_lacks 10 n (omega arith) le) (lacks_word s.name (decimal s.first) (name_lacks 10 s.name (omega arith) h) (decimal_lacks 10 s.first (omega arith) low))
+    lacks_word (decimal n) (s.name ++ 32 ∷ decimal s.first) (decimal_lacks 10 n (omega arith) le)
+    (lacks_word s.name (decimal s.first) (name_lacks 10 s.name (omega arith) h) (decimal_lacks 10 s.first (omega arith) low))
 
 -- the participant of a step has a small number
 abbrev pub IsSmallStep : Step → Type 0
@@ -155,8 +168,10 @@ step_again e n (Pick p) le low = rw (number_at_again e n (codes "pick" ++ 32 ∷
 step_again e n Return le low = rw (number_at_again e n (codes "return") le) refl
 
 step_lacks : (n : ℕ) (s : Step) → n ≤ 100000 → IsSmallStep s → lacks 10 (step_text n s) ≡ true
-step_lacks n (Call p) le low = lacks_word (decimal n) (codes "call" ++ 32 ∷ decimal p) (decimal_lacks 10 n (omega arith) le) (decimal_lacks 10 p (omega arith) low)
-step_lacks n (Pick p) le low = lacks_word (decimal n) (codes "pick" ++ 32 ∷ decimal p) (decimal_lacks 10 n (omega arith) le) (decimal_lacks 10 p (omega arith) low)
+step_lacks n (Call p) le low = lacks_word (decimal n) (codes "call" ++ 32 ∷ decimal p) (decimal_lacks 10 n (omega arith) le)
+    (decimal_lacks 10 p (omega arith) low)
+step_lacks n (Pick p) le low = lacks_word (decimal n) (codes "pick" ++ 32 ∷ decimal p) (decimal_lacks 10 n (omega arith) le)
+    (decimal_lacks 10 p (omega arith) low)
 step_lacks n Return le low = lacks_word (decimal n) (codes "return") (decimal_lacks 10 n (omega arith) le) refl
 
 -- each item has it
@@ -173,7 +188,8 @@ module _ {A : Type 0} (form : LoadError → Text → Result (ℕ × A) LoadError
   line_again : (n at : ℕ) (x : A) (rest : Text) → IsReread form spell n x → line_at form n at (spell n x ++ 10 ∷ rest) ≡ Ok (x, rest)
   line_again n at x rest r = rw (cut_again 10 (spell n x) rest r.whole, r.read (BadLine at), eq-eqb n n refl) refl
 
-  items_again : ((n : ℕ) (x : A) → n ≤ 100000 → P x → IsReread form spell n x) → (xs : List A) (n at : ℕ) (rest : Text) → Each P xs → n + length xs ≤ 100000 → items_at form (length xs) n at (lines_text spell n xs ++ rest) ≡ Ok (xs, rest)
+  items_again : ((n : ℕ) (x : A) → n ≤ 100000 → P x → IsReread form spell n x) → (xs : List A) (n at : ℕ) (rest : Text) → Each P xs →
+      n + length xs ≤ 100000 → items_at form (length xs) n at (lines_text spell n xs ++ rest) ≡ Ok (xs, rest)
   unfolding items_at
   items_again each [] n at rest h le = refl
   items_again each (x ∷ xs) n at rest h le =
@@ -200,7 +216,8 @@ pub record IsWithinLimits (l : Lines) : Type 0 where
   pub start : Each IsSmallStart l.starts
   pub step : Each IsSmallStep l.steps
 
-header_form_again : (v r p g s : ℕ) → v ≤ 100000 → r ≤ 100000 → p ≤ 100000 → g ≤ 100000 → s ≤ 100000 → header_form (header_text v r p g s) ≡ Ok (record { version = v; retries = r; parts = p; groups = g; steps = s })
+header_form_again : (v r p g s : ℕ) → v ≤ 100000 → r ≤ 100000 → p ≤ 100000 → g ≤ 100000 → s ≤ 100000 →
+    header_form (header_text v r p g s) ≡ Ok (record { version = v; retries = r; parts = p; groups = g; steps = s })
 unfolding header_form
 header_form_again v r p g s a b c d e =
     rw (
@@ -218,7 +235,8 @@ header_lacks v r p g s a b c d e =
     (lacks_word (decimal p) (decimal g ++ 32 ∷ decimal s) (decimal_lacks 10 p (omega arith) c)
     (lacks_word (decimal g) (decimal s) (decimal_lacks 10 g (omega arith) d) (decimal_lacks 10 s (omega arith) e))))
 
-within_limits : (v r p g s : ℕ) → 1 ≤ v → v ≤ 2 → r ≤ 100 → p ≤ 16384 → g ≤ 256 → s ≤ 33024 → is_header (record { version = v; retries = r; parts = p; groups = g; steps = s }) ≡ true
+within_limits : (v r p g s : ℕ) → 1 ≤ v → v ≤ 2 → r ≤ 100 → p ≤ 16384 → g ≤ 256 → s ≤ 33024 →
+    is_header (record { version = v; retries = r; parts = p; groups = g; steps = s }) ≡ true
 within_limits v r p g s a b c d e f =
     let one : nat_le 1 v ≡ true = grind (arith, nat_tests) in
     let two : nat_le v 2 ≡ true = grind (arith, nat_tests) in
@@ -228,7 +246,8 @@ within_limits v r p g s a b c d e f =
     let six : nat_le s 33024 ≡ true = grind (arith, nat_tests) in
     rw (one, two, three, four, five, six) refl
 
-header_again : (v r p g s : ℕ) (rest : Text) → 1 ≤ v → v ≤ 2 → r ≤ 100 → p ≤ 16384 → g ≤ 256 → s ≤ 33024 → header_at (header_text v r p g s ++ 10 ∷ rest) ≡ Ok (record { version = v; retries = r; parts = p; groups = g; steps = s }, rest)
+header_again : (v r p g s : ℕ) (rest : Text) → 1 ≤ v → v ≤ 2 → r ≤ 100 → p ≤ 16384 → g ≤ 256 → s ≤ 33024 →
+    header_at (header_text v r p g s ++ 10 ∷ rest) ≡ Ok (record { version = v; retries = r; parts = p; groups = g; steps = s }, rest)
 unfolding header_at
 header_again v r p g s rest a b c d e f =
     rw (
@@ -237,14 +256,31 @@ header_again v r p g s rest a b c d e f =
       within_limits v r p g s a b c d e f,
     ) refl
 
-parts_again : (ps : List Part) (rest : Text) → Each IsNamedPart ps → length ps ≤ 16384 → items_at part_form (length ps) 0 2 (lines_text part_text 0 ps ++ rest) ≡ Ok (ps, rest)
-parts_again ps rest h le = items_again part_form part_text IsNamedPart (λ n p small named. record { read = λ e. part_again e n p small named; whole = part_lacks n p small named }) ps 0 2 rest h (omega arith)
+parts_again : (ps : List Part) (rest : Text) → Each IsNamedPart ps → length ps ≤ 16384 →
+    items_at part_form (length ps) 0 2 (lines_text part_text 0 ps ++ rest) ≡ Ok (ps, rest)
+parts_again ps rest h le = items_again part_form part_text IsNamedPart (λ n p small named. record {
+  read = λ e. part_again e n p small named;
+  whole =
+      part_lacks n p small named;
+}) ps 0 2 rest h (omega arith)
 
-starts_again : (ss : List GroupStart) (at : ℕ) (rest : Text) → Each IsSmallStart ss → length ss ≤ 256 → items_at group_form (length ss) 0 at (lines_text group_text 0 ss ++ rest) ≡ Ok (ss, rest)
-starts_again ss at rest h le = items_again group_form group_text IsSmallStart (λ n s small within_limits_of. record { read = λ e. group_again e n s small within_limits_of.name within_limits_of.first; whole = group_lacks n s small within_limits_of.name within_limits_of.first }) ss 0 at rest h (omega arith)
+starts_again : (ss : List GroupStart) (at : ℕ) (rest : Text) → Each IsSmallStart ss → length ss ≤ 256 →
+    items_at group_form (length ss) 0 at (lines_text group_text 0 ss ++ rest) ≡ Ok (ss, rest)
+starts_again ss at rest h le = items_again group_form group_text IsSmallStart
+    (λ n s small within_limits_of. record {
+      read = λ e. group_again e n s small within_limits_of.name within_limits_of.first;
+      whole =
+          group_lacks n s small within_limits_of.name within_limits_of.first;
+    }) ss 0 at rest h (omega arith)
 
-steps_again : (xs : List Step) (at : ℕ) → Each IsSmallStep xs → length xs ≤ 33024 → items_at step_form (length xs) 0 at (lines_text step_text 0 xs) ≡ Ok (xs, [])
-steps_again xs at h le = ap (items_at step_form (length xs) 0 at) (sym (append-nil (lines_text step_text 0 xs))) ∙ items_again step_form step_text IsSmallStep (λ n s small within_limits_of. record { read = λ e. step_again e n s small within_limits_of; whole = step_lacks n s small within_limits_of }) xs 0 at [] h (omega arith)
+steps_again : (xs : List Step) (at : ℕ) → Each IsSmallStep xs → length xs ≤ 33024 → items_at step_form (length xs) 0 at (lines_text step_text 0 xs)
+    ≡ Ok (xs, [])
+steps_again xs at h le = ap (items_at step_form (length xs) 0 at) (sym (append-nil (lines_text step_text 0 xs))) ∙ items_again step_form step_text
+    IsSmallStep (λ n s small within_limits_of. record {
+      read = λ e. step_again e n s small within_limits_of;
+      whole =
+          step_lacks n s small within_limits_of;
+    }) xs 0 at [] h (omega arith)
 
 -- lines that are spelled are read back
 pub lines_again : (l : Lines) → IsWithinLimits l → lines_in (spelled l) ≡ Ok l
@@ -252,7 +288,8 @@ unfolding lines_in
 lines_again l f =
     let tail : Text = lines_text group_text 0 l.starts ++ lines_text step_text 0 l.steps in
     rw (
-      header_again l.version l.retries (length l.parts) (length l.starts) (length l.steps) (lines_text part_text 0 l.parts ++ tail) f.version.0 f.version.1 f.retries f.parts f.starts f.steps,
+      header_again l.version l.retries (length l.parts) (length l.starts) (length l.steps) (lines_text part_text 0 l.parts ++ tail) f.version.0 f.version.1
+          f.retries f.parts f.starts f.steps,
       parts_again l.parts tail f.part f.parts,
       starts_again l.starts (2 + length l.parts) (lines_text step_text 0 l.steps) f.start f.starts,
       steps_again l.steps (2 + length l.parts + length l.starts) f.step f.steps,

@@ -12,7 +12,8 @@ use Rattle.flow_asm.specs.declared.code.Step.TheVariants.{Call, Pick, Return}
 use Rattle.flow_load.specs.Image.{Text}
 use Rattle.flow_load.specs.Reads.{◌>>=◌, found, fault_of, Fails}
 use Rattle.flow_load.specs.Words.{cut, kind_of, name_at, name_of, number, number_at, number_of, word_at, word_is}
-use Rattle.flow_load.specs.Forms.{ended, group_form, header_at, header_form, in_place, is_header, items_at, line_at, lines_in, part_form, step_form, step_named, step_of}
+use Rattle.flow_load.specs.Forms.{ended, group_form, header_at, header_form, in_place, is_header, items_at, line_at, lines_in, part_form, step_form, step_named}
+use Rattle.flow_load.specs.Forms.{step_of}
 use Rattle.flow_load.specs.Load.{first_marked, line_fault, load_of, misversioned, version_fault}
 use Rattle.flow_load.specs.LookOver.{lines_over}
 use Rattle.flow_load.proofs.ItemLoop.{fails_when}
@@ -23,11 +24,13 @@ versioned text = lines_in text >>= λ l. refused (version_fault l)
 
 -- ---- looking over is reading without the values
 
-plain : {A B C : Type 0} (r : Result A LoadError) (g : A → Result C LoadError) (k : A → Result B LoadError) (j : B → Result C LoadError) → ((x : A) → g x ≡ (k x >>= j)) → (r >>= g) ≡ (r >>= k >>= j)
+plain : {A B C : Type 0} (r : Result A LoadError) (g : A → Result C LoadError) (k : A → Result B LoadError) (j : B → Result C LoadError) →
+    ((x : A) → g x ≡ (k x >>= j)) → (r >>= g) ≡ (r >>= k >>= j)
 plain (Ok x) g k j h = h x
 plain (Err e) g k j h = refl
 
-over : {A B C D : Type 0} (r : Result A LoadError) (f : A → D) (g : D → Result C LoadError) (k : A → Result B LoadError) (j : B → Result C LoadError) → ((x : A) → g (f x) ≡ (k x >>= j)) → ((r >>= λ x. Ok (f x)) >>= g) ≡ (r >>= k >>= j)
+over : {A B C D : Type 0} (r : Result A LoadError) (f : A → D) (g : D → Result C LoadError) (k : A → Result B LoadError) (j : B → Result C LoadError) →
+    ((x : A) → g (f x) ≡ (k x >>= j)) → ((r >>= λ x. Ok (f x)) >>= g) ≡ (r >>= k >>= j)
 over (Ok x) f g k j h = h x
 over (Err e) f g k j h = refl
 
@@ -64,13 +67,15 @@ clean_if false x e p = p
 
 module _ (e : LoadError) (p : NotMemory e) where
   clean_number_at : (text : Text) → Clean (number_at e text)
-  clean_number_at text = clean_bind (word_at e text) _ (clean_found e (cut 32 text) p) (λ w. clean_bind (number_of e w.0) _ (clean_found e (number w.0) p) (λ n. tt))
+  clean_number_at text = clean_bind (word_at e text) _ (clean_found e (cut 32 text) p)
+      (λ w. clean_bind (number_of e w.0) _ (clean_found e (number w.0) p) (λ n. tt))
 
   clean_word_is : (w text : Text) → Clean (word_is e w text)
   clean_word_is w text = clean_bind (word_at e text) _ (clean_found e (cut 32 text) p) (λ x. clean_if (bytes_eq x.0 w) x.1 e p)
 
   clean_name_at : (text : Text) → Clean (name_at e text)
-  clean_name_at text = clean_bind (word_at e text) _ (clean_found e (cut 32 text) p) (λ w. clean_bind (name_of e w.0) _ (clean_if (is_name w.0) w.0 e p) (λ n. tt))
+  clean_name_at text = clean_bind (word_at e text) _ (clean_found e (cut 32 text) p)
+      (λ w. clean_bind (name_of e w.0) _ (clean_if (is_name w.0) w.0 e p) (λ n. tt))
 
   clean_part : (text : Text) → Clean (part_form e text)
   unfolding part_form
@@ -140,7 +145,8 @@ clean_lines text =
     clean_bind (header_at text) _ (clean_header text) (λ h.
     clean_bind (items_at part_form h.0.parts 0 2 h.1) _ (clean_items part_form clean_part h.0.parts 0 2 h.1) (λ ps.
     clean_bind (items_at group_form h.0.groups 0 (2 + h.0.parts) ps.1) _ (clean_items group_form clean_group h.0.groups 0 (2 + h.0.parts) ps.1) (λ gs.
-    clean_bind (items_at step_form h.0.steps 0 (2 + h.0.parts + h.0.groups) gs.1) _ (clean_items step_form clean_step h.0.steps 0 (2 + h.0.parts + h.0.groups) gs.1) (λ ss.
+    clean_bind (items_at step_form h.0.steps 0 (2 + h.0.parts + h.0.groups) gs.1) _
+    (clean_items step_form clean_step h.0.steps 0 (2 + h.0.parts + h.0.groups) gs.1) (λ ss.
     clean_bind (ended h.0 ss.1) _ (clean_if (length ss.1 == 0) tt (BadLine (2 + h.0.parts + h.0.groups + h.0.steps)) tt) (λ u. tt)))))
 
 clean_unless : (b : Bool) (e : LoadError) → NotMemory e → Clean (refused (cond b None (Some e)))
@@ -156,7 +162,8 @@ clean_versioned text = clean_bind (lines_in text) _ (clean_lines text) (λ l. cl
 
 -- ---- what looking over tells
 
-stopped : {A B C : Type 0} (r : Result A LoadError) (f : A → Result B LoadError) (g : A → B → Result C LoadError) (e : LoadError) → (r >>= f) ≡ Err e → (r >>= λ x. f x >>= g x) ≡ Err e
+stopped : {A B C : Type 0} (r : Result A LoadError) (f : A → Result B LoadError) (g : A → B → Result C LoadError) (e : LoadError) → (r >>= f) ≡ Err e →
+    (r >>= λ x. f x >>= g x) ≡ Err e
 stopped (Ok x) f g e h = rw h refl
 stopped {C = C} (Err d) f g e h = let same : d ≡ e = cc in ap (λ (x : LoadError). let r : Result C LoadError = Err x in r) same
 

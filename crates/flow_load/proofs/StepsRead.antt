@@ -3,7 +3,8 @@
 use Rattle.std.specs.Prelude.{◌==◌, ◌&&◌, option_map}
 use Rattle.std.specs.List.{flat_map}
 use Rattle.std.specs.Str.{bytes_eq}
-use Rattle.std.proofs.Common.{◌≡◌, ℕ, zero, suc, ◌+◌, ◌-◌, ◌<◌, ◌≤◌, max, Bool, true, false, List, [], ◌∷◌, ◌++◌, length, take, get_or, Option, Some, None, Result, Ok, refl, sym, ap, ◌∙◌, subst, append_assoc, length-append, arith, inl, inr, nat_le, nat_lt, cond, slice_get}
+use Rattle.std.proofs.Common.{◌≡◌, ℕ, zero, suc, ◌+◌, ◌-◌, ◌<◌, ◌≤◌, max, Bool, true, false, List, [], ◌∷◌, ◌++◌, length, take, get_or, Option, Some, None}
+use Rattle.std.proofs.Common.{Result, Ok, refl, sym, ap, ◌∙◌, subst, append_assoc, length-append, arith, inl, inr, nat_le, nat_lt, cond, slice_get}
 use Rattle.std.proofs.lemmas.List.{append-nil, take_more, take_all, take_at, length-take-le, length_push}
 use Rattle.std.proofs.lemmas.List.Concat.{flat_map-append}
 use Rattle.std.proofs.lemmas.Option.{slice_get_within, get_or_from_slice_get, slice_get-get_or, same_Some, none-some}
@@ -30,7 +31,8 @@ use Rattle.flow_load.specs.declared.groups.StepRole.{StepRole}
 use Rattle.flow_load.specs.declared.groups.StepRole.TheVariants.{Calls, Picks}
 use Rattle.flow_load.specs.Reads.{◌>>=◌}
 use Rattle.sw_base.specs.Refusals.{refused}
-use Rattle.flow_load.specs.Groups.{double_from, double_fault, wanted, Walk, with_entries, Walks, with_groups, role_of, after, walk, walks, end_fault, steps_line, flow_in}
+use Rattle.flow_load.specs.Groups.{double_from, double_fault, wanted, Walk, with_entries, Walks, with_groups, role_of, after, walk, walks, end_fault}
+use Rattle.flow_load.specs.Groups.{steps_line, flow_in}
 use Rattle.flow_load.proofs.Doubles.{number_take}
 use Rattle.flow_load.proofs.LineSpelling.{if_ok, same_value, with_bind}
 
@@ -42,7 +44,8 @@ no_double : (b : Bool) (n : ℕ) (o : Option ℕ) → cond b (Some n) o ≡ None
 no_double true n o h = absurd (cc)
 no_double false n o h = (refl, h)
 
-distinct_from : (parts : List Part) (n : ℕ) (ps : List Part) → double_from parts n ps ≡ None → (i : ℕ) (x : Part) → slice_get ps i ≡ Some x → n + i ≤ number_in parts x.name
+distinct_from : (parts : List Part) (n : ℕ) (ps : List Part) → double_from parts n ps ≡ None → (i : ℕ) (x : Part) → slice_get ps i ≡ Some x →
+    n + i ≤ number_in parts x.name
 distinct_from parts n [] h i x is = absurd (none-some x is)
 distinct_from parts n (p ∷ ps) h zero x is =
     let at_p : nat_lt (number_in parts p.name) n ≡ false = (no_double (nat_lt (number_in parts p.name) n) n (double_from parts (n + 1) ps) h).0 in
@@ -122,14 +125,16 @@ record ReadsCall (parts : List Part) (p seen : ℕ) (goes_on : Option ℕ → �
   read : goes_on (wanted p (Some part)) (max seen (p + 1)) ≡ Ok rest
   all : with_entries (entry_at part ∷ []) rest ≡ w
 
-call_ok : (parts : List Part) (here p at seen : ℕ) (xs : List Step) (f : Option ℕ → ℕ → Result Walk LoadError) (w : Walk) → (role_of parts here None seen (Call p) >>= λ t. after parts f at seen xs t) ≡ Ok w → ReadsCall parts p seen f w
+call_ok : (parts : List Part) (here p at seen : ℕ) (xs : List Step) (f : Option ℕ → ℕ → Result Walk LoadError) (w : Walk) →
+    (role_of parts here None seen (Call p) >>= λ t. after parts f at seen xs t) ≡ Ok w → ReadsCall parts p seen f w
 call_ok parts here p at seen xs f w h =
     with_bind _ (role_of parts here None seen (Call p)) (λ t. after parts f at seen xs t) w (λ t is more.
     let last = if_ok (nat_lt p (length parts) && nat_le p seen) (Ok (Calls p)) (BadTarget here) t is in
     let inside : p < length parts = grind (arith, nat_tests) in
     let low : p ≤ seen = grind (arith, nat_tests) in
     let found : slice_get parts p ≡ Some (get_or parts p nobody) = slice_get-get_or parts p nobody inside in
-    let went : after parts f at seen xs (Calls p) ≡ Ok w = subst (λ (v : StepRole). after parts f at seen xs v ≡ Ok w) (sym (same_value (Calls p) t last.1)) more in
+    let went : after parts f at seen xs (Calls p) ≡ Ok w = subst (λ (v : StepRole). after parts f at seen xs v ≡ Ok w) (sym (same_value (Calls p) t last.1))
+    more in
     with_bind _ (f (wanted p (slice_get parts p)) (max seen (p + 1))) (λ v. Ok (with_entries (entry_of (slice_get parts p)) v)) w (λ v read done.
     record {
       part = get_or parts p nobody;
@@ -140,7 +145,8 @@ call_ok parts here p at seen xs f w h =
       all = sym (ap (λ o. with_entries (entry_of o) v) found) ∙ same_value (with_entries (entry_of (slice_get parts p)) v) w done;
     }) went) h
 
-pub walk_ok : (parts : List Part) (line g : ℕ) → IsNumbered parts → (select_due : Option ℕ) (at seen : ℕ) (xs : List Step) (w : Walk) → seen ≤ length parts → walk parts line g select_due at seen xs ≡ Ok w → Reads parts select_due at seen xs w
+pub walk_ok : (parts : List Part) (line g : ℕ) → IsNumbered parts → (select_due : Option ℕ) (at seen : ℕ) (xs : List Step) (w : Walk) →
+    seen ≤ length parts → walk parts line g select_due at seen xs ≡ Ok w → Reads parts select_due at seen xs w
 walk_ok parts line g numbered None at seen [] w le h = absurd (cc)
 walk_ok parts line g numbered None at seen (Return ∷ xs) w le h =
     let e : record { entries = []; at = at + 1; seen = seen; rest = xs } ≡ w = same_value (record { entries = []; at = at + 1; seen = seen; rest = xs }) w h in
@@ -163,23 +169,36 @@ walk_ok parts line g numbered (Some q) at seen (Pick p ∷ xs) w le h =
     with_bind _ (role_of parts (line + at) (Some q) seen (Pick p)) (λ t. after parts (λ o m. walk parts line g o (at + 1) m xs) at seen xs t) w (λ t is more.
     let last = if_ok (p == q) (Ok Picks) (BadTarget (line + at - 1)) t is in
     let same : p ≡ q = grind (arith, nat_tests) in
-    let went : walk parts line g None (at + 1) seen xs ≡ Ok w = subst (λ (v : StepRole). after parts (λ o m. walk parts line g o (at + 1) m xs) at seen xs v ≡ Ok w) (sym (same_value Picks t last.1)) more in
+    let went : walk parts line g None (at + 1) seen xs ≡ Ok w =
+    subst (λ (v : StepRole). after parts (λ o m. walk parts line g o (at + 1) m xs) at seen xs v ≡ Ok w) (sym (same_value Picks t last.1)) more in
     let ih = walk_ok parts line g numbered None (at + 1) seen xs w le went in
-    record { steps = ap (λ ys. Pick p ∷ ys) ih.steps ∙ ap (λ n. Pick n ∷ (flat_map (entry_steps parts) w.entries ++ Return ∷ w.rest)) same; numbers = ih.numbers; place = omega (arith, ih.place); below = ih.below }) h
+    record {
+      steps = ap (λ ys. Pick p ∷ ys) ih.steps ∙ ap (λ n. Pick n ∷ (flat_map (entry_steps parts) w.entries ++ Return ∷ w.rest)) same;
+      numbers =
+          ih.numbers;
+      place = omega (arith, ih.place);
+      below = ih.below;
+    }) h
 
 -- groups whose steps stand one after the other, from step `at` on
 abbrev pub starts_at : List Part → ℕ → List Group → List GroupStart
 starts_at parts at [] = []
 starts_at parts at (x ∷ xs) = record { name = x.name; first = at } ∷ starts_at parts (at + length (group_steps parts x)) xs
 
-pub starts_are : (f : Flow) (before gs : List Group) (g at : ℕ) → f.groups ≡ before ++ gs → length before ≡ g → length (all_steps (parts_of f) before) ≡ at → starts_at (parts_of f) at gs ≡ starts_from f g gs
+pub starts_are : (f : Flow) (before gs : List Group) (g at : ℕ) → f.groups ≡ before ++ gs → length before ≡ g →
+    length (all_steps (parts_of f) before) ≡ at → starts_at (parts_of f) at gs ≡ starts_from f g gs
 starts_are f before [] g at is l n = refl
 starts_are f before (x ∷ gs) g at is l n =
     let parts : List Part = parts_of f in
-    let first : at ≡ first_step f g = sym n ∙ sym (first_is f g ∙ ap (λ ys. length (all_steps parts (take g ys))) is ∙ ap (λ ys. length (all_steps parts ys)) (take_at before (x ∷ gs) g l)) in
-    let longer : length (all_steps parts (before ++ x ∷ [])) ≡ at + length (group_steps parts x) = ap length (flat_map-append (group_steps parts) before (x ∷ []) ∙ ap (λ zs. all_steps parts before ++ zs) (append-nil (group_steps parts x))) ∙ length-append (all_steps parts before) (group_steps parts x) ∙ ap (λ m. m + length (group_steps parts x)) n in
-    let rest = starts_are f (before ++ x ∷ []) gs (g + 1) (at + length (group_steps parts x)) (is ∙ sym (append_assoc before (x ∷ []) gs)) (length_push before x ∙ ap (λ m. m + 1) l) longer in
-    ap (λ m. record { name = x.name; first = m } ∷ starts_at parts (at + length (group_steps parts x)) gs) first ∙ ap (λ ss. record { name = x.name; first = first_step f g } ∷ ss) rest
+    let first : at ≡ first_step f g = sym n ∙ sym (first_is f g ∙ ap (λ ys. length (all_steps parts (take g ys))) is
+    ∙ ap (λ ys. length (all_steps parts ys)) (take_at before (x ∷ gs) g l)) in
+    let longer : length (all_steps parts (before ++ x ∷ [])) ≡ at + length (group_steps parts x) =
+    ap length (flat_map-append (group_steps parts) before (x ∷ []) ∙ ap (λ zs. all_steps parts before ++ zs) (append-nil (group_steps parts x)))
+    ∙ length-append (all_steps parts before) (group_steps parts x) ∙ ap (λ m. m + length (group_steps parts x)) n in
+    let rest = starts_are f (before ++ x ∷ []) gs (g + 1) (at + length (group_steps parts x)) (is ∙ sym (append_assoc before (x ∷ []) gs))
+    (length_push before x ∙ ap (λ m. m + 1) l) longer in
+    ap (λ m. record { name = x.name; first = m } ∷ starts_at parts (at + length (group_steps parts x)) gs) first
+    ∙ ap (λ ss. record { name = x.name; first = first_step f g } ∷ ss) rest
 
 abbrev pub entries_in : List Group → List Entry
 entries_in gs = flat_map (λ (g : Group). g.entries) gs
@@ -196,27 +215,34 @@ start_is s at t =
     let e : s.first ≡ at = grind (arith, nat_tests) in
     ap (λ n. record { name = s.name; first = n }) e
 
-group_read : (parts : List Part) (at seen : ℕ) (xs : List Step) (s : GroupStart) (ss : List GroupStart) (v : Walk) (more w : Walks) → (s.first == at) ≡ true → Reads parts None at seen xs v → ReadsAll parts v.at v.seen v.rest ss more → with_groups (record { name = s.name; entries = v.entries } ∷ []) more ≡ w → ReadsAll parts at seen xs (s ∷ ss) w
+group_read : (parts : List Part) (at seen : ℕ) (xs : List Step) (s : GroupStart) (ss : List GroupStart) (v : Walk) (more w : Walks) →
+    (s.first == at) ≡ true → Reads parts None at seen xs v → ReadsAll parts v.at v.seen v.rest ss more →
+    with_groups (record { name = s.name; entries = v.entries } ∷ []) more ≡ w → ReadsAll parts at seen xs (s ∷ ss) w
 group_read parts at seen xs s ss v more w t one others e =
     let x : Group = record { name = s.name; entries = v.entries } in
     let whole : xs ≡ group_steps parts x ++ v.rest = one.steps ∙ sym (append_assoc (flat_map (entry_steps parts) v.entries) (Return ∷ []) v.rest) in
     let long : v.at ≡ at + length (group_steps parts x) = omega (arith, one.place, ap length whole, length-append (group_steps parts x) v.rest) in
     subst (ReadsAll parts at seen xs (s ∷ ss)) e (record {
       steps = whole ∙ ap (λ ys. group_steps parts x ++ ys) others.steps ∙ sym (append_assoc (group_steps parts x) (all_steps parts more.groups) more.rest);
-      starts = ap (λ y. y ∷ ss) (start_is s at t) ∙ ap (λ ys. record { name = s.name; first = at } ∷ ys) (others.starts ∙ ap (λ n. starts_at parts n more.groups) long);
-      numbers = parts_from-append (take seen parts) v.entries (entries_in more.groups) ∙ ap (λ ps. parts_from ps (entries_in more.groups)) one.numbers ∙ others.numbers;
+      starts = ap (λ y. y ∷ ss) (start_is s at t) ∙ ap (λ ys. record { name = s.name; first = at } ∷ ys)
+          (others.starts ∙ ap (λ n. starts_at parts n more.groups) long);
+      numbers = parts_from-append (take seen parts) v.entries (entries_in more.groups) ∙ ap (λ ps. parts_from ps (entries_in more.groups)) one.numbers
+          ∙ others.numbers;
       below = others.below;
     })
 
-pub walks_ok : (parts : List Part) (line : ℕ) → IsNumbered parts → (g at seen : ℕ) (xs : List Step) (ss : List GroupStart) (w : Walks) → seen ≤ length parts → walks parts line g at seen xs ss ≡ Ok w → ReadsAll parts at seen xs ss w
+pub walks_ok : (parts : List Part) (line : ℕ) → IsNumbered parts → (g at seen : ℕ) (xs : List Step) (ss : List GroupStart) (w : Walks) →
+    seen ≤ length parts → walks parts line g at seen xs ss ≡ Ok w → ReadsAll parts at seen xs ss w
 walks_ok parts line numbered g at seen xs [] w le h =
-    subst (ReadsAll parts at seen xs []) (same_value (record { groups = []; at = at; seen = seen; rest = xs }) w h) (record { steps = refl; starts = refl; numbers = refl; below = le })
+    subst (ReadsAll parts at seen xs []) (same_value (record { groups = []; at = at; seen = seen; rest = xs }) w h)
+    (record { steps = refl; starts = refl; numbers = refl; below = le })
 walks_ok parts line numbered g at seen xs (s ∷ ss) w le h =
     let last = if_ok (s.first == at) _ (BadTarget (2 + length parts + g)) w h in
     with_bind _ (walk parts line g None at seen xs) _ w (λ v is more.
     let one = walk_ok parts line g numbered None at seen xs v le is in
     with_bind _ (walks parts line (g + 1) v.at v.seen v.rest ss) _ w (λ others is2 done.
-    group_read parts at seen xs s ss v others w last.0 one (walks_ok parts line numbered (g + 1) v.at v.seen v.rest ss others one.below is2) (same_value (with_groups (record { name = s.name; entries = v.entries } ∷ []) others) w done)) more) last.1
+    group_read parts at seen xs s ss v others w last.0 one (walks_ok parts line numbered (g + 1) v.at v.seen v.rest ss others one.below is2)
+    (same_value (with_groups (record { name = s.name; entries = v.entries } ∷ []) others) w done)) more) last.1
 
 -- the lines are those of this flow
 pub record IsLaidOut (l : Lines) (f : Flow) : Type 0 where
@@ -257,11 +283,13 @@ whole_of parts line w h =
     all_met true e bad = absurd (cc)
     all_met false e good = grind (arith, nat_tests)
 
-laid_out : (l : Lines) (w : Walks) → ReadsAll l.parts 0 0 l.steps l.starts w → IsWhole l.parts w → IsLaidOut l (record { retries = l.retries; groups = w.groups })
+laid_out : (l : Lines) (w : Walks) → ReadsAll l.parts 0 0 l.steps l.starts w → IsWhole l.parts w →
+    IsLaidOut l (record { retries = l.retries; groups = w.groups })
 laid_out l w r e =
     let f : Flow = record { retries = l.retries; groups = w.groups } in
     let all : parts_of f ≡ l.parts = r.numbers ∙ take_all w.seen l.parts e.seen in
-    let steps : l.steps ≡ all_steps (parts_of f) f.groups = r.steps ∙ ap (λ ys. all_steps l.parts w.groups ++ ys) e.rest ∙ append-nil (all_steps l.parts w.groups) ∙ ap (λ ps. all_steps ps w.groups) (sym all) in
+    let steps : l.steps ≡ all_steps (parts_of f) f.groups = r.steps ∙ ap (λ ys. all_steps l.parts w.groups ++ ys) e.rest
+    ∙ append-nil (all_steps l.parts w.groups) ∙ ap (λ ps. all_steps ps w.groups) (sym all) in
     record {
       retries = refl;
       parts = sym all;
@@ -278,4 +306,5 @@ flow_ok l f h =
     with_bind _ (refused (end_fault l.parts (steps_line l) w)) _ f (λ v is3 last.
     let numbered = distinct l.parts (no_fault (double_from l.parts 0 l.parts) (none_refused (double_fault l.parts) u is)) in
     let read = walks_ok l.parts (steps_line l) numbered 0 0 0 l.steps l.starts w (omega arith) is2 in
-    subst (IsLaidOut l) (same_value (record { retries = l.retries; groups = w.groups }) f last) (laid_out l w read (whole_of l.parts (steps_line l) w (none_refused (end_fault l.parts (steps_line l) w) v is3)))) more2) more) h
+    subst (IsLaidOut l) (same_value (record { retries = l.retries; groups = w.groups }) f last)
+    (laid_out l w read (whole_of l.parts (steps_line l) w (none_refused (end_fault l.parts (steps_line l) w) v is3)))) more2) more) h

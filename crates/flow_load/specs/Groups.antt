@@ -1,5 +1,6 @@
 -- The flow that the lines of an image lay out, or the first line that does not fit those before it.
-use Rattle.std.specs.Prelude.{ℕ, ◌+◌, ◌-◌, max, ◌&&◌, ◌==◌, nat_le, nat_lt, List, [], ◌∷◌, ◌++◌, length, Option, Some, None, option_map, slice_get, Result, Ok, Err, if◌then◌else◌}
+use Rattle.std.specs.Prelude.{ℕ, ◌+◌, ◌-◌, max, ◌&&◌, ◌==◌, nat_le, nat_lt, List, [], ◌∷◌, ◌++◌, length, Option, Some, None, option_map, slice_get, Result, Ok}
+use Rattle.std.specs.Prelude.{Err, if◌then◌else◌}
 use Rattle.flow_model.specs.declared.flow.Flow.{Flow}
 use Rattle.flow_model.specs.declared.flow.Group.{Group}
 use Rattle.flow_model.specs.declared.flow.Entry.{Entry}
@@ -94,12 +95,14 @@ module _ (parts : List Part) (line : ℕ) where
   walks g at seen xs [] = Ok (record { groups = []; at = at; seen = seen; rest = xs })
   walks g at seen xs (s ∷ ss) =
       if s.first == at
-      then (walk g None at seen xs >>= λ w. walks (g + 1) w.at w.seen w.rest ss >>= λ more. Ok (with_groups (record { name = s.name; entries = w.entries } ∷ []) more))
+      then (walk g None at seen xs >>= λ w. walks (g + 1) w.at w.seen w.rest ss >>= λ more. Ok
+      (with_groups (record { name = s.name; entries = w.entries } ∷ []) more))
       else Err (BadTarget (2 + length parts + g))
 
   -- the first step that is left, or the first participant that was never seen
   abbrev pub end_fault : Walks → Option LoadError
-  end_fault w = if nat_le 1 (length w.rest) then Some (BadTarget (line + w.at)) else (if nat_lt w.seen (length parts) then Some (BadTarget (2 + w.seen)) else None)
+  end_fault w = if nat_le 1 (length w.rest) then Some (BadTarget (line + w.at)) else
+      (if nat_lt w.seen (length parts) then Some (BadTarget (2 + w.seen)) else None)
 
 -- the line of step 0 is after those of the header, the participants and the groups
 abbrev pub steps_line : Lines → ℕ

@@ -239,7 +239,8 @@ fn read_items<T: Line>(
     bytes: &[u8],
 ) -> Result<(Vec<T>, &[u8]), LoadError>
     requires { at + count < 2 ^ 32 }
-    ensures read { Gives (λ p. (p.0.items, p.1.now)) result (spec.items_at T.form count 0 at bytes.now) }
+    ensures read { Gives (λ p. (p.0.items, p.1.now)) result
+        (spec.items_at T.form count 0 at bytes.now) }
     ensures count { IfOk result (λ p. length p.0.items ≡ count) }
 {
     let mut items = Vec::new(alloc);

@@ -137,7 +137,8 @@ fn read_group<'a>(
 ) -> Result<GroupRead<'a>, LoadError>
     requires line { 2 ≤ line }
     requires few { line + at + length steps.now < 2 ^ 32 }
-    ensures read { Gives spec.walk_of result (spec.walk parts.now line group None at seen steps.now) }
+    ensures read { Gives spec.walk_of result
+        (spec.walk parts.now line group None at seen steps.now) }
     ensures within { IfOk result (λ w. w.at + length w.rest.now ≤ at + length steps.now) }
 {
     let mut entries = Vec::new(alloc);
@@ -183,7 +184,8 @@ fn read_groups<'a>(
 ) -> Result<GroupsRead<'a>, LoadError>
     requires line { 2 ≤ line }
     requires few { line + length parts.now + length starts.now + length steps.now < 2 ^ 32 }
-    ensures read { Gives spec.walks_of result (spec.walks parts.now line 0 0 0 steps.now starts.now) }
+    ensures read { Gives spec.walks_of result
+        (spec.walks parts.now line 0 0 0 steps.now starts.now) }
     ensures within { IfOk result (λ w. w.at ≤ length steps.now) }
 {
     let mut groups = Vec::new(alloc);
@@ -215,7 +217,8 @@ fn read_groups<'a>(
 // All steps are a group's, and each participant is called.
 fn test_end(parts: &[Part], line: usize, walked: &GroupsRead<'_>) -> Result<(), LoadError>
     requires { line + walked.now.at < 2 ^ 32 }
-    ensures { Gives (λ u. u) result (refused (spec.end_fault parts.now line (spec.walks_of walked.now))) }
+    ensures { Gives (λ u. u) result (refused
+        (spec.end_fault parts.now line (spec.walks_of walked.now))) }
 {
     if !walked.rest.is_empty() {
         return Err(LoadError::BadTarget(line + walked.at));

@@ -85,7 +85,8 @@ pub fn load(alloc: Global, bytes: &[u8]) -> Result<Code, LoadError>
     ensures exact { Gives (λ code. code) result (spec.load_of bytes.now) }
     ensures last { result ≡ Err OutOfMemory → spec.line_fault bytes.now ≡ None }
     ensures found { IfOk result (λ code. bytes.now ≡ image_of code) }
-    ensures only { (f : Shown) → IsChecked f → bytes.now ≡ image_of f → Gives (λ code. code) result (Ok f) }
+    ensures only { (f : Shown) → IsChecked f → bytes.now ≡ image_of f
+        → Gives (λ code. code) result (Ok f) }
 {
     match read_code(alloc, bytes) {
         Ok(code) => Ok(code),

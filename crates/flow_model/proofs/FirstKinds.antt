@@ -4,7 +4,8 @@ use Rattle.std.specs.Borrow.{Bor}
 use Rattle.std.specs.Str.{bytes_eq}
 use Rattle.std.specs.Map.{update}
 use Rattle.std.specs.BTreeMap.{BTreeMap}
-use Rattle.std.proofs.Common.{◌≡◌, ℕ, ◌+◌, ◌<◌, false, List, [], ◌∷◌, ◌++◌, length, take, get_or, Option, Some, None, is_some, refl, sym, ap, ap₂, ◌∙◌, cond, inl, inr, if◌then◌else◌}
+use Rattle.std.proofs.Common.{◌≡◌, ℕ, ◌+◌, ◌<◌, false, List, [], ◌∷◌, ◌++◌, length, take, get_or, Option, Some, None, is_some, refl, sym, ap, ap₂, ◌∙◌, cond}
+use Rattle.std.proofs.Common.{inl, inr, if◌then◌else◌}
 use Rattle.std.proofs.lemmas.Bool.{cases_Bool}
 use Rattle.std.proofs.lemmas.List.{take_more}
 use Rattle.std.proofs.lemmas.Slice.Eq.{bytes_eq-Decides}
@@ -34,21 +35,28 @@ kind_in_last q (x ∷ es) e =
 
 first_kind_last : (q : List ℕ) (gs : List Group) (g : Group) → first_kind q (gs ++ g ∷ []) ≡ or_else (first_kind q gs) (kind_in q g.entries)
 first_kind_last q [] g = or_none (kind_in q g.entries)
-first_kind_last q (x ∷ gs) g = ap (or_else (kind_in q x.entries)) (first_kind_last q gs g) ∙ sym (or_assoc (kind_in q x.entries) (first_kind q gs) (kind_in q g.entries))
+first_kind_last q (x ∷ gs) g = ap (or_else (kind_in q x.entries)) (first_kind_last q gs g)
+    ∙ sym (or_assoc (kind_in q x.entries) (first_kind q gs) (kind_in q g.entries))
 
-pub one_more_entry : (q : List ℕ) (es : List Entry) (i : ℕ) (e : Entry) (start old new : Option Kind) → i < length es → e ≡ get_or es i e → new ≡ or_else old (kind_in q (e ∷ [])) → old ≡ or_else start (kind_in q (take i es)) → new ≡ or_else start (kind_in q (take (i + 1) es))
+pub one_more_entry : (q : List ℕ) (es : List Entry) (i : ℕ) (e : Entry) (start old new : Option Kind) → i < length es → e ≡ get_or es i e →
+    new ≡ or_else old (kind_in q (e ∷ [])) → old ≡ or_else start (kind_in q (take i es)) → new ≡ or_else start (kind_in q (take (i + 1) es))
 one_more_entry q es i e start old new lt is a b =
-    a ∙ ap (λ o. or_else o (kind_in q (e ∷ []))) b ∙ or_assoc start (kind_in q (take i es)) (kind_in q (e ∷ [])) ∙ ap (or_else start) (sym (kind_in_last q (take i es) e) ∙ ap (λ x. kind_in q (take i es ++ x ∷ [])) is ∙ ap (kind_in q) (sym (take_more es i e lt)))
+    a ∙ ap (λ o. or_else o (kind_in q (e ∷ []))) b ∙ or_assoc start (kind_in q (take i es)) (kind_in q (e ∷ []))
+    ∙ ap (or_else start) (sym (kind_in_last q (take i es) e) ∙ ap (λ x. kind_in q (take i es ++ x ∷ [])) is ∙ ap (kind_in q) (sym (take_more es i e lt)))
 
-pub one_more_group : (q : List ℕ) (gs : List Group) (i : ℕ) (g : Group) (start old new : Option Kind) → i < length gs → g ≡ get_or gs i g → new ≡ or_else old (kind_in q g.entries) → old ≡ or_else start (first_kind q (take i gs)) → new ≡ or_else start (first_kind q (take (i + 1) gs))
+pub one_more_group : (q : List ℕ) (gs : List Group) (i : ℕ) (g : Group) (start old new : Option Kind) → i < length gs → g ≡ get_or gs i g →
+    new ≡ or_else old (kind_in q g.entries) → old ≡ or_else start (first_kind q (take i gs)) → new ≡ or_else start (first_kind q (take (i + 1) gs))
 one_more_group q gs i g start old new lt is a b =
-    a ∙ ap (λ o. or_else o (kind_in q g.entries)) b ∙ or_assoc start (first_kind q (take i gs)) (kind_in q g.entries) ∙ ap (or_else start) (sym (first_kind_last q (take i gs) g) ∙ ap (λ x. first_kind q (take i gs ++ x ∷ [])) is ∙ ap (first_kind q) (sym (take_more gs i g lt)))
+    a ∙ ap (λ o. or_else o (kind_in q g.entries)) b ∙ or_assoc start (first_kind q (take i gs)) (kind_in q g.entries)
+    ∙ ap (or_else start) (sym (first_kind_last q (take i gs) g) ∙ ap (λ x. first_kind q (take i gs ++ x ∷ [])) is
+    ∙ ap (first_kind q) (sym (take_more gs i g lt)))
 
 absent : {A : Type 0} (o : Option A) → is_some o ≡ false → o ≡ None
 absent None h = refl
 absent (Some x) h = absurd (cc)
 
-pub added : (m : BTreeMap (Bor (List ℕ)) Kind) (n : Option Kind) (name q : List ℕ) (k : Kind) → is_some (kind_at m name) ≡ false → n ≡ update bytes_eq (λ ds. kind_at m ds) name (Some k) q → n ≡ or_else (kind_at m q) (cond (bytes_eq name q) (Some k) None)
+pub added : (m : BTreeMap (Bor (List ℕ)) Kind) (n : Option Kind) (name q : List ℕ) (k : Kind) → is_some (kind_at m name) ≡ false →
+    n ≡ update bytes_eq (λ ds. kind_at m ds) name (Some k) q → n ≡ or_else (kind_at m q) (cond (bytes_eq name q) (Some k) None)
 added m n name q k new u =
     elim (cases_Bool (bytes_eq name q)) [
       | inl same ↦
@@ -59,10 +67,13 @@ added m n name q k new u =
     ]
 
 -- entries clash in the same places where the same kinds are looked up
-clash_same : (look kinds : List ℕ → Option Kind) → ((name : List ℕ) → look name ≡ kinds name) → (g i : ℕ) (es : List Entry) → first_at (clash_by look g) i es ≡ first_at (clash_by kinds g) i es
+clash_same : (look kinds : List ℕ → Option Kind) → ((name : List ℕ) → look name ≡ kinds name) → (g i : ℕ) (es : List Entry) →
+    first_at (clash_by look g) i es ≡ first_at (clash_by kinds g) i es
 clash_same look kinds same g i [] = refl
-clash_same look kinds same g i (e ∷ es) = ap₂ (λ k rest. or_else (if is_kind e.kind k then None else Some (KindClash g i)) rest) (same e.participant) (clash_same look kinds same g (i + 1) es)
+clash_same look kinds same g i (e ∷ es) = ap₂ (λ k rest. or_else (if is_kind e.kind k then None else Some (KindClash g i)) rest) (same e.participant)
+    (clash_same look kinds same g (i + 1) es)
 
-pub clash_in_same : (look kinds : List ℕ → Option Kind) → ((name : List ℕ) → look name ≡ kinds name) → (g : ℕ) (gs : List Group) → first_at (clash_in_by look) g gs ≡ first_at (clash_in_by kinds) g gs
+pub clash_in_same : (look kinds : List ℕ → Option Kind) → ((name : List ℕ) → look name ≡ kinds name) → (g : ℕ) (gs : List Group) →
+    first_at (clash_in_by look) g gs ≡ first_at (clash_in_by kinds) g gs
 clash_in_same look kinds same g [] = refl
 clash_in_same look kinds same g (x ∷ gs) = ap₂ or_else (clash_same look kinds same g 0 x.entries) (clash_in_same look kinds same (g + 1) gs)

@@ -3,7 +3,8 @@
 use Rattle.std.specs.Prelude.{nat_lt}
 use Rattle.std.specs.List.{All}
 use Rattle.std.specs.Str.{bytes_eq}
-use Rattle.std.proofs.Common.{◌≡◌, ℕ, suc, ◌+◌, ◌<◌, ◌≤◌, Bool, true, false, ◌||◌, inl, inr, ⊎_elim, List, [], ◌∷◌, ◌++◌, length, None, refl, sym, ap, ◌∙◌, arith, length-append, if◌then◌else◌}
+use Rattle.std.proofs.Common.{◌≡◌, ℕ, suc, ◌+◌, ◌<◌, ◌≤◌, Bool, true, false, ◌||◌, inl, inr, ⊎_elim, List, [], ◌∷◌, ◌++◌, length, None, refl, sym, ap, ◌∙◌}
+use Rattle.std.proofs.Common.{arith, length-append, if◌then◌else◌}
 use Rattle.std.proofs.lemmas.Bool.{ltb-false}
 use Rattle.std.proofs.lemmas.List.{length_push}
 use Rattle.std.proofs.lemmas.List.Elements.{All-cons, All-nil}
@@ -16,7 +17,8 @@ use Rattle.flow_model.specs.declared.numbering.Part.{Part}
 use Rattle.flow_model.specs.declared.error.FlowError.{FlowError}
 use Rattle.flow_model.specs.declared.error.FlowError.TheVariants.{BadRetries, TooLarge}
 use Rattle.flow_model.specs.Check.{IsChecked, bad_retries, entries_in_all, first_fault, has_large_group, is_large, large, name_fault, size_fault}
-use Rattle.flow_model.specs.Places.{IsOfParticipant, add_new, all_entries, entries_named, entries_of, named_from, number_in, parts_from, parts_of, placed_entry, placed_from}
+use Rattle.flow_model.specs.Places.{IsOfParticipant, add_new, all_entries, entries_named, entries_of, named_from, number_in, parts_from, parts_of, placed_entry}
+use Rattle.flow_model.specs.Places.{placed_from}
 use Rattle.flow_model.proofs.CheckedKinds.{In, in_left, in_right, left_none, right_none}
 use Rattle.flow_model.proofs.Numbers.{added_cases, knows}
 use Rattle.sw_base.specs.Refusals.{refused_if}
@@ -24,7 +26,11 @@ use Rattle.sw_base.specs.Refusals.{refused_if}
 one_more : (ps : List Part) (e : Entry) → length (add_new ps e) ≤ length ps + 1
 one_more ps e =
     ⊎_elim (λ (h : (add_new ps e ≡ ps) × (number_in ps e.participant < length ps)). omega (arith, ap length h.0))
-    (λ (h : add_new ps e ≡ ps ++ record { name = e.participant; kind = e.kind } ∷ []). omega (arith, ap length h, length_push ps record { name = e.participant; kind = e.kind }))
+    (λ (h : add_new ps e ≡ ps ++ record { name = e.participant; kind = e.kind } ∷ []). omega (
+      arith,
+      ap length h,
+      length_push ps record { name = e.participant; kind = e.kind },
+    ))
     (added_cases ps e)
 
 -- at most one for each entry
@@ -56,14 +62,17 @@ first_false false b h = refl
 
 pub few_retries : (f : Flow) → IsChecked f → f.retries ≤ 100
 unfolding first_fault
-few_retries f h = ltb-false 100 f.retries (not_refused (nat_lt 100 f.retries) BadRetries (right_none (large f) (bad_retries f) (left_none (size_fault f) (name_fault f) h)))
+few_retries f h = ltb-false 100 f.retries (not_refused (nat_lt 100 f.retries) BadRetries
+    (right_none (large f) (bad_retries f) (left_none (size_fault f) (name_fault f) h)))
 
 pub few_groups : (f : Flow) → IsChecked f → length f.groups ≤ 256
-few_groups f h = ltb-false 256 (length f.groups) (first_false (nat_lt 256 (length f.groups)) (has_large_group f.groups) (first_false (nat_lt 256 (length f.groups) || has_large_group f.groups) (nat_lt 16384 (entries_in_all f.groups)) (not_large f h)))
+few_groups f h = ltb-false 256 (length f.groups) (first_false (nat_lt 256 (length f.groups)) (has_large_group f.groups)
+    (first_false (nat_lt 256 (length f.groups) || has_large_group f.groups) (nat_lt 16384 (entries_in_all f.groups)) (not_large f h)))
 
 pub few_entries : (f : Flow) → IsChecked f → length (all_entries f) ≤ 16384
 few_entries f h =
-    let few = ltb-false 16384 (entries_in_all f.groups) (second_false (nat_lt 256 (length f.groups) || has_large_group f.groups) (nat_lt 16384 (entries_in_all f.groups)) (not_large f h)) in
+    let few = ltb-false 16384 (entries_in_all f.groups) (second_false (nat_lt 256 (length f.groups) || has_large_group f.groups)
+    (nat_lt 16384 (entries_in_all f.groups)) (not_large f h)) in
     omega (arith, entries_counted f.groups, few)
 
 pub few_participants : (f : Flow) → IsChecked f → length (parts_of f) ≤ 16384
@@ -78,7 +87,8 @@ Known parts es = (e : Entry) → In es e → number_in parts e.participant < len
 
 placed_within : (parts : List Part) (g i : ℕ) (es : List Entry) → Known parts es → All (Within parts) (placed_from parts g i es)
 placed_within parts g i [] h = All-nil (Within parts)
-placed_within parts g i (e ∷ es) h = All-cons (Within parts) (placed_entry parts g i e) (placed_from parts g (i + 1) es) (h e (inl refl)) (placed_within parts g (i + 1) es (λ x w. h x (inr w)))
+placed_within parts g i (e ∷ es) h = All-cons (Within parts) (placed_entry parts g i e) (placed_from parts g (i + 1) es) (h e (inl refl))
+    (placed_within parts g (i + 1) es (λ x w. h x (inr w)))
 
 named_within : (parts : List Part) (g : ℕ) (gs : List Group) (name : List ℕ) → Known parts (entries_of gs) → All (Within parts) (named_from parts g gs name)
 named_within parts g [] name h = All-nil (Within parts)
@@ -87,7 +97,8 @@ named_within parts g (x ∷ gs) name h =
     (placed_within parts g 0 x.entries (λ e i. h e (in_left x.entries (entries_of gs) e i)))
     (named_within parts (g + 1) gs name (λ e i. h e (in_right x.entries (entries_of gs) e i)))
   where
-    by : (b : Bool) → All (Within parts) (placed_from parts g 0 x.entries) → All (Within parts) (named_from parts (g + 1) gs name) → All (Within parts) (if b then placed_from parts g 0 x.entries else named_from parts (g + 1) gs name)
+    by : (b : Bool) → All (Within parts) (placed_from parts g 0 x.entries) → All (Within parts) (named_from parts (g + 1) gs name) →
+        All (Within parts) (if b then placed_from parts g 0 x.entries else named_from parts (g + 1) gs name)
     by true here later = here
     by false here later = later
 

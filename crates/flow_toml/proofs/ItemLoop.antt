@@ -16,7 +16,8 @@ abbrev pub with_front : {B : Type 0} → List B → Result (List B) FlowTomlErro
 with_front front read = read >>= λ ys. Ok (front ++ ys)
 
 -- what fails of one reading, fails of the other, unless memory ran out
-pub fails_through : {X Y : Type 0} (e : FlowTomlError) (inner : Result X FlowTomlError) (read : Result Y FlowTomlError) → (inner ≡ Err e → read ≡ Err e) → Fails e inner → Fails e read
+pub fails_through : {X Y : Type 0} (e : FlowTomlError) (inner : Result X FlowTomlError) (read : Result Y FlowTomlError) → (inner ≡ Err e → read ≡ Err e) →
+    Fails e inner → Fails e read
 fails_through OutOfMemory inner read on h = tt
 fails_through (Toml t) inner read on h = h
 fails_through (Missing k p) inner read on h = on h
@@ -42,7 +43,8 @@ no_table (boolean b) ds is = refl
 no_table (datetime t) ds is = refl
 no_table (array xs) ds is = refl
 
-regroup : {B : Type 0} (front : List B) (y : B) (read : Result (List B) FlowTomlError) → with_front front (read >>= λ ys. Ok (y ∷ ys)) ≡ with_front (front ++ y ∷ []) read
+regroup : {B : Type 0} (front : List B) (y : B) (read : Result (List B) FlowTomlError) →
+    with_front front (read >>= λ ys. Ok (y ∷ ys)) ≡ with_front (front ++ y ∷ []) read
 regroup front y (Ok ys) = ap Ok (sym (append_assoc front (y ∷ []) ys))
 regroup front y (Err e) = refl
 
@@ -54,22 +56,29 @@ module _ {B : Type 0} (f : ℕ → Members → Result B FlowTomlError) (vs : Lis
   cut : (i : ℕ) (v : Value) → i < length vs → v ≡ get_or vs i v → drop i vs ≡ v ∷ drop (i + 1) vs
   cut i v lt is = drop_more vs i v lt ∙ ap (λ (x : Value). x ∷ drop (i + 1) vs) (sym is)
 
-  on : (front : List B) (i : ℕ) (v : Value) (ms : Members) (read : Result B FlowTomlError) → i < length vs → v ≡ get_or vs i v → Some ms ≡ as_table (view v) → f (length front) ms ≡ read → IsRead front i
+  on : (front : List B) (i : ℕ) (v : Value) (ms : Members) (read : Result B FlowTomlError) → i < length vs → v ≡ get_or vs i v →
+      Some ms ≡ as_table (view v) → f (length front) ms ≡ read → IsRead front i
       → with_front front (read >>= λ y. each f (length front + 1) (tables_in (items_view (drop (i + 1) vs))) >>= λ ys. Ok (y ∷ ys)) ≡ total
   on front i v ms read lt is found reads so_far =
-      let tables : tables_in (items_view (drop i vs)) ≡ ms ∷ tables_in (items_view (drop (i + 1) vs)) = ap (λ (xs : List Value). tables_in (items_view xs)) (cut i v lt is) ∙ table_first (view v) (items_view (drop (i + 1) vs)) ms found in
+      let tables : tables_in (items_view (drop i vs)) ≡ ms ∷ tables_in (items_view (drop (i + 1) vs)) =
+      ap (λ (xs : List Value). tables_in (items_view xs)) (cut i v lt is) ∙ table_first (view v) (items_view (drop (i + 1) vs)) ms found in
       rw (← reads) (rw tables at so_far)
 
-  pub added : (front new : List B) (i : ℕ) (v : Value) (ms : Members) (y : B) → new ≡ front ++ y ∷ [] → i < length vs → v ≡ get_or vs i v → Some ms ≡ as_table (view v) → f (length front) ms ≡ Ok y → IsRead front i → IsRead new (i + 1)
+  pub added : (front new : List B) (i : ℕ) (v : Value) (ms : Members) (y : B) → new ≡ front ++ y ∷ [] → i < length vs → v ≡ get_or vs i v →
+      Some ms ≡ as_table (view v) → f (length front) ms ≡ Ok y → IsRead front i → IsRead new (i + 1)
   added front new i v ms y grows lt is found reads so_far =
-      rw (grows, length_push front y) (sym (regroup front y (each f (length front + 1) (tables_in (items_view (drop (i + 1) vs))))) ∙ on front i v ms (Ok y) lt is found reads so_far)
+      rw (grows, length_push front y) (sym (regroup front y (each f (length front + 1) (tables_in (items_view (drop (i + 1) vs))))) ∙ on front i v ms (Ok y)
+      lt is found reads so_far)
 
-  pub passed : (front new : List B) (i : ℕ) (v : Value) → new ≡ front → i < length vs → v ≡ get_or vs i v → None ≡ as_table (view v) → IsRead front i → IsRead new (i + 1)
+  pub passed : (front new : List B) (i : ℕ) (v : Value) → new ≡ front → i < length vs → v ≡ get_or vs i v → None ≡ as_table (view v) → IsRead front i →
+      IsRead new (i + 1)
   passed front new i v stays lt is none so_far =
-      let tables : tables_in (items_view (drop i vs)) ≡ tables_in (items_view (drop (i + 1) vs)) = ap (λ (xs : List Value). tables_in (items_view xs)) (cut i v lt is) ∙ no_table (view v) (items_view (drop (i + 1) vs)) none in
+      let tables : tables_in (items_view (drop i vs)) ≡ tables_in (items_view (drop (i + 1) vs)) =
+      ap (λ (xs : List Value). tables_in (items_view xs)) (cut i v lt is) ∙ no_table (view v) (items_view (drop (i + 1) vs)) none in
       rw stays (rw tables at so_far)
 
-  pub stopped : (front : List B) (i : ℕ) (v : Value) (ms : Members) (e : FlowTomlError) → i < length vs → v ≡ get_or vs i v → Some ms ≡ as_table (view v) → IsRead front i → f (length front) ms ≡ Err e → total ≡ Err e
+  pub stopped : (front : List B) (i : ℕ) (v : Value) (ms : Members) (e : FlowTomlError) → i < length vs → v ≡ get_or vs i v → Some ms ≡ as_table (view v) →
+      IsRead front i → f (length front) ms ≡ Err e → total ≡ Err e
   stopped front i v ms e lt is found so_far reads = sym (on front i v ms (Err e) lt is found reads so_far)
 
   pub all_read : (front : List B) (i : ℕ) → length vs ≤ i → IsRead front i → total ≡ Ok front

@@ -1,5 +1,6 @@
 -- The flow that a text states, or its first fault.
-use Rattle.std.specs.Prelude.{◌≡◌, ⊤, ℕ, Bool, false, List, [], ◌∷◌, nat_le, Option, Some, None, option_map, Result, Ok, Err, ℤ, pos, negsuc, if◌then◌else◌, unwrap_or, option_and_then}
+use Rattle.std.specs.Prelude.{◌≡◌, ⊤, ℕ, Bool, false, List, [], ◌∷◌, nat_le, Option, Some, None, option_map, Result, Ok, Err, ℤ, pos, negsuc, if◌then◌else◌}
+use Rattle.std.specs.Prelude.{unwrap_or, option_and_then}
 use Rattle.flow_model.specs.declared.flow.Flow as flow
 use Rattle.flow_model.specs.declared.flow.Group as group
 use Rattle.flow_model.specs.declared.flow.Entry as entry

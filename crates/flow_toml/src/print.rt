@@ -16,7 +16,8 @@ use toml::value::Array;
 use toml::{Table, Value};
 
 fn put(alloc: Global, table: &mut Table, key: Key, value: Value) -> Result<(), AllocError>
-    ensures { OnOk result (Puts (table_view table.old) (table_view table.new) (spelling key) (view value)) }
+    ensures { OnOk result (Puts (table_view table.old) (table_view table.new)
+        (spelling key) (view value)) }
 {
     let name = String::from_str(alloc, key.as_str())?;
     table.insert(name, value)?;

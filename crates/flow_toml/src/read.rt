@@ -21,12 +21,14 @@ use toml::value::Array;
 use toml::{Table, Value};
 
 fn member(table: &Table, key: Key) -> Option<&Value>
-    ensures { option_map (λ v. view v.now) result ≡ get_member (keys.spelling key) (table_view table.now) }
+    ensures { option_map (λ v. view v.now) result
+        ≡ get_member (keys.spelling key) (table_view table.now) }
 {
     table.get(key.as_str())
 }
 
-fn are_tables(array: &Array) -> bool
+/// Whether each item of an array is a table, as of an array that is written `[[KEY]]`.
+pub fn are_tables(array: &Array) -> bool
     ensures { result ≡ are_tables (array_view array.now) }
 {
     for item in array {
@@ -80,7 +82,8 @@ fn is_wrong(table: &Table, key: Key) -> bool
 
 // A table's keys ascend, so the first is the least.
 fn unknown_key(path: TablePath, table: &Table) -> Option<&String>
-    ensures { option_map (λ k. string_bytes k.now) result ≡ faults.unknown_key path (table_view table.now) }
+    ensures { option_map (λ k. string_bytes k.now) result
+        ≡ faults.unknown_key path (table_view table.now) }
 {
     for (name, _value) in table.iter() {
         if !is_known(path, name.as_str()) {

@@ -1,6 +1,7 @@
 -- Bitmaps that are read are spelled so, and what is spelled so is read.
 -- for: read::decode, write::encode
-use Rattle.std.proofs.Common.{◌≡◌, ℕ, suc, ◌≤◌, ◌+◌, ◌*◌, ◌%◌, Bool, true, false, cond, eqb, leb, List, [], ◌∷◌, ◌++◌, length, take, drop, Option, Some, None, Ok, refl, sym, ap, subst, ◌∙◌, inl, inr, append_assoc, arith}
+use Rattle.std.proofs.Common.{◌≡◌, ℕ, suc, ◌≤◌, ◌+◌, ◌*◌, ◌%◌, Bool, true, false, cond, eqb, leb, List, [], ◌∷◌, ◌++◌, length, take, drop, Option, Some, None}
+use Rattle.std.proofs.Common.{Ok, refl, sym, ap, subst, ◌∙◌, inl, inr, append_assoc, arith}
 use Rattle.std.proofs.lemmas.Bool.{eqb-true, eq-eqb}
 use Rattle.std.proofs.lemmas.List.{take-append-drop, length-take, length-drop, length-append}
 use Rattle.iso_msg.specs.declared.table.Form.{Form}
@@ -46,7 +47,8 @@ wider : (low a b : ℕ) (xs : List ℕ) → Between low a xs → a ≤ b → Bet
 wider low a b [] p h = omega arith
 wider low a b (x ∷ xs) p h = (p.0, wider (suc x) a b xs p.1 h)
 
-both_some : (d : ℕ → List ℕ) (o : Option ℕ) (r : Option (List ℕ)) (ns : List ℕ) → both (λ x xs. d x ++ xs) o r ≡ Some ns → (x : ℕ) × (xs : List ℕ) × (o ≡ Some x) × (r ≡ Some xs) × (d x ++ xs ≡ ns)
+both_some : (d : ℕ → List ℕ) (o : Option ℕ) (r : Option (List ℕ)) (ns : List ℕ) → both (λ x xs. d x ++ xs) o r ≡ Some ns →
+    (x : ℕ) × (xs : List ℕ) × (o ≡ Some x) × (r ≡ Some xs) × (d x ++ xs ≡ ns)
 both_some d None r ns e = absurd cc
 both_some d (Some x) None ns e = absurd cc
 both_some d (Some x) (Some xs) ns e = (x, xs, refl, refl, some_is (d x ++ xs) ns e)
@@ -64,7 +66,8 @@ bits_cons : (c d n : ℕ) (cs xs : List ℕ) → hex_value c ≡ Some d → bits
 unfolding bits_at
 bits_cons c d n cs xs p q = rw (p, q) refl
 
-pub bits_append : (a b : List ℕ) (n : ℕ) (xs ys : List ℕ) → bits_at n a ≡ Some xs → bits_at (n + 4 * length a) b ≡ Some ys → bits_at n (a ++ b) ≡ Some (xs ++ ys)
+pub bits_append : (a b : List ℕ) (n : ℕ) (xs ys : List ℕ) → bits_at n a ≡ Some xs → bits_at (n + 4 * length a) b ≡ Some ys →
+    bits_at n (a ++ b) ≡ Some (xs ++ ys)
 unfolding bits_at
 bits_append [] b n xs ys p q = subst (λ zs. bits_at n b ≡ Some (zs ++ ys)) (some_is [] xs p) (ap (λ m. bits_at m b) (omega arith) ∙ q)
 bits_append (c ∷ cs) b n xs ys p q =
@@ -130,7 +133,8 @@ without_1 xs e = rw e refl
 pub bitmaps_found : (bytes : List ℕ) (x : List ℕ × List ℕ) → bitmaps_at bytes ≡ Ok x → FrontBitmaps bytes x.0 x.1
 unfolding bitmaps_at
 bitmaps_found bytes x e =
-    let a = bind_ok (bitmap_at 1 bytes) (λ first. cond (starts_with_1 first.0) (bitmap_at 65 first.1 >>= λ second. Ok (first.0 ++ second.0, second.1)) (Ok first)) x e in
+    let a = bind_ok (bitmap_at 1 bytes) (λ first. cond (starts_with_1 first.0) (bitmap_at 65 first.1 >>= λ second. Ok (first.0 ++ second.0, second.1))
+    (Ok first)) x e in
     let m = bitmap_found 1 bytes a.0 a.1 in
     let rise = bits_between m.text 1 a.0.0 m.bits in
     let to65 : 1 + 4 * length m.text ≡ 65 = omega (arith, m.taken.len) in
@@ -143,8 +147,13 @@ bitmaps_found bytes x e =
           let all : FrontBitmaps bytes (a.0.0 ++ b.0.0) b.0.1 = record {
             text = m.text ++ k.text;
             whole = m.taken.whole ∙ ap (λ (r : List ℕ). m.text ++ r) k.taken.whole ∙ sym (append_assoc m.text k.text b.0.1);
-            spells = inr (omega (arith, length-append m.text k.text, m.taken.len, k.taken.len), bits_append m.text k.text 1 a.0.0 b.0.0 m.bits (subst (λ n. bits_at n k.text ≡ Some b.0.0) (sym to65) k.bits) ∙ ap Some (sym (with_1 a.0.0 b.0.0 w.0)));
-            rising = Between-append 1 65 129 a.0.0 b.0.0 (subst (λ h. Between 1 h a.0.0) to65 rise) (subst (λ h. Between 65 h b.0.0) to129 (bits_between k.text 65 b.0.0 k.bits));
+            spells = inr (
+              omega (arith, length-append m.text k.text, m.taken.len, k.taken.len),
+              bits_append m.text k.text 1 a.0.0 b.0.0 m.bits (subst (λ n. bits_at n k.text ≡ Some b.0.0) (sym to65) k.bits)
+                  ∙ ap Some (sym (with_1 a.0.0 b.0.0 w.0)),
+            );
+            rising = Between-append 1 65 129 a.0.0 b.0.0 (subst (λ h. Between 1 h a.0.0) to65 rise)
+                (subst (λ h. Between 65 h b.0.0) to129 (bits_between k.text 65 b.0.0 k.bits));
           } in
           subst (λ (y : List ℕ × List ℕ). FrontBitmaps bytes y.0 y.1) (ok_is made x b.2) all
       | inr w ↦
@@ -187,7 +196,8 @@ one_bitmap : (text ns rest : List ℕ) → length text ≡ 16 → bits_at 1 text
 unfolding bitmaps_at
 one_bitmap text ns rest len e s = record { numbers = ns; reads = rw (bitmap_again 1 text ns rest len e, s) refl; fields = without_1 ns s }
 
-two_bitmaps : (a b xs ys ns rest : List ℕ) → length a ≡ 16 → length b ≡ 16 → bits_at 1 a ≡ Some xs → bits_at 65 b ≡ Some ys → xs ++ ys ≡ 1 ∷ ns → Again (a ++ (b ++ rest)) ns rest
+two_bitmaps : (a b xs ys ns rest : List ℕ) → length a ≡ 16 → length b ≡ 16 → bits_at 1 a ≡ Some xs → bits_at 65 b ≡ Some ys → xs ++ ys ≡ 1 ∷ ns →
+    Again (a ++ (b ++ rest)) ns rest
 unfolding bitmaps_at
 two_bitmaps a b xs ys ns rest la lb ea eb e =
     let to129 : 65 + 4 * length b ≡ 129 = omega arith in
@@ -198,7 +208,8 @@ two_bitmaps a b xs ys ns rest la lb ea eb e =
       fields = rw e refl;
     }
 
-pub bitmaps_again : (fs : Fields) (text bitmaps rest : List ℕ) → SpellsFields text fs → SpellsNumbers bitmaps (numbers_of fs) → Again (bitmaps ++ rest) (numbers_of fs) rest
+pub bitmaps_again : (fs : Fields) (text bitmaps rest : List ℕ) → SpellsFields text fs → SpellsNumbers bitmaps (numbers_of fs) →
+    Again (bitmaps ++ rest) (numbers_of fs) rest
 bitmaps_again fs text bitmaps rest s (inl w) = one_bitmap bitmaps (numbers_of fs) rest w.0 w.1 (fields_start fs text s)
 bitmaps_again fs text bitmaps rest s (inr w) =
     let a = take 16 bitmaps in

@@ -1,6 +1,7 @@
 -- What decoding answers: looking bytes over gives the fault of reading, which is never out of memory.
 -- for: read::decode, check::type_in
-use Rattle.std.proofs.Common.{◌≡◌, ℕ, Bool, true, false, cond, eqb, ltb, List, [], ◌∷◌, ◌++◌, length, take, drop, Option, Some, None, Result, Ok, Err, refl, sym, ap, subst, ◌∙◌}
+use Rattle.std.proofs.Common.{◌≡◌, ℕ, Bool, true, false, cond, eqb, ltb, List, [], ◌∷◌, ◌++◌, length, take, drop, Option, Some, None, Result, Ok, Err, refl}
+use Rattle.std.proofs.Common.{sym, ap, subst, ◌∙◌}
 use Rattle.std.specs.List.{list_all}
 use Rattle.std.specs.Prelude.{IfOk, IsOk, MatchResult}
 use Rattle.iso_msg.specs.declared.table.Form.{Form}
@@ -13,7 +14,9 @@ use Rattle.iso_codec.specs.declared.error.DecodeError.TheVariants.{Short, BadMti
 use Rattle.iso_codec.specs.Digits.{bits_at, octets}
 use Rattle.sw_base.specs.Digits.{is_digit, number_of}
 use Rattle.iso_codec.specs.Grammar.{Spells}
-use Rattle.iso_codec.specs.Reads.{◌>>=◌, or_fault, part, mti_is, bitmap_at, bitmaps_at, starts_with_1, field_numbers, known, behind_length, octets_at, text_at, field_at, fields_at, read, Answers, Fails, content_is, field_over, fields_over, read_over, type_of}
+use Rattle.iso_codec.specs.Reads.{◌>>=◌, or_fault, part, mti_is, bitmap_at, bitmaps_at, starts_with_1, field_numbers, front_at, known, behind_length, octets_at, text_at}
+use Rattle.iso_codec.specs.Reads.{field_at, fields_at, read, Answers, Fails, content_is, field_over, fields_over, read_over, type_of}
+use Rattle.iso_codec.proofs.FrontReads as fronts
 use Rattle.iso_codec.proofs.MessageReads.{read_found, read_again}
 
 -- ---- reading never tells of memory
@@ -56,21 +59,25 @@ clean_bitmap n bytes =
 clean_bitmaps : (bytes : List ℕ) → Clean (bitmaps_at bytes)
 unfolding bitmaps_at
 clean_bitmaps bytes =
-    clean_bind (bitmap_at 1 bytes) (λ first. cond (starts_with_1 first.0) (bitmap_at 65 first.1 >>= λ second. got (first.0 ++ second.0) second.1) (Ok first)) (clean_bitmap 1 bytes)
+    clean_bind (bitmap_at 1 bytes) (λ first. cond (starts_with_1 first.0) (bitmap_at 65 first.1 >>= λ second. got (first.0 ++ second.0) second.1)
+    (Ok first)) (clean_bitmap 1 bytes)
     (λ first. clean_if (starts_with_1 first.0) (bitmap_at 65 first.1 >>= λ second. got (first.0 ++ second.0) second.1) (Ok first)
     (clean_bind (bitmap_at 65 first.1) (λ second. got (first.0 ++ second.0) second.1) (clean_bitmap 65 first.1) (λ second. tt)) tt)
 
 clean_known : (ns : List ℕ) → Clean (known ns)
 unfolding known
 clean_known [] = tt
-clean_known (n ∷ ns) = clean_bind (or_fault (form_of n) (FieldNotInProfile n)) (λ form. known ns) (clean_or (form_of n) (FieldNotInProfile n) tt) (λ form. clean_known ns)
+clean_known (n ∷ ns) = clean_bind (or_fault (form_of n) (FieldNotInProfile n)) (λ form. known ns) (clean_or (form_of n) (FieldNotInProfile n) tt)
+    (λ form. clean_known ns)
 
 clean_text : (form : Form) (n : ℕ) (bytes : List ℕ) → Clean (text_at form n bytes)
 unfolding behind_length octets_at
 clean_text (Fixed content exact) n bytes = clean_part exact bytes
 clean_text (Variable content places most) n bytes =
-    clean_bind (part places bytes) (λ digits. or_fault (number_of digits.0) (BadLength n) >>= λ len. cond (ltb most len) (Err (BadLength n)) (part len digits.1)) (clean_part places bytes)
-    (λ digits. clean_bind (or_fault (number_of digits.0) (BadLength n)) (λ len. cond (ltb most len) (Err (BadLength n)) (part len digits.1)) (clean_or (number_of digits.0) (BadLength n) tt)
+    clean_bind (part places bytes) (λ digits. or_fault (number_of digits.0) (BadLength n) >>= λ len. cond (ltb most len) (Err (BadLength n))
+    (part len digits.1)) (clean_part places bytes)
+    (λ digits. clean_bind (or_fault (number_of digits.0) (BadLength n)) (λ len. cond (ltb most len) (Err (BadLength n)) (part len digits.1))
+    (clean_or (number_of digits.0) (BadLength n) tt)
     (λ len. clean_if (ltb most len) (Err (BadLength n)) (part len digits.1) tt (clean_part len digits.1)))
 clean_text Binary n bytes =
     clean_bind (part 16 bytes) (λ text. or_fault (octets text.0) (BadContent n) >>= λ value. got value text.1) (clean_part 16 bytes)
@@ -111,7 +118,8 @@ pub read_clean : (bytes : List ℕ) → Clean (read bytes)
 unfolding read
 read_clean bytes =
     clean_bind (part 4 bytes) (λ front. mti_is front.0 >>= λ mti. bitmaps_at front.1 >>= λ ns. then_fields mti ns) (clean_part 4 bytes)
-    (λ front. clean_bind (mti_is front.0) (λ mti. bitmaps_at front.1 >>= λ ns. then_fields mti ns) (clean_if (list_all is_digit front.0) (Ok front.0) (Err BadMti) tt tt)
+    (λ front. clean_bind (mti_is front.0) (λ mti. bitmaps_at front.1 >>= λ ns. then_fields mti ns)
+    (clean_if (list_all is_digit front.0) (Ok front.0) (Err BadMti) tt tt)
     (λ mti. clean_bind (bitmaps_at front.1) (λ ns. then_fields mti ns) (clean_bitmaps front.1) (λ ns. clean_then mti ns)))
 
 -- ---- looking over is reading without the values
@@ -122,7 +130,8 @@ over r = r >>= λ m. Ok m.mti
 abbrev rest_of : {A : Type 0} → Result (A × List ℕ) DecodeError → Result (List ℕ) DecodeError
 rest_of r = r >>= λ x. Ok x.1
 
-bind_over : {A : Type 0} (r : Result A DecodeError) (f : A → Result PlainMessage DecodeError) (g : A → Result (List ℕ) DecodeError) → ((x : A) → g x ≡ over (f x)) → (r >>= g) ≡ over (r >>= f)
+bind_over : {A : Type 0} (r : Result A DecodeError) (f : A → Result PlainMessage DecodeError) (g : A → Result (List ℕ) DecodeError) →
+    ((x : A) → g x ≡ over (f x)) → (r >>= g) ≡ over (r >>= f)
 bind_over (Ok x) f g h = h x
 bind_over (Err e) f g h = refl
 
@@ -133,7 +142,8 @@ content_over : (b : Bool) (n : ℕ) (value : Part) → (cond b fine (Err (BadCon
 content_over true n value = refl
 content_over false n value = refl
 
-form_over_by : (form : Form) (n : ℕ) (r : Result Part DecodeError) → (r >>= λ value. content_is form n value.0 >>= λ ok. Ok value.1) ≡ rest_of (r >>= λ value. cond (has_content form value.0) (Ok value) (Err (BadContent n)))
+form_over_by : (form : Form) (n : ℕ) (r : Result Part DecodeError) → (r >>= λ value. content_is form n value.0 >>= λ ok. Ok value.1)
+    ≡ rest_of (r >>= λ value. cond (has_content form value.0) (Ok value) (Err (BadContent n)))
 form_over_by form n (Ok value) = content_over (has_content form value.0) n value
 form_over_by form n (Err e) = refl
 
@@ -145,7 +155,8 @@ same_rest : (n : ℕ) (value : List ℕ) (r : Result AllFields DecodeError) → 
 same_rest n value (Ok x) = refl
 same_rest n value (Err e) = refl
 
-fields_step : (n : ℕ) (ns : List ℕ) (r : Result Part DecodeError) → ((bytes : List ℕ) → fields_over ns bytes ≡ rest_of (fields_at ns bytes)) → (rest_of r >>= λ rest. fields_over ns rest) ≡ rest_of (r >>= λ value. fields_at ns value.1 >>= λ fields. with_first n value.0 fields)
+fields_step : (n : ℕ) (ns : List ℕ) (r : Result Part DecodeError) → ((bytes : List ℕ) → fields_over ns bytes ≡ rest_of (fields_at ns bytes)) →
+    (rest_of r >>= λ rest. fields_over ns rest) ≡ rest_of (r >>= λ value. fields_at ns value.1 >>= λ fields. with_first n value.0 fields)
 fields_step n ns (Ok value) h = h value.1 ∙ same_rest n value.0 (fields_at ns value.1)
 fields_step n ns (Err e) h = refl
 
@@ -172,17 +183,12 @@ unfolding typed
 ended_over mti (Ok x) = end_over (eqb (length x.1) 0) (record { mti = mti; fields = x.0 })
 ended_over mti (Err e) = refl
 
-then_over : (mti : List ℕ) (ns : Part) → (known (field_numbers ns.0) >>= λ ok. fields_over (field_numbers ns.0) ns.1 >>= at_end mti) ≡ over (then_fields mti ns)
-then_over mti ns =
-    bind_over (known (field_numbers ns.0)) (λ ok. fields_at (field_numbers ns.0) ns.1 >>= λ fields. ended mti fields) (λ ok. fields_over (field_numbers ns.0) ns.1 >>= at_end mti)
-    (λ ok. ap (λ (r : Result (List ℕ) DecodeError). r >>= at_end mti) (fields_over_is (field_numbers ns.0) ns.1) ∙ ended_over mti (fields_at (field_numbers ns.0) ns.1))
-
 pub read_over_is : (bytes : List ℕ) → read_over bytes ≡ over (read bytes)
-unfolding read read_over
+unfolding read_over
 read_over_is bytes =
-    bind_over (part 4 bytes) (λ front. mti_is front.0 >>= λ mti. bitmaps_at front.1 >>= λ ns. then_fields mti ns) (λ front. mti_is front.0 >>= λ mti. bitmaps_at front.1 >>= λ ns. known (field_numbers ns.0) >>= λ ok. fields_over (field_numbers ns.0) ns.1 >>= at_end mti)
-    (λ front. bind_over (mti_is front.0) (λ mti. bitmaps_at front.1 >>= λ ns. then_fields mti ns) (λ mti. bitmaps_at front.1 >>= λ ns. known (field_numbers ns.0) >>= λ ok. fields_over (field_numbers ns.0) ns.1 >>= at_end mti)
-    (λ mti. bind_over (bitmaps_at front.1) (λ ns. then_fields mti ns) (λ ns. known (field_numbers ns.0) >>= λ ok. fields_over (field_numbers ns.0) ns.1 >>= at_end mti) (λ ns. then_over mti ns)))
+    bind_over (front_at bytes) fronts.then_fields (λ f. fields_over f.1 f.2 >>= at_end f.0) (λ f.
+    ap (λ (r : Result (List ℕ) DecodeError). r >>= at_end f.0) (fields_over_is f.1 f.2) ∙ ended_over f.0 (fields_at f.1 f.2))
+    ∙ ap over (fronts.front_read bytes)
 
 -- ---- answers
 
@@ -259,7 +265,8 @@ not_refused (BadContent n) m reading f a = let g : done m ≡ Err (BadContent n)
 not_refused Trailing m reading f a = let g : done m ≡ Err Trailing = sym f ∙ a in absurd cc
 not_refused OutOfMemory m reading f a = refl
 
-pub only_by : (bytes : List ℕ) (r : Result PlainMessage DecodeError) (m : PlainMessage) → Answers r (read bytes) → Spells bytes m → MatchResult r (λ x. x ≡ m) (λ e. e ≡ OutOfMemory)
+pub only_by : (bytes : List ℕ) (r : Result PlainMessage DecodeError) (m : PlainMessage) → Answers r (read bytes) → Spells bytes m →
+    MatchResult r (λ x. x ≡ m) (λ e. e ≡ OutOfMemory)
 only_by bytes (Ok x) m a s = one_message x m (read bytes) a (read_again bytes m s)
 only_by bytes (Err e) m a s = not_refused e m (read bytes) (read_again bytes m s) a
 

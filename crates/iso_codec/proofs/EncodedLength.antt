@@ -1,6 +1,7 @@
 -- How long the bytes of a message can be: the type, two bitmaps and the longest text of each field.
 -- for: write::encode
-use Rattle.std.proofs.Common.{◌≡◌, inl, inr, ℕ, zero, suc, ◌<◌, ◌≤◌, ◌+◌, ◌/◌, ◌%◌, Bool, true, false, cond, eqb, ltb, List, [], ◌∷◌, ◌++◌, length, Option, Some, None, Result, Ok, Err, refl, sym, subst, length-append, arith}
+use Rattle.std.proofs.Common.{◌≡◌, inl, inr, ℕ, zero, suc, ◌<◌, ◌≤◌, ◌+◌, ◌/◌, ◌%◌, Bool, true, false, cond, eqb, ltb, List, [], ◌∷◌, ◌++◌, length, Option}
+use Rattle.std.proofs.Common.{Some, None, Result, Ok, Err, refl, sym, subst, length-append, arith}
 use Rattle.std.specs.Prelude.{IfOk}
 use Rattle.std.specs.Global.{Vec}
 use Rattle.std.specs.List.{flat_map, list_any}
@@ -59,12 +60,15 @@ texts_short zero low (f ∷ fs) h a = absurd (let below : f.0 < 129 = taken_belo
 texts_short (suc count) low (f ∷ fs) h a =
     elim (cases_eq f.0 (suc low)) [
       | inl e ↦
-          let here : length (field_text f) ≤ most_text (form_of (suc low)) = subst (λ n. length (field_text f) ≤ most_text (form_of n)) e (text_short (form_of f.0) f.0 f.1 a.1) in
-          let more : length (flat_map field_text fs) ≤ most_texts count (suc (suc low)) = subst (λ n. length (flat_map field_text fs) ≤ most_texts count (suc n)) e (texts_short count f.0 fs (omega arith) a.2) in
+          let here : length (field_text f) ≤ most_text (form_of (suc low)) =
+          subst (λ n. length (field_text f) ≤ most_text (form_of n)) e (text_short (form_of f.0) f.0 f.1 a.1) in
+          let more : length (flat_map field_text fs) ≤ most_texts count (suc (suc low)) =
+          subst (λ n. length (flat_map field_text fs) ≤ most_texts count (suc n)) e (texts_short count f.0 fs (omega arith) a.2) in
           omega (arith, here, more, length-append (field_text f) (flat_map field_text fs))
       | inr e ↦
           let over : low < f.0 = a.0 in
-          let later : length (flat_map field_text (f ∷ fs)) ≤ most_texts count (suc (suc low)) = texts_short count (suc low) (f ∷ fs) (omega arith) (omega arith, a.1, a.2) in
+          let later : length (flat_map field_text (f ∷ fs)) ≤ most_texts count (suc (suc low)) =
+          texts_short count (suc low) (f ∷ fs) (omega arith) (omega arith, a.1, a.2) in
           omega (arith, later)
     ]
 
@@ -80,7 +84,15 @@ merged_short m v =
     let bitmaps = bitmaps_of (numbers_of m.fields) in
     let texts = flat_map field_text m.fields in
     let four : length m.mti ≡ 4 = v.0.0 in
-    omega (arith, length-append m.mti (bitmaps ++ texts), length-append bitmaps texts, four, bitmaps_short (numbers_of m.fields), texts_short 127 1 m.fields refl v.1, all_texts)
+    omega (
+      arith,
+      length-append m.mti (bitmaps ++ texts),
+      length-append bitmaps texts,
+      four,
+      bitmaps_short (numbers_of m.fields),
+      texts_short 127 1 m.fields refl v.1,
+      all_texts,
+    )
 
 pub short_by : {E : Type 0} (r : Result (Vec ℕ) E) (m : PlainMessage) → IsMessage m → IfOk r (λ v. v.items ≡ merged m) → IfOk r (λ v. length v.items ≤ 9999)
 short_by (Ok v) m h e = subst (λ (x : List ℕ). length x ≤ 9999) (sym e) (merged_short m h)

@@ -1,6 +1,7 @@
 -- What is written is a spelling of the message.
 -- for: write::encode
-use Rattle.std.proofs.Common.{◌≡◌, inl, inr, ℕ, zero, suc, ◌<◌, ◌≤◌, ◌+◌, ◌*◌, ◌/◌, ◌%◌, Bool, true, false, ◌&&◌, ◌||◌, cond, eqb, ltb, leb, List, [], ◌∷◌, ◌++◌, length, Option, Some, None, refl, sym, ap, subst, ◌∙◌, append_assoc, arith}
+use Rattle.std.proofs.Common.{◌≡◌, inl, inr, ℕ, zero, suc, ◌<◌, ◌≤◌, ◌+◌, ◌*◌, ◌/◌, ◌%◌, Bool, true, false, ◌&&◌, ◌||◌, cond, eqb, ltb, leb, List, [], ◌∷◌}
+use Rattle.std.proofs.Common.{◌++◌, length, Option, Some, None, refl, sym, ap, subst, ◌∙◌, append_assoc, arith}
 use Rattle.std.specs.List.{flat_map, list_all, list_any}
 use Rattle.std.proofs.lemmas.Bool.{cases_lt, eqb-true, eqb-false, ltb-true, ltb-false, lt-ltb, le-ltb, le-leb, leb-true}
 use Rattle.iso_msg.specs.declared.table.Form.{Form}
@@ -36,7 +37,13 @@ hex_upper : (d : ℕ) → d < 16 → hex_value (upper d) ≡ Some d
 hex_upper d h =
     elim (cases_lt d 10) [
       | inl w ↦ rw (lt-ltb d 10 w, le-leb 48 (48 + d) (omega arith), le-leb (48 + d) 57 (omega arith)) (ap Some (omega arith))
-      | inr w ↦ rw (le-ltb d 10 w, le-leb 48 (55 + d) (omega arith), leb-false-from (55 + d) 57 (omega arith), le-leb 65 (55 + d) (omega arith), le-leb (55 + d) 70 (omega arith)) (ap Some (omega arith))
+      | inr w ↦ rw (
+        le-ltb d 10 w,
+        le-leb 48 (55 + d) (omega arith),
+        leb-false-from (55 + d) 57 (omega arith),
+        le-leb 65 (55 + d) (omega arith),
+        le-leb (55 + d) 70 (omega arith),
+      ) (ap Some (omega arith))
     ]
 
 octets_hex : (v : List ℕ) → list_all is_byte v ≡ true → octets (flat_map hex v) ≡ Some v
@@ -78,9 +85,23 @@ value_spelled (Some (Variable c places most)) n v k e =
     let h : length v ≤ most = leb-true (length v) most p.0 in
     elim k.2 [
       | inl w ↦ let s : length v < 100 = omega (arith, w.1) in
-          subst (λ m. SpellsValue (Some (Variable c m most)) (decimal m (length v) ++ v) v) (sym w.0) (decimal 2 (length v), refl, refl, two_digits (length v) s, h, p.1)
+          subst (λ m. SpellsValue (Some (Variable c m most)) (decimal m (length v) ++ v) v) (sym w.0) (
+            decimal 2 (length v),
+            refl,
+            refl,
+            two_digits (length v) s,
+            h,
+            p.1,
+          )
       | inr w ↦ let s : length v < 1000 = omega (arith, w.1) in
-          subst (λ m. SpellsValue (Some (Variable c m most)) (decimal m (length v) ++ v) v) (sym w.0) (decimal 3 (length v), refl, refl, three_digits (length v) s, h, p.1)
+          subst (λ m. SpellsValue (Some (Variable c m most)) (decimal m (length v) ++ v) v) (sym w.0) (
+            decimal 3 (length v),
+            refl,
+            refl,
+            three_digits (length v) s,
+            h,
+            p.1,
+          )
     ]
 value_spelled (Some Binary) n v k e =
     let p = picked (has_length Binary (length v)) (has_content Binary v) _ _ e in
@@ -178,7 +199,8 @@ record Digit (n high d : ℕ) (ns rest : List ℕ) : Type 0 where
   value : d ≡ digit_in ns n
   later : (m : ℕ) → n + 3 < m → has ns m ≡ has rest m
 
-four : (n high : ℕ) (a b c d : ℕ) (ns r1 r2 r3 r4 : List ℕ) → Bit n high a ns r1 → Bit (n + 1) high b r1 r2 → Bit (n + 2) high c r2 r3 → Bit (n + 3) high d r3 r4 → Digit n high (8 * a + 4 * b + 2 * c + d) ns r4
+four : (n high : ℕ) (a b c d : ℕ) (ns r1 r2 r3 r4 : List ℕ) → Bit n high a ns r1 → Bit (n + 1) high b r1 r2 → Bit (n + 2) high c r2 r3 →
+    Bit (n + 3) high d r3 r4 → Digit n high (8 * a + 4 * b + 2 * c + d) ns r4
 four n high a b c d ns r1 r2 r3 r4 p q r s =
     let v : 8 * a + 4 * b + 2 * c + d ≡ 8 * one p.is_set + 4 * one q.is_set + 2 * one r.is_set + one s.is_set = rw (p.value, q.value, r.value, s.value) refl in
     let e : n + 3 + 1 ≡ n + 4 = omega arith in
@@ -234,7 +256,8 @@ bits_spelled zero n high ns h b =
     ap Some (sym (none_left n ns (subst (λ m. Between n m ns) e b)))
 bits_spelled (suc k) n high ns h b =
     let d = digit_law n high ns (omega (arith, h)) b in
-    bits_cons (upper (digit_of n ns).0) (digit_of n ns).0 n (bits_of (n + 4) k (digit_of n ns).1) (digit_of n ns).1 ns (hex_upper (digit_of n ns).0 d.small) (bits_spelled k (n + 4) high (digit_of n ns).1 (omega (arith, h)) d.rising) d.whole
+    bits_cons (upper (digit_of n ns).0) (digit_of n ns).0 n (bits_of (n + 4) k (digit_of n ns).1) (digit_of n ns).1 ns (hex_upper (digit_of n ns).0 d.small)
+    (bits_spelled k (n + 4) high (digit_of n ns).1 (omega (arith, h)) d.rising) d.whole
 
 pub bits_length : (k n : ℕ) (ns : List ℕ) → length (bits_of n k ns) ≡ k
 unfolding bits_of
@@ -290,10 +313,18 @@ bitmaps_same ns b = by (list_any (λ n. ltb 64 n) ns) refl
     by false e = bits_same 16 1 65 ns ns refl (lower ns (narrow 2 ns (omega arith) e b)) (λ m l. refl)
 
 pub merged_is : (m : PlainMessage) → IsMessage m → merged m ≡ spelling m
-merged_is m v = ap (λ (x : List ℕ). m.mti ++ (x ++ flat_map field_text m.fields)) (bitmaps_same (numbers_of m.fields) (numbers_between 1 m.fields (omega arith) v.1))
+merged_is m v = ap (λ (x : List ℕ). m.mti ++ (x ++ flat_map field_text m.fields))
+    (bitmaps_same (numbers_of m.fields) (numbers_between 1 m.fields (omega arith) v.1))
 
 pub written : (m : PlainMessage) → IsMessage m → Spells (merged m) m
-written m v = (bitmaps_of (numbers_of m.fields), flat_map field_text m.fields, refl, v.0, bitmaps_spelled (numbers_of m.fields) (numbers_between 1 m.fields (omega arith) v.1), fields_spelled 1 m.fields v.1)
+written m v = (
+  bitmaps_of (numbers_of m.fields),
+  flat_map field_text m.fields,
+  refl,
+  v.0,
+  bitmaps_spelled (numbers_of m.fields) (numbers_between 1 m.fields (omega arith) v.1),
+  fields_spelled 1 m.fields v.1,
+)
 
 pub spelled_by : {E : Type 0} (r : Result (Vec ℕ) E) (m : PlainMessage) → IsMessage m → IfOk r (λ v. v.items ≡ merged m) → IfOk r (λ v. Spells v.items m)
 spelled_by (Ok v) m h e = subst (λ (x : List ℕ). Spells x m) (sym e) (written m h)

@@ -1,6 +1,7 @@
 -- A value that is read is spelled so, and what is spelled so is read.
 -- for: read::decode, write::encode
-use Rattle.std.proofs.Common.{◌≡◌, ◌-◌, ◌&&◌, leb, inl, inr, ℕ, ◌<◌, ◌+◌, ◌*◌, true, false, cond, ltb, List, [], ◌∷◌, ◌++◌, length, Option, Some, None, Result, Ok, Err, refl, sym, ap, subst, ◌∙◌, append_assoc, arith}
+use Rattle.std.proofs.Common.{◌≡◌, ◌-◌, ◌&&◌, leb, inl, inr, ℕ, ◌<◌, ◌+◌, ◌*◌, true, false, cond, ltb, List, [], ◌∷◌, ◌++◌, length, Option, Some, None, Result}
+use Rattle.std.proofs.Common.{Ok, Err, refl, sym, ap, subst, ◌∙◌, append_assoc, arith}
 use Rattle.std.proofs.lemmas.Bool.{ltb-false, le-ltb, lt-ltb, leb-true}
 use Rattle.std.specs.List.{list_all}
 use Rattle.iso_msg.proofs.Bools.{and_both}
@@ -24,15 +25,18 @@ pub record Front (o : Option Form) (bytes v rest : List ℕ) : Type 0 where
   pub whole : bytes ≡ text ++ rest
   pub spells : SpellsValue o text v
 
-fixed_found : (c : Content) (k n : ℕ) (bytes : List ℕ) (x : List ℕ × List ℕ) → text_at (Fixed c k) n bytes ≡ Ok x → takes c x.0 ≡ true → Front (Some (Fixed c k)) bytes x.0 x.1
+fixed_found : (c : Content) (k n : ℕ) (bytes : List ℕ) (x : List ℕ × List ℕ) → text_at (Fixed c k) n bytes ≡ Ok x → takes c x.0 ≡ true →
+    Front (Some (Fixed c k)) bytes x.0 x.1
 fixed_found c k n bytes x e t =
     let p = part_ok k bytes x e in
     record { text = x.0; whole = p.whole; spells = (refl, p.len, t) }
 
-variable_found : (c : Content) (places most n : ℕ) (bytes : List ℕ) (x : List ℕ × List ℕ) → text_at (Variable c places most) n bytes ≡ Ok x → takes c x.0 ≡ true → Front (Some (Variable c places most)) bytes x.0 x.1
+variable_found : (c : Content) (places most n : ℕ) (bytes : List ℕ) (x : List ℕ × List ℕ) → text_at (Variable c places most) n bytes ≡ Ok x →
+    takes c x.0 ≡ true → Front (Some (Variable c places most)) bytes x.0 x.1
 unfolding behind_length
 variable_found c places most n bytes x e t =
-    let a = bind_ok (part places bytes) (λ digits. or_fault (number_of digits.0) (BadLength n) >>= λ len. cond (ltb most len) (Err (BadLength n)) (part len digits.1)) x e in
+    let a = bind_ok (part places bytes) (λ digits. or_fault (number_of digits.0) (BadLength n) >>= λ len. cond (ltb most len) (Err (BadLength n))
+    (part len digits.1)) x e in
     let b = bind_ok (or_fault (number_of a.0.0) (BadLength n)) (λ len. cond (ltb most len) (Err (BadLength n)) (part len a.0.1)) x a.2 in
     let g = guard_then (ltb most b.0) (BadLength n) (part b.0 a.0.1) x b.2 in
     let p = part_ok places bytes a.0 a.1 in
@@ -65,14 +69,16 @@ value_found (Some f) n bytes x e =
     let g = guard_if (has_content f a.0.0) (BadContent n) a.0 x a.2 in
     subst (λ (y : List ℕ × List ℕ). Front (Some f) bytes y.0 y.1) g.1 (text_found f n bytes a.0 a.1 g.0)
 
-octets_by : (o : Option ℕ) (r : Option (List ℕ)) (v : List ℕ) → both (λ b bs. b ∷ bs) o r ≡ Some v → (b : ℕ) × (bs : List ℕ) × (o ≡ Some b) × (r ≡ Some bs) × (v ≡ b ∷ bs)
+octets_by : (o : Option ℕ) (r : Option (List ℕ)) (v : List ℕ) → both (λ b bs. b ∷ bs) o r ≡ Some v → (b : ℕ) × (bs : List ℕ) × (o ≡ Some b) × (r ≡ Some bs)
+    × (v ≡ b ∷ bs)
 octets_by None r v e = absurd cc
 octets_by (Some b) None v e = absurd cc
 octets_by (Some b) (Some bs) v e = (b, bs, refl, refl, sym (some_is (b ∷ bs) v e))
 
 hex_by : (c d : ℕ) → hex_value c ≡ Some d → d < 16
 hex_by c d e =
-    elim (chosen (leb 48 c && leb c 57) (Some (c - 48)) (cond (leb 65 c && leb c 70) (Some (c - 55)) (cond (leb 97 c && leb c 102) (Some (c - 87)) None)) (Some d) e) [
+    elim (chosen (leb 48 c && leb c 57) (Some (c - 48)) (cond (leb 65 c && leb c 70) (Some (c - 55)) (cond (leb 97 c && leb c 102) (Some (c - 87)) None))
+    (Some d) e) [
       | inl w ↦ let p = and_both (leb 48 c) (leb c 57) w.0 in let h : c - 48 ≡ d = some_is (c - 48) d w.1 in omega (arith, h, leb-true _ _ p.1)
       | inr w ↦ elim (chosen (leb 65 c && leb c 70) (Some (c - 55)) (cond (leb 97 c && leb c 102) (Some (c - 87)) None) (Some d) w.1) [
         | inl u ↦ let p = and_both (leb 65 c) (leb c 70) u.0 in let h : c - 55 ≡ d = some_is (c - 55) d u.1 in omega (arith, h, leb-true _ _ p.1)
@@ -141,7 +147,8 @@ fields_again [] text rest s = rw s refl
 fields_again (f ∷ fs) text rest s =
     rw (s.2, append_assoc s.0 s.1 rest, value_again (form_of f.0) f.0 s.0 f.1 (s.1 ++ rest) s.3, fields_again fs s.1 rest s.4) refl
 
-known_one : (o : Option Form) (n : ℕ) (text v : List ℕ) (r : Result (Unit {0}) DecodeError) → SpellsValue o text v → (or_fault o (FieldNotInProfile n) >>= λ f. r) ≡ r
+known_one : (o : Option Form) (n : ℕ) (text v : List ℕ) (r : Result (Unit {0}) DecodeError) → SpellsValue o text v →
+    (or_fault o (FieldNotInProfile n) >>= λ f. r) ≡ r
 known_one None n text v r s = absurd s
 known_one (Some f) n text v r s = refl
 

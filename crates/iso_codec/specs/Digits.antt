@@ -27,7 +27,7 @@ unfoldable pub bits_at : ℕ → List ℕ → Option (List ℕ)
 bits_at n [] = Some []
 bits_at n (c ∷ cs) = both (λ d ns. nibble n d ++ ns) (hex_value c) (bits_at (n + 4) cs)
 
--- the bytes that a text of hexadecimal digits stands for, two digits for each
+-- the bytes that a text of hexadecimal digits represents, two digits for each
 unfoldable pub octets : List ℕ → Option (List ℕ)
 octets [] = Some []
 octets (c ∷ []) = None

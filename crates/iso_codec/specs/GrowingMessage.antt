@@ -8,7 +8,7 @@ use Rattle.iso_msg.specs.declared.error.MessageError.{MessageError}
 use Rattle.iso_msg.specs.declared.error.MessageError.TheVariants as message
 use Rattle.iso_codec.specs.declared.error.DecodeError.{DecodeError}
 use Rattle.iso_codec.specs.declared.error.DecodeError.TheVariants.{OutOfMemory, BadMti, FieldNotInProfile, BadLength, BadContent, Trailing}
-use Rattle.iso_codec.specs.Reads.{◌>>=◌, part, mti_is, bitmaps_at, known, field_numbers, text_at}
+use Rattle.iso_codec.specs.Reads.{◌>>=◌, front_at, text_at}
 
 abbrev pub with_field : PlainMessage → ℕ → List ℕ → PlainMessage
 with_field m n value = record { mti = m.mti; fields = with_value n value m.fields }
@@ -36,9 +36,6 @@ added m (n ∷ ns) bytes = grown_at (form_of n) m n bytes >>= λ x. added x.0 ns
 
 unfoldable pub read_grown : List ℕ → Result PlainMessage DecodeError
 read_grown bytes = do
-  front ← part 4 bytes
-  mti ← mti_is front.0
-  ns ← bitmaps_at front.1
-  ok ← known (field_numbers ns.0)
-  x ← added (record { mti = mti; fields = [] }) (field_numbers ns.0) ns.1
+  front ← front_at bytes
+  x ← added (record { mti = front.0; fields = [] }) front.1 front.2
   if length x.1 == 0 then Ok x.0 else Err Trailing

@@ -1,6 +1,7 @@
 -- The order of reading: from the left, with the first fault that is met. Each part is taken whole,
 -- so Short comes before what is wrong with the part.
-use Rattle.std.specs.Prelude.{◌≡◌, ℕ, Bool, false, ◌==◌, nat_lt, List, [], ◌∷◌, ◌++◌, length, take, drop, Option, Some, None, Result, Ok, Err, IsOk, if◌then◌else◌}
+use Rattle.std.specs.Prelude.{◌≡◌, ℕ, Bool, false, ◌==◌, nat_lt, List, [], ◌∷◌, ◌++◌, length, take, drop, Option, Some, None, Result, Ok, Err, IsOk}
+use Rattle.std.specs.Prelude.{if◌then◌else◌}
 use Rattle.std.specs.List.{list_all}
 use Rattle.iso_msg.specs.declared.table.Form.{Form}
 use Rattle.iso_msg.specs.declared.table.Form.TheVariants.{Fixed, Variable, Binary}
@@ -53,7 +54,7 @@ bitmaps_at bytes = do
 abbrev pub field_numbers : List ℕ → List ℕ
 field_numbers ns = if starts_with_1 ns then drop 1 ns else ns
 
--- each number is one of the profile, or the first that isn't is told
+-- each number is one of the profile, or the first that isn't is reported
 unfoldable pub known : List ℕ → Result (Unit {0}) DecodeError
 known [] = Ok tt
 known (n ∷ ns) = or_fault (form_of n) (FieldNotInProfile n) >>= λ form. known ns
@@ -160,12 +161,9 @@ fields_over (n ∷ ns) bytes = field_over (form_of n) n bytes >>= λ rest. field
 -- the type alone
 unfoldable pub read_over : List ℕ → Result (List ℕ) DecodeError
 read_over bytes = do
-  front ← part 4 bytes
-  mti ← mti_is front.0
-  ns ← bitmaps_at front.1
-  ok ← known (field_numbers ns.0)
-  rest ← fields_over (field_numbers ns.0) ns.1
-  if length rest == 0 then Ok mti else Err Trailing
+  front ← front_at bytes
+  rest ← fields_over front.1 front.2
+  if length rest == 0 then Ok front.0 else Err Trailing
 
 -- the type of the message that was read, if one was
 abbrev pub type_of : Result PlainMessage DecodeError → Option (List ℕ)

@@ -4,9 +4,8 @@ ghost use Rattle.std.specs.Prelude.{◌≡◌};
 ghost use Rattle.iso_msg.specs.Table.{form_of, IsForm};
 ghost use Rattle.iso_codec.specs.Reads.{Exactly, form_over, field_over, fields_over, read, read_over, type_of};
 
-use crate::bitmap::{check_known, fields_of, read_bitmaps};
 use crate::error::DecodeError;
-use crate::in_place::check_content;
+use crate::in_place::{check_content, read_front};
 use crate::numbers::Numbers;
 use crate::parts::{mti_of, read_binary, read_variable, split};
 use iso_msg::{Form, Mti, form_at};
@@ -60,18 +59,15 @@ fn check_fields<'a>(numbers: &[u8], bytes: &'a [u8]) -> Result<&'a [u8], DecodeE
     Ok(rest)
 }
 
-/// The type of the message that the bytes are; refuses bytes that are none.
+/// The type of the message that the bytes are; refuses bytes that are no message.
 #[tactic(auto, unfolding(crate::specs::Reads::read_over))]
 pub fn check(bytes: &[u8]) -> Result<Mti, DecodeError>
     ensures { Exactly (λ m. m) result (read_over bytes.now) }
 {
-    let (digits, rest) = split(bytes, 4)?;
+    let mut numbers = Numbers::new();
+    let (digits, rest) = read_front(bytes, &mut numbers)?;
     let mti = mti_of(digits)?;
-    let mut all = Numbers::new();
-    let rest = read_bitmaps(rest, &mut all)?;
-    let numbers = fields_of(all.as_slice());
-    check_known(numbers)?;
-    let rest = check_fields(numbers, rest)?;
+    let rest = check_fields(numbers.fields(), rest)?;
     if !rest.is_empty() {
         return Err(DecodeError::Trailing);
     }

@@ -1,7 +1,8 @@
 //! A message read where it lies: its type and the numbers of its fields, and then field by field,
 //! without memory.
 
-ghost use Rattle.std.specs.Prelude.{◌≡◌, []};
+ghost use Rattle.std.specs.Prelude.{◌≡◌, [], IfOk};
+ghost use Rattle.iso_msg.specs.Messages.{IsMti};
 ghost use Rattle.iso_codec.specs.Reads.{Exactly, content_is, field_numbers, front_at};
 
 use crate::bitmap::{check_known, read_bitmaps};
@@ -17,8 +18,9 @@ pub fn read_front<'a>(
     numbers: &mut Numbers,
 ) -> Result<(&'a [u8], &'a [u8]), DecodeError>
     requires { numbers.old ≡ [] }
-    ensures { Exactly (λ x. (x.0.now, field_numbers numbers.new, x.1.now)) result
+    ensures front { Exactly (λ x. (x.0.now, field_numbers numbers.new, x.1.now)) result
         (front_at bytes.now) }
+    ensures digits { IfOk result (λ x. IsMti x.0.now) }
 {
     let (digits, rest) = split(bytes, 4)?;
     let _ = mti_of(digits)?;

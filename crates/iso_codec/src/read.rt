@@ -9,9 +9,9 @@ ghost use Rattle.iso_codec.specs.Reads.{Fails, Gives, Answers, read};
 ghost use Rattle.iso_codec.specs.GrowingMessage.{placed, grown, grown_at, added, read_grown};
 ghost use Rattle.iso_codec.specs.declared.error.DecodeError.TheVariants.{OutOfMemory};
 
-use crate::bitmap::{check_known, fields_of, read_bitmaps};
 use crate::check::check;
 use crate::error::DecodeError;
+use crate::in_place::read_front;
 use crate::numbers::Numbers;
 use crate::parts::{mti_of, read_binary, read_variable, split};
 use iso_msg::{Content, Form, Message, form_at};
@@ -152,12 +152,10 @@ fn read_fields<'a>(
 fn read_message(alloc: Global, bytes: &[u8]) -> Result<Message, DecodeError>
     ensures { Gives (λ m. m) result (read_grown bytes.now) }
 {
-    let (digits, rest) = split(bytes, 4)?;
-    let mti = mti_of(digits)?;
     let mut all = Numbers::new();
-    let rest = read_bitmaps(rest, &mut all)?;
-    let numbers = fields_of(all.as_slice());
-    check_known(numbers)?;
+    let (digits, rest) = read_front(bytes, &mut all)?;
+    let mti = mti_of(digits)?;
+    let numbers = all.fields();
     let mut message = Message::new(alloc, mti);
     message.reserve(numbers.len())?;
     let rest = read_fields(alloc, numbers, rest, &mut message)?;

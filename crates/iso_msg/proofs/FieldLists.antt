@@ -5,7 +5,8 @@ use Rattle.iso_msg.specs.declared.table.Form.{Form}
 use Rattle.iso_msg.specs.Table.{form_of}
 use Rattle.iso_msg.proofs.FieldTable.{form_number}
 use Rattle.iso_msg.proofs.Bools.{chosen, ok_is, err_is, ok_err, equal-eqb, eqb-false_from}
-use Rattle.std.proofs.Common.{◌≡◌, ℕ, zero, suc, ◌+◌, ◌<◌, ◌≤◌, Bool, false, cond, eqb, ltb, List, [], ◌∷◌, ◌++◌, length, map, get_or, take, drop, set, Option, Some, None, Result, Ok, Err, refl, sym, ap, subst, ◌∙◌, zero-add, add-zero, inl, inr, arith}
+use Rattle.std.proofs.Common.{◌≡◌, ℕ, zero, suc, ◌+◌, ◌<◌, ◌≤◌, Bool, false, cond, eqb, ltb, List, [], ◌∷◌, ◌++◌, length, map, get_or, take, drop, set, Option}
+use Rattle.std.proofs.Common.{Some, None, Result, Ok, Err, refl, sym, ap, subst, ◌∙◌, zero-add, add-zero, inl, inr, arith}
 use Rattle.std.specs.List.{insert, remove}
 use Rattle.std.proofs.lemmas.Bool.{cases_lt, cases_eq, ltb-true, ltb-false, lt-ltb, le-ltb}
 use Rattle.std.proofs.lemmas.List.{map-append, take-map, drop_more, drop-map, map_more}
@@ -24,17 +25,22 @@ shift_more i (Ok k) = ap Ok (omega arith)
 shift_more i (Err k) = ap Err (omega arith)
 
 pub pairs_at : (fs : List Field) (i : ℕ) (f : Field) → i < length fs → f ≡ get_or fs i f → drop i (pairs fs) ≡ pair f ∷ drop (i + 1) (pairs fs)
-pairs_at fs i f h e = drop-map pair i fs ∙ ap (λ (x : List Field). map pair x) (drop_more fs i f h ∙ ap (λ (g : Field). g ∷ drop (i + 1) fs) (sym e)) ∙ ap (λ (x : Fields). pair f ∷ x) (sym (drop-map pair (i + 1) fs))
+pairs_at fs i f h e = drop-map pair i fs ∙ ap (λ (x : List Field). map pair x) (drop_more fs i f h ∙ ap (λ (g : Field). g ∷ drop (i + 1) fs) (sym e))
+    ∙ ap (λ (x : Fields). pair f ∷ x) (sym (drop-map pair (i + 1) fs))
 
-pub place_step : (fs : List Field) (i n : ℕ) (f : Field) (r : Result ℕ ℕ) → i < length fs → f ≡ get_or fs i f → f.number < n → shift i (field_index n (drop i (pairs fs))) ≡ r → shift (i + 1) (field_index n (drop (i + 1) (pairs fs))) ≡ r
+pub place_step : (fs : List Field) (i n : ℕ) (f : Field) (r : Result ℕ ℕ) → i < length fs → f ≡ get_or fs i f → f.number < n →
+    shift i (field_index n (drop i (pairs fs))) ≡ r → shift (i + 1) (field_index n (drop (i + 1) (pairs fs))) ≡ r
 place_step fs i n f r h e lt so_far =
-    sym (shift_more i (field_index n (drop (i + 1) (pairs fs)))) ∙ sym (ap (λ (b : Bool). shift i (cond b (shift 1 (field_index n (drop (i + 1) (pairs fs)))) (cond (eqb f.number n) (Ok 0) (Err 0)))) (lt-ltb _ _ lt)) ∙ sym (ap (λ (x : Fields). shift i (field_index n x)) (pairs_at fs i f h e)) ∙ so_far
+    sym (shift_more i (field_index n (drop (i + 1) (pairs fs))))
+    ∙ sym (ap (λ (b : Bool). shift i (cond b (shift 1 (field_index n (drop (i + 1) (pairs fs)))) (cond (eqb f.number n) (Ok 0) (Err 0))))
+    (lt-ltb _ _ lt)) ∙ sym (ap (λ (x : Fields). shift i (field_index n x)) (pairs_at fs i f h e)) ∙ so_far
 
 -- what a place says of a list that begins with a field
 here : (f : ℕ × List ℕ) (fs : Fields) (n : ℕ) → n ≤ f.0 → field_index n (f ∷ fs) ≡ (cond (eqb f.0 n) (Ok 0) (Err 0))
 here f fs n h = rw (le-ltb f.0 n h) refl
 
-pub place_here : (fs : List Field) (i n : ℕ) (f : Field) (r : Result ℕ ℕ) → i < length fs → f ≡ get_or fs i f → n ≤ f.number → shift i (field_index n (drop i (pairs fs))) ≡ r → shift i (cond (eqb f.number n) (Ok 0) (Err 0)) ≡ r
+pub place_here : (fs : List Field) (i n : ℕ) (f : Field) (r : Result ℕ ℕ) → i < length fs → f ≡ get_or fs i f → n ≤ f.number →
+    shift i (field_index n (drop i (pairs fs))) ≡ r → shift i (cond (eqb f.number n) (Ok 0) (Err 0)) ≡ r
 place_here fs i n f r h e le so_far =
     sym (ap (shift i) (here (pair f) (drop (i + 1) (pairs fs)) n le)) ∙ sym (ap (λ (x : Fields). shift i (field_index n x)) (pairs_at fs i f h e)) ∙ so_far
 
@@ -44,13 +50,17 @@ place_found i a n r e so_far = ap Ok (sym (add-zero i)) ∙ sym (ap (λ (b : Boo
 pub place_missing : (i a n : ℕ) (r : Result ℕ ℕ) → (a ≡ n → ⊥) → shift i (cond (eqb a n) (Ok 0) (Err 0)) ≡ r → Err i ≡ r
 place_missing i a n r e so_far = ap Err (sym (add-zero i)) ∙ sym (ap (λ (b : Bool). shift i (cond b (Ok 0) (Err 0))) (eqb-false_from a n e)) ∙ so_far
 
-pub value_step : (fs : List Field) (i n : ℕ) (f : Field) (r : Option (List ℕ)) → i < length fs → f ≡ get_or fs i f → (f.number ≡ n → ⊥) → value_at n (drop i (pairs fs)) ≡ r → value_at n (drop (i + 1) (pairs fs)) ≡ r
+pub value_step : (fs : List Field) (i n : ℕ) (f : Field) (r : Option (List ℕ)) → i < length fs → f ≡ get_or fs i f → (f.number ≡ n → ⊥) →
+    value_at n (drop i (pairs fs)) ≡ r → value_at n (drop (i + 1) (pairs fs)) ≡ r
 value_step fs i n f r h e differs so_far =
-    sym (ap (λ (b : Bool). cond b (Some f.value.items) (value_at n (drop (i + 1) (pairs fs)))) (eqb-false_from f.number n differs)) ∙ sym (ap (value_at n) (pairs_at fs i f h e)) ∙ so_far
+    sym (ap (λ (b : Bool). cond b (Some f.value.items) (value_at n (drop (i + 1) (pairs fs)))) (eqb-false_from f.number n differs))
+    ∙ sym (ap (value_at n) (pairs_at fs i f h e)) ∙ so_far
 
-pub value_here : (fs : List Field) (i n : ℕ) (f : Field) (r : Option (List ℕ)) → i < length fs → f ≡ get_or fs i f → f.number ≡ n → value_at n (drop i (pairs fs)) ≡ r → Some f.value.items ≡ r
+pub value_here : (fs : List Field) (i n : ℕ) (f : Field) (r : Option (List ℕ)) → i < length fs → f ≡ get_or fs i f → f.number ≡ n →
+    value_at n (drop i (pairs fs)) ≡ r → Some f.value.items ≡ r
 value_here fs i n f r h e eq so_far =
-    sym (ap (λ (b : Bool). cond b (Some f.value.items) (value_at n (drop (i + 1) (pairs fs)))) (equal-eqb f.number n eq)) ∙ sym (ap (value_at n) (pairs_at fs i f h e)) ∙ so_far
+    sym (ap (λ (b : Bool). cond b (Some f.value.items) (value_at n (drop (i + 1) (pairs fs)))) (equal-eqb f.number n eq))
+    ∙ sym (ap (value_at n) (pairs_at fs i f h e)) ∙ so_far
 
 -- a place that was found is one of the list's, and a value goes there
 pub record Found (ps : Fields) (n : ℕ) (v : List ℕ) (i : ℕ) : Type 0 where
@@ -119,7 +129,8 @@ pub none_from : {A : Type 0} (o : Option A) → ((x : A) → o ≡ Some x → �
 none_from None h = refl
 none_from (Some x) h = absurd (h x refl)
 
-pub put_keeps : {E : Type 0} (r : Result (Unit {0}) E) (old new : List Field) (n : ℕ) (v : List ℕ) → OnOk r (pairs new ≡ with_value n v (pairs old)) → OnErr r (new ≡ old) → 1 < n → refusal n v ≡ None → AreFields 1 (pairs old) → AreFields 1 (pairs new)
+pub put_keeps : {E : Type 0} (r : Result (Unit {0}) E) (old new : List Field) (n : ℕ) (v : List ℕ) → OnOk r (pairs new ≡ with_value n v (pairs old)) →
+    OnErr r (new ≡ old) → 1 < n → refusal n v ≡ None → AreFields 1 (pairs old) → AreFields 1 (pairs new)
 put_keeps (Ok x) old new n v p q h e a = subst (λ ps. AreFields 1 ps) (sym p) (more_fields 1 (pairs old) n v h e a)
 put_keeps (Err x) old new n v p q h e a = subst (λ (fs : List Field). AreFields 1 (pairs fs)) (sym q) a
 
@@ -141,7 +152,8 @@ few_fields low (f ∷ fs) h a =
     let rest = few_fields f.0 fs (taken_below f.0 f.1 (form_of f.0) refl a.1) a.2 in
     omega (arith, a.0, rest)
 
-pub field_valid : (low i : ℕ) (fs : List Field) (f : Field) → AreFields low (pairs fs) → i < length fs → f ≡ get_or fs i f → refusal f.number f.value.items ≡ None
+pub field_valid : (low i : ℕ) (fs : List Field) (f : Field) → AreFields low (pairs fs) → i < length fs → f ≡ get_or fs i f →
+    refusal f.number f.value.items ≡ None
 field_valid low i [] f a h e = absurd (omega arith)
 field_valid low zero (g ∷ fs) f a h e = subst (λ (x : Field). refusal x.number x.value.items ≡ None) (sym e) a.1
 field_valid low (suc i) (g ∷ fs) f a h e = field_valid g.number i fs f a.2 (omega arith) e
@@ -161,7 +173,12 @@ removes_at (f ∷ fs) n i e =
           let r = removes_at fs n u.0 u.1 in
           let low : f.0 < n = ltb-true _ _ w.0 in
           let other : eqb f.0 n ≡ false = eqb-false_from f.0 n (λ e. omega (arith, low, e)) in
-          subst (λ j. RemovesAt (f ∷ fs) n j) (sym u.2) (record { below = omega (arith, r.below); value = λ d. rw other (r.value d); others = rw other (ap (λ (x : Fields). f ∷ x) r.others) })
+          subst (λ j. RemovesAt (f ∷ fs) n j) (sym u.2) (record {
+            below = omega (arith, r.below);
+            value = λ d. rw other (r.value d);
+            others =
+                rw other (ap (λ (x : Fields). f ∷ x) r.others);
+          })
       | inr w ↦
           elim (chosen (eqb f.0 n) (Ok 0) (Err 0) (Ok i) w.1) [
             | inl u ↦ subst (λ j. RemovesAt (f ∷ fs) n j) (ok_is 0 i u.1) (record { below = omega arith; value = λ d. rw u.0 refl; others = rw u.0 refl })
@@ -182,7 +199,8 @@ missing_value low (f ∷ fs) n i a e =
           (rw other r.0, rw other (ap (λ (x : Fields). f ∷ x) r.1))
       | inr w ↦
           elim (chosen (eqb f.0 n) (Ok 0) (Err 0) (Err i) w.1) [
-            | inr u ↦ let high : n ≤ f.0 = ltb-false _ _ w.0 in (rw u.0 (absent_value f.0 n fs high a.2), rw u.0 (ap (λ (x : Fields). f ∷ x) (absent_stays f.0 n fs high a.2)))
+            | inr u ↦ let high : n ≤ f.0 = ltb-false _ _ w.0 in
+                (rw u.0 (absent_value f.0 n fs high a.2), rw u.0 (ap (λ (x : Fields). f ∷ x) (absent_stays f.0 n fs high a.2)))
             | inl u ↦ absurd (ok_err 0 i u.1)
           ]
     ]
@@ -204,7 +222,9 @@ pub map-remove : (fs : List Field) (i : ℕ) → pairs (remove fs i) ≡ remove 
 map-remove fs i = map-append pair (take i fs) (drop (suc i) fs) ∙ (simp (take-map, drop-map))
 
 -- one more field that was copied
-pub copied : (fs gs : List Field) (i : ℕ) (f g : Field) → i < length fs → f ≡ get_or fs i f → pairs gs ≡ pairs (take i fs) → g.value.items ≡ f.value.items → g.number ≡ f.number → pairs (gs ++ g ∷ []) ≡ pairs (take (i + 1) fs)
+pub copied : (fs gs : List Field) (i : ℕ) (f g : Field) → i < length fs → f ≡ get_or fs i f → pairs gs ≡ pairs (take i fs) → g.value.items ≡ f.value.items →
+    g.number ≡ f.number → pairs (gs ++ g ∷ []) ≡ pairs (take (i + 1) fs)
 copied fs gs i f g h e so_far value number =
     let same : pair g ≡ pair (get_or fs i f) = cc in
-    map-append pair gs (g ∷ []) ∙ ap (λ (x : Fields). x ++ pair g ∷ []) so_far ∙ ap (λ (p : ℕ × List ℕ). pairs (take i fs) ++ p ∷ []) same ∙ sym (map_more pair fs i f h)
+    map-append pair gs (g ∷ []) ∙ ap (λ (x : Fields). x ++ pair g ∷ []) so_far ∙ ap (λ (p : ℕ × List ℕ). pairs (take i fs) ++ p ∷ []) same
+    ∙ sym (map_more pair fs i f h)

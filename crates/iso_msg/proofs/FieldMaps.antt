@@ -12,7 +12,8 @@ absent_value low n (f ∷ fs) h a = rw (eqb-false_from f.0 n (λ e. omega (arith
 
 pub absent_stays : (low n : ℕ) (fs : Fields) → n ≤ low → AreFields low fs → without n fs ≡ fs
 absent_stays low n [] h a = refl
-absent_stays low n (f ∷ fs) h a = rw (eqb-false_from f.0 n (λ e. omega (arith, a.0, e))) (ap (λ (x : Fields). f ∷ x) (absent_stays f.0 n fs (omega (arith, a.0)) a.2))
+absent_stays low n (f ∷ fs) h a = rw (eqb-false_from f.0 n (λ e. omega (arith, a.0, e)))
+    (ap (λ (x : Fields). f ∷ x) (absent_stays f.0 n fs (omega (arith, a.0)) a.2))
 
 pub reads_back : ReadsBack
 reads_back n v [] = rw (equal-eqb n n refl) refl
@@ -66,7 +67,8 @@ some_none : (v : List ℕ) → Some v ≡ None → ⊥
 some_none v e = cc
 
 -- what comes after one number is determined by the numbers above it
-after_first : (f g : ℕ × List ℕ) (fs gs : Fields) → f.0 ≡ g.0 → AreFields f.0 fs → AreFields g.0 gs → ((n : ℕ) → value_at n (f ∷ fs) ≡ value_at n (g ∷ gs)) → (n : ℕ) → value_at n fs ≡ value_at n gs
+after_first : (f g : ℕ × List ℕ) (fs gs : Fields) → f.0 ≡ g.0 → AreFields f.0 fs → AreFields g.0 gs → ((n : ℕ) → value_at n (f ∷ fs) ≡ value_at n (g ∷ gs))
+    → (n : ℕ) → value_at n fs ≡ value_at n gs
 after_first f g fs gs e a b h n =
     elim (cases_lt f.0 n) [
       | inl w ↦ sym (later_value f fs n w) ∙ h n ∙ later_value g gs n (omega (arith, w, e))

@@ -1,6 +1,7 @@
 -- Where a number is among fields whose numbers rise.
 -- for: storage::place, storage::is_above, storage::get
-use Rattle.std.proofs.Common.{◌≡◌, ℕ, zero, suc, ◌<◌, ◌≤◌, ◌-◌, List, [], ◌∷◌, ◌++◌, length, get_or, slice_get, Some, None, Result, Ok, Err, refl, sym, ap, subst, ◌∙◌, inl, inr, arith}
+use Rattle.std.proofs.Common.{◌≡◌, ℕ, zero, suc, ◌<◌, ◌≤◌, ◌-◌, List, [], ◌∷◌, ◌++◌, length, get_or, slice_get, Some, None, Result, Ok, Err, refl, sym, ap}
+use Rattle.std.proofs.Common.{subst, ◌∙◌, inl, inr, arith}
 use Rattle.std.specs.List.Sorted.{IsSearchInRange, IsBinarySearchResult, IsNonDecreasingBy}
 use Rattle.std.specs.Ordering.{nat_cmp, ordering_index}
 use Rattle.std.proofs.lemmas.Cmp.{ranked}
@@ -27,14 +28,16 @@ rises low (f ∷ fs) i zero d a h k = absurd (omega arith)
 rises low (f ∷ fs) zero (suc j) d a h k = above f.number fs j d a.2 (omega arith)
 rises low (f ∷ fs) (suc i) (suc j) d a h k = rises f.number fs i j d a.2 (omega arith) (omega arith)
 
-place_at : (low : ℕ) (fs : List Field) (n i : ℕ) → AreFields low (pairs fs) → i < length fs → ((d : Field) → (get_or fs i d).number ≡ n) → field_index n (pairs fs) ≡ Ok i
+place_at : (low : ℕ) (fs : List Field) (n i : ℕ) → AreFields low (pairs fs) → i < length fs → ((d : Field) → (get_or fs i d).number ≡ n) →
+    field_index n (pairs fs) ≡ Ok i
 place_at low [] n i a h e = absurd (omega arith)
 place_at low (f ∷ fs) n zero a h e = rw (le-ltb f.number n (omega (arith, e f)), equal-eqb f.number n (e f)) refl
 place_at low (f ∷ fs) n (suc i) a h e =
     let under : f.number < n = omega (arith, above f.number fs i f a.2 (omega arith), e f) in
     rw (lt-ltb f.number n under) (ap (shift 1) (place_at f.number fs n i a.2 (omega arith) e) ∙ ap Ok (omega arith))
 
-place_between : (fs : List Field) (n i : ℕ) → i ≤ length fs → ((j : ℕ) (d : Field) → j < i → (get_or fs j d).number < n) → ((j : ℕ) (d : Field) → i ≤ j → j < length fs → n < (get_or fs j d).number)
+place_between : (fs : List Field) (n i : ℕ) → i ≤ length fs → ((j : ℕ) (d : Field) → j < i → (get_or fs j d).number < n) →
+    ((j : ℕ) (d : Field) → i ≤ j → j < length fs → n < (get_or fs j d).number)
     → field_index n (pairs fs) ≡ Err i
 place_between [] n i h under over = ap Err (omega arith)
 place_between (f ∷ fs) n zero h under over =
@@ -42,7 +45,8 @@ place_between (f ∷ fs) n zero h under over =
     rw (le-ltb f.number n (omega arith), eqb-false_from f.number n (λ e. omega arith)) refl
 place_between (f ∷ fs) n (suc i) h under over =
     rw (lt-ltb f.number n (under 0 f (omega arith)))
-    (ap (shift 1) (place_between fs n i (omega arith) (λ j d l. under (suc j) d (omega arith)) (λ j d l m. over (suc j) d (omega arith) (omega arith))) ∙ ap Err (omega arith))
+    (ap (shift 1) (place_between fs n i (omega arith) (λ j d l. under (suc j) d (omega arith)) (λ j d l m. over (suc j) d (omega arith) (omega arith)))
+    ∙ ap Err (omega arith))
 
 module _ (fs : List Field) (n : ℕ) (a : AreFields 1 (pairs fs)) where
   -- the comparisons with n rise along the fields, as a binary search asks
@@ -61,18 +65,22 @@ module _ (fs : List Field) (n : ℕ) (a : AreFields 1 (pairs fs)) where
       sym (place_between fs n i within (λ j d l. ranked _ n _ (sym (q.0 j d (omega arith) l))) (λ j d l m. ranked _ n _ (sym (q.1 j d l m))))
 
 -- a field goes after those with lower numbers
-behind_all : (fs : List Field) (n : ℕ) (v : List ℕ) → ((i : ℕ) (d : Field) → i < length fs → (get_or fs i d).number < n) → with_value n v (pairs fs) ≡ pairs fs ++ (n, v) ∷ []
+behind_all : (fs : List Field) (n : ℕ) (v : List ℕ) → ((i : ℕ) (d : Field) → i < length fs → (get_or fs i d).number < n) →
+    with_value n v (pairs fs) ≡ pairs fs ++ (n, v) ∷ []
 behind_all [] n v under = refl
-behind_all (f ∷ fs) n v under = rw (lt-ltb f.number n (under 0 f (omega arith))) (ap (λ (x : Fields). pair f ∷ x) (behind_all fs n v (λ i d l. under (suc i) d (omega arith))))
+behind_all (f ∷ fs) n v under = rw (lt-ltb f.number n (under 0 f (omega arith)))
+    (ap (λ (x : Fields). pair f ∷ x) (behind_all fs n v (λ i d l. under (suc i) d (omega arith))))
 
 -- those of all are lower where that of the last one is
-pub above_last : (fs : List Field) (n : ℕ) (f : Field) → AreFields 1 (pairs fs) → slice_get fs (length fs - 1) ≡ Some f → f.number < n → (v : List ℕ) → with_value n v (pairs fs) ≡ pairs fs ++ (n, v) ∷ []
+pub above_last : (fs : List Field) (n : ℕ) (f : Field) → AreFields 1 (pairs fs) → slice_get fs (length fs - 1) ≡ Some f → f.number < n → (v : List ℕ) →
+    with_value n v (pairs fs) ≡ pairs fs ++ (n, v) ∷ []
 above_last fs n f a last less v =
     behind_all fs n v (λ i d l.
     let top : (get_or fs (length fs - 1) d).number ≡ f.number = ap (λ (x : Field). x.number) (get_or_from_slice_get fs (length fs - 1) f d last) in
     elim (cases_eq i (length fs - 1)) [
       | inl e ↦ let same : (get_or fs i d).number ≡ (get_or fs (length fs - 1) d).number = ap (λ k. (get_or fs k d).number) e in omega (arith, same, top, less)
-      | inr e ↦ let up : (get_or fs i d).number < (get_or fs (length fs - 1) d).number = rises 1 fs i (length fs - 1) d a (omega arith) (omega arith) in omega (arith, up, top, less)
+      | inr e ↦ let up : (get_or fs i d).number < (get_or fs (length fs - 1) d).number = rises 1 fs i (length fs - 1) d a (omega arith) (omega arith) in
+          omega (arith, up, top, less)
     ])
 
 -- the value at a number fits its field
@@ -80,7 +88,8 @@ pub value_fits : (low n : ℕ) (v : List ℕ) (ps : Fields) → AreFields low ps
 value_fits low n v [] a e = absurd cc
 value_fits low n v (f ∷ fs) a e =
     elim (cases_eq f.0 n) [
-      | inl u ↦ let same : f.1 ≡ v = some_is f.1 v (rw (equal-eqb f.0 n u) at e) in subst (λ k. refusal k v ≡ None) u (subst (λ w. refusal f.0 w ≡ None) same a.1)
+      | inl u ↦ let same : f.1 ≡ v = some_is f.1 v (rw (equal-eqb f.0 n u) at e) in
+          subst (λ k. refusal k v ≡ None) u (subst (λ w. refusal f.0 w ≡ None) same a.1)
       | inr u ↦ value_fits f.0 n v fs a.2 (rw (eqb-false_from f.0 n u) at e)
     ]
 

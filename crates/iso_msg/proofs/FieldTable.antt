@@ -1,6 +1,7 @@
 -- What the table says of each number.
 -- for: table::definition_at, table::form_at
-use Rattle.std.proofs.Common.{◌≡◌, inl, inr, ◌&&◌, ◌||◌, ltb, ℕ, zero, suc, ◌+◌, ◌<◌, ◌≤◌, Bool, true, eqb, List, [], ◌∷◌, Option, Some, None, get_or, refl, ap, subst, ◌∙◌, arith}
+use Rattle.std.proofs.Common.{◌≡◌, inl, inr, ◌&&◌, ◌||◌, ltb, ℕ, zero, suc, ◌+◌, ◌<◌, ◌≤◌, Bool, true, eqb, List, [], ◌∷◌, Option, Some, None, get_or, refl, ap}
+use Rattle.std.proofs.Common.{subst, ◌∙◌, arith}
 use Rattle.std.proofs.lemmas.Bool.{eqb-true, ltb-true, lt-ltb}
 use Rattle.iso_msg.specs.Values.{is_byte}
 use Rattle.std.specs.List.{list_all}
@@ -34,7 +35,8 @@ row_is (r ∷ rs) n d h e =
     let p = and_both (is_row r.0 r.2) (list_all (λ (r : Row). is_row r.0 r.2) rs) h in
     let made : Definition = record { name = r.1; form = r.2 } in
     elim (chosen (eqb r.0 n) (Some made) (definition_in n rs) (Some d) e) [
-      | inl w ↦ let k : r.0 ≡ n = eqb-true _ _ w.0 in let g : made ≡ d = some_is made d w.1 in subst (λ (x : Definition). is_row n x.form ≡ true) g (subst (λ m. is_row m r.2 ≡ true) k p.0)
+      | inl w ↦ let k : r.0 ≡ n = eqb-true _ _ w.0 in let g : made ≡ d = some_is made d w.1 in
+          subst (λ (x : Definition). is_row n x.form ≡ true) g (subst (λ m. is_row m r.2 ≡ true) k p.0)
       | inr w ↦ row_is rs n d p.1 w.1
     ]
 

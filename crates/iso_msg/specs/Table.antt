@@ -1,7 +1,21 @@
 -- The table of fields: each number with the field's name in ISO 8583:1987 and the form of its values.
 use Rattle.std.specs.Prelude.{◌≡◌, ◌<◌, ◌⊎◌, ℕ, zero, suc, List, [], ◌∷◌, Option, Some, None, option_map, ◌==◌, if◌then◌else◌}
 use Rattle.iso_msg.specs.declared.name.FieldName.{FieldName}
-use Rattle.iso_msg.specs.declared.name.FieldName.TheVariants.{PrimaryAccountNumber, ProcessingCode, AmountTransaction, AmountSettlement, AmountCardholderBilling, TransmissionDateAndTime, ConversionRateSettlement, ConversionRateCardholderBilling, SystemsTraceAuditNumber, TimeLocalTransaction, DateLocalTransaction, DateExpiration, DateSettlement, DateConversion, DateCapture, MerchantType, AcquiringInstitutionCountryCode, PointOfServiceEntryMode, CardSequenceNumber, NetworkInternationalIdentifier, PointOfServiceConditionCode, PointOfServicePinCaptureCode, AcquiringInstitutionIdentificationCode, ForwardingInstitutionIdentificationCode, Track2Data, RetrievalReferenceNumber, AuthorizationIdentificationResponse, ResponseCode, CardAcceptorTerminalIdentification, CardAcceptorIdentificationCode, CardAcceptorNameAndLocation, AdditionalResponseData, Track1Data, AdditionalDataPrivate, CurrencyCodeTransaction, CurrencyCodeSettlement, CurrencyCodeCardholderBilling, PersonalIdentificationNumberData, SecurityRelatedControlInformation, AdditionalAmounts, ReservedForIsoUse, ReservedForPrivateUse, MessageAuthenticationCode, NetworkManagementInformationCode, OriginalDataElements, ReplacementAmounts, ReceivingInstitutionIdentificationCode, AccountIdentification1, AccountIdentification2}
+use Rattle.iso_msg.specs.declared.name.FieldName.TheVariants.{PrimaryAccountNumber, ProcessingCode, AmountTransaction, AmountSettlement}
+use Rattle.iso_msg.specs.declared.name.FieldName.TheVariants.{AmountCardholderBilling, TransmissionDateAndTime, ConversionRateSettlement}
+use Rattle.iso_msg.specs.declared.name.FieldName.TheVariants.{ConversionRateCardholderBilling, SystemsTraceAuditNumber, TimeLocalTransaction}
+use Rattle.iso_msg.specs.declared.name.FieldName.TheVariants.{DateLocalTransaction, DateExpiration, DateSettlement, DateConversion, DateCapture, MerchantType}
+use Rattle.iso_msg.specs.declared.name.FieldName.TheVariants.{AcquiringInstitutionCountryCode, PointOfServiceEntryMode, CardSequenceNumber}
+use Rattle.iso_msg.specs.declared.name.FieldName.TheVariants.{NetworkInternationalIdentifier, PointOfServiceConditionCode, PointOfServicePinCaptureCode}
+use Rattle.iso_msg.specs.declared.name.FieldName.TheVariants.{AcquiringInstitutionIdentificationCode, ForwardingInstitutionIdentificationCode, Track2Data}
+use Rattle.iso_msg.specs.declared.name.FieldName.TheVariants.{RetrievalReferenceNumber, AuthorizationIdentificationResponse, ResponseCode}
+use Rattle.iso_msg.specs.declared.name.FieldName.TheVariants.{CardAcceptorTerminalIdentification, CardAcceptorIdentificationCode, CardAcceptorNameAndLocation}
+use Rattle.iso_msg.specs.declared.name.FieldName.TheVariants.{AdditionalResponseData, Track1Data, AdditionalDataPrivate, CurrencyCodeTransaction}
+use Rattle.iso_msg.specs.declared.name.FieldName.TheVariants.{CurrencyCodeSettlement, CurrencyCodeCardholderBilling, PersonalIdentificationNumberData}
+use Rattle.iso_msg.specs.declared.name.FieldName.TheVariants.{SecurityRelatedControlInformation, AdditionalAmounts, ReservedForIsoUse, ReservedForPrivateUse}
+use Rattle.iso_msg.specs.declared.name.FieldName.TheVariants.{MessageAuthenticationCode, NetworkManagementInformationCode, OriginalDataElements}
+use Rattle.iso_msg.specs.declared.name.FieldName.TheVariants.{ReplacementAmounts, ReceivingInstitutionIdentificationCode, AccountIdentification1}
+use Rattle.iso_msg.specs.declared.name.FieldName.TheVariants.{AccountIdentification2}
 use Rattle.iso_msg.specs.declared.table.Definition.{Definition}
 use Rattle.iso_msg.specs.declared.table.Form.{Form}
 use Rattle.iso_msg.specs.declared.table.Form.TheVariants.{Fixed, Variable, Binary}

@@ -1,6 +1,7 @@
 //! Fields in rising order of their numbers.
 
-ghost use Rattle.std.specs.Prelude.{◌≡◌, ◌++◌, ◌∷◌, [], List, ℕ, IsTrue, OnOk, OnErr, IfOk, IfErr, IfSome, None, option_map};
+ghost use Rattle.std.specs.Prelude.{◌≡◌, ◌++◌, ◌∷◌, [], List, ℕ, IsTrue, OnOk, OnErr, IfOk, IfErr, IfSome, None};
+ghost use Rattle.std.specs.Prelude.{option_map};
 ghost use Rattle.iso_msg.specs.Messages.{AreFields, value_at, with_value, without};
 ghost use Rattle.iso_msg.specs.Values.{refusal};
 ghost use Rattle.iso_msg.specs.Storage.{pairs, field_index};

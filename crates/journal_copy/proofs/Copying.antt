@@ -82,7 +82,8 @@ module _ {D : Type 0} {g : disk.Ghosts D} (honest : (d : D) → g.is_clean d ≡
       let open_now = opened is_clean in
       let read = found.reads (no_doubt (view found.last.held.store).is_clean (clean found.last.held.store)) in
       let trees = (file_state conn).committed.trees in
-      let sound : IsSound (file_state conn).now.schema trees = subst (λ (d : Database). IsSound (file_state conn).now.schema d.trees) open_now.0.clean (found.live read.0).0 in
+      let sound : IsSound (file_state conn).now.schema trees = subst (λ (d : Database). IsSound (file_state conn).now.schema d.trees) open_now.0.clean
+      (found.live read.0).0 in
       record {
         db = trees;
         found = found_in (g.seen files.log) (g.seen files.db) db log trees log_is db_is (finds is_clean).reads;
@@ -95,21 +96,29 @@ module _ {D : Type 0} {g : disk.Ghosts D} (honest : (d : D) → g.is_clean d ≡
   holds_fault_by : (db log : List ℕ) (files : Files D) (conn : Held (FileStore D g)) (e : LookError) → g.seen files.log ≡ log → g.seen files.db ≡ db
       → (HasCleanDisk (file_state conn) → Finds files conn) → IfBadRow (IsFaultBy over_files conn) e → IfBadRow (HoldsFault (image_of db log)) e
   holds_fault_by db log files conn (error.BadRow bad rest) log_is db_is finds (inl h) =
-      let is_clean = no_doubt (view conn.store).is_clean (clean conn.store) in
-      ((file_state conn).committed.trees, found_in (g.seen files.log) (g.seen files.db) db log _ log_is db_is (finds is_clean).reads, inl (h.1 (no_doubt_of h.0)))
+      let is_clean = no_doubt (view conn.store).is_clean (clean conn.store) in (
+        (file_state conn).committed.trees,
+        found_in (g.seen files.log) (g.seen files.db) db log _ log_is db_is (finds is_clean).reads,
+        inl (h.1 (no_doubt_of h.0)),
+      )
   holds_fault_by db log files conn (error.BadRow bad rest) log_is db_is finds (inr h) =
-      let is_clean = no_doubt (view conn.store).is_clean (clean conn.store) in
-      ((file_state conn).committed.trees, found_in (g.seen files.log) (g.seen files.db) db log _ log_is db_is (finds is_clean).reads, inr (h.1 (no_doubt (view h.0.held.store).is_clean (clean h.0.held.store))))
+      let is_clean = no_doubt (view conn.store).is_clean (clean conn.store) in (
+        (file_state conn).committed.trees,
+        found_in (g.seen files.log) (g.seen files.db) db log _ log_is db_is (finds is_clean).reads,
+        inr (h.1 (no_doubt (view h.0.held.store).is_clean (clean h.0.held.store))),
+      )
   holds_fault_by db log files conn error.NotAJournal log_is db_is finds h = tt
   holds_fault_by db log files conn (error.Database e) log_is db_is finds h = tt
   holds_fault_by db log files conn error.OutOfMemory log_is db_is finds h = tt
 
-pub holds_journal : {D : Type 0} {g : disk.Ghosts D} (db log : List ℕ) (files : Files D) (conn : Held (FileStore D g)) (f : Found) → g.seen files.log ≡ log → g.seen files.db ≡ db
+pub holds_journal : {D : Type 0} {g : disk.Ghosts D} (db log : List ℕ) (files : Files D) (conn : Held (FileStore D g)) (f : Found) →
+    g.seen files.log ≡ log → g.seen files.db ≡ db
     → (HasCleanDisk (file_state conn) → IsOpened conn) → (HasCleanDisk (file_state conn) → Finds files conn) → IsFoundBy over_files conn f
     → ((d : D) → g.is_clean d ≡ true) → HoldsJournal (image_of db log) f.layout f.view
 holds_journal db log files conn f log_is db_is opened finds found honest = holds_journal_by honest db log files conn f log_is db_is opened finds found
 
-pub holds_fault : {D : Type 0} {g : disk.Ghosts D} (db log : List ℕ) (files : Files D) (conn : Held (FileStore D g)) (e : LookError) → g.seen files.log ≡ log → g.seen files.db ≡ db
+pub holds_fault : {D : Type 0} {g : disk.Ghosts D} (db log : List ℕ) (files : Files D) (conn : Held (FileStore D g)) (e : LookError) →
+    g.seen files.log ≡ log → g.seen files.db ≡ db
     → (HasCleanDisk (file_state conn) → Finds files conn) → IfBadRow (IsFaultBy over_files conn) e
     → ((d : D) → g.is_clean d ≡ true) → IfBadRow (HoldsFault (image_of db log)) e
 holds_fault db log files conn e log_is db_is finds h honest = holds_fault_by honest db log files conn e log_is db_is finds h

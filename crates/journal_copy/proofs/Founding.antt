@@ -39,7 +39,8 @@ rest_spoilt (journal.Store Memory) r is = subst IfRest (sym is) tt
 rest_spoilt (journal.Store Refused) r is = subst IfRest (sym is) tt
 
 module _ {S : Type 0} (g : Ghosts S) where
-  bad_left : (conn : Held S) (left : Left S) (e : JournalError) → (doubt_of g left ≡ 0 → IsNaming (state g conn).committed.trees e) → IfBadRow (IsFaultBy g conn) (error_of_journal e)
+  bad_left : (conn : Held S) (left : Left S) (e : JournalError) → (doubt_of g left ≡ 0 → IsNaming (state g conn).committed.trees e) →
+      IfBadRow (IsFaultBy g conn) (error_of_journal e)
   bad_left conn left (journal.BadRow bad) h = inl (left, h)
   bad_left conn left journal.OutOfMemory h = tt
   bad_left conn left journal.Failed h = tt
@@ -65,12 +66,14 @@ module _ {S : Type 0} (g : Ghosts S) where
   bad_view conn was last (journal.Store Memory) opened clean means = tt
   bad_view conn was last (journal.Store Refused) opened clean means = tt
 
-  pub bad_viewed : (conn : Held S) (was last : Kept S) (e : JournalError) (r : LookError) → IsSpoilt e r → IsOpenedBy g conn was → doubt (kept g was).is_clean ≤ doubt (kept g last).is_clean
+  pub bad_viewed : (conn : Held S) (was last : Kept S) (e : JournalError) (r : LookError) → IsSpoilt e r → IsOpenedBy g conn was →
+      doubt (kept g was).is_clean ≤ doubt (kept g last).is_clean
       → (IsCleanJournal (kept g last) → Means (kept g was).tables last.failed (Err e)) → IfBadRow (IsFaultBy g conn) r
   bad_viewed conn was last e r is opened clean means = bad_spoilt (IsFaultBy g conn) e r is (bad_view conn was last e opened clean means)
 
   -- a view that was read
-  pub found_view : (conn : Held S) (was last : Kept S) (layout : ℕ) (view : JournalView) → layout_by (length (state g conn).now.schema.tables) ≡ Some layout → IsLive (state g conn)
+  pub found_view : (conn : Held S) (was last : Kept S) (layout : ℕ) (view : JournalView) → layout_by (length (state g conn).now.schema.tables) ≡ Some layout
+      → IsLive (state g conn)
       → IsOpenedBy g conn was → doubt (kept g was).is_clean ≤ doubt (kept g last).is_clean
       → (IsCleanJournal (kept g last) → Means (kept g was).tables last.failed (Ok view)) → IsFoundBy g conn (record { layout = layout; view = view })
   found_view conn was last layout view is live opened clean means = record {
@@ -81,5 +84,6 @@ module _ {S : Type 0} (g : Ghosts S) where
   }
 
 -- the layout by the number of tables
-pub layout_is : (n layout : ℕ) (r : Option ℕ) (s t : Schema) → r ≡ layout_by n → n ≡ length s.tables → s ≡ t → r ≡ Some layout → layout_by (length t.tables) ≡ Some layout
+pub layout_is : (n layout : ℕ) (r : Option ℕ) (s t : Schema) → r ≡ layout_by n → n ≡ length s.tables → s ≡ t → r ≡ Some layout →
+    layout_by (length t.tables) ≡ Some layout
 layout_is n layout r s t by counted same is = sym (ap layout_by (counted ∙ ap (λ (x : Schema). length x.tables) same)) ∙ sym by ∙ is

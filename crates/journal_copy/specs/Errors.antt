@@ -1,4 +1,4 @@
--- What the errors of the parts become: out of memory is told as such.
+-- What the errors of the parts become: out of memory is reported as such.
 use Rattle.std.specs.Prelude.{None}
 use Rattle.cli_io.specs.declared.error.ReadError.{ReadError}
 use Rattle.cli_io.specs.declared.error.ReadError.TheVariants as read

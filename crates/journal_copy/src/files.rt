@@ -6,7 +6,7 @@ use std::alloc::Global;
 use std::fs::{File, Files};
 use std::io::ErrorKind;
 
-/// How often the files are read before they are given up.
+/// How often the files are read at the most.
 const TRIES: u8 = 10;
 
 /// The length of a log's header, which a new beginning of the log changes.
@@ -54,8 +54,8 @@ fn head_at<F: Files>(files: &F, path: &str) -> Result<[u8; HEAD], CopyError> {
     }
 }
 
-// Reads both files, the database first. None where the log was begun anew meanwhile: until then the log has each page
-// that is written into the database.
+// Reads both files, the database first. None where the log was begun anew meanwhile: until then
+// the log has each page that is written into the database.
 fn copy_once<F: Files>(
     alloc: Global,
     files: &F,
@@ -72,8 +72,9 @@ fn copy_once<F: Files>(
     }
 }
 
-/// Reads the database file at a path and the log beside it, with its name and `-wal`. Nothing is written, and no lock is
-/// taken: where a program that writes to them begins the log anew meanwhile, they are read again, up to ten times.
+/// Reads the database file at a path and the log beside it, with its name and `-wal`. Nothing is
+/// written, and no lock is taken: where a program that writes to them begins the log anew
+/// meanwhile, they are read again, up to ten times.
 pub fn copy_files<F: Files>(alloc: Global, files: &F, path: &str) -> Result<Copy, CopyError> {
     let log_path = format!(in alloc; "{path}-wal")?;
     for _ in 0..TRIES {

@@ -57,7 +57,7 @@ fn spoilt(
     }
 }
 
-// The error of a journal that is not opened: of layout 1, where a row is at fault.
+// The error of a journal that is not opened; with a row at fault it has layout 1.
 fn unopened<S: Alter + Drop>(alloc: Global, error: JournalError, left: Left<S>) -> LookError
     ensures { spec.IsSpoilt error result }
 {

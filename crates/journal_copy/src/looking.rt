@@ -13,7 +13,7 @@ use std::alloc::Global;
 /// What the salts of the copy's own log are made from: no file has that log.
 const SEED: u64 = 1;
 
-// Whether a file begins otherwise than a database, with no log from which one could be made.
+// Whether a file does not begin as a database, and has no log from which one could be made.
 fn is_foreign(db: &[u8], log: &[u8]) -> bool {
     log.is_empty() && !db.starts_with(b"SQLite format 3\x00")
 }
@@ -29,8 +29,8 @@ fn refusal(error: Error) -> LookError
 }
 
 /// The journal that the bytes of a database file and of its log hold, as an opening of these files
-/// would find it. The first row at fault is refused, with the journal that is left without such
-/// rows; so is what is no journal. Out of memory is told as such.
+/// would find it. Refused are the first row at fault, with the journal that is left without such
+/// rows, and a file that is no journal. Out of memory is reported as such.
 pub fn look(alloc: Global, db: &[u8], log: &[u8]) -> Result<Found, LookError>
     ensures found { IfOk result (λ f.
         HoldsJournal (image_of db.now log.now) f.layout f.view) }

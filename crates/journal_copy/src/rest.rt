@@ -17,9 +17,10 @@ const MOST_LEFT_OUT: u32 = 1_000;
 pub struct Rest {
     /// How the journal has its tables: 1 or 2.
     pub layout: u64,
-    /// The rows that are left out, the first one at fault first: of its table all rows with that id.
+    /// The rows that are left out, the first one at fault first: of its table all rows with that
+    /// id.
     pub left_out: Vec<BadRow>,
-    /// The journal that the other rows are.
+    /// The journal that the other rows represent.
     pub view: JournalView,
 }
 
@@ -34,14 +35,14 @@ impl Drop for Rest {
     }
 }
 
-// Lets the rows with this id go.
+// Leaves out the rows with this id.
 fn leave_out_id(rows: &mut Vec<Row>, id: i64)
     ensures { rows.new.items ≡ without_id id rows.old.items }
 {
     rows.retain(|row| int_at(row, 0) != id);
 }
 
-// Lets a row at fault go. Of meta no row can be left out.
+// Leaves out a row at fault. No row of `meta` can be left out.
 fn leave_out(stored: &mut Stored, bad: BadRow)
     ensures { rows_of stored.new ≡ without bad (rows_of stored.old) }
 {
@@ -55,8 +56,8 @@ fn leave_out(stored: &mut Stored, bad: BadRow)
     }
 }
 
-/// The journal that the rows are without those at fault. There is none where meta is at fault, or more rows than
-/// a thousand. The only refusal is out of memory.
+/// The journal that the rows without those at fault represent. There is none where `meta` is at
+/// fault, or more than a thousand rows. The only refusal is out of memory.
 pub fn rest_of(alloc: Global, layout: Layout, stored: Stored) -> Result<Option<Rest>, LookError>
     ensures { IfOk result (λ rest. IfSome rest (IsRest layout (rows_of stored))) }
 {

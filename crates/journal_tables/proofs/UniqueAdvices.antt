@@ -37,7 +37,8 @@ same_cells v w int same =
     let id = int_in w in
     (λ i. equal Binary ((same ∙ int) i) (int i)) ∙ equals_int (Int id) id ∙ ap is_eq (tied_itself value_cmp_total (Int id))
 
-agree_places : (a b : Row) → IsInt (column b 1) × IsInt (column b 2) → column a 1 ≡ column b 1 → column a 2 ≡ column b 2 → agree plain (1 ∷ 2 ∷ []) a (1 ∷ 2 ∷ []) b ≡ true
+agree_places : (a b : Row) → IsInt (column b 1) × IsInt (column b 2) → column a 1 ≡ column b 1 → column a 2 ≡ column b 2 →
+    agree plain (1 ∷ 2 ∷ []) a (1 ∷ 2 ∷ []) b ≡ true
 unfolding first_key
 agree_places a b ints id place i = same_cells (column a 1) (column b 1) ints.0 id i && (and_true _ ∙ same_cells (column a 2) (column b 2) ints.1 place) i
 
@@ -60,7 +61,8 @@ unset : (b : Bool) → not b ≡ true → b ≡ false
 unset true e = absurd (true≢false (sym e))
 unset false e = refl
 
-apart_from : (a b : Row) → IsTrue (is_int (rowid a)) → IsInt (column a 1) × IsInt (column a 2) → IsTrue (is_int (rowid b)) → (agree plain (1 ∷ 2 ∷ []) b (1 ∷ 2 ∷ []) a && differ (rowid b) (rowid a)) ≡ false → Apart a b
+apart_from : (a b : Row) → IsTrue (is_int (rowid a)) → IsInt (column a 1) × IsInt (column a 2) → IsTrue (is_int (rowid b)) →
+    (agree plain (1 ∷ 2 ∷ []) b (1 ∷ 2 ∷ []) a && differ (rowid b) (rowid a)) ≡ false → Apart a b
 apart_from a b p ints q alone id place less =
     let same = agree_places b a ints (sym id) (sym place) in
     let other = rowids_differ a b p q less in
@@ -69,11 +71,15 @@ apart_from a b p ints q alone id place less =
 pub advices_apart : (db : Trees) → Obeys journal_schema db → IsShaped Table (db 5) → AreApart (db 5)
 advices_apart db obeys shaped =
     let rows = db 5 in
-    let clashing = all_weaker (λ r. passes Unique journal_schema db advice r ≡ true) (λ r. clashes plain (1 ∷ 2 ∷ []) rows r ≡ false) (λ r h. unset _ (and_parts _ _ h).0) rows (obeys.rules Unique).1.1.1.1.0 in
-    let cells = all_both (λ r. IsTrue (is_int (rowid r))) (λ r. IsInt (column r 1) × IsInt (column r 2)) (λ r. IsTrue (is_int (rowid r)) × (IsInt (column r 1) × IsInt (column r 2))) (λ r p k. (p, k)) rows shaped.1 (advice_ints db obeys) in
-    all_both (λ r. IsTrue (is_int (rowid r)) × (IsInt (column r 1) × IsInt (column r 2))) (λ r. clashes plain (1 ∷ 2 ∷ []) rows r ≡ false) (λ r. AllByRecursion (Apart r) rows)
+    let clashing = all_weaker (λ r. passes Unique journal_schema db advice r ≡ true) (λ r. clashes plain (1 ∷ 2 ∷ []) rows r ≡ false)
+    (λ r h. unset _ (and_parts _ _ h).0) rows (obeys.rules Unique).1.1.1.1.0 in
+    let cells = all_both (λ r. IsTrue (is_int (rowid r))) (λ r. IsInt (column r 1) × IsInt (column r 2))
+    (λ r. IsTrue (is_int (rowid r)) × (IsInt (column r 1) × IsInt (column r 2))) (λ r p k. (p, k)) rows shaped.1 (advice_ints db obeys) in
+    all_both (λ r. IsTrue (is_int (rowid r)) × (IsInt (column r 1) × IsInt (column r 2))) (λ r. clashes plain (1 ∷ 2 ∷ []) rows r ≡ false)
+    (λ r. AllByRecursion (Apart r) rows)
     (λ a p alone. all_both (λ b. IsTrue (is_int (rowid b))) (λ b. (agree plain (1 ∷ 2 ∷ []) b (1 ∷ 2 ∷ []) a && differ (rowid b) (rowid a)) ≡ false) (Apart a)
-    (λ b q k. apart_from a b p.0 p.1 q k) rows shaped.1 (none_from_any (λ b. agree plain (1 ∷ 2 ∷ []) b (1 ∷ 2 ∷ []) a && differ (rowid b) (rowid a)) rows alone)) rows cells clashing
+    (λ b q k. apart_from a b p.0 p.1 q k) rows shaped.1 (none_from_any (λ b. agree plain (1 ∷ 2 ∷ []) b (1 ∷ 2 ∷ []) a && differ (rowid b) (rowid a)) rows
+    alone)) rows cells clashing
 
 pub sound_from : (db : Database) (v : JournalView) → IsJournal db → IsViewIn (tables_of db.trees) v → v.next_id ≤ 9223372036854775807 → IsOk v
 sound_from db v j is last =

@@ -66,7 +66,8 @@ plain_call : (id : ℕ) (d : Due) (back : Bool) (o : Option Call) → o ≡ call
 plain_call id d true o e = e
 plain_call id d false o e = e
 
-back_call : (f : Flow) (id : ℕ) (s : TxState) (row : Option TxRow) (back : Bool) (d : Due) → station_call f id (back_at s row back) d ≡ call_or id true d (if not back then marked f (outcome_of d) else None)
+back_call : (f : Flow) (id : ℕ) (s : TxState) (row : Option TxRow) (back : Bool) (d : Due) →
+    station_call f id (back_at s row back) d ≡ call_or id true d (if not back then marked f (outcome_of d) else None)
 back_call f id s row back (due.Prepare p) = plain_call id (due.Prepare p) back _ refl
 back_call f id s row back (due.PrepareForAbort p) = plain_call id (due.PrepareForAbort p) back _ refl
 back_call f id s row back (due.Select p) = plain_call id (due.Select p) back _ refl
@@ -77,11 +78,13 @@ back_call f id s row back due.Done = plain_call id due.Done back _ refl
 
 -- what is held
 
-unclosed : (f : Flow) (v : Start) (past : List Event) (id : ℕ) → IsOrdered v.view → IsLawful f v past → Found f v.view.rows (own_items f v past) id → (b : Bool) → is_closed past id ≡ b → b ≡ false
+unclosed : (f : Flow) (v : Start) (past : List Event) (id : ℕ) → IsOrdered v.view → IsLawful f v past → Found f v.view.rows (own_items f v past) id →
+    (b : Bool) → is_closed past id ≡ b → b ≡ false
 unclosed f v past id o law w false e = refl
 unclosed f v past id o law w true e =
     let idle = closed_idle f v past id o law e in
-    let busy : open_at f (look id v.view.rows) (own_items f v past id) ≡ true = ap (λ (r : Option Row). open_at f r (own_items f v past id)) w.there ∙ ap not w.unfinished in
+    let busy : open_at f (look id v.view.rows) (own_items f v past id) ≡ true = ap (λ (r : Option Row). open_at f r (own_items f v past id)) w.there
+    ∙ ap not w.unfinished in
     absurd (cc)
 
 pub recovered_id : (f : Flow) (v : Start) (past : List Event) (s id : ℕ) → serves f v past s ≡ Some id → id < v.view.next_id → recovering f v past ≡ Some id
@@ -91,13 +94,18 @@ recovered_id f v past s id h less = elim (serves_who f v past s id h) [
 ]
 
 due_old : (f : Flow) (v : Start) (past : List Event) (id : ℕ) → nat_lt id v.view.next_id ≡ true
-    → due_call f v past id ≡ call_or id true (due_of f (state_of f v past id)) (if not (is_restored past) then marked f (outcome_of (due_of f (state_of f v past id))) else None)
-due_old f v past id lt = ap (λ (b : Bool). call_or id b (due_of f (state_of f v past id)) (if b && not (is_restored past) then marked f (outcome_of (due_of f (state_of f v past id))) else None)) lt
+    → due_call f v past id ≡ call_or id true (due_of f (state_of f v past id))
+    (if not (is_restored past) then marked f (outcome_of (due_of f (state_of f v past id))) else None)
+due_old f v past id lt = ap (λ (b : Bool). call_or id b (due_of f (state_of f v past id))
+    (if b && not (is_restored past) then marked f (outcome_of (due_of f (state_of f v past id))) else None)) lt
 
-due_new : (f : Flow) (v : Start) (past : List Event) (id : ℕ) → nat_lt id v.view.next_id ≡ false → due_call f v past id ≡ call_of id false (due_of f (state_of f v past id))
-due_new f v past id lt = ap (λ (b : Bool). call_or id b (due_of f (state_of f v past id)) (if b && not (is_restored past) then marked f (outcome_of (due_of f (state_of f v past id))) else None)) lt
+due_new : (f : Flow) (v : Start) (past : List Event) (id : ℕ) → nat_lt id v.view.next_id ≡ false →
+    due_call f v past id ≡ call_of id false (due_of f (state_of f v past id))
+due_new f v past id lt = ap (λ (b : Bool). call_or id b (due_of f (state_of f v past id))
+    (if b && not (is_restored past) then marked f (outcome_of (due_of f (state_of f v past id))) else None)) lt
 
-calls_if : (f : Flow) (v : Start) (past : List Event) (s id : ℕ) → IsOrdered v.view → IsLawful f v past → serves f v past s ≡ Some id → (b : Bool) → nat_lt id v.view.next_id ≡ b → Calls f v past id
+calls_if : (f : Flow) (v : Start) (past : List Event) (s id : ℕ) → IsOrdered v.view → IsLawful f v past → serves f v past s ≡ Some id → (b : Bool) →
+    nat_lt id v.view.next_id ≡ b → Calls f v past id
 calls_if f v past s id o law h true e =
     let less : id < v.view.next_id = grind (arith, nat_tests) in
     let w = serves_old f v past s id o h less in
@@ -107,7 +115,8 @@ calls_if f v past s id o law h true e =
       stands = of_the_journal f v past id w.row o law w.there (unclosed f v past id o law w (is_closed past id) refl);
       same = refl;
       call = back_call f id (state_of f v past id) (recovered_state f v past id w.row).opened (restored f v past id) (due_of f (state_of f v past id))
-          ∙ (ap (λ (b : Bool). call_or id true (due_of f (state_of f v past id)) (if not b then marked f (outcome_of (due_of f (state_of f v past id))) else None)) back
+          ∙ (ap (λ (b : Bool). call_or id true (due_of f (state_of f v past id)) (if not b then marked f (outcome_of (due_of f (state_of f v past id))) else
+          None)) back
           ∙ sym (due_old f v past id e));
     }
 calls_if f v past s id o law h false e =

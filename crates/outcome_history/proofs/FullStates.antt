@@ -45,10 +45,12 @@ reopened_same f r = rw (same_commit r.phase, listed_told f r) refl
 
 first_journalled : (f : Flow) (o : Option Row) → core.reopened (option_map (numbered f) o) ≡ journalled f o false [] false
 first_journalled f None = refl
-first_journalled f (Some r) = ap (λ (st : TxState). Some (record { state = st; opened = Some (numbered f r); recovered = true; restored = false })) (reopened_same f r)
+first_journalled f (Some r) = ap (λ (st : TxState). Some (record { state = st; opened = Some (numbered f r); recovered = true; restored = false }))
+    (reopened_same f r)
 
 first_if : (f : Flow) (v : Start) (id : ℕ) → IsOrdered v.view → (b : Bool) → nat_lt id v.view.next_id ≡ b
-    → core.reopened (option_map (numbered f) (look id v.view.rows)) ≡ (if b then journalled f (look id v.view.rows) false [] false else taken_at (nat_lt id (v.view.next_id + 0)) (state_of f v [] id))
+    → core.reopened (option_map (numbered f) (look id v.view.rows))
+    ≡ (if b then journalled f (look id v.view.rows) false [] false else taken_at (nat_lt id (v.view.next_id + 0)) (state_of f v [] id))
 first_if f v id o true e = first_journalled f (look id v.view.rows)
 first_if f v id o false e =
     let none : look id v.view.rows ≡ None = look_above v.view.rows v.view.next_id id o.rows e in
@@ -78,34 +80,43 @@ later_taken f st (item.Answer b c) = refl
 later_taken f st (item.Choice t) = refl
 later_taken f st (item.Told a) = refl
 
-given_if : (f : Flow) (v : Start) (past : List Event) (e : Event) (id : ℕ) (x : Item) → IsOrdered v.view → Gave f v past e id x → id < next_id v past → restored f v (e ∷ past) id ≡ (not (is_told x) && restored f v past id)
+given_if : (f : Flow) (v : Start) (past : List Event) (e : Event) (id : ℕ) (x : Item) → IsOrdered v.view → Gave f v past e id x → id < next_id v past →
+    restored f v (e ∷ past) id ≡ (not (is_told x) && restored f v past id)
     → (b : Bool) → nat_lt id v.view.next_id ≡ b
-    → later f (reply_of x) (if b then journalled f (look id v.view.rows) (is_closed past id) (own_items f v past id) (restored f v past id) else taken_at (nat_lt id (next_id v past)) (state_of f v past id))
-    ≡ (if b then journalled f (look id v.view.rows) (is_closed (e ∷ past) id) (own_items f v (e ∷ past) id) (restored f v (e ∷ past) id) else taken_at (nat_lt id (next_id v (e ∷ past))) (state_of f v (e ∷ past) id))
-given_if f v past e id x o g lt back true b = rw (g.closed id, g.given) (later_journalled f (look id v.view.rows) (is_closed past id) (own_items f v past id) x (restored f v past id) (restored f v (e ∷ past) id) back)
+    → later f (reply_of x) (if b then journalled f (look id v.view.rows) (is_closed past id) (own_items f v past id) (restored f v past id) else taken_at
+    (nat_lt id (next_id v past)) (state_of f v past id))
+    ≡ (if b then journalled f (look id v.view.rows) (is_closed (e ∷ past) id) (own_items f v (e ∷ past) id) (restored f v (e ∷ past) id) else taken_at
+    (nat_lt id (next_id v (e ∷ past))) (state_of f v (e ∷ past) id))
+given_if f v past e id x o g lt back true b = rw (g.closed id, g.given)
+    (later_journalled f (look id v.view.rows) (is_closed past id) (own_items f v past id) x (restored f v past id) (restored f v (e ∷ past) id) back)
 given_if f v past e id x o g lt back false b =
     let yes : nat_lt id (v.view.next_id + takes past) ≡ true = grind (arith, nat_tests) in
     rw (g.took, yes, state_given f v past e id x g) (later_taken f (state_of f v past id) x)
 
-pub full_given : (f : Flow) (v : Start) (past : List Event) (e : Event) (id : ℕ) (x : Item) → IsOrdered v.view → Gave f v past e id x → id < next_id v past → restored f v (e ∷ past) id ≡ (not (is_told x) && restored f v past id)
+pub full_given : (f : Flow) (v : Start) (past : List Event) (e : Event) (id : ℕ) (x : Item) → IsOrdered v.view → Gave f v past e id x →
+    id < next_id v past → restored f v (e ∷ past) id ≡ (not (is_told x) && restored f v past id)
     → later f (reply_of x) (full_state f v past id) ≡ full_state f v (e ∷ past) id
 full_given f v past e id x o g lt back = given_if f v past e id x o g lt back (nat_lt id v.view.next_id) refl
 
-pub full_other : (f : Flow) (v : Start) (past : List Event) (e : Event) (id j : ℕ) (x : Item) → Gave f v past e id x → j ≢ id → restored f v (e ∷ past) j ≡ restored f v past j → full_state f v past j ≡ full_state f v (e ∷ past) j
+pub full_other : (f : Flow) (v : Start) (past : List Event) (e : Event) (id j : ℕ) (x : Item) → Gave f v past e id x → j ≢ id →
+    restored f v (e ∷ past) j ≡ restored f v past j → full_state f v past j ≡ full_state f v (e ∷ past) j
 full_other f v past e id j x g d back = rw (g.closed j, g.others j d, back, g.took, g.arrived) refl
 
 -- a restored context
 
-later_restored : (f : Flow) (o : Option Row) (c : Bool) (items : List Item) (back : Bool) → later f Restored (journalled f o c items back) ≡ journalled f o c items true
+later_restored : (f : Flow) (o : Option Row) (c : Bool) (items : List Item) (back : Bool) →
+    later f Restored (journalled f o c items back) ≡ journalled f o c items true
 later_restored f None c items back = refl
 later_restored f (Some r) true items back = refl
 later_restored f (Some r) false items back = refl
 
 pub full_restored : (f : Flow) (v : Start) (past : List Event) (s : ℕ) (c : List ℕ) (id : ℕ) → serves f v past s ≡ Some id → nat_lt id v.view.next_id ≡ true
     → later f Restored (full_state f v past id) ≡ full_state f v (event.Recovered s c ∷ past) id
-full_restored f v past s c id h lt = rw (lt, is_yes (serves f v past s) id h) (later_restored f (look id v.view.rows) (is_closed past id) (own_items f v past id) (restored f v past id))
+full_restored f v past s c id h lt = rw (lt, is_yes (serves f v past s) id h)
+    (later_restored f (look id v.view.rows) (is_closed past id) (own_items f v past id) (restored f v past id))
 
-pub restored_other : (f : Flow) (v : Start) (past : List Event) (s : ℕ) (c : List ℕ) (id j : ℕ) → serves f v past s ≡ Some id → j ≢ id → full_state f v past j ≡ full_state f v (event.Recovered s c ∷ past) j
+pub restored_other : (f : Flow) (v : Start) (past : List Event) (s : ℕ) (c : List ℕ) (id j : ℕ) → serves f v past s ≡ Some id → j ≢ id →
+    full_state f v past j ≡ full_state f v (event.Recovered s c ∷ past) j
 restored_other f v past s c id j h d = rw (is_other (serves f v past s) id j h d) refl
 
 -- a closing
@@ -151,7 +162,8 @@ full_taken f v past s o room =
 taken_other_if : (n m : ℕ) (st : TxState) → (nat_lt n m ≡ nat_lt n (m + 1)) → taken_at (nat_lt n m) st ≡ taken_at (nat_lt n (m + 1)) st
 taken_other_if n m st e = ap (λ (b : Bool). taken_at b st) e
 
-pub taken_other : (f : Flow) (v : Start) (past : List Event) (s j : ℕ) → (next_id v past == j) ≡ false → full_state f v past j ≡ full_state f v (event.Taken s ∷ past) j
+pub taken_other : (f : Flow) (v : Start) (past : List Event) (s j : ℕ) → (next_id v past == j) ≡ false →
+    full_state f v past j ≡ full_state f v (event.Taken s ∷ past) j
 taken_other f v past s j d =
     let same : nat_lt j (v.view.next_id + takes past) ≡ nat_lt j (v.view.next_id + (takes past + 1)) = grind (arith, nat_tests) in
     rw same refl

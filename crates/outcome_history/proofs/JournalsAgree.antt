@@ -20,9 +20,11 @@ same_view : (a b : IdView) → a.next_id ≡ b.next_id → ((id : ℕ) → a.row
 same_view a b next rows advices =
     let each : a.row ≡ b.row = fun_ext rows in
     let kept : a.advice ≡ b.advice = fun_ext (λ id. fun_ext (advices id)) in
-    let e : record { next_id = a.next_id; row = a.row; advice = a.advice } ≡ record { next_id = b.next_id; row = b.row; advice = b.advice } = rw (next, each, kept) refl in e
+    let e : record { next_id = a.next_id; row = a.row; advice = a.advice } ≡ record { next_id = b.next_id; row = b.row; advice = b.advice } =
+    rw (next, each, kept) refl in e
 
-pub journals_agree : (f : Flow) (v : Start) (past : List Event) → StartFits f v → IsLawful f v past → core.journal f (id_view f v.view) (id_events f v past) ≡ id_view f (journal f v past)
+pub journals_agree : (f : Flow) (v : Start) (past : List Event) → StartFits f v → IsLawful f v past → core.journal f (id_view f v.view) (id_events f v past)
+    ≡ id_view f (journal f v past)
 journals_agree f v past st law =
     same_view (core.journal f (id_view f v.view) (id_events f v past)) (id_view f (journal f v past)) (next_same f v past)
     (λ id. rows_agree f v past id (numbered_parts f) st law)

@@ -40,8 +40,10 @@ no_doing f (Some n) e = absurd (cc)
 row_in_phase : (f : Flow) (r : Row) (p : Phase) → r.phase ≡ p → RowFits r → IsInPhase p (numbered f r)
 row_in_phase f r Preparing e fits = let w = fits.untold (rw e refl) in (w.0, rw (length-map r.joined (number_of f)) w.1)
 row_in_phase f r Aborting e fits = let w = fits.untold (rw e refl) in (w.0, rw (length-map r.joined (number_of f)) w.1)
-row_in_phase f r Committing e fits = let w = fits.telling (rw e refl) in (rw (length-map r.joined (number_of f)) w.1, no_doing f r.doing w.0, rw (length-map r.joined (number_of f)) fits.members)
-row_in_phase f r Undoing e fits = let w = fits.telling (rw e refl) in (rw (length-map r.joined (number_of f)) w.1, no_doing f r.doing w.0, rw (length-map r.joined (number_of f)) fits.members)
+row_in_phase f r Committing e fits = let w = fits.telling (rw e refl) in
+    (rw (length-map r.joined (number_of f)) w.1, no_doing f r.doing w.0, rw (length-map r.joined (number_of f)) fits.members)
+row_in_phase f r Undoing e fits = let w = fits.telling (rw e refl) in
+    (rw (length-map r.joined (number_of f)) w.1, no_doing f r.doing w.0, rw (length-map r.joined (number_of f)) fits.members)
 
 -- what is found by number was found by name
 pub record FoundRow (f : Flow) (o : Option Row) (r : TxRow) : Type 0 where

@@ -1,6 +1,7 @@
 -- The closing entries of an opening are of the rows with nobody to tell, each once.
 -- for: laws::views_fit
-use Rattle.std.proofs.Common.{◌≡◌, ℕ, ◌+◌, ◌<◌, ◌≤◌, Bool, true, false, List, [], ◌∷◌, ◌++◌, length, map, Option, Some, None, refl, sym, ◌∙◌, ap, arith, length-append}
+use Rattle.std.proofs.Common.{◌≡◌, ℕ, ◌+◌, ◌<◌, ◌≤◌, Bool, true, false, List, [], ◌∷◌, ◌++◌, length, map, Option, Some, None, refl, sym, ◌∙◌, ap, arith}
+use Rattle.std.proofs.Common.{length-append}
 use Rattle.std.specs.Prelude.{if◌then◌else◌, ◌==◌, ◌||◌, nat_lt, not, option_map}
 use Rattle.std.proofs.lemmas.List.{length-map}
 use Rattle.std.proofs.lemmas.Bool.Decides.{nat_tests}
@@ -47,7 +48,8 @@ pub more_names : (r : Row) (o : Option (List ℕ)) → length r.joined ≤ lengt
 more_names r None = omega arith
 more_names r (Some n) = omega (arith, length-append r.joined)
 
-over_untold : (f : Flow) (r : Row) (b : Bool) → is_open r.phase ≡ b → RowFits r → not (nat_lt r.told (length (map (number_of f) (to_tell r r.doing)))) ≡ true → r.told ≡ 0
+over_untold : (f : Flow) (r : Row) (b : Bool) → is_open r.phase ≡ b → RowFits r → not (nat_lt r.told (length (map (number_of f) (to_tell r r.doing))))
+    ≡ true → r.told ≡ 0
 over_untold f r true e fits h = (fits.untold e).0
 over_untold f r false e fits h =
     let less : r.told < length r.joined = (fits.telling e).1 in
@@ -78,18 +80,22 @@ rows_behind f j x rows m rise all id r h =
     let other : (x.0 == id) ≡ false = grind (arith, nat_tests) in
     all id r (rw other h)
 
-closings_if : (f : Flow) (j : IdView) (x : ℕ × Row) (rows : List (ℕ × Row)) (past : List ℕ) → (j.row x.0 ≡ Some (numbered f x.1)) × RowFits x.1 → Closings j (shut_ids past) → closed (shut_ids past) x.0 ≡ false
-    → (Closings j (shut_ids (x.0 ∷ past)) → Closings j (shut_ids (stacked (to_close f rows) (x.0 ∷ past)))) → Closings j (shut_ids (stacked (to_close f rows) past))
+closings_if : (f : Flow) (j : IdView) (x : ℕ × Row) (rows : List (ℕ × Row)) (past : List ℕ) → (j.row x.0 ≡ Some (numbered f x.1)) × RowFits x.1 →
+    Closings j (shut_ids past) → closed (shut_ids past) x.0 ≡ false
+    → (Closings j (shut_ids (x.0 ∷ past)) → Closings j (shut_ids (stacked (to_close f rows) (x.0 ∷ past)))) →
+    Closings j (shut_ids (stacked (to_close f rows) past))
     → (b : Bool) → is_ended f (reopened f x.1) ≡ b → Closings j (shut_ids (stacked (if b then x.0 ∷ to_close f rows else to_close f rows) past))
 closings_if f j x rows past here cs new more less true e = more ((numbered f x.1, here.0, over_nobody f x.1 here.1 e), new, cs)
 closings_if f j x rows past here cs new more less false e = less
 
-still_open : (x : ℕ) (past : List ℕ) (n : ℕ) → n ≤ x → ((id : ℕ) → n ≤ id → closed (shut_ids past) id ≡ false) → (id : ℕ) → x + 1 ≤ id → closed (shut_ids (x ∷ past)) id ≡ false
+still_open : (x : ℕ) (past : List ℕ) (n : ℕ) → n ≤ x → ((id : ℕ) → n ≤ id → closed (shut_ids past) id ≡ false) → (id : ℕ) → x + 1 ≤ id →
+    closed (shut_ids (x ∷ past)) id ≡ false
 still_open x past n le clear id lt =
     let other : (x == id) ≡ false = grind (arith, nat_tests) in
     rw other (clear id (omega arith))
 
-pub closings_hold : (f : Flow) (j : IdView) (rows : List (ℕ × Row)) (n m : ℕ) (past : List ℕ) → Rising n m rows → Rows f j rows → Closings j (shut_ids past) → ((id : ℕ) → n ≤ id → closed (shut_ids past) id ≡ false)
+pub closings_hold : (f : Flow) (j : IdView) (rows : List (ℕ × Row)) (n m : ℕ) (past : List ℕ) → Rising n m rows → Rows f j rows →
+    Closings j (shut_ids past) → ((id : ℕ) → n ≤ id → closed (shut_ids past) id ≡ false)
     → Closings j (shut_ids (stacked (to_close f rows) past))
 closings_hold f j [] n m past rise all cs clear = cs
 closings_hold f j (x ∷ rows) n m past rise all cs clear =
@@ -111,7 +117,8 @@ stays_closed : (ids past : List ℕ) (id : ℕ) → closed (shut_ids past) id �
 stays_closed [] past id h = h
 stays_closed (i ∷ ids) past id h = stays_closed ids (i ∷ past) id (or_yes (i == id) (closed (shut_ids past) id) h)
 
-covers_if : (f : Flow) (x : ℕ × Row) (rows : List (ℕ × Row)) (past : List ℕ) (id : ℕ) (q : Row) → is_ended f (reopened f q) ≡ true → ((past : List ℕ) → look id rows ≡ Some q → closed (shut_ids (stacked (to_close f rows) past)) id ≡ true)
+covers_if : (f : Flow) (x : ℕ × Row) (rows : List (ℕ × Row)) (past : List ℕ) (id : ℕ) (q : Row) → is_ended f (reopened f q) ≡ true →
+    ((past : List ℕ) → look id rows ≡ Some q → closed (shut_ids (stacked (to_close f rows) past)) id ≡ true)
     → (b c : Bool) → is_ended f (reopened f x.1) ≡ b → (x.0 == id) ≡ c → (if c then Some x.1 else look id rows) ≡ Some q
     → closed (shut_ids (stacked (if b then x.0 ∷ to_close f rows else to_close f rows) past)) id ≡ true
 covers_if f x rows past id q over ih true true e s h = stays_closed (to_close f rows) (x.0 ∷ past) id (rw s refl)
@@ -122,15 +129,18 @@ covers_if f x rows past id q over ih false true e s h =
     absurd (cc)
 covers_if f x rows past id q over ih false false e s h = ih past h
 
-pub covers_hold : (f : Flow) (rows : List (ℕ × Row)) (past : List ℕ) (id : ℕ) (q : Row) → is_ended f (reopened f q) ≡ true → look id rows ≡ Some q → closed (shut_ids (stacked (to_close f rows) past)) id ≡ true
+pub covers_hold : (f : Flow) (rows : List (ℕ × Row)) (past : List ℕ) (id : ℕ) (q : Row) → is_ended f (reopened f q) ≡ true → look id rows ≡ Some q →
+    closed (shut_ids (stacked (to_close f rows) past)) id ≡ true
 covers_hold f [] past id q over h = absurd (cc)
-covers_hold f (x ∷ rows) past id q over h = covers_if f x rows past id q over (λ ids k. covers_hold f rows ids id q over k) (is_ended f (reopened f x.1)) (x.0 == id) refl refl h
+covers_hold f (x ∷ rows) past id q over h = covers_if f x rows past id q over (λ ids k. covers_hold f rows ids id q over k) (is_ended f (reopened f x.1))
+    (x.0 == id) refl refl h
 
 covered : (f : Flow) (v : Start) (id : ℕ) (r : TxRow) → FoundRow f (look id v.view.rows) r → listed r ≡ [] → closed (shut_ids (closings f v)) id ≡ true
 covered f v id r k none = covers_hold f v.view.rows [] id k.row (nobody_over f k.row (ap listed k.is ∙ none)) k.there
 
 pub closings_shut : (f : Flow) (v : Start) → IsOk v.view → Shuts (id_view f v.view) (shut_ids (closings f v))
 closings_shut f v ok = (
-  closings_hold f (id_view f v.view) v.view.rows 1 v.view.next_id [] ok.ordered.rows (λ id r h. (ap (option_map (numbered f)) h, ok.rows id r h)) tt (λ id le. refl),
+  closings_hold f (id_view f v.view) v.view.rows 1 v.view.next_id [] ok.ordered.rows (λ id r h. (ap (option_map (numbered f)) h, ok.rows id r h)) tt
+      (λ id le. refl),
   λ id r h none. covered f v id r (found_row f (look id v.view.rows) r h) none,
 )

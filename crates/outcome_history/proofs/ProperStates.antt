@@ -48,14 +48,16 @@ reopened_proper : (f : Flow) (v : Start) (id : ℕ) (o : Option Row) → look id
 reopened_proper f v id None e st = none_proper f
 reopened_proper f v id (Some r) e st =
     let fits = st.view.rows id r e in
-    reopening_proper f (is_committing r.phase) (map (number_of f) (to_tell r r.doing)) r.told r.tries r.context (told_within f r (is_open r.phase) refl fits) (few_told f r fits)
+    reopening_proper f (is_committing r.phase) (map (number_of f) (to_tell r r.doing)) r.told r.tries r.context
+    (told_within f r (is_open r.phase) refl fits) (few_told f r fits)
     (All-map (λ p. p < length (parts_of f)) (number_of f) (to_tell r r.doing) (st.knows id r e))
 
 begun_proper : (f : Flow) (o : Option Waiting) → IsProper f (begun f o)
 begun_proper f None = none_proper f
 begun_proper f (Some w) = opening_proper f w.tries w.context
 
-first_if : (f : Flow) (v : Start) (ws : List Waiting) (id : ℕ) (b : Bool) → StartFits f v → IsProper f (if b then reopened_at f (look id v.view.rows) else begun f (slice_get ws (id - v.view.next_id)))
+first_if : (f : Flow) (v : Start) (ws : List Waiting) (id : ℕ) (b : Bool) → StartFits f v →
+    IsProper f (if b then reopened_at f (look id v.view.rows) else begun f (slice_get ws (id - v.view.next_id)))
 first_if f v ws id true st = reopened_proper f v id (look id v.view.rows) refl st
 first_if f v ws id false st = begun_proper f (slice_get ws (id - v.view.next_id))
 
@@ -64,17 +66,22 @@ first_proper f v ws id st = first_if f v ws id (nat_lt id v.view.next_id) st
 
 -- after each event
 
-given_if : (f : Flow) (v : Start) (past : List Event) (e : Event) (id : ℕ) (x : Item) (j : ℕ) → Gave f v past e id x → is_due (state_of f v past id) x ≡ true → ((k : ℕ) → IsProper f (state_of f v past k))
+given_if : (f : Flow) (v : Start) (past : List Event) (e : Event) (id : ℕ) (x : Item) (j : ℕ) → Gave f v past e id x →
+    is_due (state_of f v past id) x ≡ true → ((k : ℕ) → IsProper f (state_of f v past k))
     → (b : Bool) → (j == id) ≡ b → IsProper f (state_of f v (e ∷ past) j)
 given_if f v past e id x j g due all true at =
     let same : j ≡ id = grind (arith, nat_tests) in
-    subst (λ (i : ℕ). IsProper f (state_of f v (e ∷ past) i)) (sym same) (subst (IsProper f) (sym (state_given f v past e id x g)) (next_proper f (state_of f v past id) x due (all id)))
-given_if f v past e id x j g due all false at = let differ : j ≢ id = grind (arith, nat_tests) in subst (IsProper f) (sym (state_other f v past e id x j g differ)) (all j)
+    subst (λ (i : ℕ). IsProper f (state_of f v (e ∷ past) i)) (sym same)
+    (subst (IsProper f) (sym (state_given f v past e id x g)) (next_proper f (state_of f v past id) x due (all id)))
+given_if f v past e id x j g due all false at = let differ : j ≢ id = grind (arith, nat_tests) in
+    subst (IsProper f) (sym (state_other f v past e id x j g differ)) (all j)
 
-given_proper : (f : Flow) (v : Start) (past : List Event) (e : Event) (id : ℕ) (x : Item) (j : ℕ) → Gave f v past e id x → is_due (state_of f v past id) x ≡ true → ((k : ℕ) → IsProper f (state_of f v past k)) → IsProper f (state_of f v (e ∷ past) j)
+given_proper : (f : Flow) (v : Start) (past : List Event) (e : Event) (id : ℕ) (x : Item) (j : ℕ) → Gave f v past e id x →
+    is_due (state_of f v past id) x ≡ true → ((k : ℕ) → IsProper f (state_of f v past k)) → IsProper f (state_of f v (e ∷ past) j)
 given_proper f v past e id x j g due all = given_if f v past e id x j g due all (j == id) refl
 
-more_if : (f : Flow) (v : Start) (past : List Event) (e : Event) (id : ℕ) → StartFits f v → own_items f v (e ∷ past) id ≡ own_items f v past id → (id < next_id v past → state_of f v (e ∷ past) id ≡ state_of f v past id)
+more_if : (f : Flow) (v : Start) (past : List Event) (e : Event) (id : ℕ) → StartFits f v → own_items f v (e ∷ past) id ≡ own_items f v past id →
+    (id < next_id v past → state_of f v (e ∷ past) id ≡ state_of f v past id)
     → IsProper f (state_of f v past id) → (b : Bool) → nat_lt id (next_id v past) ≡ b → IsProper f (state_of f v (e ∷ past) id)
 more_if f v past e id st own same p true lt = let low : id < next_id v past = grind (arith, nat_tests) in subst (IsProper f) (sym (same low)) p
 more_if f v past e id st own same p false lt =
@@ -85,9 +92,11 @@ more_if f v past e id st own same p false lt =
 pub proper_state : (f : Flow) (v : Start) (past : List Event) (id : ℕ) → StartFits f v → IsLawful f v past → IsProper f (state_of f v past id)
 proper_state f v [] id st law = first_proper f v v.queue id st
 proper_state f v (Offered c ∷ past) id st law =
-    more_if f v past (Offered c) id st refl (state_more f v past c id st.view.ordered law.2) (proper_state f v past id st law.2) (nat_lt id (next_id v past)) refl
+    more_if f v past (Offered c) id st refl (state_more f v past c id st.view.ordered law.2) (proper_state f v past id st law.2)
+    (nat_lt id (next_id v past)) refl
 proper_state f v (Released ∷ past) id st law =
-    more_if f v past Released id st refl (state_released f v past id st.view.ordered law.2) (proper_state f v past id st law.2) (nat_lt id (next_id v past)) refl
+    more_if f v past Released id st refl (state_released f v past id st.view.ordered law.2) (proper_state f v past id st law.2) (nat_lt id (next_id v past))
+    refl
 proper_state f v (Answered s b c ∷ past) id st law =
     let g = gave_answered f v past s b c law.0.0 (holds_serves f v past s law.0.0 law.0.1).0 in
     given_proper f v past (Answered s b c) law.0.0 (item.Answer b c) id g law.0.2 (λ k. proper_state f v past k st law.2)

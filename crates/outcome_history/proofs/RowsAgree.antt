@@ -1,6 +1,7 @@
 -- The rows that a lawful history leaves, by name in its journal and by number in the outcome law's.
 -- for: laws::journals_agree
-use Rattle.std.proofs.Common.{◌≡◌, ℕ, ◌+◌, ◌<◌, ◌≤◌, Bool, true, false, List, [], ◌∷◌, ◌++◌, map, length, Option, Some, None, refl, sym, ◌∙◌, ap, arith, suc, zero}
+use Rattle.std.proofs.Common.{◌≡◌, ℕ, ◌+◌, ◌<◌, ◌≤◌, Bool, true, false, List, [], ◌∷◌, ◌++◌, map, length, Option, Some, None, refl, sym, ◌∙◌, ap, arith, suc}
+use Rattle.std.proofs.Common.{zero}
 use Rattle.std.specs.Prelude.{if◌then◌else◌, ◌==◌, nat_lt, option_map}
 use Rattle.std.specs.List.{All}
 use Rattle.std.specs.Option.{option_map_or}
@@ -59,15 +60,26 @@ doing_back f (Some p) all h = ap Some (number_back f p all h)
 -- a row that is named and numbered again
 row_back : (f : Flow) (r : TxRow) → AreNumbered (parts_of f) → IsRow f r → numbered f (named_row f r) ≡ r
 row_back f r all fits =
-    ap (λ (js : List ℕ). record { phase = r.phase; joined = js; told = r.told; doing = option_map (number_of f) (option_map (name_of f) r.doing); tries = r.tries; saved = r.saved }) (numbers_back f r.joined all fits.members)
-    ∙ ap (λ (d : Option ℕ). record { phase = r.phase; joined = r.joined; told = r.told; doing = d; tries = r.tries; saved = r.saved }) (doing_back f r.doing all fits.doing)
+    ap (λ (js : List ℕ). record {
+      phase = r.phase;
+      joined = js;
+      told = r.told;
+      doing = option_map (number_of f) (option_map (name_of f) r.doing);
+      tries =
+          r.tries;
+      saved = r.saved;
+    }) (numbers_back f r.joined all fits.members)
+    ∙ ap (λ (d : Option ℕ). record { phase = r.phase; joined = r.joined; told = r.told; doing = d; tries = r.tries; saved = r.saved })
+    (doing_back f r.doing all fits.doing)
 
-rows_back : (f : Flow) (st : TxState) → AreNumbered (parts_of f) → IsProper f st → (o : Option TxRow) → row_of f st ≡ o → o ≡ option_map (numbered f) (option_map (named_row f) o)
+rows_back : (f : Flow) (st : TxState) → AreNumbered (parts_of f) → IsProper f st → (o : Option TxRow) → row_of f st ≡ o →
+    o ≡ option_map (numbered f) (option_map (named_row f) o)
 rows_back f st all p None e = refl
 rows_back f st all p (Some r) e = ap Some (sym (row_back f r all (row_bounded f st r p e)))
 
 -- of one to whom something was told, or of this life
-state_row : (f : Flow) (st : FullState) → AreNumbered (parts_of f) → IsProper f st.state → (o : Option TxRow) → st.opened ≡ o → o ≡ None → (standing f st).row ≡ option_map (numbered f) (row f st.state)
+state_row : (f : Flow) (st : FullState) → AreNumbered (parts_of f) → IsProper f st.state → (o : Option TxRow) → st.opened ≡ o → o ≡ None →
+    (standing f st).row ≡ option_map (numbered f) (row f st.state)
 state_row f st all p None e n = rw e (rows_back f st.state all p (row_of f st.state) refl)
 state_row f st all p (Some r) e n = absurd (cc)
 
@@ -87,15 +99,19 @@ told_if (Some k) id x xs here rest = by (k == id) refl
     by true e = here (let same : k ≡ id = grind (arith, nat_tests) in ap Some same)
     by false e = rest
 
-pub old_items : (f : Flow) (v : Start) (past : List Event) (id : ℕ) → IsOrdered v.view → IsLawful f v past → id < v.view.next_id → AreTold (own_items f v past id)
+pub old_items : (f : Flow) (v : Start) (past : List Event) (id : ℕ) → IsOrdered v.view → IsLawful f v past → id < v.view.next_id →
+    AreTold (own_items f v past id)
 old_items f v [] id o law lt = tt
 old_items f v (Offered x ∷ past) id o law lt = old_items f v past id o law.2 lt
 old_items f v (Taken t ∷ past) id o law lt = old_items f v past id o law.2 lt
 old_items f v (Answered t b x ∷ past) id o law lt =
-    told_if (serves f v past t) id (item.Answer b x) (own_items f v past id) (λ h. no_reply f v past t law.0.0 id _ o law.2 (recovered_id f v past t id h lt) law.0.1 law.0.2) (old_items f v past id o law.2 lt)
+    told_if (serves f v past t) id (item.Answer b x) (own_items f v past id)
+    (λ h. no_reply f v past t law.0.0 id _ o law.2 (recovered_id f v past t id h lt) law.0.1 law.0.2) (old_items f v past id o law.2 lt)
 old_items f v (Chose t x ∷ past) id o law lt =
-    told_if (serves f v past t) id (item.Choice x) (own_items f v past id) (λ h. no_reply f v past t law.0.0 id _ o law.2 (recovered_id f v past t id h lt) law.0.1 law.0.2) (old_items f v past id o law.2 lt)
-old_items f v (Told t x ∷ past) id o law lt = let rest = old_items f v past id o law.2 lt in told_if (serves f v past t) id (item.Told x) (own_items f v past id) (λ h. rest) rest
+    told_if (serves f v past t) id (item.Choice x) (own_items f v past id) (λ h. no_reply f v past t law.0.0 id _ o law.2 (recovered_id f v past t id h lt)
+    law.0.1 law.0.2) (old_items f v past id o law.2 lt)
+old_items f v (Told t x ∷ past) id o law lt = let rest = old_items f v past id o law.2 lt in
+    told_if (serves f v past t) id (item.Told x) (own_items f v past id) (λ h. rest) rest
 old_items f v (Recovered t x ∷ past) id o law lt = old_items f v past id o law.2 lt
 old_items f v (Released ∷ past) id o law lt = old_items f v past id o law.2 lt
 old_items f v (Acked k n ∷ past) id o law lt = old_items f v past id o law.2 lt
@@ -110,18 +126,27 @@ since_told r (item.Choice t) xs h = absurd h
 since_told r (item.Told a) xs h = refl
 
 -- the row of a journalled transaction
-old_rows : (f : Flow) (o : Option Row) (c : Bool) (items : List Item) (back : Bool) → AreNumbered (parts_of f) → ((r : Row) → o ≡ Some r → IsProper f (after_newest f (reopened f r) items)) → AreTold items
+old_rows : (f : Flow) (o : Option Row) (c : Bool) (items : List Item) (back : Bool) → AreNumbered (parts_of f) →
+    ((r : Row) → o ≡ Some r → IsProper f (after_newest f (reopened f r) items)) → AreTold items
     → standing_row (standing_of f (journalled f o c items back)) ≡ option_map (numbered f) (old_row f o c items)
 old_rows f None c items back all p told = refl
 old_rows f (Some r) true items back all p told = refl
 old_rows f (Some r) false [] back all p told = refl
 old_rows f (Some r) false (x ∷ xs) back all p told =
-    state_row f (record { state = after_newest f (reopened f r) (x ∷ xs); opened = opened_since (numbered f r) (x ∷ xs); recovered = true; restored = back }) all (p r refl) (opened_since (numbered f r) (x ∷ xs)) refl (since_told (numbered f r) x xs told)
+    state_row f (record {
+      state = after_newest f (reopened f r) (x ∷ xs);
+      opened = opened_since (numbered f r) (x ∷ xs);
+      recovered = true;
+      restored =
+          back;
+    }) all (p r refl) (opened_since (numbered f r) (x ∷ xs)) refl (since_told (numbered f r) x xs told)
 
-pub old_state : (f : Flow) (v : Start) (past : List Event) (id : ℕ) (r : Row) → nat_lt id v.view.next_id ≡ true → look id v.view.rows ≡ Some r → state_of f v past id ≡ after_newest f (reopened f r) (own_items f v past id)
+pub old_state : (f : Flow) (v : Start) (past : List Event) (id : ℕ) (r : Row) → nat_lt id v.view.next_id ≡ true → look id v.view.rows ≡ Some r →
+    state_of f v past id ≡ after_newest f (reopened f r) (own_items f v past id)
 old_state f v past id r lt h = rw (lt, h) refl
 
-rows_if : (f : Flow) (v : Start) (past : List Event) (id : ℕ) → AreNumbered (parts_of f) → StartFits f v → IsLawful f v past → id < next_id v past → (b : Bool) → nat_lt id v.view.next_id ≡ b
+rows_if : (f : Flow) (v : Start) (past : List Event) (id : ℕ) → AreNumbered (parts_of f) → StartFits f v → IsLawful f v past → id < next_id v past →
+    (b : Bool) → nat_lt id v.view.next_id ≡ b
     → standing_row (standing_of f (full_state f v past id)) ≡ option_map (numbered f) (row_at f v past id)
 rows_if f v past id all st law lt true e =
     let low : id < v.view.next_id = grind (arith, nat_tests) in
@@ -145,7 +170,8 @@ look_first : {A : Type 0} (id : ℕ) (xs ys : List (ℕ × A)) (x : A) → look 
 look_first id [] ys x h = absurd (cc)
 look_first id (y ∷ xs) ys x h = by (y.0 == id) h (look_first id xs ys x)
   where
-    by : (b : Bool) → (if b then Some y.1 else look id xs) ≡ Some x → (look id xs ≡ Some x → look id (xs ++ ys) ≡ Some x) → (if b then Some y.1 else look id (xs ++ ys)) ≡ Some x
+    by : (b : Bool) → (if b then Some y.1 else look id xs) ≡ Some x → (look id xs ≡ Some x → look id (xs ++ ys) ≡ Some x) →
+        (if b then Some y.1 else look id (xs ++ ys)) ≡ Some x
     by true h ih = h
     by false h ih = ih h
 
@@ -153,7 +179,8 @@ look_behind : {A : Type 0} (id : ℕ) (xs ys : List (ℕ × A)) → look id xs �
 look_behind id [] ys h = refl
 look_behind id (y ∷ xs) ys h = by (y.0 == id) h (look_behind id xs ys)
   where
-    by : (b : Bool) → (if b then Some y.1 else look id xs) ≡ None → (look id xs ≡ None → look id (xs ++ ys) ≡ look id ys) → (if b then Some y.1 else look id (xs ++ ys)) ≡ look id ys
+    by : (b : Bool) → (if b then Some y.1 else look id xs) ≡ None → (look id xs ≡ None → look id (xs ++ ys) ≡ look id ys) →
+        (if b then Some y.1 else look id (xs ++ ys)) ≡ look id ys
     by true h ih = absurd (cc)
     by false h ih = ih h
 
@@ -166,7 +193,8 @@ gathered_not h n k id out = not_in h n k id out (look id (gather h n k)) refl
 
 -- at its end, and before it
 last_at : {A : Type 0} (h : ℕ → Option A) (n k id : ℕ) → id ≡ n + k → look id (gather h n (suc k)) ≡ h id
-last_at h n k id same = rw same (look_behind (n + k) (gather h n k) (keyed (n + k) (h (n + k))) (gathered_not h n k (n + k) (λ a b. omega arith)) ∙ look_last (n + k) (h (n + k)))
+last_at h n k id same = rw same (look_behind (n + k) (gather h n k) (keyed (n + k) (h (n + k))) (gathered_not h n k (n + k) (λ a b. omega arith))
+    ∙ look_last (n + k) (h (n + k)))
 
 other_last : {A : Type 0} (m id : ℕ) (o : Option A) → id < m → look id (keyed m o) ≡ None
 other_last m id None less = refl
@@ -176,7 +204,8 @@ before_last : {A : Type 0} (h : ℕ → Option A) (n k id : ℕ) → id < n + k 
 before_last h n k id less None e = look_behind id (gather h n k) (keyed (n + k) (h (n + k))) e ∙ other_last (n + k) id (h (n + k)) less
 before_last h n k id less (Some x) e = look_first id (gather h n k) (keyed (n + k) (h (n + k))) x e
 
-gathered_if : {A : Type 0} (h : ℕ → Option A) (n k id : ℕ) → id < n + suc k → (id < n + k → look id (gather h n k) ≡ h id) → (b : Bool) → (id == n + k) ≡ b → look id (gather h n (suc k)) ≡ h id
+gathered_if : {A : Type 0} (h : ℕ → Option A) (n k id : ℕ) → id < n + suc k → (id < n + k → look id (gather h n k) ≡ h id) → (b : Bool) →
+    (id == n + k) ≡ b → look id (gather h n (suc k)) ≡ h id
 gathered_if h n k id hi ih true e = let same : id ≡ n + k = grind (arith, nat_tests) in last_at h n k id same
 gathered_if h n k id hi ih false e = let less : id < n + k = grind (arith, nat_tests) in before_last h n k id less (h id) (ih less)
 
@@ -192,7 +221,8 @@ no_row_at_0 f v past o =
     let old : nat_lt 0 v.view.next_id ≡ true = grind (arith, nat_tests) in
     rw (old, look_below v.view.rows 1 v.view.next_id 0 o.rows (omega arith)) refl
 
-row_here : (f : Flow) (v : Start) (past : List Event) (id : ℕ) → IsOrdered v.view → id < next_id v past → (b : Bool) → (id == 0) ≡ b → row_at f v past id ≡ look id (journal f v past).rows
+row_here : (f : Flow) (v : Start) (past : List Event) (id : ℕ) → IsOrdered v.view → id < next_id v past → (b : Bool) → (id == 0) ≡ b →
+    row_at f v past id ≡ look id (journal f v past).rows
 row_here f v past id o lt true e =
     let none : id ≡ 0 = grind (arith, nat_tests) in
     rw none (no_row_at_0 f v past o ∙ sym (gathered_not (row_at f v past) 1 (ids v past) 0 (λ a b. omega arith)))
@@ -200,12 +230,14 @@ row_here f v past id o lt false e =
     let some : 1 ≤ id = grind (arith, nat_tests) in
     sym (gathered_at (row_at f v past) 1 (ids v past) id some (omega arith))
 
-row_if : (f : Flow) (v : Start) (past : List Event) (id : ℕ) → AreNumbered (parts_of f) → StartFits f v → IsLawful f v past → (b : Bool) → nat_lt id (next_id v past) ≡ b
+row_if : (f : Flow) (v : Start) (past : List Event) (id : ℕ) → AreNumbered (parts_of f) → StartFits f v → IsLawful f v past → (b : Bool) →
+    nat_lt id (next_id v past) ≡ b
     → standing_row (standing_of f (at f (id_view f v.view) (id_events f v past) id)) ≡ option_map (numbered f) (look id (journal f v past).rows)
 row_if f v past id all st law true e =
     let lt : id < next_id v past = grind (arith, nat_tests) in
     ap (λ (s : Option FullState). standing_row (standing_of f s)) (states_agree f v past st.view.ordered law id)
-    ∙ (rows_if f v past id all st law lt (nat_lt id v.view.next_id) refl ∙ ap (option_map (numbered f)) (row_here f v past id st.view.ordered lt (id == 0) refl))
+    ∙ (rows_if f v past id all st law lt (nat_lt id v.view.next_id) refl ∙ ap (option_map (numbered f))
+    (row_here f v past id st.view.ordered lt (id == 0) refl))
 row_if f v past id all st law false e =
     let first = st.view.ordered.next in
     let above : next_id v past ≤ id = grind (arith, nat_tests) in

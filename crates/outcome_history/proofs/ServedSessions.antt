@@ -1,6 +1,7 @@
 -- Whom sessions serve, in the outcome law's words and in those of histories.
 -- for: laws::sessions_agree
-use Rattle.std.proofs.Common.{◌≡◌, ℕ, ◌+◌, ◌-◌, ◌<◌, ◌≤◌, Bool, true, false, List, [], ◌∷◌, length, Option, Some, None, refl, sym, ◌∙◌, ap, subst, arith, zero, suc}
+use Rattle.std.proofs.Common.{◌≡◌, ℕ, ◌+◌, ◌-◌, ◌<◌, ◌≤◌, Bool, true, false, List, [], ◌∷◌, length, Option, Some, None, refl, sym, ◌∙◌, ap, subst, arith, zero}
+use Rattle.std.proofs.Common.{suc}
 use Rattle.std.specs.Prelude.{if◌then◌else◌, slice_get, ◌==◌, ◌||◌, nat_lt, not}
 use Rattle.std.proofs.lemmas.Bool.Decides.{nat_tests}
 use Rattle.flow_model.specs.declared.flow.Flow.{Flow}
@@ -70,10 +71,14 @@ pub takes_same : (f : Flow) (v : Start) (past : List Event) → core.takes (id_e
 takes_same f v [] = refl
 takes_same f v (Offered x ∷ past) = takes_same f v past
 takes_same f v (Taken t ∷ past) = ap (λ (n : ℕ). n + 1) (takes_same f v past)
-takes_same f v (Answered t b x ∷ past) = takes_given (plant.serves f (id_view f v.view) (session_events f v past) t) (Answer b x) (id_events f v past) (takes past) (takes_same f v past)
-takes_same f v (Chose t x ∷ past) = takes_given (plant.serves f (id_view f v.view) (session_events f v past) t) (Chosen x) (id_events f v past) (takes past) (takes_same f v past)
-takes_same f v (Told t x ∷ past) = takes_given (plant.serves f (id_view f v.view) (session_events f v past) t) (Advice x) (id_events f v past) (takes past) (takes_same f v past)
-takes_same f v (Recovered t x ∷ past) = takes_given (plant.serves f (id_view f v.view) (session_events f v past) t) Restored (id_events f v past) (takes past) (takes_same f v past)
+takes_same f v (Answered t b x ∷ past) = takes_given (plant.serves f (id_view f v.view) (session_events f v past) t) (Answer b x) (id_events f v past)
+    (takes past) (takes_same f v past)
+takes_same f v (Chose t x ∷ past) = takes_given (plant.serves f (id_view f v.view) (session_events f v past) t) (Chosen x) (id_events f v past) (takes past)
+    (takes_same f v past)
+takes_same f v (Told t x ∷ past) = takes_given (plant.serves f (id_view f v.view) (session_events f v past) t) (Advice x) (id_events f v past) (takes past)
+    (takes_same f v past)
+takes_same f v (Recovered t x ∷ past) = takes_given (plant.serves f (id_view f v.view) (session_events f v past) t) Restored (id_events f v past)
+    (takes past) (takes_same f v past)
 takes_same f v (Released ∷ past) = takes_same f v past
 takes_same f v (Acked k n ∷ past) = takes_same f v past
 takes_same f v (Broke p ∷ past) = takes_same f v past
@@ -114,7 +119,8 @@ seek_or : (b : Bool) (id : ℕ) (o : Option ℕ) → (if not b then Some id else
 seek_or true id o = refl
 seek_or false id o = refl
 
-pub seek_first : (f : Flow) (rows : List (ℕ × Row)) (items : ℕ → List Item) (test : ℕ → Bool) (n k : ℕ) → Rising n (n + k) rows → ((j : ℕ) → n ≤ j → j < n + k → test j ≡ open_at f (look j rows) (items j))
+pub seek_first : (f : Flow) (rows : List (ℕ × Row)) (items : ℕ → List Item) (test : ℕ → Bool) (n k : ℕ) → Rising n (n + k) rows →
+    ((j : ℕ) → n ≤ j → j < n + k → test j ≡ open_at f (look j rows) (items j))
     → seek test n k ≡ first_unfinished f rows items
 seek_first f [] items test n k rise h = seek_never test n k h
 seek_first f (x ∷ rows) items test n k rise h =
@@ -126,12 +132,14 @@ seek_first f (x ∷ rows) items test n k rise h =
     let place : n + a ≡ x.0 = omega arith in
     let end : n + k ≡ x.0 + 1 + b = omega arith in
     let here : (x.0 == x.0) ≡ true = grind (arith, nat_tests) in
-    let tested : test x.0 ≡ not (is_ended f (after_newest f (reopened f x.1) (items x.0))) = h x.0 lo hi ∙ ap (λ (c : Bool). open_at f (if c then Some x.1 else look x.0 rows) (items x.0)) here in
+    let tested : test x.0 ≡ not (is_ended f (after_newest f (reopened f x.1) (items x.0))) =
+    h x.0 lo hi ∙ ap (λ (c : Bool). open_at f (if c then Some x.1 else look x.0 rows) (items x.0)) here in
     let below : (j : ℕ) → n ≤ j → j < n + a → test j ≡ false = λ j c d.
     (let other : (x.0 == j) ≡ false = grind (arith, nat_tests) in
     let none : look j (x ∷ rows) ≡ None = rw other (look_below rows (x.0 + 1) (n + k) j rise.2 (omega arith)) in
     h j c (omega arith) ∙ ap (λ (o : Option Row). open_at f o (items j)) none) in
-    let behind : seek test (x.0 + 1) b ≡ first_unfinished f rows items = seek_first f rows items test (x.0 + 1) b (subst (λ (m : ℕ). Rising (x.0 + 1) m rows) end rise.2)
+    let behind : seek test (x.0 + 1) b ≡ first_unfinished f rows items =
+    seek_first f rows items test (x.0 + 1) b (subst (λ (m : ℕ). Rising (x.0 + 1) m rows) end rise.2)
     (λ j c d. let other : (x.0 == j) ≡ false = grind (arith, nat_tests) in
     let same : look j (x ∷ rows) ≡ look j rows = rw other refl in
     h j (omega arith) (omega arith) ∙ ap (λ (o : Option Row). open_at f o (items j)) same) in
@@ -157,13 +165,17 @@ idle_seen f st (due.Abort p) = idle_outcome (restores f st p) p
 idle_seen f st due.Shelve = refl
 idle_seen f st due.Done = refl
 
-unfinished_journalled : (f : Flow) (o : Option Row) (c : Bool) (items : List Item) (back : Bool) → (c ≡ true → open_at f o items ≡ false) → unfinished f (journalled f o c items back) ≡ open_at f o items
+unfinished_journalled : (f : Flow) (o : Option Row) (c : Bool) (items : List Item) (back : Bool) → (c ≡ true → open_at f o items ≡ false) →
+    unfinished f (journalled f o c items back) ≡ open_at f o items
 unfinished_journalled f None c items back h = refl
 unfinished_journalled f (Some r) true items back h = sym (h refl)
-unfinished_journalled f (Some r) false items back h = ap not (idle_seen f (record { state = after_newest f (reopened f r) items; opened = opened_since (numbered f r) items; recovered = true; restored = back }) (due_of f (after_newest f (reopened f r) items)))
+unfinished_journalled f (Some r) false items back h = ap not
+    (idle_seen f (record { state = after_newest f (reopened f r) items; opened = opened_since (numbered f r) items; recovered = true; restored = back })
+    (due_of f (after_newest f (reopened f r) items)))
 
 -- a closed transaction had nobody to tell
-closed_if : (f : Flow) (v : Start) (past : List Event) (k id : ℕ) → IsOrdered v.view → slice_get (to_close f v.view.rows) (length past) ≡ Some k → (is_closed past id ≡ true → Closing f v.view.rows id)
+closed_if : (f : Flow) (v : Start) (past : List Event) (k id : ℕ) → IsOrdered v.view → slice_get (to_close f v.view.rows) (length past) ≡ Some k →
+    (is_closed past id ≡ true → Closing f v.view.rows id)
     → (b : Bool) → (k == id) ≡ b → (b || is_closed past id) ≡ true → Closing f v.view.rows id
 closed_if f v past k id o there ih true e h =
     let same : k ≡ id = grind (arith, nat_tests) in
@@ -185,7 +197,8 @@ closed_over f v (Cleared p ∷ past) id o law h = closed_over f v past id o law.
 closed_over f v (LetGo t ∷ past) id o law h = closed_over f v past id o law.2 h
 closed_over f v (Closed k ∷ past) id o law h = closed_if f v past k id o law.0 (closed_over f v past id o law.2) (k == id) refl h
 
-pub closed_idle : (f : Flow) (v : Start) (past : List Event) (id : ℕ) → IsOrdered v.view → IsLawful f v past → is_closed past id ≡ true → open_at f (look id v.view.rows) (own_items f v past id) ≡ false
+pub closed_idle : (f : Flow) (v : Start) (past : List Event) (id : ℕ) → IsOrdered v.view → IsLawful f v past → is_closed past id ≡ true →
+    open_at f (look id v.view.rows) (own_items f v past id) ≡ false
 closed_idle f v past id o law h =
     let w = closed_over f v past id o law h in
     ap (λ (r : Option Row). open_at f r (own_items f v past id)) w.there ∙ ap not (ended_stays f w.row (own_items f v past id) w.over)
@@ -195,8 +208,10 @@ closed_idle f v past id o law h =
 abbrev pub States : Flow → Start → List Event → Type 0
 States f v past = (id : ℕ) → at f (id_view f v.view) (id_events f v past) id ≡ full_state f v past id
 
-tested_below : (f : Flow) (v : Start) (past : List Event) (id : ℕ) → IsOrdered v.view → IsLawful f v past → nat_lt id v.view.next_id ≡ true → unfinished f (full_state f v past id) ≡ open_at f (look id v.view.rows) (own_items f v past id)
-tested_below f v past id o law lt = rw lt (unfinished_journalled f (look id v.view.rows) (is_closed past id) (own_items f v past id) (restored f v past id) (closed_idle f v past id o law))
+tested_below : (f : Flow) (v : Start) (past : List Event) (id : ℕ) → IsOrdered v.view → IsLawful f v past → nat_lt id v.view.next_id ≡ true →
+    unfinished f (full_state f v past id) ≡ open_at f (look id v.view.rows) (own_items f v past id)
+tested_below f v past id o law lt = rw lt (unfinished_journalled f (look id v.view.rows) (is_closed past id) (own_items f v past id) (restored f v past id)
+    (closed_idle f v past id o law))
 
 rising_lower : (m k : ℕ) (rows : List (ℕ × Row)) → m ≡ k → Rising 1 m rows → Rising 0 k rows
 rising_lower m k [] e rise = omega arith
@@ -205,10 +220,12 @@ rising_lower m k (x ∷ rows) e rise = (omega arith, let a = rise.1 in omega ari
 pub recovering_same : (f : Flow) (v : Start) (past : List Event) → IsOrdered v.view → IsLawful f v past → States f v past
     → plant.recovering f (id_view f v.view) (id_events f v past) ≡ recovering f v past
 recovering_same f v past o law states =
-    seek_first f v.view.rows (own_items f v past) (λ (id : ℕ). unfinished f (at f (id_view f v.view) (id_events f v past) id)) 0 v.view.next_id (rising_lower v.view.next_id (0 + v.view.next_id) v.view.rows (omega arith) o.rows)
+    seek_first f v.view.rows (own_items f v past) (λ (id : ℕ). unfinished f (at f (id_view f v.view) (id_events f v past) id)) 0 v.view.next_id
+    (rising_lower v.view.next_id (0 + v.view.next_id) v.view.rows (omega arith) o.rows)
     (λ j lo hi. let lt : nat_lt j v.view.next_id ≡ true = grind (arith, nat_tests) in ap (unfinished f) (states j) ∙ tested_below f v past j o law lt)
 
-none_recovering : (f : Flow) (v : Start) (past : List Event) (s id : ℕ) → IsOrdered v.view → IsLawful f v past → taken v past s ≡ Some id → (r : Option ℕ) → recovering f v past ≡ r → Some id ≡ or_taken r (Some id)
+none_recovering : (f : Flow) (v : Start) (past : List Event) (s id : ℕ) → IsOrdered v.view → IsLawful f v past → taken v past s ≡ Some id → (r : Option ℕ) →
+    recovering f v past ≡ r → Some id ≡ or_taken r (Some id)
 none_recovering f v past s id o law h None e = refl
 none_recovering f v past s id o law h (Some k) e = absurd (let w = none_taken v past s (recovered_first f v past k o law e) in cc)
 
@@ -216,14 +233,17 @@ or_none : (r : Option ℕ) → r ≡ or_taken r None
 or_none None = refl
 or_none (Some k) = refl
 
-served_if : (f : Flow) (v : Start) (past : List Event) (s : ℕ) (l : List IdEvent) → IsOrdered v.view → IsLawful f v past → plant.recovering f (id_view f v.view) l ≡ recovering f v past
-    → (o : Option ℕ) → taken v past s ≡ o → (b : Bool) → (s == 0) ≡ b → serves_in f (id_view f v.view) o s l ≡ (if b then or_taken (recovering f v past) o else o)
+served_if : (f : Flow) (v : Start) (past : List Event) (s : ℕ) (l : List IdEvent) → IsOrdered v.view → IsLawful f v past →
+    plant.recovering f (id_view f v.view) l ≡ recovering f v past
+    → (o : Option ℕ) → taken v past s ≡ o → (b : Bool) → (s == 0) ≡ b →
+    serves_in f (id_view f v.view) o s l ≡ (if b then or_taken (recovering f v past) o else o)
 served_if f v past s l o law same (Some id) e true z = none_recovering f v past s id o law e (recovering f v past) refl
 served_if f v past s l o law same (Some id) e false z = refl
 served_if f v past s l o law same None e true z = rw z (same ∙ or_none (recovering f v past))
 served_if f v past s l o law same None e false z = rw z refl
 
-pub serves_from : (f : Flow) (v : Start) (past : List Event) (s : ℕ) → IsOrdered v.view → IsLawful f v past → States f v past → plant.serves f (id_view f v.view) (session_events f v past) s ≡ serves f v past s
+pub serves_from : (f : Flow) (v : Start) (past : List Event) (s : ℕ) → IsOrdered v.view → IsLawful f v past → States f v past →
+    plant.serves f (id_view f v.view) (session_events f v past) s ≡ serves f v past s
 serves_from f v past s o law states =
     ap (λ (t : Option ℕ). serves_in f (id_view f v.view) t s (id_events f v past)) (taken_same f v past s)
     ∙ served_if f v past s (id_events f v past) o law (recovering_same f v past o law states) (taken v past s) refl (s == 0) refl

@@ -23,7 +23,8 @@ use Rattle.tx_history.proofs.GivenItems.{gave_answered, gave_chose, gave_told, c
 use Rattle.tx_history.proofs.Sessions.{state_more, state_released}
 use Rattle.outcome_history.specs.Looked.{id_view}
 use Rattle.outcome_history.specs.Sessions.{session_events, id_events, restored, journalled, taken_at, full_state, head_of}
-use Rattle.outcome_history.proofs.FullStates.{full_first, full_given, full_other, full_restored, restored_other, full_closed, closed_other, full_taken, taken_other}
+use Rattle.outcome_history.proofs.FullStates.{full_first, full_given, full_other, full_restored, restored_other, full_closed, closed_other, full_taken}
+use Rattle.outcome_history.proofs.FullStates.{taken_other}
 use Rattle.outcome_history.proofs.ServedSessions.{States, next_same, serves_from, recovering_same}
 
 -- by cases of an id
@@ -32,19 +33,25 @@ by_id : (i j : ℕ) (P : Bool → Type 0) → (i ≡ j → P true) → (i ≢ j 
 by_id i j P same other true e = same (grind (arith, nat_tests))
 by_id i j P same other false e = other (grind (arith, nat_tests))
 
-at_given : (f : Flow) (v : IdView) (l : List IdEvent) (o : Option ℕ) (id j : ℕ) (x : FullReply) → o ≡ Some id → at f v (given_to o x ∷ l) j ≡ (if id == j then later f x (at f v l j) else at f v l j)
+at_given : (f : Flow) (v : IdView) (l : List IdEvent) (o : Option ℕ) (id j : ℕ) (x : FullReply) → o ≡ Some id →
+    at f v (given_to o x ∷ l) j ≡ (if id == j then later f x (at f v l j) else at f v l j)
 at_given f v l None id j x e = absurd (cc)
 at_given f v l (Some k) id j x e = let same : k ≡ id = grind (arith) in ap (λ (i : ℕ). if i == j then later f x (at f v l j) else at f v l j) same
 
 -- a reply
 
-pub given_states : (f : Flow) (v : Start) (past : List Event) (e : Event) (s id : ℕ) (x : FullReply) → IsOrdered v.view → IsLawful f v past → serves f v past s ≡ Some id → States f v past
+pub given_states : (f : Flow) (v : Start) (past : List Event) (e : Event) (s id : ℕ) (x : FullReply) → IsOrdered v.view → IsLawful f v past →
+    serves f v past s ≡ Some id → States f v past
     → later f x (full_state f v past id) ≡ full_state f v (e ∷ past) id → ((j : ℕ) → j ≢ id → full_state f v past j ≡ full_state f v (e ∷ past) j)
-    → (j : ℕ) → at f (id_view f v.view) (given_to (plant.serves f (id_view f v.view) (session_events f v past) s) x ∷ id_events f v past) j ≡ full_state f v (e ∷ past) j
+    → (j : ℕ) → at f (id_view f v.view) (given_to (plant.serves f (id_view f v.view) (session_events f v past) s) x ∷ id_events f v past) j
+    ≡ full_state f v (e ∷ past) j
 given_states f v past e s id x o law h states here others j =
-    at_given f (id_view f v.view) (id_events f v past) (plant.serves f (id_view f v.view) (session_events f v past) s) id j x (serves_from f v past s o law states ∙ h)
-    ∙ by_id id j (λ (b : Bool). (if b then later f x (at f (id_view f v.view) (id_events f v past) j) else at f (id_view f v.view) (id_events f v past) j) ≡ full_state f v (e ∷ past) j)
-    (λ same. subst (λ (i : ℕ). later f x (at f (id_view f v.view) (id_events f v past) i) ≡ full_state f v (e ∷ past) i) same (ap (later f x) (states id) ∙ here))
+    at_given f (id_view f v.view) (id_events f v past) (plant.serves f (id_view f v.view) (session_events f v past) s) id j x
+    (serves_from f v past s o law states ∙ h)
+    ∙ by_id id j (λ (b : Bool). (if b then later f x (at f (id_view f v.view) (id_events f v past) j) else at f (id_view f v.view) (id_events f v past) j)
+    ≡ full_state f v (e ∷ past) j)
+    (λ same. subst (λ (i : ℕ). later f x (at f (id_view f v.view) (id_events f v past) i) ≡ full_state f v (e ∷ past) i) same
+    (ap (later f x) (states id) ∙ here))
     (λ differ. states j ∙ others j (λ e. differ (sym e)))
     (id == j) refl
 
@@ -56,7 +63,8 @@ told_other b o id j h d = rw (is_other o id j h d) refl
 
 -- what arrives
 
-more_states : (f : Flow) (v : Start) (past : List Event) (e : Event) (j : ℕ) → takes (e ∷ past) ≡ takes past → (b : Bool) → nat_lt j (next_id v past) ≡ b → (b ≡ true → state_of f v (e ∷ past) j ≡ state_of f v past j)
+more_states : (f : Flow) (v : Start) (past : List Event) (e : Event) (j : ℕ) → takes (e ∷ past) ≡ takes past → (b : Bool) → nat_lt j (next_id v past) ≡ b →
+    (b ≡ true → state_of f v (e ∷ past) j ≡ state_of f v past j)
     → taken_at (nat_lt j (next_id v past)) (state_of f v past j) ≡ taken_at (nat_lt j (next_id v (e ∷ past))) (state_of f v (e ∷ past) j)
 more_states f v past e j n true b same = rw (n, same refl) refl
 more_states f v past e j n false b same = rw (n, b) refl
@@ -64,23 +72,30 @@ more_states f v past e j n false b same = rw (n, b) refl
 known_below : (n m : ℕ) → nat_lt n m ≡ true → n < m
 known_below n m h = grind (arith, nat_tests)
 
-full_offered : (f : Flow) (v : Start) (past : List Event) (c : List ℕ) (j : ℕ) → IsOrdered v.view → IsLawful f v past → full_state f v past j ≡ full_state f v (Offered c ∷ past) j
+full_offered : (f : Flow) (v : Start) (past : List Event) (c : List ℕ) (j : ℕ) → IsOrdered v.view → IsLawful f v past →
+    full_state f v past j ≡ full_state f v (Offered c ∷ past) j
 full_offered f v past c j o law =
-    let w = more_states f v past (Offered c) j refl (nat_lt j (next_id v past)) refl (λ lt. state_more f v past c j o law (known_below j (next_id v past) lt)) in
-    ap (λ (s : Option FullState). if nat_lt j v.view.next_id then journalled f (look j v.view.rows) (is_closed past j) (own_items f v past j) (restored f v past j) else s) w
+    let w = more_states f v past (Offered c) j refl (nat_lt j (next_id v past)) refl
+    (λ lt. state_more f v past c j o law (known_below j (next_id v past) lt)) in
+    ap (λ (s : Option FullState). if nat_lt j v.view.next_id then journalled f (look j v.view.rows) (is_closed past j) (own_items f v past j)
+    (restored f v past j) else s) w
 
-full_released : (f : Flow) (v : Start) (past : List Event) (j : ℕ) → IsOrdered v.view → IsLawful f v past → full_state f v past j ≡ full_state f v (Released ∷ past) j
+full_released : (f : Flow) (v : Start) (past : List Event) (j : ℕ) → IsOrdered v.view → IsLawful f v past →
+    full_state f v past j ≡ full_state f v (Released ∷ past) j
 full_released f v past j o law =
     let w = more_states f v past Released j refl (nat_lt j (next_id v past)) refl (λ lt. state_released f v past j o law (known_below j (next_id v past) lt)) in
-    ap (λ (s : Option FullState). if nat_lt j v.view.next_id then journalled f (look j v.view.rows) (is_closed past j) (own_items f v past j) (restored f v past j) else s) w
+    ap (λ (s : Option FullState). if nat_lt j v.view.next_id then journalled f (look j v.view.rows) (is_closed past j) (own_items f v past j)
+    (restored f v past j) else s) w
 
 -- a take
 
 taken_states : (f : Flow) (v : Start) (past : List Event) (s j : ℕ) → IsOrdered v.view → takes past < length (arrivals f v past) → States f v past
     → at f (id_view f v.view) (core.Took (head_of (slice_get (queue f v past) 0)) ∷ id_events f v past) j ≡ full_state f v (Taken s ∷ past) j
 taken_states f v past s j o room states =
-    ap (λ (n : ℕ). if n == j then Some (begin f (head_of (slice_get (queue f v past) 0))) else at f (id_view f v.view) (id_events f v past) j) (next_same f v past)
-    ∙ by_id (next_id v past) j (λ (b : Bool). (if b then Some (begin f (head_of (slice_get (queue f v past) 0))) else at f (id_view f v.view) (id_events f v past) j) ≡ full_state f v (Taken s ∷ past) j)
+    ap (λ (n : ℕ). if n == j then Some (begin f (head_of (slice_get (queue f v past) 0))) else at f (id_view f v.view) (id_events f v past) j)
+    (next_same f v past)
+    ∙ by_id (next_id v past) j (λ (b : Bool). (if b then Some (begin f (head_of (slice_get (queue f v past) 0))) else at f (id_view f v.view)
+    (id_events f v past) j) ≡ full_state f v (Taken s ∷ past) j)
     (λ same. full_taken f v past s o room ∙ ap (full_state f v (Taken s ∷ past)) same)
     (λ differ. let other : (next_id v past == j) ≡ false = grind (arith, nat_tests) in states j ∙ taken_other f v past s j other)
     (next_id v past == j) refl
@@ -145,8 +160,10 @@ states_agree f v (Cleared p ∷ past) o law j = states_agree f v past o law.2 j
 states_agree f v (LetGo t ∷ past) o law j = states_agree f v past o law.2 j
 states_agree f v (Closed i ∷ past) o law j = closed_states f v past i j (closed_below f v past i o law.0) (states_agree f v past o law.2)
 
-pub serves_agree : (f : Flow) (v : Start) (past : List Event) (s : ℕ) → IsOrdered v.view → IsLawful f v past → plant.serves f (id_view f v.view) (session_events f v past) s ≡ serves f v past s
+pub serves_agree : (f : Flow) (v : Start) (past : List Event) (s : ℕ) → IsOrdered v.view → IsLawful f v past →
+    plant.serves f (id_view f v.view) (session_events f v past) s ≡ serves f v past s
 serves_agree f v past s o law = serves_from f v past s o law (states_agree f v past o law)
 
-pub recovering_agree : (f : Flow) (v : Start) (past : List Event) → IsOrdered v.view → IsLawful f v past → plant.recovering f (id_view f v.view) (id_events f v past) ≡ recovering f v past
+pub recovering_agree : (f : Flow) (v : Start) (past : List Event) → IsOrdered v.view → IsLawful f v past →
+    plant.recovering f (id_view f v.view) (id_events f v past) ≡ recovering f v past
 recovering_agree f v past o law = recovering_same f v past o law (states_agree f v past o law)

@@ -11,7 +11,15 @@ use Rattle.tx_history.specs.Journal.{to_close}
 
 -- a row with its participants by number
 abbrev pub numbered : Flow → Row → TxRow
-numbered f r = record { phase = r.phase; joined = map (number_of f) r.joined; told = r.told; doing = option_map (number_of f) r.doing; tries = r.tries; saved = r.context }
+numbered f r = record {
+  phase = r.phase;
+  joined = map (number_of f) r.joined;
+  told = r.told;
+  doing = option_map (number_of f) r.doing;
+  tries =
+      r.tries;
+  saved = r.context;
+}
 
 -- the advice under a member's place
 abbrev pub advice_at : ℕ × ℕ → List ((ℕ × ℕ) × List ℕ) → Option (List ℕ)

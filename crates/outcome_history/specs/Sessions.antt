@@ -79,4 +79,10 @@ full_state f v past id =
 
 -- the state of a journalled transaction, as histories have it
 abbrev pub recovered_state : Flow → Start → List Event → ℕ → Row → FullState
-recovered_state f v past id r = record { state = state_of f v past id; opened = opened_since (numbered f r) (own_items f v past id); recovered = true; restored = restored f v past id }
+recovered_state f v past id r = record {
+  state = state_of f v past id;
+  opened = opened_since (numbered f r) (own_items f v past id);
+  recovered =
+      true;
+  restored = restored f v past id;
+}

@@ -40,7 +40,8 @@ names_known f id (x ∷ names) all =
     let here : nat_lt (number_of f x) (length (parts_of f)) ≡ true = grind (arith, nat_tests) in
     ap (λ (b : Bool). if b then unknown_in f id names else Some (UnknownParticipant id x)) here ∙ names_known f id names (All-tail (Known f) x names all)
 
-rows_known : (f : Flow) (n m : ℕ) (rows : List (ℕ × Row)) → Rising n m rows → ((id : ℕ) (r : Row) → look id rows ≡ Some r → All (Known f) (to_tell r r.doing)) → unknown_of f rows ≡ None
+rows_known : (f : Flow) (n m : ℕ) (rows : List (ℕ × Row)) → Rising n m rows →
+    ((id : ℕ) (r : Row) → look id rows ≡ Some r → All (Known f) (to_tell r r.doing)) → unknown_of f rows ≡ None
 rows_known f n m [] rising known = refl
 rows_known f n m (x ∷ rows) rising known =
     let same : x.0 == x.0 ≡ true = grind (arith, nat_tests) in
@@ -63,7 +64,8 @@ before f v n [] gone h = h
 before f v n (e ∷ late) gone h = before f v n late gone (earlier f v n (late ++ gone) e h)
 
 -- an engine may be opened on the journal of the written entries
-opens_written : (w : World) (late gone : List Event) → IsEngine w → 1 ≤ w.sessions → w.past ≡ late ++ gone → open_refusal w.flow (journal w.flow w.start gone) w.sessions ≡ None
+opens_written : (w : World) (late gone : List Event) → IsEngine w → 1 ≤ w.sessions → w.past ≡ late ++ gone →
+    open_refusal w.flow (journal w.flow w.start gone) w.sessions ≡ None
 opens_written w late gone engine some all =
     let lawful = before w.flow w.start w.sessions late gone (subst (IsHistory w.flow w.start w.sessions) all engine.lawful) in
     let fits = stopped_fits w.flow w.start gone w.sessions engine.flow engine.start lawful.few lawful.sessions lawful.spelled lawful.lawful in
@@ -74,10 +76,12 @@ opens_written w late gone engine some all =
 no_error : (e : EngineError) → None ≡ Some e → ⊥
 no_error e h = absurd (cc)
 
-pub stop_refused : (e : EngineError) (m : List Moved) (p q : Whole) → Seated p.core → Written p.core.world p.journal.tables → IsClean q.journal → Stops m p (Ok (outcome.Refused e)) q → ⊥
+pub stop_refused : (e : EngineError) (m : List Moved) (p q : Whole) → Seated p.core → Written p.core.world p.journal.tables → IsClean q.journal →
+    Stops m p (Ok (outcome.Refused e)) q → ⊥
 stop_refused e m p q seated written clean stops =
     let w = p.core.world in
     let unopened = stops.1 in
     let read = unopened.2.view_is clean in
     let is = sym read.reads ∙ written.holds.stands.reads in
-    no_error e (sym (opens_written w written.late written.gone seated.engine seated.sessions written.all) ∙ ap (λ (v : JournalView). open_refusal w.flow v w.sessions) (sym is) ∙ unopened.3)
+    no_error e (sym (opens_written w written.late written.gone seated.engine seated.sessions written.all)
+    ∙ ap (λ (v : JournalView). open_refusal w.flow v w.sessions) (sym is) ∙ unopened.3)

@@ -1,4 +1,4 @@
--- Refusals in order: which of several is told, and what a call that has refusals answers.
+-- Refusals in order: which of several is reported, and what a call that has refusals answers.
 use Rattle.std.specs.Prelude.{◌≡◌, ℕ, ◌+◌, Bool, List, [], ◌∷◌, Option, Some, None, Result, Ok, Err, if◌then◌else◌}
 
 -- the first of two refusals

@@ -8,7 +8,8 @@ use Rattle.sw_book.specs.declared.item.BookKey.{BookKey}
 use Rattle.sw_book.specs.declared.item.Item.{Item}
 use Rattle.sw_book.specs.declared.item.Totals.{Totals}
 use Rattle.sw_book.specs.declared.item.State.TheVariants.{Open, Used}
-use Rattle.sw_book.specs.Items.{Items, is_open, is_used, total, used, reserved, spent_of, held_of, id_of, item_at, with_item, in_its_place, without, totals_in, key_eq, card_eq}
+use Rattle.sw_book.specs.Items.{Items, is_open, is_used, total, used, reserved, spent_of, held_of, id_of, item_at, with_item, in_its_place, without, totals_in}
+use Rattle.sw_book.specs.Items.{key_eq, card_eq}
 use Rattle.sw_book.specs.Kept.{IsBook, one}
 use Rattle.sw_book.proofs.Sums.{total-new, total-set, total-out, total-has}
 use Rattle.sw_book.proofs.Keys.{id_of-new, id_of-set, id_of-out, own-new, own-set, own-out}
@@ -53,7 +54,8 @@ module _ (limit id : ℕ) (es : Items) (ids : BookKey → Option ℕ) (t : Card 
     pub keeps_new : item_at id es ≡ None → ids v.key ≡ None → spent_of v ≡ 0
         → (totals_in (t v.card)).used + (totals_in (t v.card)).reserved + held_of v ≤ limit
         → ((q : BookKey) → ids' q ≡ cond (key_eq v.key q) (Some id) (ids q))
-        → ((c : Card) → t' c ≡ cond (card_eq v.card c) (Some (record { used = (totals_in (t v.card)).used; reserved = (totals_in (t v.card)).reserved + held_of v })) (t c))
+        → ((c : Card) → t' c ≡ cond (card_eq v.card c) (Some
+        (record { used = (totals_in (t v.card)).used; reserved = (totals_in (t v.card)).reserved + held_of v })) (t c))
         → IsBook limit (with_item id v es) ids' t'
     keeps_new none new zero fits hk ht =
         let free : id_of v.key es ≡ None = sym (B.found v.key) ∙ new in
@@ -72,8 +74,25 @@ module _ (limit id : ℕ) (es : Items) (ids : BookKey → Option ℕ) (t : Card 
               (λ h. absurd cc)
               (λ c e h. omega (arith, total-new one c id v es none, B.known c h, ap {B = ℕ} (λ b. cond b 1 0) e));
           within = at_card (λ c o. used c (with_item id v es) + reserved c (with_item id v es) ≤ limit) v.card s t t' ht
-              (omega (arith, fits, total-new spent_of v.card id v es none, B.spent v.card, ap (λ b. cond b (spent_of v) 0) (self_eq v.card.digits), zero, total-new held_of v.card id v es none, B.held v.card, ap (λ b. cond b (held_of v) 0) (self_eq v.card.digits)))
-              (λ c e. omega (arith, B.within c, total-new spent_of c id v es none, ap (λ b. cond b (spent_of v) 0) e, total-new held_of c id v es none, ap (λ b. cond b (held_of v) 0) e));
+              (omega (
+                arith,
+                fits,
+                total-new spent_of v.card id v es none,
+                B.spent v.card,
+                ap (λ b. cond b (spent_of v) 0) (self_eq v.card.digits),
+                zero,
+                total-new held_of v.card id v es none,
+                B.held v.card,
+                ap (λ b. cond b (held_of v) 0) (self_eq v.card.digits),
+              ))
+              (λ c e. omega (
+                arith,
+                B.within c,
+                total-new spent_of c id v es none,
+                ap (λ b. cond b (spent_of v) 0) e,
+                total-new held_of c id v es none,
+                ap (λ b. cond b (held_of v) 0) e,
+              ));
         }
 
   module _ (u : Item) (is : item_at id es ≡ Some u) where
@@ -98,9 +117,23 @@ module _ (limit id : ℕ) (es : Items) (ids : BookKey → Option ℕ) (t : Card 
           let is_own : card_eq v.card u.card ≡ true = ap (λ (z : Card). bytes_eq z.digits u.card.digits) card ∙ self_eq u.card.digits in
           let is_other : (c : Card) → card_eq u.card c ≡ false → card_eq v.card c ≡ false = λ c e. ap (λ (z : Card). bytes_eq z.digits c.digits) card ∙ e in
           let spent_own : s.used ≡ used u.card (in_its_place id v es) =
-          omega (arith, spent, total-set spent_of u.card id u v es is, B.spent u.card, ap (λ b. cond b (spent_of u) 0) (self_eq u.card.digits), ap (λ b. cond b (spent_of v) 0) is_own) in
+          omega (
+            arith,
+            spent,
+            total-set spent_of u.card id u v es is,
+            B.spent u.card,
+            ap (λ b. cond b (spent_of u) 0) (self_eq u.card.digits),
+            ap (λ b. cond b (spent_of v) 0) is_own,
+          ) in
           let held_own : s.reserved ≡ reserved u.card (in_its_place id v es) =
-          omega (arith, held, total-set held_of u.card id u v es is, B.held u.card, ap (λ b. cond b (held_of u) 0) (self_eq u.card.digits), ap (λ b. cond b (held_of v) 0) is_own) in
+          omega (
+            arith,
+            held,
+            total-set held_of u.card id u v es is,
+            B.held u.card,
+            ap (λ b. cond b (held_of u) 0) (self_eq u.card.digits),
+            ap (λ b. cond b (held_of v) 0) is_own,
+          ) in
           let spent_other : (c : Card) → card_eq u.card c ≡ false → used c (in_its_place id v es) ≡ used c es =
           λ c e. omega (arith, total-set spent_of c id u v es is, ap (λ b. cond b (spent_of u) 0) e, ap (λ b. cond b (spent_of v) 0) (is_other c e)) in
           let held_other : (c : Card) → card_eq u.card c ≡ false → reserved c (in_its_place id v es) ≡ reserved c es =
@@ -110,16 +143,24 @@ module _ (limit id : ℕ) (es : Items) (ids : BookKey → Option ℕ) (t : Card 
             own = own-set id u v es key is B.own;
             found = λ q. B.found q ∙ sym (id_of-set q id u v es key is);
             spent = at_card (λ c o. (totals_in o).used ≡ used c (in_its_place id v es)) u.card s t t' ht spent_own (λ c e. B.spent c ∙ sym (spent_other c e));
-            held = at_card (λ c o. (totals_in o).reserved ≡ reserved c (in_its_place id v es)) u.card s t t' ht held_own (λ c e. B.held c ∙ sym (held_other c e));
+            held = at_card (λ c o. (totals_in o).reserved ≡ reserved c (in_its_place id v es)) u.card s t t' ht held_own
+                (λ c e. B.held c ∙ sym (held_other c e));
             known = at_card (λ c o. o ≡ None → total one c (in_its_place id v es) ≡ 0) u.card s t t' ht
                 (λ h. absurd cc)
-                (λ c e h. omega (arith, total-set one c id u v es is, B.known c h, ap {B = ℕ} (λ b. cond b 1 0) e, ap {B = ℕ} (λ b. cond b 1 0) (is_other c e)));
+                (λ c e h. omega (
+                  arith,
+                  total-set one c id u v es is,
+                  B.known c h,
+                  ap {B = ℕ} (λ b. cond b 1 0) e,
+                  ap {B = ℕ} (λ b. cond b 1 0) (is_other c e),
+                ));
             within = at_card (λ c o. used c (in_its_place id v es) + reserved c (in_its_place id v es) ≤ limit) u.card s t t' ht
                 (omega (arith, less, sums_small, spent_own, held_own))
                 (λ c e. omega (arith, B.within c, spent_other c e, held_other c e));
           }
 
-      pub keeps_out : (ids' : BookKey → Option ℕ) → ((q : BookKey) → ids' q ≡ cond (key_eq u.key q) None (ids q)) → s.used + spent_of u ≡ (totals_in (t u.card)).used
+      pub keeps_out : (ids' : BookKey → Option ℕ) → ((q : BookKey) → ids' q ≡ cond (key_eq u.key q) None (ids q)) →
+          s.used + spent_of u ≡ (totals_in (t u.card)).used
           → s.reserved + held_of u ≡ (totals_in (t u.card)).reserved → IsBook limit (without id es) ids' t'
       keeps_out ids' hk spent held =
           let es' = without id es in

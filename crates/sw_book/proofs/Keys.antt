@@ -33,12 +33,14 @@ there k id u (e ∷ es) h none = by (is_at (nat_cmp id) e.0) (bytes_eq e.1.key.p
 pub id_of-new : (q : BookKey) (id : ℕ) (v : Item) (es : Items) → item_at id es ≡ None → id_of v.key es ≡ None
     → id_of q (with_item id v es) ≡ cond (bytes_eq v.key.places q.places) (Some id) (id_of q es)
 id_of-new q id v [] h none = refl
-id_of-new q id v (e ∷ es) h none = by (nat_cmp id e.0) (bytes_eq e.1.key.places q.places) refl (bytes_eq e.1.key.places v.key.places) refl (id_of-new q id v es) h none
+id_of-new q id v (e ∷ es) h none = by (nat_cmp id e.0) (bytes_eq e.1.key.places q.places) refl (bytes_eq e.1.key.places v.key.places) refl
+    (id_of-new q id v es) h none
   where
     by : (o : Ordering) (d : Bool) → bytes_eq e.1.key.places q.places ≡ d → (k : Bool) → bytes_eq e.1.key.places v.key.places ≡ k
         → (item_at id es ≡ None → id_of v.key es ≡ None → id_of q (with_item id v es) ≡ cond (bytes_eq v.key.places q.places) (Some id) (id_of q es))
         → cond (is_eq o) (Some e.1) (item_at id es) ≡ None → cond k (Some e.0) (id_of v.key es) ≡ None
-        → id_of q (match_ordering o ((id, v) ∷ e ∷ es) ((e.0, v) ∷ es) (e ∷ with_item id v es)) ≡ cond (bytes_eq v.key.places q.places) (Some id) (cond d (Some e.0) (id_of q es))
+        → id_of q (match_ordering o ((id, v) ∷ e ∷ es) ((e.0, v) ∷ es) (e ∷ with_item id v es)) ≡ cond (bytes_eq v.key.places q.places) (Some id)
+        (cond d (Some e.0) (id_of q es))
     by Less d same k other go h none = ap (λ z. cond (bytes_eq v.key.places q.places) (Some id) (cond z (Some e.0) (id_of q es))) same
     by Equal d same k other go h none = absurd cc
     by Greater d same true other go h none = absurd cc
@@ -77,7 +79,8 @@ id_of-out q id u (e ∷ es) own h = by (is_at (nat_cmp id) e.0) (bytes_eq e.1.ke
         let key : e.1.key ≡ u.key = ap (λ o. (unwrap_or o u).key) h in
         head d same key
       where
-        head : (d : Bool) → bytes_eq e.1.key.places q.places ≡ d → e.1.key ≡ u.key → id_of q es ≡ cond (bytes_eq u.key.places q.places) None (cond d (Some e.0) (id_of q es))
+        head : (d : Bool) → bytes_eq e.1.key.places q.places ≡ d → e.1.key ≡ u.key →
+            id_of q es ≡ cond (bytes_eq u.key.places q.places) None (cond d (Some e.0) (id_of q es))
         head true same key =
             same_id q e.1.key (sym ((bytes_eq-Decides e.1.key.places q.places).0 same)) ∙ own.0
             ∙ sym (ap (λ z. cond z None (Some e.0)) (ap (λ k. bytes_eq k.places q.places) (sym key) ∙ same))
@@ -92,8 +95,10 @@ pub own-new : (id : ℕ) (v : Item) (es : Items) → item_at id es ≡ None → 
 own-new id v [] h none own = (refl, tt)
 own-new id v (e ∷ es) h none own = by (nat_cmp id e.0) (bytes_eq e.1.key.places v.key.places) refl (own-new id v es) (id_of-new e.1.key id v es) h none none
   where
-    by : (o : Ordering) (k : Bool) → bytes_eq e.1.key.places v.key.places ≡ k → (item_at id es ≡ None → id_of v.key es ≡ None → HaveOwnKeys es → HaveOwnKeys (with_item id v es))
-        → (item_at id es ≡ None → id_of v.key es ≡ None → id_of e.1.key (with_item id v es) ≡ cond (bytes_eq v.key.places e.1.key.places) (Some id) (id_of e.1.key es))
+    by : (o : Ordering) (k : Bool) → bytes_eq e.1.key.places v.key.places ≡ k →
+        (item_at id es ≡ None → id_of v.key es ≡ None → HaveOwnKeys es → HaveOwnKeys (with_item id v es))
+        → (item_at id es ≡ None → id_of v.key es ≡ None → id_of e.1.key (with_item id v es) ≡ cond (bytes_eq v.key.places e.1.key.places) (Some id)
+        (id_of e.1.key es))
         → cond (is_eq o) (Some e.1) (item_at id es) ≡ None → cond k (Some e.0) (id_of v.key es) ≡ None → id_of v.key (e ∷ es) ≡ None
         → HaveOwnKeys (match_ordering o ((id, v) ∷ e ∷ es) ((e.0, v) ∷ es) (e ∷ with_item id v es))
     by Less k other go first h none all = (all, own)

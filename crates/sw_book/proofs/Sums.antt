@@ -24,11 +24,13 @@ total-new w c id v (e ∷ es) h = by (nat_cmp id e.0) (total-new w c id v es) h
     by Equal go h = absurd cc
     by Greater go h = omega (arith, go h)
 
-pub total-set : (w : Item → ℕ) (c : Card) (id : ℕ) (u v : Item) (es : Items) → item_at id es ≡ Some u → total w c (in_its_place id v es) + share w c u ≡ total w c es + share w c v
+pub total-set : (w : Item → ℕ) (c : Card) (id : ℕ) (u v : Item) (es : Items) → item_at id es ≡ Some u →
+    total w c (in_its_place id v es) + share w c u ≡ total w c es + share w c v
 total-set w c id u v [] h = absurd cc
 total-set w c id u v (e ∷ es) h = by (is_at (nat_cmp id) e.0) (total-set w c id u v es) h
   where
-    by : (b : Bool) → (item_at id es ≡ Some u → total w c (in_its_place id v es) + share w c u ≡ total w c es + share w c v) → cond b (Some e.1) (item_at id es) ≡ Some u
+    by : (b : Bool) → (item_at id es ≡ Some u → total w c (in_its_place id v es) + share w c u ≡ total w c es + share w c v) →
+        cond b (Some e.1) (item_at id es) ≡ Some u
         → total w c (cond b ((e.0, v) ∷ es) (e ∷ in_its_place id v es)) + share w c u ≡ share w c e.1 + total w c es + share w c v
     by true go h = let same : share w c e.1 ≡ share w c u = ap (λ o. share w c (unwrap_or o u)) h in omega (arith, same)
     by false go h = omega (arith, go h)

@@ -148,7 +148,7 @@ refusal book id card key amount = first_of (
     ∷ refused_if (is_over book card amount) OverLimit
     ∷ [])
 
--- the error is that refusal; memory is wanting only where there is none
+-- the error is that refusal; out of memory comes only where there is none
 abbrev pub IsRefusal : BookError → Option BookError → Type 0
 IsRefusal OutOfMemory r = r ≡ None
 IsRefusal e r = r ≡ Some e

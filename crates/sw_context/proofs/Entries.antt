@@ -31,7 +31,8 @@ find-seen name (e ∷ es) =
     ∙ sym (cond-through (option_map (λ v. v.items)) test (Some e.1) (lookup (λ k. bytes_eq name (string_bytes k)) es))
 
 -- an insertion
-pub seen-insert : (es : List Entry) (name : String Global) (value : Vec ℕ Global) → map seen (insert_entry string_eq es name value) ≡ with_value (map seen es) (string_bytes name) value.items
+pub seen-insert : (es : List Entry) (name : String Global) (value : Vec ℕ Global) →
+    map seen (insert_entry string_eq es name value) ≡ with_value (map seen es) (string_bytes name) value.items
 seen-insert [] name value = refl
 seen-insert (e ∷ es) name value =
     let test = bytes_eq (string_bytes name) (string_bytes e.0) in

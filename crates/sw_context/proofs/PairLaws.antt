@@ -1,6 +1,7 @@
 -- Laws of lists of entries.
 -- for: context::Context::put, take, context::reading::put_entries
-use Rattle.std.proofs.Common.{◌≡◌, ℕ, suc, ◌+◌, ◌<◌, ◌≤◌, Bool, true, false, cond, not, nat_le, nat_lt, ◌&&◌, List, [], ◌∷◌, ◌++◌, length, Option, Some, None, is_none, refl, sym, ap, subst, ◌∙◌, true≢false, arith}
+use Rattle.std.proofs.Common.{◌≡◌, ℕ, suc, ◌+◌, ◌<◌, ◌≤◌, Bool, true, false, cond, not, nat_le, nat_lt, ◌&&◌, List, [], ◌∷◌, ◌++◌, length, Option, Some, None}
+use Rattle.std.proofs.Common.{is_none, refl, sym, ap, subst, ◌∙◌, true≢false, arith}
 use Rattle.std.specs.Str.{bytes_eq}
 use Rattle.std.proofs.lemmas.Bool.Decides.{nat_tests}
 use Rattle.std.proofs.lemmas.List.{length-append}
@@ -35,7 +36,8 @@ find-append name (x ∷ xs) ys h =
     let rest = find-append name xs ys first.1 in
     (find-cons name x xs first.0 rest.0, rest.1)
 
-find-with_value_other : (other : List ℕ) (es : Pairs) (name value : List ℕ) → bytes_eq other name ≡ false → find other es ≡ None → find other (with_value es name value) ≡ None
+find-with_value_other : (other : List ℕ) (es : Pairs) (name value : List ℕ) → bytes_eq other name ≡ false → find other es ≡ None →
+    find other (with_value es name value) ≡ None
 find-with_value_other other [] name value differ none = find-cons other (name, value) [] differ refl
 find-with_value_other other (e ∷ es) name value differ none =
     let first = absent (bytes_eq other e.0) e.1 (find other es) none in
@@ -87,7 +89,8 @@ length-with_value : (es : Pairs) (name value : List ℕ) → length (with_value 
 length-with_value [] name value = omega arith
 length-with_value (e ∷ es) name value = by (bytes_eq name e.0) (length-with_value es name value)
   where
-    by : (b : Bool) → length (with_value es name value) ≤ length es + 1 → length (cond b ((e.0, value) ∷ es) (e ∷ with_value es name value)) ≤ length (e ∷ es) + 1
+    by : (b : Bool) → length (with_value es name value) ≤ length es + 1 → length (cond b ((e.0, value) ∷ es) (e ∷ with_value es name value)) ≤ length
+        (e ∷ es) + 1
     by true more = omega arith
     by false more = omega arith
 
@@ -178,7 +181,8 @@ put-next xs e ys is =
     let few : length xs < 64 = omega (arith, is.0, length-append xs (e ∷ ys)) in
     let short : nat_lt 65535 (length e.1) ≡ false = grind (arith, nat_tests, before.1.1) in
     let room : nat_le 64 (length xs) ≡ false = grind (arith, nat_tests, few) in (
-      ap (λ b. cond (not b) (Some BadName) (rest (nat_lt 65535 (length e.1)) (nat_le 64 (length xs)))) before.1.0 ∙ ap (λ b. rest b (nat_le 64 (length xs))) short ∙ ap (rest false) room,
+      ap (λ b. cond (not b) (Some BadName) (rest (nat_lt 65535 (length e.1)) (nat_le 64 (length xs)))) before.1.0 ∙ ap (λ b. rest b (nat_le 64 (length xs)))
+          short ∙ ap (rest false) room,
       with_value-new xs e.0 e.1 before.0,
     )
   where

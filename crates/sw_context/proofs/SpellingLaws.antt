@@ -1,6 +1,7 @@
 -- A spelling is that of one context.
 -- for: context::reading::has_name, context::reading::are_entries, laws::spellings_read_back
-use Rattle.std.proofs.Common.{◌≡◌, ℕ, ◌+◌, ◌-◌, ◌*◌, ◌/◌, ◌%◌, ◌<◌, ◌≤◌, ◌^◌, true, false, cond, List, [], ◌∷◌, ◌++◌, length, take, drop, Option, Some, None, is_some, refl, sym, ap, subst, ◌∙◌, append_assoc, arith}
+use Rattle.std.proofs.Common.{◌≡◌, ℕ, ◌+◌, ◌-◌, ◌*◌, ◌/◌, ◌%◌, ◌<◌, ◌≤◌, ◌^◌, true, false, cond, List, [], ◌∷◌, ◌++◌, length, take, drop, Option, Some, None}
+use Rattle.std.proofs.Common.{is_some, refl, sym, ap, subst, ◌∙◌, append_assoc, arith}
 use Rattle.std.specs.List.{flat_map}
 use Rattle.std.specs.Prelude.{Result, Ok, Err, MatchResult}
 use Rattle.std.specs.Str.{bytes_eq}
@@ -33,18 +34,21 @@ one-value : (v w x y : List ℕ) → value_bytes v ++ x ≡ value_bytes w ++ y �
 one-value v w x y e =
     let high = heads (length v / 256) (length w / 256) (length v % 256 ∷ (v ++ x)) (length w % 256 ∷ (w ++ y)) e in
     let low = heads (length v % 256) (length w % 256) (v ++ x) (w ++ y) high.1 in
-    let same : length v ≡ length w = sym (div-add-mod (length v) 256) ∙ ap (λ n. 256 * n + length v % 256) high.0 ∙ ap (λ n. 256 * (length w / 256) + n) low.0 ∙ div-add-mod (length w) 256 in
+    let same : length v ≡ length w = sym (div-add-mod (length v) 256) ∙ ap (λ n. 256 * n + length v % 256) high.0 ∙ ap (λ n. 256 * (length w / 256) + n)
+    low.0 ∙ div-add-mod (length w) 256 in
     same-front v w x y same low.1
 
 -- nor one of an entry
 pub one-entry : (e f : List ℕ × List ℕ) (x y : List ℕ) → entry_bytes e ++ x ≡ entry_bytes f ++ y → (e ≡ f) × (x ≡ y)
 one-entry e f x y h =
-    let name = one-name e.0 f.0 (value_bytes e.1 ++ x) (value_bytes f.1 ++ y) (sym (append_assoc (name_bytes e.0) (value_bytes e.1) x) ∙ h ∙ append_assoc (name_bytes f.0) (value_bytes f.1) y) in
+    let name = one-name e.0 f.0 (value_bytes e.1 ++ x) (value_bytes f.1 ++ y) (sym (append_assoc (name_bytes e.0) (value_bytes e.1) x) ∙ h
+    ∙ append_assoc (name_bytes f.0) (value_bytes f.1) y) in
     let value = one-value e.1 f.1 x y name.1 in
     (λ i. (name.0 i, value.0 i), value.1)
 
 -- entries whose bytes begin with those of an entry begin with it
-pub first-entry : (e : List ℕ × List ℕ) (rest : List ℕ) (count : ℕ) (es : Pairs) → 0 < count → length es ≡ count → entry_bytes e ++ rest ≡ flat_map entry_bytes es
+pub first-entry : (e : List ℕ × List ℕ) (rest : List ℕ) (count : ℕ) (es : Pairs) → 0 < count → length es ≡ count →
+    entry_bytes e ++ rest ≡ flat_map entry_bytes es
     → (more : Pairs) × (es ≡ e ∷ more) × (length more + 1 ≡ count) × (rest ≡ flat_map entry_bytes more)
 first-entry e rest count [] some l h = absurd (omega (arith, some, l))
 first-entry e rest count (f ∷ more) some l h =
@@ -69,7 +73,8 @@ same-context es fs h =
     same-entries es fs parts.0 parts.1
 
 -- the bytes of a context are read as that context
-pub reads-back : (es : Pairs) (read : Result Pairs ContextError) → IsContext es → IsReading (bytes_of es) read → MatchResult read (λ c. c ≡ es) (λ e. e ≡ OutOfMemory)
+pub reads-back : (es : Pairs) (read : Result Pairs ContextError) → IsContext es → IsReading (bytes_of es) read →
+    MatchResult read (λ c. c ≡ es) (λ e. e ≡ OutOfMemory)
 reads-back es (Ok fs) is h = sym (same-context es fs h.1)
 reads-back es (Err BadBytes) is h = absurd (h (es, is, refl))
 reads-back es (Err OutOfMemory) is h = refl
@@ -82,7 +87,8 @@ reads-back es (Err ValueTooLong) is h = absurd h
 pub named-first : (name : List ℕ) (e : List ℕ × List ℕ) (es more : Pairs) → es ≡ e ∷ more → bytes_eq name e.0 ≡ true → is_some (find name es) ≡ true
 named-first name e es more is same = ap (λ (z : Pairs). is_some (find name z)) is ∙ ap (λ b. is_some (cond b (Some e.1) (find name more))) same
 
-pub named-later : (name : List ℕ) (e : List ℕ × List ℕ) (es more : Pairs) → es ≡ e ∷ more → bytes_eq name e.0 ≡ false → is_some (find name es) ≡ is_some (find name more)
+pub named-later : (name : List ℕ) (e : List ℕ × List ℕ) (es more : Pairs) → es ≡ e ∷ more → bytes_eq name e.0 ≡ false →
+    is_some (find name es) ≡ is_some (find name more)
 named-later name e es more is differ = ap (λ (z : Pairs). is_some (find name z)) is ∙ ap (λ b. is_some (cond b (Some e.1) (find name more))) differ
 
 unnamed : {A : Type 0} (r : Option A) → false ≡ is_some r → r ≡ None
@@ -107,7 +113,8 @@ spells-after e rest bytes count some is all =
     let are : AreEntries (e ∷ first.0) = subst (λ (z : Pairs). AreEntries z) first.1 all.1 in
     (first.0, are.2, omega (arith, first.2), first.3, are.1)
 
-pub spells-none : (bytes : List ℕ) (count : ℕ) → 0 < count → ((e : List ℕ × List ℕ) (rest : List ℕ) → IsEntry e → bytes ≡ entry_bytes e ++ rest → ⊥) → (es : Pairs) → AreEntries es → length es ≡ count → bytes ≡ flat_map entry_bytes es → ⊥
+pub spells-none : (bytes : List ℕ) (count : ℕ) → 0 < count → ((e : List ℕ × List ℕ) (rest : List ℕ) → IsEntry e → bytes ≡ entry_bytes e ++ rest → ⊥) →
+    (es : Pairs) → AreEntries es → length es ≡ count → bytes ≡ flat_map entry_bytes es → ⊥
 spells-none bytes count some none [] are l h = omega (arith, some, l)
 spells-none bytes count some none (e ∷ es) are l h = none e (flat_map entry_bytes es) are.0 h
 

@@ -28,7 +28,7 @@ IsSpelled bytes = (es : Pairs) × IsContext es × (bytes ≡ bytes_of es)
 abbrev pub Spells : ℕ → List ℕ → Type 0
 Spells count bytes = (es : Pairs) × AreEntries es × (length es ≡ count) × (bytes ≡ flat_map entry_bytes es)
 
--- What reading answers: the context whose bytes these are, or that there is none. Memory is wanting only where there is one.
+-- What reading answers: the context whose bytes these are, or that there is none. Out of memory comes only where there is one.
 abbrev pub IsReading : List ℕ → Result Pairs ContextError → Type 0
 IsReading bytes (Ok es) = IsContext es × (bytes ≡ bytes_of es)
 IsReading bytes (Err BadBytes) = IsSpelled bytes → ⊥

@@ -38,7 +38,8 @@ impl Model for Context {
 
     ghost view = { λ c. map (λ e. (string_bytes e.0, e.1.items)) c.entries.entries };
 
-    ghost invariant = { λ c. IsContext (map (λ e. (string_bytes e.0, e.1.items)) c.entries.entries) };
+    ghost invariant = { λ c. IsContext (map (λ e. (string_bytes e.0, e.1.items))
+        c.entries.entries) };
 }
 
 impl Context {

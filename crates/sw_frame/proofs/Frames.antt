@@ -1,6 +1,7 @@
 -- Frames one after the other.
 -- for: framer::Framer, walk::take_frames, pieces::read_pieces
-use Rattle.std.proofs.Common.{◌≡◌, cond, inl, inr, ℕ, ◌<◌, ◌≤◌, ◌+◌, Bool, true, false, List, [], ◌∷◌, ◌++◌, length, get_or, take, drop, Some, None, Result, Ok, Err, refl, sym, ap, subst, ◌∙◌, append_assoc, arith}
+use Rattle.std.proofs.Common.{◌≡◌, cond, inl, inr, ℕ, ◌<◌, ◌≤◌, ◌+◌, Bool, true, false, List, [], ◌∷◌, ◌++◌, length, get_or, take, drop, Some, None, Result, Ok}
+use Rattle.std.proofs.Common.{Err, refl, sym, ap, subst, ◌∙◌, append_assoc, arith}
 use Rattle.std.proofs.lemmas.List.{append-nil, take_more, length-drop, length-take, length-append, take-append-drop, take-append-le, take_at}
 use Rattle.std.proofs.Math.Seq.{take-add}
 use Rattle.sw_frame.specs.Stream.{Framed, AreFramed, IsPartial, IsBad, State, Stream, Ends}
@@ -16,13 +17,15 @@ AreFramed-push text [] last f a p = (last, [], rw a (sym (append-nil last)), p, 
 AreFramed-push text (g ∷ fs) last f a p =
     (a.0, a.1 ++ last, ap (λ (t : List ℕ). t ++ last) a.2 ∙ append_assoc a.0 a.1 last, a.3, AreFramed-push a.1 fs last f a.4 p)
 
-pub AreFramed-append : (text : List ℕ) (fs : List (List ℕ)) (more : List ℕ) (gs : List (List ℕ)) → AreFramed text fs → AreFramed more gs → AreFramed (text ++ more) (fs ++ gs)
+pub AreFramed-append : (text : List ℕ) (fs : List (List ℕ)) (more : List ℕ) (gs : List (List ℕ)) → AreFramed text fs → AreFramed more gs →
+    AreFramed (text ++ more) (fs ++ gs)
 AreFramed-append text [] more gs a b = rw a b
 AreFramed-append text (f ∷ fs) more gs a b =
     (a.0, a.1 ++ more, ap (λ (t : List ℕ). t ++ more) a.2 ∙ append_assoc a.0 a.1 more, a.3, AreFramed-append a.1 fs more gs a.4 b)
 
 -- the next frame of the bytes, after a text and those taken before
-pub AreFramed-next : (text bytes : List ℕ) (t len : ℕ) (fs : List (List ℕ)) (rest : List ℕ) → rest ≡ drop t bytes → 4 ≤ length rest → number_of (take 4 rest) ≡ Some len → len ≤ length (drop 4 rest)
+pub AreFramed-next : (text bytes : List ℕ) (t len : ℕ) (fs : List (List ℕ)) (rest : List ℕ) → rest ≡ drop t bytes → 4 ≤ length rest →
+    number_of (take 4 rest) ≡ Some len → len ≤ length (drop 4 rest)
     → AreFramed (text ++ take t bytes) fs → AreFramed (text ++ take (t + (4 + len)) bytes) (fs ++ take len (drop 4 rest) ∷ [])
 AreFramed-next text bytes t len fs rest e four n fits a =
     let whole : take (4 + len) rest ≡ take 4 rest ++ take len (drop 4 rest) = take-add 4 len rest in
@@ -32,14 +35,16 @@ AreFramed-next text bytes t len fs rest e four n fits a =
     append_assoc text (take t bytes) (take (4 + len) rest)
     ∙ ap (λ (x : List ℕ). text ++ (take t bytes ++ take (4 + len) x)) e
     ∙ ap (λ (x : List ℕ). text ++ x) (sym (take-add t (4 + len) bytes)) in
-    subst (λ (x : List ℕ). AreFramed x (fs ++ take len (drop 4 rest) ∷ [])) last (AreFramed-push (text ++ take t bytes) fs (take (4 + len) rest) (take len (drop 4 rest)) a one)
+    subst (λ (x : List ℕ). AreFramed x (fs ++ take len (drop 4 rest) ∷ [])) last
+    (AreFramed-push (text ++ take t bytes) fs (take (4 + len) rest) (take len (drop 4 rest)) a one)
 
 -- ---- what was answered to earlier pieces, and what is answered to the next
 
 IsBad-append : (rest piece : List ℕ) → IsBad rest → IsBad (rest ++ piece)
 IsBad-append rest piece b = (omega (arith, b.0, length-append rest piece), ap number_of (take-append-le 4 rest piece b.0) ∙ b.1)
 
-pub Stream-append : (before piece : List ℕ) (fs gs : List (List ℕ)) (s t : State) → s.failed ≡ false → Stream before fs s → Stream (s.pending ++ piece) gs t → Stream (before ++ piece) (fs ++ gs) t
+pub Stream-append : (before piece : List ℕ) (fs gs : List (List ℕ)) (s t : State) → s.failed ≡ false → Stream before fs s →
+    Stream (s.pending ++ piece) gs t → Stream (before ++ piece) (fs ++ gs) t
 Stream-append before piece fs gs s t f p q =
     elim p.ends [
       | inl w ↦
@@ -48,7 +53,8 @@ Stream-append before piece fs gs s t f p q =
           record {
             text = p.text ++ q.text;
             rest = q.rest;
-            whole = ap (λ (x : List ℕ). x ++ piece) p.whole ∙ append_assoc p.text p.rest piece ∙ ap (λ (x : List ℕ). p.text ++ x) next ∙ sym (append_assoc p.text q.text q.rest);
+            whole = ap (λ (x : List ℕ). x ++ piece) p.whole ∙ append_assoc p.text p.rest piece ∙ ap (λ (x : List ℕ). p.text ++ x) next
+                ∙ sym (append_assoc p.text q.text q.rest);
             frames = AreFramed-append p.text fs q.text gs p.frames q.frames;
             ends = q.ends;
           }
@@ -92,7 +98,8 @@ some-same x y e = cc
 -- a frame that stands at the front of bytes that go on
 one-frame : (a b f g x y : List ℕ) → Framed a f → Framed b g → a ++ x ≡ b ++ y → (f ≡ g) × (x ≡ y)
 one-frame a b f g x y p q e =
-    let e2 : p.0 ++ (f ++ x) ≡ q.0 ++ (g ++ y) = sym (append_assoc p.0 f x) ∙ ap (λ (z : List ℕ). z ++ x) (sym p.1) ∙ e ∙ ap (λ (z : List ℕ). z ++ y) q.1 ∙ append_assoc q.0 g y in
+    let e2 : p.0 ++ (f ++ x) ≡ q.0 ++ (g ++ y) = sym (append_assoc p.0 f x) ∙ ap (λ (z : List ℕ). z ++ x) (sym p.1) ∙ e ∙ ap (λ (z : List ℕ). z ++ y) q.1
+    ∙ append_assoc q.0 g y in
     let d = same-front p.0 q.0 (f ++ x) (g ++ y) (p.2 ∙ sym q.2) e2 in
     let l : length f ≡ length g = some-same (length f) (length g) (sym p.3 ∙ ap number_of d.0 ∙ q.3) in
     same-front f g x y l d.1
@@ -127,7 +134,8 @@ same-ends rest s t (inr p) (inr q) = p.1 ∙ sym q.1
 same-ends rest s t (inl p) (inr q) = absurd (not-both rest p.0 q.0)
 same-ends rest s t (inr p) (inl q) = absurd (not-both rest q.0 p.0)
 
-same-from : (fs gs : List (List ℕ)) (a b x y : List ℕ) (s t : State) → AreFramed a fs → AreFramed b gs → a ++ x ≡ b ++ y → Ends x s → Ends y t → (fs ≡ gs) × (s ≡ t)
+same-from : (fs gs : List (List ℕ)) (a b x y : List ℕ) (s t : State) → AreFramed a fs → AreFramed b gs → a ++ x ≡ b ++ y → Ends x s → Ends y t →
+    (fs ≡ gs) × (s ≡ t)
 same-from [] [] a b x y s t p q e u v =
     let h : x ≡ y = ap (λ (z : List ℕ). z ++ x) (sym p) ∙ e ∙ ap (λ (z : List ℕ). z ++ y) q in
     (refl, same-ends x s t u (subst (λ z. Ends z t) (sym h) v))
@@ -138,7 +146,8 @@ same-from (f ∷ fs) [] a b x y s t p q e u v =
     let h : y ≡ p.0 ++ (p.1 ++ x) = ap (λ (z : List ℕ). z ++ y) (sym q) ∙ sym e ∙ ap (λ (z : List ℕ). z ++ x) p.2 ∙ append_assoc p.0 p.1 x in
     absurd (no-frame-in-rest y p.0 f (p.1 ++ x) t v p.3 h)
 same-from (f ∷ fs) (g ∷ gs) a b x y s t p q e u v =
-    let h : p.0 ++ (p.1 ++ x) ≡ q.0 ++ (q.1 ++ y) = sym (append_assoc p.0 p.1 x) ∙ ap (λ (z : List ℕ). z ++ x) (sym p.2) ∙ e ∙ ap (λ (z : List ℕ). z ++ y) q.2 ∙ append_assoc q.0 q.1 y in
+    let h : p.0 ++ (p.1 ++ x) ≡ q.0 ++ (q.1 ++ y) = sym (append_assoc p.0 p.1 x) ∙ ap (λ (z : List ℕ). z ++ x) (sym p.2) ∙ e ∙ ap (λ (z : List ℕ). z ++ y)
+    q.2 ∙ append_assoc q.0 q.1 y in
     let o = one-frame p.0 q.0 f g (p.1 ++ x) (q.1 ++ y) p.3 q.3 h in
     let r = same-from fs gs p.1 q.1 x y s t p.4 q.4 o.1 u v in
     (ap (λ (z : List ℕ). z ∷ fs) o.0 ∙ ap (λ (zs : List (List ℕ)). g ∷ zs) r.0, r.1)
@@ -150,7 +159,8 @@ same-stream bytes fs gs s t p q = same-from fs gs p.text q.text p.rest q.rest s 
 bad-stream : (bytes : List ℕ) (t : State) → IsBad bytes → t ≡ record { pending = []; failed = true } → Stream bytes [] t
 bad-stream bytes t bad is = record { text = []; rest = bytes; whole = refl; frames = refl; ends = inr (bad, is) }
 
-pub so-far : (before : List ℕ) (fs : List (List ℕ)) (piece : List ℕ) (r : Result (Vec (Vec ℕ)) FrameError) (s t : State) → Stream before fs s → IsAnswer s piece r t → StreamGoesOn before fs piece r s t
+pub so-far : (before : List ℕ) (fs : List (List ℕ)) (piece : List ℕ) (r : Result (Vec (Vec ℕ)) FrameError) (s t : State) → Stream before fs s →
+    IsAnswer s piece r t → StreamGoesOn before fs piece r s t
 so-far before fs piece (Ok out) s t p a = Stream-append before piece fs (messages out.items) s t a.0 p a.1
 so-far before fs piece (Err OutOfMemory) s t p a = a.1
 so-far before fs piece (Err TooLong) s t p a = absurd a
@@ -158,7 +168,8 @@ so-far before fs piece (Err BadLength) s t p a = by s.failed refl a
   where
     by : (b : Bool) → s.failed ≡ b → IsFault b (s.pending ++ piece) s t → Stream (before ++ piece) fs t
     by true e h = subst (λ (x : State). Stream (before ++ piece) fs x) (sym h) (Stream-failed before piece fs s e p)
-    by false e h = subst (λ (gs : List (List ℕ)). Stream (before ++ piece) gs t) (append-nil fs) (Stream-append before piece fs [] s t e p (bad-stream (s.pending ++ piece) t h.0 h.1))
+    by false e h = subst (λ (gs : List (List ℕ)). Stream (before ++ piece) gs t) (append-nil fs)
+        (Stream-append before piece fs [] s t e p (bad-stream (s.pending ++ piece) t h.0 h.1))
 
 -- ---- one feed
 
@@ -168,7 +179,8 @@ pub first-framed : (held piece : List ℕ) (n k : ℕ) → length held + k ≡ 4
 first-framed held piece n k whole within number =
     let first = held ++ take k piece in
     let long : length first ≡ 4 + n = omega (arith, whole, within, length-append held (take k piece), length-take k piece) in
-    let joined : held ++ piece ≡ first ++ drop k piece = ap (λ (z : List ℕ). held ++ z) (sym (take-append-drop k piece)) ∙ sym (append_assoc held (take k piece) (drop k piece)) in
+    let joined : held ++ piece ≡ first ++ drop k piece = ap (λ (z : List ℕ). held ++ z) (sym (take-append-drop k piece))
+    ∙ sym (append_assoc held (take k piece) (drop k piece)) in
     let four : 4 ≤ length first = omega (arith, long) in
     let digits : take 4 (held ++ piece) ≡ take 4 first = ap (take 4) joined ∙ take-append-le 4 first (drop k piece) four in
     let size : length (drop 4 first) ≡ n = omega (arith, long, length-drop 4 first) in
@@ -183,7 +195,8 @@ held-below held piece n (inr v) number =
 
 -- a whole first frame, the frames after it, and what follows them
 pub finished : (held piece : List ℕ) (k taken : ℕ) (bad : Bool) (fs : List (List ℕ)) (rest : List ℕ)
-    → AreFramed ((held ++ take k piece) ++ take taken (drop k piece)) fs → IsRest bad (drop taken (drop k piece)) → rest ≡ cond bad [] (drop taken (drop k piece))
+    → AreFramed ((held ++ take k piece) ++ take taken (drop k piece)) fs → IsRest bad (drop taken (drop k piece)) →
+    rest ≡ cond bad [] (drop taken (drop k piece))
     → Stream (held ++ piece) fs (record { pending = rest; failed = bad })
 finished held piece k taken bad fs rest framed follows is = record {
   text = (held ++ take k piece) ++ take taken (drop k piece);
@@ -200,7 +213,8 @@ finished held piece k taken bad fs rest framed follows is = record {
         ∙ ap (λ (z : List ℕ). (held ++ take k piece) ++ z) (sym (take-append-drop taken (drop k piece)))
         ∙ sym (append_assoc (held ++ take k piece) (take taken (drop k piece)) (drop taken (drop k piece)))
 
-    ends : (b : Bool) → IsRest b (drop taken (drop k piece)) → rest ≡ cond b [] (drop taken (drop k piece)) → Ends (drop taken (drop k piece)) (record { pending = rest; failed = b })
+    ends : (b : Bool) → IsRest b (drop taken (drop k piece)) → rest ≡ cond b [] (drop taken (drop k piece)) →
+        Ends (drop taken (drop k piece)) (record { pending = rest; failed = b })
     ends true f h = inr (f, λ i. record { pending = h i; failed = true })
     ends false f h = inl (f, λ i. record { pending = h i; failed = false })
 
@@ -214,7 +228,8 @@ whole-not-bad first rest message framed bad =
 pub framed-not-bad : (held piece : List ℕ) (k : ℕ) (message : List ℕ) → Framed (held ++ take k piece) message → IsBad (held ++ piece) → ⊥
 framed-not-bad held piece k message framed bad =
     whole-not-bad (held ++ take k piece) (drop k piece) message framed
-    (subst (λ (z : List ℕ). IsBad z) (ap (λ (z : List ℕ). held ++ z) (sym (take-append-drop k piece)) ∙ sym (append_assoc held (take k piece) (drop k piece))) bad)
+    (subst (λ (z : List ℕ). IsBad z) (ap (λ (z : List ℕ). held ++ z) (sym (take-append-drop k piece))
+    ∙ sym (append_assoc held (take k piece) (drop k piece))) bad)
 
 -- ---- what is held
 
@@ -222,7 +237,8 @@ pub open-partial : (failed : Bool) (held : List ℕ) → IsHeld failed held → 
 open-partial true held h e = absurd cc
 open-partial false held h e = h
 
-pub IsHeld-after : (bytes : List ℕ) (fs : List (List ℕ)) (held : List ℕ) (failed : Bool) → Stream bytes fs (record { pending = held; failed = failed }) → IsHeld failed held
+pub IsHeld-after : (bytes : List ℕ) (fs : List (List ℕ)) (held : List ℕ) (failed : Bool) → Stream bytes fs (record { pending = held; failed = failed }) →
+    IsHeld failed held
 IsHeld-after bytes fs held failed p =
     elim p.ends [
       | inl w ↦ subst (λ (s : State). IsHeld s.failed s.pending) (sym w.1) w.0
@@ -231,7 +247,8 @@ IsHeld-after bytes fs held failed p =
 
 -- ---- a list of pieces
 
-pub joined-more : (pieces : List (Vec ℕ)) (i : ℕ) (piece : Vec ℕ) → i < length pieces → piece ≡ get_or pieces i piece → joined (take (i + 1) pieces) ≡ joined (take i pieces) ++ piece.items
+pub joined-more : (pieces : List (Vec ℕ)) (i : ℕ) (piece : Vec ℕ) → i < length pieces → piece ≡ get_or pieces i piece →
+    joined (take (i + 1) pieces) ≡ joined (take i pieces) ++ piece.items
 joined-more pieces i piece low is =
     ap joined (take_more pieces i piece low)
     ∙ flat_map-append (λ (v : Vec ℕ). v.items) (take i pieces) (get_or pieces i piece ∷ [])

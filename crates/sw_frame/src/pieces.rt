@@ -19,7 +19,8 @@ pub struct StreamReading {
 pub fn read_pieces(alloc: Global, pieces: &[Vec<u8>]) -> Result<StreamReading, AllocError>
     // Up to what is pending, or to the fault, the stream is the frames of these messages and of no
     // others, so it doesn't matter how it was cut into pieces.
-    ensures { IfOk result (λ r. ReadsStream (joined pieces.now) (messages r.messages.items) r.framer) }
+    ensures { IfOk result (λ r. ReadsStream (joined pieces.now)
+        (messages r.messages.items) r.framer) }
 {
     let mut reading = StreamReading {
         messages: Vec::new(alloc),

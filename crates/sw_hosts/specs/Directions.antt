@@ -1,8 +1,9 @@
 -- The states of a direction as a word, and when it may be ordered to be opened.
-use Rattle.std.specs.Prelude.{ℕ, ◌-◌, Bool, true, false, nat_le, Option, Some, None}
+use Rattle.std.specs.Prelude.{ℕ, ◌+◌, ◌-◌, Bool, true, false, max, min, nat_le, Option, Some, None}
 use Rattle.sw_hosts.specs.declared.direction.DirectionState.{DirectionState}
 use Rattle.sw_hosts.specs.declared.direction.DirectionState.TheVariants.{Closed, Opening, Open}
 use Rattle.sw_hosts.specs.declared.moment.Moment.{Moment}
+use Rattle.sw_hosts.specs.Moments.{end_of_time}
 
 abbrev pub word_of : DirectionState → ℕ
 word_of Closed = 0
@@ -19,3 +20,13 @@ abbrev pub is_ordered : DirectionState → Option Moment → ℕ → Bool
 is_ordered Closed last now = is_due last now
 is_ordered Opening last now = false
 is_ordered Open last now = false
+
+abbrev pub second_after : ℕ → ℕ
+second_after micros = min (micros + 1000000) end_of_time
+
+-- While a host is tested, a direction that is closed is ordered without a message: a second after the last order, and at once where there
+-- was none.
+abbrev pub opened_from : Option Moment → Option Moment → Option Moment
+opened_from None last = None
+opened_from (Some from) None = Some from
+opened_from (Some from) (Some last) = Some (record { micros = max from.micros (second_after last.micros) })

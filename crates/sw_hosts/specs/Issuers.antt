@@ -1,5 +1,5 @@
 -- A link to an issuer that is simulated, or has a host.
-use Rattle.std.specs.Prelude.{◌≡◌, ℕ, zero, suc, List, [], ◌∷◌, Option}
+use Rattle.std.specs.Prelude.{◌≡◌, ℕ, zero, List, [], ◌∷◌}
 use Rattle.sw_parts.specs.Queries.{Sending, Receiving}
 use Rattle.sw_issuers.specs.declared.issuer.Issuer.{Issuer}
 use Rattle.sw_hosts.specs.declared.issuer_link.IssuerLink.{IssuerLink}

@@ -1,38 +1,60 @@
 -- What the thread that writes to a host does where no frame waits.
-use Rattle.std.specs.Prelude.{ℕ, ◌==◌, nat_le, Option, Some, None, if◌then◌else◌}
+use Rattle.std.specs.Prelude.{ℕ, ◌+◌, ◌==◌, max, min, nat_le, Option, Some, None, if◌then◌else◌}
 use Rattle.std.specs.Duration.{as_nanos}
 use Rattle.std.specs.declared.time.Duration.{Duration}
 use Rattle.sw_hosts.specs.declared.moment.Moment.{Moment}
+use Rattle.sw_hosts.specs.declared.times.HostTimes.{HostTimes}
 use Rattle.sw_hosts.specs.declared.watch.Duty.{Duty}
 use Rattle.sw_hosts.specs.declared.watch.Duty.TheVariants.{Rests, Tests, GivesUp}
-use Rattle.sw_hosts.specs.declared.watch.EchoTest.{EchoTest}
+use Rattle.sw_hosts.specs.declared.watch.EchoTests.{EchoTests}
 use Rattle.sw_hosts.specs.declared.watch.Watch.{Watch}
 use Rattle.sw_hosts.specs.Moments.{end_of_time, later}
 
--- nothing was read since the echo test
-abbrev pub deadline_of : Option EchoTest → ℕ → Option Moment
-deadline_of None heard = None
-deadline_of (Some test) heard = if test.heard == heard then Some test.deadline else None
+-- nothing was read since these echo tests
+abbrev pub since : Option EchoTests → ℕ → Option EchoTests
+since None heard = None
+since (Some tests) heard = if tests.heard == heard then Some tests else None
 
-abbrev pub unanswered : Watch → ℕ → Option Moment
-unanswered w heard = deadline_of w.test heard
+abbrev pub unanswered : Watch → ℕ → Option EchoTests
+unanswered w heard = since w.tests heard
+
+-- With one more of them. The answer to the first is waited for.
+abbrev pub tests_with : Option EchoTests → ℕ → ℕ → Duration → EchoTests
+tests_with None now heard timeout = record { deadline = record { micros = later now timeout }; heard = heard; count = 1 }
+tests_with (Some tests) now heard timeout = record tests { count = min (tests.count + 1) 18446744073709551615 }
 
 -- so long after the last frame; never, where it is no time
 abbrev pub due : Watch → Duration → Option Moment
 due w echo = if as_nanos echo == 0 then None else Some (record { micros = later w.written.micros echo })
 
--- it sleeps up to a moment
-abbrev pub from : Moment → ℕ → Duty → Duty
-from moment now duty = if nat_le moment.micros now then duty else Rests moment
+-- from a moment on, and so long after the last echo test
+abbrev pub again : Option Moment → Moment → Duration → Moment
+again None from retry = from
+again (Some tested) from retry = record { micros = max from.micros (later tested.micros retry) }
 
-abbrev pub tests_from : Option Moment → ℕ → Duty
-tests_from None now = Rests (record { micros = end_of_time })
-tests_from (Some due) now = from due now Tests
+abbrev pub due_in_silence : Watch → Moment → Duration → Moment
+due_in_silence w from retry = again w.tested from retry
 
-abbrev pub duty_by : Option Moment → Option Moment → ℕ → Duty
-duty_by (Some deadline) due now = from deadline now GivesUp
-duty_by None due now = tests_from due now
+abbrev pub next_by : Option Moment → Option EchoTests → Watch → HostTimes → Option Moment
+next_by (Some from) tests w times = Some (due_in_silence w from times.retry)
+next_by None (Some tests) w times = None
+next_by None None w times = due w times.echo
 
--- An echo test without an answer is waited for up to its deadline, and another one comes where nothing was written for so long.
-abbrev pub duty : Watch → ℕ → ℕ → Duration → Duty
-duty w now heard echo = duty_by (unanswered w heard) (due w echo) now
+-- A host that is tested from a moment on gets another echo test again and again. Else it gets one where it gets nothing else, and none
+-- while an earlier one is unanswered.
+abbrev pub next_test : Watch → ℕ → Option Moment → HostTimes → Option Moment
+next_test w heard tested_from times = next_by tested_from (unanswered w heard) w times
+
+-- it sleeps up to the deadline, or up to an earlier echo test
+abbrev pub rest_or_test : Option Moment → Moment → ℕ → Duty
+rest_or_test None deadline now = Rests deadline
+rest_or_test (Some due) deadline now =
+    if nat_le due.micros now then Tests else Rests (record { micros = min due.micros deadline.micros })
+
+abbrev pub duty_by : Option EchoTests → Option Moment → ℕ → Duty
+duty_by None next now = rest_or_test next (record { micros = end_of_time }) now
+duty_by (Some tests) next now = if nat_le tests.deadline.micros now then GivesUp tests.count else rest_or_test next tests.deadline now
+
+-- Echo tests without an answer are waited for up to their deadline, and the next one is written when it is due.
+abbrev pub duty : Watch → ℕ → ℕ → Option Moment → HostTimes → Duty
+duty w now heard tested_from times = duty_by (unanswered w heard) (next_test w heard tested_from times) now

@@ -1,8 +1,12 @@
-//! What a host lost, and did not answer.
+//! What was lost between a host and its links, not sent and not answered.
 
+ghost use Rattle.std.specs.Prelude.{◌≡◌, IfOk, string_bytes};
+ghost use Rattle.sw_hosts.specs.HostLine.{asked_text, host_line, lost_text};
+
+use std::alloc::{AllocError, Global};
 use std::sync::atomic::{AtomicU64, Ordering};
 
-/// What was lost between a host and its links, and not answered, since the host was started.
+/// What was lost between a host and its links, not sent and not answered, since the host was started.
 #[derive(Clone, Copy, Debug, PartialEq, Eq)]
 pub struct Counts {
     /// Messages that came when no link waited for them, or no longer.
@@ -11,8 +15,41 @@ pub struct Counts {
     pub unreadable: u64,
     /// Frames that were taken to be sent, and not written: too late, or the host closed its end.
     pub dropped: u64,
-    /// Echo tests that the host did not answer in time.
-    pub echoes: u64,
+    /// Messages that were not sent, since the host was paused.
+    pub unasked: u64,
+    /// Echo tests that were written.
+    pub tests: u64,
+    /// Echo tests that the host did not answer, so that its direction was closed.
+    pub unanswered: u64,
+}
+
+impl Counts {
+    // What was not sent, and the echo tests.
+    fn asked_text(&self, alloc: Global, name: &str) -> Result<String, AllocError>
+        ensures { IfOk result (λ text. string_bytes text ≡ asked_text name.now self.now) }
+    {
+        let (unasked, tests, unanswered) = (self.unasked, self.tests, self.unanswered);
+        format!(in alloc;
+            "cardswitch: host {name}: not-asked={unasked} echo-tests={tests} unanswered={unanswered}"
+        )
+    }
+
+    // What was lost, with the line feed.
+    fn lost_text(&self, alloc: Global) -> Result<String, AllocError>
+        ensures { IfOk result (λ text. string_bytes text ≡ lost_text self.now) }
+    {
+        let (late, unreadable, dropped) = (self.late, self.unreadable, self.dropped);
+        format!(in alloc; " late={late} unreadable={unreadable} dropped={dropped}\n")
+    }
+
+    /// The line of the counts of the host with this name.
+    pub fn line(&self, alloc: Global, name: &str) -> Result<String, AllocError>
+        ensures { IfOk result (λ line. string_bytes line ≡ host_line name.now self.now) }
+    {
+        let mut line = self.asked_text(alloc, name)?;
+        line.push_str(self.lost_text(alloc)?.as_str())?;
+        Ok(line)
+    }
 }
 
 /// The counts, as threads add to them.
@@ -21,7 +58,9 @@ pub struct Counters {
     late: AtomicU64,
     unreadable: AtomicU64,
     dropped: AtomicU64,
-    echoes: AtomicU64,
+    unasked: AtomicU64,
+    tests: AtomicU64,
+    unanswered: AtomicU64,
 }
 
 impl Counters {
@@ -30,7 +69,9 @@ impl Counters {
             late: AtomicU64::new(0),
             unreadable: AtomicU64::new(0),
             dropped: AtomicU64::new(0),
-            echoes: AtomicU64::new(0),
+            unasked: AtomicU64::new(0),
+            tests: AtomicU64::new(0),
+            unanswered: AtomicU64::new(0),
         }
     }
 
@@ -46,8 +87,16 @@ impl Counters {
         self.dropped.fetch_add(count, Ordering::SeqCst);
     }
 
-    pub fn add_echo(&self) {
-        self.echoes.fetch_add(1, Ordering::SeqCst);
+    pub fn add_unasked(&self) {
+        self.unasked.fetch_add(1, Ordering::SeqCst);
+    }
+
+    pub fn add_test(&self) {
+        self.tests.fetch_add(1, Ordering::SeqCst);
+    }
+
+    pub fn add_unanswered(&self, count: u64) {
+        self.unanswered.fetch_add(count, Ordering::SeqCst);
     }
 
     pub fn counts(&self) -> Counts {
@@ -55,7 +104,9 @@ impl Counters {
             late: self.late.load(Ordering::SeqCst),
             unreadable: self.unreadable.load(Ordering::SeqCst),
             dropped: self.dropped.load(Ordering::SeqCst),
-            echoes: self.echoes.load(Ordering::SeqCst),
+            unasked: self.unasked.load(Ordering::SeqCst),
+            tests: self.tests.load(Ordering::SeqCst),
+            unanswered: self.unanswered.load(Ordering::SeqCst),
         }
     }
 }

@@ -2,7 +2,7 @@
 
 ghost use Rattle.std.specs.Prelude.{◌≡◌, ◌<◌};
 ghost use Rattle.sw_hosts.specs.declared.direction.DirectionState.{DirectionState};
-ghost use Rattle.sw_hosts.specs.Directions.{word_of, is_due, is_ordered};
+ghost use Rattle.sw_hosts.specs.Directions.{is_due, is_ordered, opened_from, word_of};
 
 use crate::moment::Moment;
 use crate::shared_moment::SharedMoment;
@@ -64,6 +64,20 @@ fn is_ordered(state: DirectionState, last: Option<Moment>, now: Moment) -> bool
     state == DirectionState::Closed && is_due(last, now)
 }
 
+/// From when on a closed direction is ordered without a message, where it was last ordered then: while the host is
+/// tested, and a second after that order.
+fn opened_from(tested_from: Option<Moment>, last: Option<Moment>) -> Option<Moment>
+    ensures { result ≡ opened_from tested_from last }
+{
+    let from = tested_from?;
+    let Some(last) = last else {
+        return Some(from);
+    };
+    Some(from.or_later(Moment {
+        micros: last.micros.saturating_add(BETWEEN_ORDERS),
+    }))
+}
+
 /// One direction of a host. Links order it to be opened; one thread opens it, uses it and closes
 /// it. An order, and whatever else the thread is to look at, rings its bell: the thread reads the
 /// bell before it looks, and sleeps only while it is unchanged, so that no ring is lost.
@@ -109,6 +123,11 @@ impl Direction {
             self.ring();
         }
         is_first
+    }
+
+    /// From when on it is ordered without a message, where it is closed and the host is tested from then on.
+    pub fn opened_from(&self, tested_from: Option<Moment>) -> Option<Moment> {
+        opened_from(tested_from, self.ordered.get())
     }
 
     // Sets the state where it is this one; whether it was.

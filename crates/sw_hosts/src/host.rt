@@ -58,7 +58,7 @@ impl Host {
         Ok(HostLink::new(self.alloc, way))
     }
 
-    /// What was lost, and not answered, so far.
+    /// What was lost, not sent and not answered, so far.
     pub fn counts(&self) -> Counts {
         self.shared.counters.counts()
     }

@@ -6,11 +6,13 @@ ghost use Rattle.sw_hosts.specs.Looks.{answer_in};
 
 use crate::direction::DirectionState;
 use crate::frame::Frame;
+use crate::host_counts::HostCounts;
 use crate::look::{Look, is_closed};
 use crate::moment::{Moment, Naps};
 use crate::outgoing::Awaited;
 use crate::shared::Shared;
 use crate::way::Way;
+use std::alloc::AllocError;
 use std::sync::{Arc, Mutex, MutexGuard};
 use std::time::{Clock, Duration};
 use sw_mux::Key;
@@ -58,6 +60,11 @@ impl<C: Clock + Drop> HostWay<C> {
         HostWay { clock, shared }
     }
 
+    /// The counts of the host.
+    pub fn host_counts(&self) -> Result<HostCounts, AllocError> {
+        Ok(HostCounts::new(Arc::try_clone(&self.shared)?))
+    }
+
     // Drops what is still in the inbox: nobody waits for it any more.
     fn drop_late(&self) {
         if let Some(mut inbox) = locked(&self.clock, &self.shared.inbox) {
@@ -69,8 +76,7 @@ impl<C: Clock + Drop> HostWay<C> {
     // Has the directions opened that are closed, and waits for them, but not for long.
     fn open(&self, now: Moment) {
         let shared = &self.shared;
-        let (to, from) = (shared.to.order(now), shared.from.order(now));
-        if !to && !from {
+        if !shared.order(now) {
             return;
         }
         let deadline = now.after(Duration::from_millis(OPENING));
@@ -132,6 +138,7 @@ impl<C: Clock + Drop> Way for HostWay<C> {
         self.drop_late();
         let now = Moment::now(&self.clock);
         if self.shared.is_paused(now) {
+            self.shared.counters.add_unasked();
             return false;
         }
         self.open(now);

@@ -3,7 +3,9 @@
 ghost use Rattle.std.specs.Prelude.{◌≡◌};
 ghost use Rattle.sw_hosts.specs.Issuers.{state_of, SendsBy, ReceivesBy};
 
+use crate::host_counts::HostCounts;
 use crate::link::HostLink;
+use std::alloc::AllocError;
 use std::time::Clock;
 use sw_issuers::Issuer;
 use sw_participant::NoMemory;
@@ -24,6 +26,16 @@ impl<C: Clock + Drop> Drop for IssuerLink<C> {
         match self {
             IssuerLink::Simulated(_) => {}
             IssuerLink::Host(_) => {}
+        }
+    }
+}
+
+impl<C: Clock + Drop> IssuerLink<C> {
+    /// The counts of the issuer's host; none where it is simulated.
+    pub fn host_counts(&self) -> Result<Option<HostCounts>, AllocError> {
+        match self {
+            IssuerLink::Simulated(_) => Ok(None),
+            IssuerLink::Host(link) => Ok(Some(link.host_counts()?)),
         }
     }
 }

@@ -7,6 +7,7 @@ mod direction;
 mod echo;
 mod frame;
 mod host;
+mod host_counts;
 mod host_way;
 mod inbox;
 mod issuer_link;
@@ -20,6 +21,7 @@ mod pause;
 mod received;
 mod shared;
 mod shared_moment;
+mod shared_pause;
 #[cfg(test)]
 mod tests;
 mod threads;
@@ -30,6 +32,7 @@ mod way;
 
 pub use counts::Counts;
 pub use host::Host;
+pub use host_counts::HostCounts;
 pub use issuer_link::IssuerLink;
 pub use link::HostLink;
 pub use opener::{OpenReader, OpenWriter, ReadPath, WritePath};

@@ -3,10 +3,11 @@
 ghost use Rattle.std.specs.Prelude.{◌≡◌, [], IfSome, OnOk, OnErr};
 ghost use Rattle.sw_hosts.specs.Ways.{AnswersTo, KeyedFor};
 
+use crate::host_counts::HostCounts;
 use crate::host_way::HostWay;
 use crate::outgoing::Awaited;
 use crate::way::{receive_over, send_over};
-use std::alloc::Global;
+use std::alloc::{AllocError, Global};
 use std::time::Clock;
 use sw_participant::NoMemory;
 use sw_parts::Link;
@@ -17,8 +18,8 @@ use sw_parts::Link;
 /// a call takes no longer than the host's timeout, and some milliseconds, whatever the host does.
 ///
 /// - `send` refuses out of memory before anything is sent, and then nothing has changed. Where
-///   the host cannot be reached it answers `Ok`, and the message has reached nobody. Where a direction
-///   is closed it has it opened, at most once a second, and waits up to 100 milliseconds for it.
+///   the host cannot be reached, or is paused, it answers `Ok`, and the message has reached nobody. Where a
+///   direction is closed it has it opened, at most once a second, and waits up to 100 milliseconds for it.
 /// - `receive` answers the first message with the key of the message that was sent last. It answers
 ///   none at once where that message reached nobody or has no key, once a direction is closed, and
 ///   from the deadline on, which is the host's timeout after the sending. It takes no memory.
@@ -49,6 +50,11 @@ impl<C: Clock + Drop> HostLink<C> {
             way,
             awaited: None,
         }
+    }
+
+    /// The counts of the host.
+    pub fn host_counts(&self) -> Result<HostCounts, AllocError> {
+        self.way.host_counts()
     }
 
     // Sends a message, and notes what is waited for from now on.

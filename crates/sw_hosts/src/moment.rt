@@ -1,6 +1,6 @@
 //! Moments, and the short sleeps between two looks.
 
-ghost use Rattle.std.specs.Prelude.{◌≡◌, ◌-◌, ◌*◌, nat_le};
+ghost use Rattle.std.specs.Prelude.{◌≡◌, ◌-◌, ◌*◌, max, min, nat_le};
 ghost use Rattle.std.specs.Duration.{as_nanos};
 ghost use Rattle.sw_hosts.specs.Moments.{later};
 
@@ -39,6 +39,24 @@ impl Moment {
     {
         Moment {
             micros: self.micros.saturating_add(micros_of(time)),
+        }
+    }
+
+    /// This moment, or that one where it is later.
+    pub fn or_later(self, other: Moment) -> Moment
+        ensures { result.micros ≡ max self.micros other.micros }
+    {
+        Moment {
+            micros: self.micros.max(other.micros),
+        }
+    }
+
+    /// This moment, or that one where it is earlier.
+    pub fn or_earlier(self, other: Moment) -> Moment
+        ensures { result.micros ≡ min self.micros other.micros }
+    {
+        Moment {
+            micros: self.micros.min(other.micros),
         }
     }
 

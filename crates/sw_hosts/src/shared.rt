@@ -8,8 +8,8 @@ use crate::inbox::Inbox;
 use crate::look::Look;
 use crate::moment::Moment;
 use crate::outbox::Outbox;
-use crate::pause::{Pause, is_paused, pause_by};
-use crate::shared_moment::SharedMoment;
+use crate::pause::{PauseChange, is_paused, pause_by, pause_by_tests, tested_from};
+use crate::shared_pause::SharedPause;
 use crate::times::HostTimes;
 use std::alloc::{AllocError, Global};
 use std::sync::atomic::{AtomicU64, Ordering};
@@ -26,8 +26,7 @@ pub struct Shared {
     pub inbox: Mutex<Inbox>,
     pub outbox: Mutex<Outbox>,
     pub counters: Counters,
-    /// From when on the host is asked again, where it is not asked now.
-    pause: SharedMoment,
+    pause: SharedPause,
     /// How often something was read from the host.
     heard: AtomicU64,
 }
@@ -58,24 +57,49 @@ impl Shared {
             inbox: Mutex::new(Inbox::new(alloc)?),
             outbox: Mutex::new(Outbox::new(alloc)?),
             counters: Counters::new(),
-            pause: SharedMoment::new(),
+            pause: SharedPause::new(),
             heard: AtomicU64::new(0),
         })
     }
 
     /// Whether the host is not asked now.
     pub fn is_paused(&self, now: Moment) -> bool {
-        is_paused(self.pause.get(), now)
+        is_paused(self.pause.get(), now, self.heard(), &self.times)
     }
 
-    /// Notes what a look for an answer showed. A look that says nothing of the pause writes nothing, so
-    /// that it takes back nothing of another link's.
-    pub fn note(&self, look: &Look, now: Moment) {
-        match pause_by(look, now, self.times.retry) {
-            Pause::Stays => {}
-            Pause::Ends => self.pause.set(None),
-            Pause::Lasts(until) => self.pause.set(Some(until)),
+    /// From when on the host is tested, where it is silent and something was read from it so often.
+    pub fn tested_from(&self, heard: u64) -> Option<Moment> {
+        tested_from(self.pause.get(), heard, &self.times)
+    }
+
+    // A change that says nothing of the pause writes nothing, so that it takes back nothing of another thread's.
+    fn change_pause(&self, change: PauseChange) {
+        match change {
+            PauseChange::Stays => {}
+            PauseChange::Ends => self.pause.end(),
+            PauseChange::Begins(pause) => {
+                self.pause.begin(pause);
+                self.to.ring();
+            }
         }
+    }
+
+    /// Notes what a look for an answer showed.
+    pub fn note(&self, look: &Look, now: Moment) {
+        self.change_pause(pause_by(look, now, self.heard(), self.times.retry));
+    }
+
+    /// So many echo tests were not answered in time, where something was read from the host so often.
+    pub fn give_up(&self, tests: u64, now: Moment, heard: u64) {
+        self.counters.add_unanswered(tests);
+        self.change_pause(pause_by_tests(now, heard, &self.times));
+        self.to.put_off(now);
+    }
+
+    /// Orders both directions to be opened, as far as they are closed.
+    pub fn order(&self, now: Moment) -> bool {
+        let (to, from) = (self.to.order(now), self.from.order(now));
+        to || from
     }
 
     /// Something was read from the host.

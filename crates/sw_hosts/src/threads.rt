@@ -28,7 +28,7 @@ pub fn keep_writing<R: Wait + Clock, W: OpenWriter>(
     let mut opener = opener;
     let mut watch = Watch::new();
     for _ in rt.forever() {
-        shared.to.await_order(rt);
+        await_opening(rt, shared);
         if let Ok(writer) = opener.open() {
             watch.opened(Moment::now(rt));
             shared.to.set(DirectionState::Open);
@@ -36,6 +36,25 @@ pub fn keep_writing<R: Wait + Clock, W: OpenWriter>(
         }
         shared.to.set(DirectionState::Closed);
         shared.drop_frames(rt);
+    }
+}
+
+// Waits until the direction to a host is ordered to be opened. While the host is tested, both directions are ordered
+// here, so that no message waits for that.
+fn await_opening<R: Wait + Clock>(rt: &R, shared: &Shared) {
+    for _ in rt.forever() {
+        let rings = shared.to.rings();
+        if shared.to.state() == DirectionState::Opening {
+            return;
+        }
+        let now = Moment::now(rt);
+        match shared.to.opened_from(shared.tested_from(shared.heard())) {
+            Some(from) if now.is_past(from) => {
+                let _ = shared.order(now);
+            }
+            Some(from) => shared.to.sleep_for(rt, rings, now.until(from)),
+            None => shared.to.sleep(rt, rings),
+        }
     }
 }
 
@@ -66,10 +85,9 @@ fn take_turn<R: Wait + Clock, W: Write>(
 ) -> bool {
     let (rings, heard) = (shared.to.rings(), shared.heard());
     let now = Moment::now(rt);
-    let duty = watch.duty(now, heard, &shared.times);
-    if let Duty::GivesUp = duty {
-        shared.counters.add_echo();
-        shared.to.put_off(now);
+    let duty = watch.duty(now, heard, shared.tested_from(heard), &shared.times);
+    if let Duty::GivesUp(tests) = duty {
+        shared.give_up(tests, now, heard);
         return false;
     }
     if let Some(frame) = shared.next_frame(rt, now) {
@@ -79,12 +97,13 @@ fn take_turn<R: Wait + Clock, W: Write>(
     match duty {
         Duty::Rests(until) => shared.to.sleep_for(rt, rings, now.until(until)),
         Duty::Tests => return write_test(rt, alloc, shared, watch, writer),
-        Duty::GivesUp => {}
+        Duty::GivesUp(_) => {}
     }
     true
 }
 
-// Writes an echo test, where there is memory for one; whether the direction stays open.
+// Writes an echo test, where there is memory for one; whether the direction stays open. The answer of a silent host
+// needs the other direction, which no message orders.
 fn write_test<R: Clock, W: Write>(
     rt: &R,
     alloc: Global,
@@ -94,8 +113,17 @@ fn write_test<R: Clock, W: Write>(
 ) -> bool {
     let (now, heard) = (Moment::now(rt), shared.heard());
     watch.tested(now, heard, shared.times.timeout);
+    if shared.tested_from(heard).is_some() {
+        let _ = shared.from.order(now);
+    }
     match echo_frame(alloc, seconds(rt), watch.next_stan()) {
-        Ok(frame) => write_whole(writer, &frame).is_ok(),
+        Ok(frame) => {
+            let is_written = write_whole(writer, &frame).is_ok();
+            if is_written {
+                shared.counters.add_test();
+            }
+            is_written
+        }
         Err(_) => {
             watch.opened(now);
             true

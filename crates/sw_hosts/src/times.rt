@@ -1,5 +1,8 @@
 //! The times of a host.
 
+ghost use Rattle.std.specs.Prelude.{◌≡◌};
+ghost use Rattle.sw_hosts.specs.Times.{tests_silence};
+
 use std::time::Duration;
 
 /// How long a host is waited for, and when it is asked whether it is still there.
@@ -7,8 +10,18 @@ use std::time::Duration;
 pub struct HostTimes {
     /// How long the answer to a message is waited for.
     pub timeout: Duration,
-    /// How long a host that did not answer in time is not asked. With no time it is asked again at once.
+    /// How long a host that did not answer in time is not asked at least. With no time it is asked again at once.
     pub retry: Duration,
     /// After how long without a frame the host gets an echo test. With no time it gets none.
     pub echo: Duration,
+}
+
+impl HostTimes {
+    /// Whether a silent host is asked again only once something was read from it, and gets echo tests until
+    /// then: where neither `retry` nor `echo` is no time.
+    pub fn tests_silence(&self) -> bool
+        ensures { result ≡ tests_silence self.now }
+    {
+        !self.retry.is_zero() && !self.echo.is_zero()
+    }
 }

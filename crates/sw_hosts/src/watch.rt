@@ -1,8 +1,7 @@
 //! Whether a host that nothing is written to is still there.
 
-ghost use Rattle.std.specs.Prelude.{◌≡◌, ◌+◌, ◌%◌};
-ghost use Rattle.sw_hosts.specs.Moments.{later};
-ghost use Rattle.sw_hosts.specs.Watches.{due, duty, from, unanswered};
+ghost use Rattle.std.specs.Prelude.{◌≡◌, ◌+◌, ◌%◌, Some};
+ghost use Rattle.sw_hosts.specs.Watches.{due, due_in_silence, duty, next_test, rest_or_test, tests_with, unanswered};
 
 use crate::moment::Moment;
 use crate::times::HostTimes;
@@ -11,13 +10,15 @@ use std::time::Duration;
 /// The greatest STAN.
 const LAST_STAN: u32 = 999_999;
 
-/// An echo test that was written.
+/// The echo tests that were written since something was read from the host.
 #[derive(Clone, Copy)]
-pub struct EchoTest {
-    /// From when on nobody waits for its answer.
+pub struct EchoTests {
+    /// From when on nobody waits for the answer to the first of them.
     pub deadline: Moment,
-    /// How often something had been read from the host when it was written.
+    /// How often something had been read from the host when they were written.
     pub heard: u64,
+    /// How many they are.
+    pub count: u64,
 }
 
 /// What the thread that writes to a host knows of it.
@@ -25,8 +26,10 @@ pub struct EchoTest {
 pub struct Watch {
     /// When it wrote last, or opened the direction.
     pub written: Moment,
-    /// The echo test that it wrote last, since the direction was opened.
-    pub test: Option<EchoTest>,
+    /// The last echo tests that it wrote, since the direction was opened.
+    pub tests: Option<EchoTests>,
+    /// When it wrote the last echo test, also before the direction was opened.
+    pub tested: Option<Moment>,
     /// The STAN of the last echo test; 0 before the first.
     pub stan: u32,
 }
@@ -38,8 +41,8 @@ pub enum Duty {
     Rests(Moment),
     /// It writes an echo test.
     Tests,
-    /// It gives the host up, since no answer to its echo test came in time.
-    GivesUp,
+    /// It gives the host up, since no answer to so many echo tests came in time.
+    GivesUp(u64),
 }
 
 impl Watch {
@@ -47,17 +50,18 @@ impl Watch {
     pub fn new() -> Watch {
         Watch {
             written: Moment { micros: 0 },
-            test: None,
+            tests: None,
+            tested: None,
             stan: 0,
         }
     }
 
     /// The direction was opened.
     pub fn opened(&mut self, now: Moment)
-        ensures { self.new ≡ record self.old { written = now; test = None } }
+        ensures { self.new ≡ record self.old { written = now; tests = None } }
     {
         self.written = now;
-        self.test = None;
+        self.tests = None;
     }
 
     /// A frame was written.
@@ -69,16 +73,26 @@ impl Watch {
 
     /// An echo test was written, when something had been read from the host so often.
     pub fn tested(&mut self, now: Moment, heard: u64, timeout: Duration)
-        ensures written { self.new.written ≡ now }
-        ensures test { self.new.test ≡ Some (record {
-          deadline = record { micros = later now.micros timeout };
-          heard = heard;
-        }) }
-        ensures stan { self.new.stan ≡ self.old.stan }
+        ensures { self.new ≡ record self.old {
+          written = now;
+          tests = Some (tests_with (unanswered self.old heard) now.micros heard timeout);
+          tested = Some now;
+        } }
     {
-        let deadline = now.after(timeout);
+        let tests = match self.unanswered(heard) {
+            Some(earlier) => EchoTests {
+                count: earlier.count.saturating_add(1),
+                ..earlier
+            },
+            None => EchoTests {
+                deadline: now.after(timeout),
+                heard,
+                count: 1,
+            },
+        };
         self.written = now;
-        self.test = Some(EchoTest { deadline, heard });
+        self.tests = Some(tests);
+        self.tested = Some(now);
     }
 
     /// The STAN of the next echo test: one more than the last one's, and 1 after the greatest.
@@ -90,17 +104,17 @@ impl Watch {
         self.stan
     }
 
-    // The deadline of an echo test since which nothing was read from the host.
-    fn unanswered(&self, heard: u64) -> Option<Moment>
+    // The echo tests since which nothing was read from the host.
+    fn unanswered(&self, heard: u64) -> Option<EchoTests>
         ensures { result ≡ unanswered self.now heard }
     {
-        match self.test {
-            Some(test) if test.heard == heard => Some(test.deadline),
+        match self.tests {
+            Some(tests) if tests.heard == heard => Some(tests),
             _ => None,
         }
     }
 
-    // When the next echo test is due, where there are any.
+    // When the next echo test is due where the host is not silent, and gets any.
     fn due(&self, echo: Duration) -> Option<Moment>
         ensures { result ≡ due self.now echo }
     {
@@ -111,27 +125,59 @@ impl Watch {
         }
     }
 
-    /// What is to be done now, where something was read from the host so often.
-    pub fn duty(&self, now: Moment, heard: u64, times: &HostTimes) -> Duty
-        ensures { result ≡ duty self.now now.micros heard times.now.echo }
+    // When the next echo test is due where the host is silent, and tested from a moment on.
+    fn due_in_silence(&self, from: Moment, retry: Duration) -> Moment
+        ensures { result ≡ due_in_silence self.now from retry }
     {
-        if let Some(deadline) = self.unanswered(heard) {
-            return from(deadline, now, Duty::GivesUp);
+        match self.tested {
+            Some(tested) => from.or_later(tested.after(retry)),
+            None => from,
         }
-        match self.due(times.echo) {
-            Some(due) => from(due, now, Duty::Tests),
-            None => Duty::Rests(Moment::LAST),
+    }
+
+    // When the next echo test is due. Where the host is not silent, an unanswered one is waited for.
+    fn next_test(
+        &self,
+        heard: u64,
+        tested_from: Option<Moment>,
+        times: &HostTimes,
+    ) -> Option<Moment>
+        ensures { result ≡ next_test self.now heard tested_from times.now }
+    {
+        match (tested_from, self.unanswered(heard)) {
+            (Some(from), _) => Some(self.due_in_silence(from, times.retry)),
+            (None, Some(_)) => None,
+            (None, None) => self.due(times.echo),
+        }
+    }
+
+    /// What is to be done now, where something was read from the host so often, and it is tested from a moment on
+    /// where it is silent.
+    pub fn duty(
+        &self,
+        now: Moment,
+        heard: u64,
+        tested_from: Option<Moment>,
+        times: &HostTimes,
+    ) -> Duty
+        ensures { result ≡ duty self.now now.micros heard tested_from times.now }
+    {
+        let next_test = self.next_test(heard, tested_from, times);
+        match self.unanswered(heard) {
+            Some(tests) if now.is_past(tests.deadline) => Duty::GivesUp(tests.count),
+            Some(tests) => rest_or_test(next_test, tests.deadline, now),
+            None => rest_or_test(next_test, Moment::LAST, now),
         }
     }
 }
 
-// What is to be done from a moment on; up to it the thread sleeps.
-fn from(moment: Moment, now: Moment, duty: Duty) -> Duty
-    ensures { result ≡ from moment now.micros duty }
+// Whether the next echo test is due now; else the thread sleeps up to that, or up to an earlier deadline.
+fn rest_or_test(next_test: Option<Moment>, deadline: Moment, now: Moment) -> Duty
+    ensures { result ≡ rest_or_test next_test deadline now.micros }
 {
-    if now.is_past(moment) {
-        duty
-    } else {
-        Duty::Rests(moment)
+    match next_test {
+        Some(due) if now.is_past(due) => Duty::Tests,
+        Some(due) => Duty::Rests(due.or_earlier(deadline)),
+        None => Duty::Rests(deadline),
     }
 }

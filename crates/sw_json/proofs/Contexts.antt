@@ -1,6 +1,7 @@
 -- The context that bytes spell, as it is read.
 -- for: notes::note_in
-use Rattle.std.proofs.Common.{◌≡◌, ℕ, zero, suc, ◌+◌, ◌*◌, ◌/◌, ◌%◌, ◌<◌, ◌≤◌, ◌&&◌, Bool, true, false, cond, List, [], ◌∷◌, ◌++◌, length, take, drop, Option, Some, None, Result, Ok, Err, option_map, slice_get, refl, sym, ap, subst, ◌∙◌, append_assoc, append-nil, add-one, arith}
+use Rattle.std.proofs.Common.{◌≡◌, ℕ, zero, suc, ◌+◌, ◌*◌, ◌/◌, ◌%◌, ◌<◌, ◌≤◌, ◌&&◌, Bool, true, false, cond, List, [], ◌∷◌, ◌++◌, length, take, drop, Option}
+use Rattle.std.proofs.Common.{Some, None, Result, Ok, Err, option_map, slice_get, refl, sym, ap, subst, ◌∙◌, append_assoc, append-nil, add-one, arith}
 use Rattle.std.specs.Prelude.{is_none, nat_le, nat_lt}
 use Rattle.std.specs.List.{flat_map}
 use Rattle.std.specs.Str.{bytes_eq}
@@ -20,7 +21,10 @@ Named = List ℕ × List ℕ
 value_front : (name value rest : List ℕ) → value_at name (value_bytes value ++ rest) ≡ ((name, value), rest)
 value_front name value rest =
     let same : length value ≡ 256 * (length value / 256) + length value % 256 = omega arith in
-    λ i. ((name, take_at value rest (256 * (length value / 256) + length value % 256) same i), drop_at value rest (256 * (length value / 256) + length value % 256) same i)
+    λ i. (
+      (name, take_at value rest (256 * (length value / 256) + length value % 256) same i),
+      drop_at value rest (256 * (length value / 256) + length value % 256) same i,
+    )
 
 entry_front : (e : Named) (rest : List ℕ) → entry_at (entry_bytes e ++ rest) ≡ (e, rest)
 entry_front e rest =

@@ -1,4 +1,4 @@
--- What issuers are told later of what the switch decided without them.
+-- What issuers are notified of later: what the switch decided without them.
 use Rattle.std.specs.Prelude.{codes}
 use Rattle.iso_msg.specs.Messages.{PlainMessage}
 use Rattle.sw_context.specs.Pairs.{Pairs, find}

@@ -11,7 +11,7 @@ use Rattle.sw_messages.specs.declared.response_code.ResponseCode.{ResponseCode}
 use Rattle.sw_messages.specs.declared.response_code.ResponseCode.TheVariants as rc
 use Rattle.sw_messages.specs.Requests.{class_of}
 
--- The fields without which a request of the class is none: card number, processing code, amount,
+-- The required fields of a request of the class: card number, processing code, amount,
 -- date and time, STAN and terminal; of a reversal the original data elements (90); of a network
 -- message its management code (70).
 abbrev pub needed_fields : Class → List ℕ

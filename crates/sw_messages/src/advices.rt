@@ -1,4 +1,4 @@
-//! What issuers are told later of what the switch decided without them.
+//! What issuers are notified of later: what the switch decided without them.
 
 ghost use Rattle.std.specs.Prelude.{◌≡◌, IfOk};
 ghost use Rattle.iso_codec.specs.Spelling.{spelling};

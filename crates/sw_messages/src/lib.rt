@@ -1,13 +1,13 @@
 //! The messages of the switch: what a request is for, and what is made of it.
 //!
 //! - [`Class`] is what a request is for, by its message type; [`ResponseCode`] is its field 39.
-//!   [`fault_of`] tells why a request is none, [`amount_of`] what the digits of field 4 spell.
+//!   [`fault_of`] says why a request is invalid, [`amount_of`] what the digits of field 4 spell.
 //! - A transaction's context carries the request as the entry `request`, which [`request_in`]
 //!   reads, and [`class_in`] looks over for what it is for. Notes stand beside it ([`note`]): `rc`
 //!   (response code), `auth` (approval code), `sent` and `late` (the request went to an issuer, and
 //!   its answer has not come), `standin` (the switch approved by itself) and `response`.
 //! - [`response_to`], [`reversal_of`], [`authorization_advice`] and [`reversal_advice`] make of a
-//!   request its response, its reversal, and the advices that issuers are told later.
+//!   request its response, its reversal, and the advices that issuers get later.
 //!
 //! `specs/` has each of them as a function of the message and the context.
 #![tactic(auto)]

@@ -12,7 +12,7 @@ pub enum ResponseCode {
     InvalidTransaction,
     /// 13
     InvalidAmount,
-    /// 14: the card number is none.
+    /// 14: invalid card number.
     InvalidCard,
     /// 30
     FormatError,

@@ -1,6 +1,7 @@
 -- Requests by number: one put last, one taken out.
 -- for: mux::Mux::request, mux::Mux::take
-use Rattle.std.proofs.Common.{◌≡◌, ℕ, ◌+◌, ◌≤◌, Bool, true, false, cond, List, [], ◌∷◌, ◌++◌, Option, Some, None, is_some, unwrap_or, true≢false, refl, sym, ap, ◌∙◌, arith}
+use Rattle.std.proofs.Common.{◌≡◌, ℕ, ◌+◌, ◌≤◌, Bool, true, false, cond, List, [], ◌∷◌, ◌++◌, Option, Some, None, is_some, unwrap_or, true≢false, refl, sym, ap}
+use Rattle.std.proofs.Common.{◌∙◌, arith}
 use Rattle.std.specs.Map.{lookup, remove_entry, values_of}
 use Rattle.std.specs.BTreeMap.{insert_entry, is_at}
 use Rattle.std.specs.Ordering.{nat_cmp, is_eq, match_ordering}
@@ -46,7 +47,8 @@ pub rise_last : (low n : ℕ) (v : Key × ℕ) (es : Numbered) → Rise low es n
 rise_last low n v [] r = (r, omega arith)
 rise_last low n v (e ∷ es) r = (r.0, rise_last (e.0 + 1) n v es r.1)
 
-pub number_last : (q : Key) (n : ℕ) (v : Key × ℕ) (es : Numbered) → number_of v.0 es ≡ None → number_of q (es ++ (n, v) ∷ []) ≡ cond (key_eq v.0 q) (Some n) (number_of q es)
+pub number_last : (q : Key) (n : ℕ) (v : Key × ℕ) (es : Numbered) → number_of v.0 es ≡ None →
+    number_of q (es ++ (n, v) ∷ []) ≡ cond (key_eq v.0 q) (Some n) (number_of q es)
 number_last q n v [] none = refl
 number_last q n v (e ∷ es) none = by (key_eq e.1.0 q) refl (key_eq e.1.0 v.0) refl (number_last q n v es) none
   where
@@ -151,7 +153,8 @@ pub values_out : (k : Key) (es : Numbered) → values_of (out k es) ≡ without 
 values_out k [] = refl
 values_out k (e ∷ es) = by (key_eq e.1.0 k) (values_out k es)
   where
-    by : (b : Bool) → values_of (out k es) ≡ without k.bytes (values_of es) → values_of (cond b es (e ∷ out k es)) ≡ cond b (values_of es) (e.1 ∷ without k.bytes (values_of es))
+    by : (b : Bool) → values_of (out k es) ≡ without k.bytes (values_of es) →
+        values_of (cond b es (e ∷ out k es)) ≡ cond b (values_of es) (e.1 ∷ without k.bytes (values_of es))
     by true go = refl
     by false go = ap (λ z. e.1 ∷ z) go
 

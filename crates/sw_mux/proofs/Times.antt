@@ -1,6 +1,8 @@
 -- Keys by deadline and number: one put, one taken out, and those that are due.
 -- for: mux::Mux::request, mux::Mux::take, mux::Mux::due
-use Rattle.std.proofs.Common.{◌≡◌, ℕ, ◌+◌, ◌<◌, ◌≤◌, Bool, true, false, cond, nat_le, not, ◌&&◌, ◌||◌, le-leb, leb-true, slice_index_or, nat_cmp, is_eq, is_gt, Ordering, Less, Equal, Greater, List, [], ◌∷◌, map, filter, Option, Some, None, is_some, unwrap_or, true≢false, refl, sym, ap, subst, ◌∙◌, arith}
+use Rattle.std.proofs.Common.{◌≡◌, ℕ, ◌+◌, ◌<◌, ◌≤◌, Bool, true, false, cond, nat_le, not, ◌&&◌, ◌||◌, le-leb, leb-true, slice_index_or, nat_cmp, is_eq, is_gt}
+use Rattle.std.proofs.Common.{Ordering, Less, Equal, Greater, List, [], ◌∷◌, map, filter, Option, Some, None, is_some, unwrap_or, true≢false, refl, sym, ap}
+use Rattle.std.proofs.Common.{subst, ◌∙◌, arith}
 use Rattle.std.specs.BTreeMap.{BTreeMap, is_at, get, IsFromIterResult}
 use Rattle.std.specs.BTreeMap.Range.{IsEntryInRange, range_contains}
 use Rattle.std.specs.Cmp.{nat_cmp_is, ranks, ranked, nat_cmp_total}
@@ -258,7 +260,8 @@ in_time d n tick m h = by (nat_cmp d tick) h (ranks d tick)
     by Equal h m = omega (arith, m)
     by Greater h m = absurd cc
 
-is_due_at : (tick : ℕ) (es : Numbered) (q : ℕ) (t : (ℕ × ℕ) × Key) → t.0.0 ≤ tick → key_by t.0.0 (request_at t.0.1 es) ≡ Some t.1 → is_eq (nat_cmp t.0.1 q) ≡ true
+is_due_at : (tick : ℕ) (es : Numbered) (q : ℕ) (t : (ℕ × ℕ) × Key) → t.0.0 ≤ tick → key_by t.0.0 (request_at t.0.1 es) ≡ Some t.1 →
+    is_eq (nat_cmp t.0.1 q) ≡ true
     → Some t.1 ≡ due_at tick (request_at q es)
 is_due_at tick es q t early h same = core (request_at t.0.1 es) h ∙ ap (λ z. due_at tick (request_at z es)) (one_number t.0.1 q same)
   where
@@ -300,7 +303,8 @@ member_from : (tick d q : ℕ) (k : Key) (ts : Timed) → d ≤ tick → q ≤ 1
     → is_member (eq_by_cmp nat_cmp) (keys_of (map by_number (until tick ts))) q ≡ true
 member_from tick d q k [] early small h = absurd cc
 member_from tick d q k (t ∷ ts) early small h =
-    by (is_eq (pair_cmp (d, q) t.0)) refl (range_contains pair_cmp Unbounded (Included (tick, 18446744073709551615)) t.0) refl (member_from tick d q k ts early small) h
+    by (is_eq (pair_cmp (d, q) t.0)) refl (range_contains pair_cmp Unbounded (Included (tick, 18446744073709551615)) t.0) refl
+    (member_from tick d q k ts early small) h
   where
     by : (b : Bool) → is_eq (pair_cmp (d, q) t.0) ≡ b → (c : Bool) → range_contains pair_cmp Unbounded (Included (tick, 18446744073709551615)) t.0 ≡ c
         → (lookup (is_at (pair_cmp (d, q))) ts ≡ Some k → is_member (eq_by_cmp nat_cmp) (keys_of (map by_number (until tick ts))) q ≡ true)
@@ -340,14 +344,17 @@ module _ (tick next : ℕ) (es : Numbered) (ts : BTreeMap (ℕ × ℕ) Key) (fou
       (λ k d h same. let i = inside k d h in let t = slice_index_or (until tick ts.entries) k d in
       is_due_at tick es q t (in_time t.0.0 t.0.1 tick 18446744073709551615 i.0.1) (sym (timed t.0) ∙ i.1) same))
 
-  complete : (q : ℕ) (k : Key) → due_at tick (request_at q es) ≡ Some k → is_member (eq_by_cmp nat_cmp) (keys_of (map by_number (until tick ts.entries))) q ≡ true
+  complete : (q : ℕ) (k : Key) → due_at tick (request_at q es) ≡ Some k → is_member (eq_by_cmp nat_cmp) (keys_of (map by_number (until tick ts.entries))) q
+      ≡ true
   complete q k h = by (request_at q es) refl h
     where
-      by : (r : Option (Key × ℕ)) → request_at q es ≡ r → due_at tick r ≡ Some k → is_member (eq_by_cmp nat_cmp) (keys_of (map by_number (until tick ts.entries))) q ≡ true
+      by : (r : Option (Key × ℕ)) → request_at q es ≡ r → due_at tick r ≡ Some k →
+          is_member (eq_by_cmp nat_cmp) (keys_of (map by_number (until tick ts.entries))) q ≡ true
       by None is h = absurd cc
       by (Some v) is h = early (nat_le v.1 tick) refl h
         where
-          early : (b : Bool) → nat_le v.1 tick ≡ b → cond b (Some v.0) no_key ≡ Some k → is_member (eq_by_cmp nat_cmp) (keys_of (map by_number (until tick ts.entries))) q ≡ true
+          early : (b : Bool) → nat_le v.1 tick ≡ b → cond b (Some v.0) no_key ≡ Some k →
+              is_member (eq_by_cmp nat_cmp) (keys_of (map by_number (until tick ts.entries))) q ≡ true
           early true e h =
               let low : v.1 ≤ tick = leb-true v.1 tick e in
               let bound : q < next = below_next q 0 next v es rise is in
@@ -361,7 +368,8 @@ module _ (tick next : ℕ) (es : Numbered) (ts : BTreeMap (ℕ × ℕ) Key) (fou
       ∙ by (update_all (eq_by_cmp nat_cmp) (λ _. None) (map by_number (until tick ts.entries)) q)
       (is_some-update_all (eq_by_cmp_equiv nat_cmp_total) q (λ _. None) (map by_number (until tick ts.entries))) (sound q)
     where
-      none : (o : Option Key) → due_at tick (request_at q es) ≡ o → false ≡ is_member (eq_by_cmp nat_cmp) (keys_of (map by_number (until tick ts.entries))) q → None ≡ o
+      none : (o : Option Key) → due_at tick (request_at q es) ≡ o → false ≡ is_member (eq_by_cmp nat_cmp) (keys_of (map by_number (until tick ts.entries)))
+          q → None ≡ o
       none None is h = refl
       none (Some k) is h = absurd (true≢false (sym (complete q k is) ∙ sym h))
 

@@ -46,7 +46,7 @@ refusal_of (Some k) es = refused_if (waits k es) DuplicateKey
 abbrev pub refusal : PlainMessage → Waiting → Option MuxError
 refusal m es = refusal_of (key m) es
 
--- the error is that refusal; memory is wanting only where there is none
+-- the error is that refusal; out of memory comes only where there is none
 abbrev pub IsRefusal : MuxError → Option MuxError → Type 0
 IsRefusal OutOfMemory r = r ≡ None
 IsRefusal e r = r ≡ Some e

@@ -7,4 +7,5 @@ use Rattle.sw_participant.specs.Chains.{Rule}
 
 -- what the one rule allows the other allows
 abbrev pub Within : Rule → Rule → Type 0
-Within rule wide = (id : ℕ) (act : Act) (o : List ℕ) (x : Pairs) (reply : Reply) (p : List ℕ) (y : Pairs) → rule id act o x reply p y → wide id act o x reply p y
+Within rule wide = (id : ℕ) (act : Act) (o : List ℕ) (x : Pairs) (reply : Reply) (p : List ℕ) (y : Pairs) → rule id act o x reply p y →
+    wide id act o x reply p y

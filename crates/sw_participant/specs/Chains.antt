@@ -1,6 +1,7 @@
 -- Chains of calls: what happened to the stations of a plant, in order, so that their objects join from start to end,
 -- and the contexts of each transaction.
-use Rattle.std.specs.Prelude.{◌≡◌, ℕ, zero, suc, ◌+◌, ◌-◌, ◌^◌, ◌==◌, min, Bool, true, false, List, [], ◌∷◌, Option, Some, None, get_or, slice_set, if◌then◌else◌}
+use Rattle.std.specs.Prelude.{◌≡◌, ℕ, zero, suc, ◌+◌, ◌-◌, ◌^◌, ◌==◌, min, Bool, true, false, List, [], ◌∷◌, Option, Some, None, get_or, slice_set}
+use Rattle.std.specs.Prelude.{if◌then◌else◌}
 use Rattle.sw_context.specs.Pairs.{Pairs}
 use Rattle.sw_participant.specs.declared.call.Act.{Act}
 use Rattle.sw_participant.specs.declared.call.Act.TheVariants.{Prepare, PrepareForAbort, Select, Commit, Abort, Recover}
@@ -43,7 +44,7 @@ Among now live = (id : ℕ) → (x : Pairs) → now id ≡ Some x → live id �
 
 -- What happened, in order: a transaction began with a context; a participant was called; everything stopped but the
 -- stations, and what was written down then is all that is left of the contexts. The record of a call has the call, its
--- place, by which an outcome call is told from the others of its transaction, and the reply. V is what a plant writes
+-- place, by which an outcome call is distinguished from the others of its transaction, and the reply. V is what a plant writes
 -- down. A participant's number is its station's.
 pub data ChainItem (V : Type 0) : Type 0 where
   Began : (id : ℕ) → (context : Pairs) → ChainItem V

@@ -21,7 +21,8 @@ pub trait Caller: Drop {
     fn make(&mut self, call: &Call, context: &mut Context) -> Result<Reply, NoMemory>
         ensures within { Within (rule self.new) (rule self.old) }
         ensures performed { IfOk result (λ reply.
-            rule self.old call.now.id call.now.act (object self.old) context.old reply (object self.new) context.new) }
+            rule self.old call.now.id call.now.act (object self.old) context.old reply
+            (object self.new) context.new) }
         ensures object_kept { OnErr result (object self.new ≡ object self.old) }
         ensures context_kept { OnErr result (context.new ≡ context.old) };
 }

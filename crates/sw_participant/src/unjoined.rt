@@ -31,8 +31,8 @@ pub trait Unjoined: Drop {
 
     /// Prepares in a transaction that is aborting already.
     fn prepare_for_abort(&mut self, id: u64, context: &mut Context) -> Result<u8, NoMemory>
-        ensures performed { IfOk result (λ byte.
-            prepares_for_abort id (object self.old) context.old byte (object self.new) context.new) }
+        ensures performed { IfOk result (λ byte. prepares_for_abort id
+            (object self.old) context.old byte (object self.new) context.new) }
         ensures object_kept { OnErr result (object self.new ≡ object self.old) }
         ensures context_kept { OnErr result (context.new ≡ context.old) };
 

@@ -20,7 +20,11 @@ longer_assoc (Some r) (Some q) (Some s) = by (nat_lt (length r.prefix) (length q
 
     by : (d : Bool) → nat_lt (length r.prefix) (length q.prefix) ≡ d → (e : Bool) → nat_lt (length q.prefix) (length s.prefix) ≡ e
         → longer (cond d (Some q) (Some r)) (Some s) ≡ longer (Some r) (cond e (Some s) (Some q))
-    by true f true g = ap (λ z. cond z (Some s) (Some q)) g ∙ sym (ap (λ z. cond z (Some s) (Some r)) (lt-ltb (length r.prefix) (length s.prefix) (omega (arith, ltb-true (length r.prefix) (length q.prefix) f, ltb-true (length q.prefix) (length s.prefix) g))))
+    by true f true g = ap (λ z. cond z (Some s) (Some q)) g ∙ sym
+        (ap (λ z. cond z (Some s) (Some r)) (lt-ltb (length r.prefix) (length s.prefix)
+        (omega (arith, ltb-true (length r.prefix) (length q.prefix) f, ltb-true (length q.prefix) (length s.prefix) g))))
     by true f false g = ap (λ z. cond z (Some s) (Some q)) g ∙ sym (ap (λ z. cond z (Some q) (Some r)) f)
     by false f true g = refl
-    by false f false g = ap (λ z. cond z (Some s) (Some r)) (le-ltb (length r.prefix) (length s.prefix) (omega (arith, ltb-false (length r.prefix) (length q.prefix) f, ltb-false (length q.prefix) (length s.prefix) g))) ∙ sym (ap (λ z. cond z (Some q) (Some r)) f)
+    by false f false g = ap (λ z. cond z (Some s) (Some r)) (le-ltb (length r.prefix) (length s.prefix)
+        (omega (arith, ltb-false (length r.prefix) (length q.prefix) f, ltb-false (length q.prefix) (length s.prefix) g)))
+        ∙ sym (ap (λ z. cond z (Some q) (Some r)) f)

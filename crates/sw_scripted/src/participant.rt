@@ -141,9 +141,11 @@ impl Participant for Scripted {
 
     ghost selects = { λ id o x text p. Shows o p (λ q r. Chosen q text r) };
 
-    ghost commits = { λ id recovering o x advice p y. Shows o p (λ q r. Advised q advice r) × (y ≡ x) };
+    ghost commits = { λ id recovering o x advice p y. Shows o p (λ q r. Advised q advice r)
+        × (y ≡ x) };
 
-    ghost aborts = { λ id recovering o x advice p y. Shows o p (λ q r. Advised q advice r) × (y ≡ x) };
+    ghost aborts = { λ id recovering o x advice p y. Shows o p (λ q r. Advised q advice r)
+        × (y ≡ x) };
 
     ghost recovers = { λ id commit o x p y. Shows o p (λ q r. Restored q x r y) };
 

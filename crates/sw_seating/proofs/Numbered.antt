@@ -1,6 +1,7 @@
 -- No two participants of a flow have one name.
 -- for: laws::participants_are_numbered
-use Rattle.std.proofs.Common.{◌≡◌, ℕ, suc, zero, ◌+◌, ◌<◌, ◌≤◌, true, false, ◌⊎◌, inl, inr, ⊎_elim, List, [], ◌∷◌, ◌++◌, length, get_or, refl, sym, ap, ◌∙◌, subst, arith, if◌then◌else◌, length-append, true≢false}
+use Rattle.std.proofs.Common.{◌≡◌, ℕ, suc, zero, ◌+◌, ◌<◌, ◌≤◌, true, false, ◌⊎◌, inl, inr, ⊎_elim, List, [], ◌∷◌, ◌++◌, length, get_or, refl, sym, ap, ◌∙◌}
+use Rattle.std.proofs.Common.{subst, arith, if◌then◌else◌, length-append, true≢false}
 use Rattle.std.specs.Prelude.{nat_lt}
 use Rattle.std.specs.Str.{bytes_eq}
 use Rattle.std.proofs.lemmas.Bool.{cases_Bool, cases_lt}
@@ -20,10 +21,12 @@ number_at_end [] q new = number_here q [] q.name ((bytes_eq-Decides q.name q.nam
 number_at_end (p ∷ ps) q new =
     ⊎_elim
     (λ (e : bytes_eq p.name q.name ≡ true). absurd (omega (arith, new, number_here p ps q.name e)))
-    (λ (e : bytes_eq p.name q.name ≡ false). number_cons p (ps ++ q ∷ []) q.name e ∙ ap suc (number_at_end ps q (omega (arith, new, number_cons p ps q.name e))))
+    (λ (e : bytes_eq p.name q.name ≡ false). number_cons p (ps ++ q ∷ []) q.name e
+    ∙ ap suc (number_at_end ps q (omega (arith, new, number_cons p ps q.name e))))
     (cases_Bool (bytes_eq p.name q.name))
 
-numbered_below : (ps : List Part) (q : Part) → AreNumbered ps → (k : ℕ) (d : Part) → k < length ps → number_in (ps ++ q ∷ []) (get_or (ps ++ q ∷ []) k d).name ≡ k
+numbered_below : (ps : List Part) (q : Part) → AreNumbered ps → (k : ℕ) (d : Part) → k < length ps →
+    number_in (ps ++ q ∷ []) (get_or (ps ++ q ∷ []) k d).name ≡ k
 numbered_below ps q h k d low =
     let at : get_or (ps ++ q ∷ []) k d ≡ get_or ps k d = get_or_append_left ps (q ∷ []) d k low in
     let is = h k d low in
@@ -48,7 +51,8 @@ not_lt m n b =
 numbered_add : (ps : List Part) (e : Entry) → AreNumbered ps → AreNumbered (add_new ps e)
 numbered_add ps e h =
     ⊎_elim
-    (λ (b : nat_lt (number_in ps e.participant) (length ps) ≡ true). subst AreNumbered (sym (ap (λ c. if c then ps else ps ++ record { name = e.participant; kind = e.kind } ∷ []) b)) h)
+    (λ (b : nat_lt (number_in ps e.participant) (length ps) ≡ true). subst AreNumbered
+    (sym (ap (λ c. if c then ps else ps ++ record { name = e.participant; kind = e.kind } ∷ []) b)) h)
     (λ (b : nat_lt (number_in ps e.participant) (length ps) ≡ false).
     subst AreNumbered (sym (ap (λ c. if c then ps else ps ++ record { name = e.participant; kind = e.kind } ∷ []) b))
     (numbered_more ps record { name = e.participant; kind = e.kind } h (not_lt (number_in ps e.participant) (length ps) b)))

@@ -88,7 +88,8 @@ fn seat_one(stations: &mut Vec<Station>, parts: &[Part], k: usize)
     requires suited { HaveStations (names_of stations.old.items) parts.now }
     requires seated { take k (names_of stations.old.items) ≡ take k (part_names parts.now) }
     ensures same { IsPermutation stations.old.items stations.new.items }
-    ensures seated { take (k + 1) (names_of stations.new.items) ≡ take (k + 1) (part_names parts.now) }
+    ensures seated { take (k + 1) (names_of stations.new.items)
+        ≡ take (k + 1) (part_names parts.now) }
 {
     match find_from(stations.as_slice(), k, parts[k].name.as_str()) {
         Some(at) => stations.swap(k, at),

@@ -26,7 +26,8 @@ abbrev pub answered_text : ℕ → ℕ → List ℕ
 answered_text requests approved = codes "cardswitch: stats: requests=" ++ decimal requests ++ codes " approved=" ++ decimal approved
 
 abbrev pub others_text : ℕ → ℕ → ℕ → List ℕ
-others_text passed stand_ins reversals = codes " passed-over=" ++ decimal passed ++ codes " stand-ins=" ++ decimal stand_ins ++ codes " reversals=" ++ decimal reversals
+others_text passed stand_ins reversals = codes " passed-over=" ++ decimal passed ++ codes " stand-ins=" ++ decimal stand_ins ++ codes " reversals="
+    ++ decimal reversals
 
 abbrev pub advices_text : ℕ → ℕ → List ℕ
 advices_text stored delivered = codes " advices-stored=" ++ decimal stored ++ codes " advices-delivered=" ++ decimal delivered
@@ -34,7 +35,8 @@ advices_text stored delivered = codes " advices-stored=" ++ decimal stored ++ co
 -- seconds with three digits after the point, and requests a second
 abbrev pub time_text : ℕ → ℕ → List ℕ
 time_text milliseconds rate =
-    codes " seconds=" ++ decimal (milliseconds / 1000) ++ codes "." ++ decimal (milliseconds / 100 % 10) ++ decimal (milliseconds / 10 % 10) ++ decimal (milliseconds % 10)
+    codes " seconds=" ++ decimal (milliseconds / 1000) ++ codes "." ++ decimal (milliseconds / 100 % 10) ++ decimal (milliseconds / 10 % 10)
+    ++ decimal (milliseconds % 10)
     ++ codes " per-second=" ++ decimal rate ++ 10 ∷ []
 
 abbrev pub stats_line : Numbers → ℕ → List ℕ

@@ -46,15 +46,14 @@ fn run_words(rt: &HostRuntime, words: &[String]) -> Result<(), &'static str> {
     }
 }
 
+fn run(rt: &HostRuntime) -> Result<(), &'static str> {
+    let words = std::env::args(rt).map_err(|_| WORDS)?;
+    let words = words.collect::<Vec<String>>(rt.alloc());
+    run_words(rt, words.map_err(|_| MEMORY)?.as_slice())
+}
+
 fn main(rt: HostRuntime) -> ExitCode {
-    let words = match std::env::args(&rt) {
-        Ok(words) => words.collect::<Vec<String>>(rt.alloc()),
-        Err(_) => return ExitCode::from(2),
-    };
-    let Ok(words) = words else {
-        return ExitCode::from(4);
-    };
-    match run_words(&rt, words.as_slice()) {
+    match run(&rt) {
         Ok(()) => ExitCode::from(0),
         Err(error) => {
             let _told = writeln!(rt.stderr(), "test_bench: {error}");

@@ -9,10 +9,9 @@ use sqlite::MemStore;
 use std::alloc::{AllocError, Global};
 use std::io::{self, Write};
 use sw_context::Context;
-use sw_participant::Act;
 use tx_engine::Engine;
 use tx_plant::Plant;
-use tx_trace::{Hex, Tracer};
+use tx_trace::{Hex, Tracer, act_word};
 
 fn write_trace<W: Write>(alloc: Global, engine: &Engine, out: &mut W) -> Result<(), TestError> {
     let mut tracer = Tracer::new(alloc, engine);
@@ -39,20 +38,9 @@ fn write_run<W: Write>(ran: &Ran, out: &mut W) -> io::Result<()> {
     writeln!(out, "shelved {shelved}")
 }
 
-fn word_of(act: Act) -> &'static str {
-    match act {
-        Act::Prepare => "prepare",
-        Act::PrepareForAbort => "prepare_for_abort",
-        Act::Select => "select",
-        Act::Commit { .. } => "commit",
-        Act::Abort { .. } => "abort",
-        Act::Recover { .. } => "recover",
-    }
-}
-
 fn write_called<W: Write>(code: &Code, called: &Called, out: &mut W) -> io::Result<()> {
     let (session, id) = (called.session, called.call.id);
-    let word = word_of(called.call.act);
+    let word = act_word(called.call.act);
     match code
         .participants()
         .get(usize::from(called.call.participant))

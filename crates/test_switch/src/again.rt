@@ -236,13 +236,9 @@ fn run_once<W: Write>(
     let code = assemble(alloc, &script.flow)?;
     let mut stations = Vec::new(alloc);
     for part in code.participants() {
-        let name = part.name.as_str();
-        let participant = Scripted::new(alloc, script.replies.take(alloc, name));
-        // A checked flow has no bad name, so only memory can run out.
-        match Station::new(alloc, name, Box::new(alloc, participant)?) {
-            Ok(station) => stations.push(station)?,
-            Err(_) => return Err(TestError::OutOfMemory(AllocError)),
-        }
+        let replies = script.replies.take(alloc, part.name.as_str());
+        let participant = Box::new(alloc, Scripted::new(alloc, replies))?;
+        stations.push(Station::from_parts(part.name.copy()?, participant, 0))?;
     }
     let sessions = script.sessions as usize;
     drive_all(

@@ -7,7 +7,7 @@ use crate::lives::{finish, is_plant_cut, play};
 use cli_script::{Script, open_script};
 use flow_asm::{Code, assemble};
 use sqlite::{Alter, Connection, Options};
-use std::alloc::{AllocError, Global};
+use std::alloc::Global;
 use std::io::Write;
 use sw_participant::Station;
 use sw_scripted::Scripted;
@@ -37,13 +37,9 @@ fn begin<S: Alter + Drop, W: Write>(
 ) -> Result<(bool, Journal<S>), TestError> {
     let mut stations = Vec::new(alloc);
     for part in code.participants() {
-        let name = part.name.as_str();
-        let participant = Scripted::new(alloc, script.replies.take(alloc, name));
-        // A checked flow has no bad name, so only memory can run out.
-        match Station::new(alloc, name, Box::new(alloc, participant)?) {
-            Ok(station) => stations.push(station)?,
-            Err(_) => return Err(TestError::OutOfMemory(AllocError)),
-        }
+        let replies = script.replies.take(alloc, part.name.as_str());
+        let participant = Box::new(alloc, Scripted::new(alloc, replies))?;
+        stations.push(Station::from_parts(part.name.copy()?, participant, 0))?;
     }
     let mut plant = match Plant::new(alloc, code, journal, stations, script.sessions as usize) {
         Ok(plant) => plant,

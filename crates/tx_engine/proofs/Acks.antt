@@ -50,7 +50,8 @@ place_is a b =
 
 lookup_same : {K A : Type 0} (t u : K → Bool) → ((k : K) → t k ≡ u k) → (xs : List (K × A)) → lookup t xs ≡ lookup u xs
 lookup_same t u same [] = refl
-lookup_same t u same (x ∷ xs) = ap (λ (b : Bool). cond b (Some x.1) (lookup t xs)) (same x.0) ∙ ap (λ (o : Option _). cond (u x.0) (Some x.1) o) (lookup_same t u same xs)
+lookup_same t u same (x ∷ xs) = ap (λ (b : Bool). cond b (Some x.1) (lookup t xs)) (same x.0) ∙ ap (λ (o : Option _). cond (u x.0) (Some x.1) o)
+    (lookup_same t u same xs)
 
 pub advice_is : (place : ℕ × ℕ) (xs : List ((ℕ × ℕ) × List ℕ)) → lookup (is_at (place_cmp place)) xs ≡ advice_at place xs
 advice_is place xs = lookup_same (is_at (place_cmp place)) (same_place place) (place_is place) xs
@@ -66,11 +67,13 @@ same_places : (a b : ℕ × ℕ) → same_place a b ≡ true → b ≡ a
 same_places a b h = by (a.0 == b.0) refl (a.1 == b.1) refl h
   where
     by : (x : Bool) → (a.0 == b.0) ≡ x → (y : Bool) → (a.1 == b.1) ≡ y → (x && y) ≡ true → b ≡ a
-    by true e true i h = let p : b.0 ≡ a.0 = grind (arith, nat_tests) in let q : b.1 ≡ a.1 = grind (arith, nat_tests) in ap (λ (x : ℕ). (x, b.1)) p ∙ ap (λ (y : ℕ). (a.0, y)) q
+    by true e true i h = let p : b.0 ≡ a.0 = grind (arith, nat_tests) in let q : b.1 ≡ a.1 = grind (arith, nat_tests) in
+        ap (λ (x : ℕ). (x, b.1)) p ∙ ap (λ (y : ℕ). (a.0, y)) q
     by true e false i h = absurd (cc)
     by false e y i h = absurd (cc)
 
-stands_at : (place : ℕ × ℕ) (x : (ℕ × ℕ) × List ℕ) (xs : List ((ℕ × ℕ) × List ℕ)) → (is_some (advice_at place xs) ≡ true → Stands place xs) → (b : Bool) → same_place place x.0 ≡ b → is_some (cond b (Some x.1) (advice_at place xs)) ≡ true → Stands place (x ∷ xs)
+stands_at : (place : ℕ × ℕ) (x : (ℕ × ℕ) × List ℕ) (xs : List ((ℕ × ℕ) × List ℕ)) → (is_some (advice_at place xs) ≡ true → Stands place xs) → (b : Bool) →
+    same_place place x.0 ≡ b → is_some (cond b (Some x.1) (advice_at place xs)) ≡ true → Stands place (x ∷ xs)
 stands_at place x xs ih true e h = record { advice = x.1; index = zero; there = ap (λ (k : ℕ × ℕ). Some (k, x.1)) (same_places place x.0 e) }
 stands_at place x xs ih false e h = let w = ih h in record { advice = w.advice; index = suc w.index; there = w.there }
 
@@ -81,7 +84,8 @@ stands place (x ∷ xs) h = stands_at place x xs (stands place xs) (same_place p
 abbrev pub acked_change : ℕ → ℕ → Change
 acked_change id place = record { next_id = None; row = None; shelved = None; emptied = false; advice = Some ((id, place), None) }
 
-pub steps_acked : (f : Flow) (n : ℕ) (v : Start) (es : List Entry) (mark reserved : ℕ) (r : Running) (id place : ℕ) → is_some (advice_at (id, place) (advices f v (past_of es))) ≡ true → Kept (world f n v es mark reserved) es r
+pub steps_acked : (f : Flow) (n : ℕ) (v : Start) (es : List Entry) (mark reserved : ℕ) (r : Running) (id place : ℕ) →
+    is_some (advice_at (id, place) (advices f v (past_of es))) ≡ true → Kept (world f n v es mark reserved) es r
     → Steps f n v (past_of es) (Acked id place) (acked_change id place) r (record r { advices = put_by place_lt (id, place) None r.advices })
 steps_acked f n v es mark reserved r id place here k =
     let w = stands (id, place) (advices f v (past_of es)) here in
@@ -107,7 +111,8 @@ pub record CanAck (u : World) (es : List Entry) (place : ℕ × ℕ) : Type 0 wh
   pub here : is_some (advice_at place (advices u.flow u.start u.past)) ≡ true
   pub few : length es < 1048576
 
-ack_if : (w : World) (place : ℕ × ℕ) (b : Bool) → has_advice w place ≡ b → or_else (refused_if (not b) NoAdvice) (or_else (offer_refusal w) None) ≡ None → (has_advice w place ≡ true) × (offer_refusal w ≡ None)
+ack_if : (w : World) (place : ℕ × ℕ) (b : Bool) → has_advice w place ≡ b → or_else (refused_if (not b) NoAdvice) (or_else (offer_refusal w) None) ≡ None →
+    (has_advice w place ≡ true) × (offer_refusal w ≡ None)
 ack_if w place true e h = (e, (none_of (offer_refusal w) None h).0)
 ack_if w place false e h = absurd (cc)
 
@@ -118,9 +123,11 @@ can_ack u w es place same is none =
     record { here = held.0; few = entry_room u u es refl is held.1 }
 
 -- the refusal by the map
-pub ack_tested : (u w : World) (es : List Entry) (r : Running) (place : ℕ × ℕ) (b : Bool) → Kept u es r → u ≡ w → is_some (lookup (is_at (place_cmp place)) r.advices) ≡ b
+pub ack_tested : (u w : World) (es : List Entry) (r : Running) (place : ℕ × ℕ) (b : Bool) → Kept u es r → u ≡ w →
+    is_some (lookup (is_at (place_cmp place)) r.advices) ≡ b
     → ack_refusal w place ≡ or_else (refused_if (not b) NoAdvice) (offer_refusal w)
 ack_tested u w es r place b k same found =
-    let has : has_advice u place ≡ b = ap (λ (xs : List ((ℕ × ℕ) × List ℕ)). is_some (advice_at place xs)) (sym k.advised) ∙ (ap (λ (o : Option (List ℕ)). is_some o) (sym (advice_is place r.advices)) ∙ found) in
+    let has : has_advice u place ≡ b = ap (λ (xs : List ((ℕ × ℕ) × List ℕ)). is_some (advice_at place xs)) (sym k.advised)
+    ∙ (ap (λ (o : Option (List ℕ)). is_some o) (sym (advice_is place r.advices)) ∙ found) in
     subst (λ (w : World). ack_refusal w place ≡ or_else (refused_if (not b) NoAdvice) (offer_refusal w)) same
     (rw has (ap (λ (o : Option EngineError). or_else (refused_if (not b) NoAdvice) o) (or_none (offer_refusal u))))

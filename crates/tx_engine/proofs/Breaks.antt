@@ -41,17 +41,20 @@ cleared_and : (b x : Bool) → (if b then false else x) ≡ (not b && x)
 cleared_and true x = refl
 cleared_and false x = refl
 
-broke : (f : Flow) (v : Start) (past : List Event) (flags : List Bool) (p : ℕ) → p < length (parts_of f) → AreBreaks f v past flags → AreBreaks f v (Broke p ∷ past) (slice_set flags p true)
+broke : (f : Flow) (v : Start) (past : List Event) (flags : List Bool) (p : ℕ) → p < length (parts_of f) → AreBreaks f v past flags →
+    AreBreaks f v (Broke p ∷ past) (slice_set flags p true)
 broke f v past flags p lt are =
     let len = are.0 in
     (length_set flags p true ∙ len, λ q. flag_set flags p q true (omega arith) ∙ (rw (are.1 q) (set_or (p == q) (has_break v past q))))
 
-cleared : (f : Flow) (v : Start) (past : List Event) (flags : List Bool) (p : ℕ) → p < length (parts_of f) → AreBreaks f v past flags → AreBreaks f v (Cleared p ∷ past) (slice_set flags p false)
+cleared : (f : Flow) (v : Start) (past : List Event) (flags : List Bool) (p : ℕ) → p < length (parts_of f) → AreBreaks f v past flags →
+    AreBreaks f v (Cleared p ∷ past) (slice_set flags p false)
 cleared f v past flags p lt are =
     let len = are.0 in
     (length_set flags p false ∙ len, λ q. flag_set flags p q false (omega arith) ∙ (rw (are.1 q) (cleared_and (p == q) (has_break v past q))))
 
-pub steps_broke : (f : Flow) (n : ℕ) (v : Start) (es : List Entry) (mark reserved : ℕ) (r : Running) (p : ℕ) → p < length (parts_of f) → Kept (world f n v es mark reserved) es r
+pub steps_broke : (f : Flow) (n : ℕ) (v : Start) (es : List Entry) (mark reserved : ℕ) (r : Running) (p : ℕ) → p < length (parts_of f) →
+    Kept (world f n v es mark reserved) es r
     → Steps f n v (past_of es) (Broke p) no_change r (record r { breaks = slice_set r.breaks p true })
 steps_broke f n v es mark reserved r p lt k = record {
   accepted = lt;
@@ -70,7 +73,8 @@ steps_broke f n v es mark reserved r p lt k = record {
   spent = k.spent;
 }
 
-pub steps_cleared : (f : Flow) (n : ℕ) (v : Start) (es : List Entry) (mark reserved : ℕ) (r : Running) (p : ℕ) → p < length (parts_of f) → Kept (world f n v es mark reserved) es r
+pub steps_cleared : (f : Flow) (n : ℕ) (v : Start) (es : List Entry) (mark reserved : ℕ) (r : Running) (p : ℕ) → p < length (parts_of f) →
+    Kept (world f n v es mark reserved) es r
     → Steps f n v (past_of es) (Cleared p) no_change r (record r { breaks = slice_set r.breaks p false })
 steps_cleared f n v es mark reserved r p lt k = record {
   accepted = lt;
@@ -96,14 +100,16 @@ none_of (Some e) b h = absurd (cc)
 
 -- what is allowed has room
 pub break_room : (u w : World) (es : List Entry) (name : List ℕ) (p : ℕ) → u ≡ w → u.past ≡ past_of es → MayBreak w name p → length es < 1048576
-break_room u w es name p same is may = entry_room u w es same is (none_of (offer_refusal w) None (none_of (refused_if (not (is_participant w name)) NoParticipant) (or_else (offer_refusal w) None) may.allowed).1).0
+break_room u w es name p same is may = entry_room u w es same is
+    (none_of (offer_refusal w) None (none_of (refused_if (not (is_participant w name)) NoParticipant) (or_else (offer_refusal w) None) may.allowed).1).0
 
 pub break_there : (u w : World) (name : List ℕ) (p : ℕ) → u ≡ w → MayBreak w name p → p < length (parts_of u.flow)
 break_there u w name p same may = subst (λ (x : World). p < length (parts_of x.flow)) (sym same) may.there
 
 -- whether one is set
 
-any_flag : (h : ℕ → Bool) (bs : List Bool) (n : ℕ) → ((s : ℕ) → flag bs s ≡ h (n + s)) → list_any (λ (b : Bool). b) bs ≡ list_any h (range_with_len n (length bs))
+any_flag : (h : ℕ → Bool) (bs : List Bool) (n : ℕ) → ((s : ℕ) → flag bs s ≡ h (n + s)) →
+    list_any (λ (b : Bool). b) bs ≡ list_any h (range_with_len n (length bs))
 any_flag h [] n all = refl
 any_flag h (b ∷ bs) n all =
     let at : n + 0 ≡ n = omega arith in
@@ -111,7 +117,8 @@ any_flag h (b ∷ bs) n all =
     let later = any_flag h bs (n + 1) (λ s. (let same : n + suc s ≡ (n + 1) + s = omega arith in all (suc s) ∙ ap h same)) in
     rw (here, later) refl
 
-pub flags_set : (f : Flow) (n : ℕ) (v : Start) (es : List Entry) (mark reserved : ℕ) (r : Running) → Kept (world f n v es mark reserved) es r → list_any (λ (b : Bool). b) r.breaks ≡ is_broken (world f n v es mark reserved)
+pub flags_set : (f : Flow) (n : ℕ) (v : Start) (es : List Entry) (mark reserved : ℕ) (r : Running) → Kept (world f n v es mark reserved) es r →
+    list_any (λ (b : Bool). b) r.breaks ≡ is_broken (world f n v es mark reserved)
 flags_set f n v es mark reserved r k =
     any_flag (has_break v (past_of es)) r.breaks 0 (λ s. (let at : s ≡ 0 + s = omega arith in k.stops.1 s ∙ ap (has_break v (past_of es)) at))
     ∙ ap (λ (m : ℕ). list_any (has_break v (past_of es)) (range_with_len 0 m)) k.stops.0

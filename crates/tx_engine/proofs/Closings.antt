@@ -1,6 +1,7 @@
 -- The entries that an opening makes, and that they leave all but the rows.
 -- for: engine::opening::closings
-use Rattle.std.proofs.Common.{◌≡◌, ℕ, ◌+◌, Bool, true, false, List, [], ◌∷◌, ◌++◌, length, Some, None, refl, sym, ◌∙◌, ap, subst, arith, suc, zero, take, map, length-append}
+use Rattle.std.proofs.Common.{◌≡◌, ℕ, ◌+◌, Bool, true, false, List, [], ◌∷◌, ◌++◌, length, Some, None, refl, sym, ◌∙◌, ap, subst, arith, suc, zero, take, map}
+use Rattle.std.proofs.Common.{length-append}
 use Rattle.std.specs.Prelude.{if◌then◌else◌, slice_get, nat_lt, nat_le, not}
 use Rattle.std.proofs.lemmas.Bool.Decides.{nat_tests}
 use Rattle.flow_model.specs.declared.flow.Flow.{Flow}
@@ -48,30 +49,37 @@ append_nil [] = refl
 append_nil (x ∷ xs) = ap (λ l. x ∷ l) (append_nil xs)
 
 -- one row more
-close_next : (f : Flow) (rows : List (ℕ × Row)) (i : ℕ) (r : ℕ × Row) → slice_get rows i ≡ Some r → to_close f (take (suc i) rows) ≡ to_close f (take i rows) ++ (if is_ended f (reopened f r.1) then r.0 ∷ [] else [])
+close_next : (f : Flow) (rows : List (ℕ × Row)) (i : ℕ) (r : ℕ × Row) → slice_get rows i ≡ Some r →
+    to_close f (take (suc i) rows) ≡ to_close f (take i rows) ++ (if is_ended f (reopened f r.1) then r.0 ∷ [] else [])
 close_next f [] i r h = absurd (cc)
-close_next f (x ∷ rows) zero r h = let same : x ≡ r = get_first x r h in subst (λ (y : ℕ × Row). (if is_ended f (reopened f x.1) then x.0 ∷ [] else []) ≡ (if is_ended f (reopened f y.1) then y.0 ∷ [] else [])) same refl
+close_next f (x ∷ rows) zero r h = let same : x ≡ r = get_first x r h in
+    subst (λ (y : ℕ × Row). (if is_ended f (reopened f x.1) then x.0 ∷ [] else []) ≡ (if is_ended f (reopened f y.1) then y.0 ∷ [] else [])) same refl
 close_next f (x ∷ rows) (suc i) r h = by (is_ended f (reopened f x.1)) (close_next f rows i r h)
   where
     by : (b : Bool) → to_close f (take (suc i) rows) ≡ to_close f (take i rows) ++ (if is_ended f (reopened f r.1) then r.0 ∷ [] else [])
-        → (if b then x.0 ∷ to_close f (take (suc i) rows) else to_close f (take (suc i) rows)) ≡ (if b then x.0 ∷ to_close f (take i rows) else to_close f (take i rows)) ++ (if is_ended f (reopened f r.1) then r.0 ∷ [] else [])
+        → (if b then x.0 ∷ to_close f (take (suc i) rows) else to_close f (take (suc i) rows))
+        ≡ (if b then x.0 ∷ to_close f (take i rows) else to_close f (take i rows)) ++ (if is_ended f (reopened f r.1) then r.0 ∷ [] else [])
     by true ih = ap (λ (l : List ℕ). x.0 ∷ l) ih
     by false ih = ih
 
-pub closing_made : (f : Flow) (v : Start) (rows : List (ℕ × Row)) (i : ℕ) (r : ℕ × Row) (made : List Entry) → slice_get rows i ≡ Some r → is_ended f (reopened f r.1) ≡ true → made ≡ entries f v (closes_of (to_close f (take i rows)) [])
+pub closing_made : (f : Flow) (v : Start) (rows : List (ℕ × Row)) (i : ℕ) (r : ℕ × Row) (made : List Entry) → slice_get rows i ≡ Some r →
+    is_ended f (reopened f r.1) ≡ true → made ≡ entries f v (closes_of (to_close f (take i rows)) [])
     → made ++ closing_entry (length made + 1) r.0 ∷ [] ≡ entries f v (closes_of (to_close f (take (i + 1) rows)) [])
 closing_made f v rows i r made h over is =
     let past : List Event = closes_of (to_close f (take i rows)) [] in
     let one : suc i ≡ i + 1 = omega arith in
     let len : length made ≡ length past = ap (λ (l : List Entry). length l) is ∙ length_entries f v past in
     let grown : to_close f (take (suc i) rows) ≡ to_close f (take i rows) ++ r.0 ∷ [] = rw over at (close_next f rows i r h) in
-    let more : closes_of (to_close f (take (i + 1) rows)) [] ≡ Closed r.0 ∷ past = ap (λ (k : ℕ). closes_of (to_close f (take k rows)) []) (sym one) ∙ (ap (λ (l : List ℕ). closes_of l []) grown ∙ closes_more (to_close f (take i rows)) r.0 []) in
+    let more : closes_of (to_close f (take (i + 1) rows)) [] ≡ Closed r.0 ∷ past = ap (λ (k : ℕ). closes_of (to_close f (take k rows)) []) (sym one)
+    ∙ (ap (λ (l : List ℕ). closes_of l []) grown ∙ closes_more (to_close f (take i rows)) r.0 []) in
     rw (more, len) (ap (λ (l : List Entry). l ++ closing_entry (length past + 1) r.0 ∷ []) is)
 
-pub closing_kept : (f : Flow) (v : Start) (rows : List (ℕ × Row)) (i : ℕ) (r : ℕ × Row) (made : List Entry) → slice_get rows i ≡ Some r → is_ended f (reopened f r.1) ≡ false → made ≡ entries f v (closes_of (to_close f (take i rows)) [])
+pub closing_kept : (f : Flow) (v : Start) (rows : List (ℕ × Row)) (i : ℕ) (r : ℕ × Row) (made : List Entry) → slice_get rows i ≡ Some r →
+    is_ended f (reopened f r.1) ≡ false → made ≡ entries f v (closes_of (to_close f (take i rows)) [])
     → made ≡ entries f v (closes_of (to_close f (take (i + 1) rows)) [])
 closing_kept f v rows i r made h over is =
     let one : suc i ≡ i + 1 = omega arith in
     let grown : to_close f (take (suc i) rows) ≡ to_close f (take i rows) ++ [] = rw over at (close_next f rows i r h) in
-    let same : to_close f (take (i + 1) rows) ≡ to_close f (take i rows) = ap (λ (k : ℕ). to_close f (take k rows)) (sym one) ∙ (grown ∙ append_nil (to_close f (take i rows))) in
+    let same : to_close f (take (i + 1) rows) ≡ to_close f (take i rows) = ap (λ (k : ℕ). to_close f (take k rows)) (sym one)
+    ∙ (grown ∙ append_nil (to_close f (take i rows))) in
     is ∙ ap (λ (l : List ℕ). entries f v (closes_of l [])) (sym same)

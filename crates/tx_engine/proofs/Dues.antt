@@ -49,16 +49,19 @@ use Rattle.tx_slots.specs.Slots.{restoring}
 use Rattle.tx_engine.specs.Kept.{HoldIs}
 use Rattle.tx_engine.proofs.Keeps.{holds_is, hold_holds, state_served}
 
-pub flag_of_is : (v : Start) (past : List Event) (breaks : List Bool) → ((p : ℕ) → flag breaks p ≡ has_break v past p) → (o : Option ℕ) → flag_of breaks o ≡ on_break v past o
+pub flag_of_is : (v : Start) (past : List Event) (breaks : List Bool) → ((p : ℕ) → flag breaks p ≡ has_break v past p) → (o : Option ℕ) →
+    flag_of breaks o ≡ on_break v past o
 flag_of_is v past breaks h None = refl
 flag_of_is v past breaks h (Some p) = h p
 
-pub next_slot : (w : World) (breaks : List Bool) (restored : Bool) (s : ℕ) (x : Slot) → ((p : ℕ) → flag breaks p ≡ has_break w.start w.past p) → restored ≡ is_restored w.past → SlotIs w.flow w.start w.past s x
+pub next_slot : (w : World) (breaks : List Bool) (restored : Bool) (s : ℕ) (x : Slot) → ((p : ℕ) → flag breaks p ≡ has_break w.start w.past p) →
+    restored ≡ is_restored w.past → SlotIs w.flow w.start w.past s x
     → slot_next w.flow w.start.view.next_id restored breaks w.mark x ≡ next_of w s
 next_slot w breaks restored s Free stops r k = let no : holds w.flow w.start w.past s ≡ None = holds_is w.flow w.start w.past s ∙ k in rw no refl
 next_slot w breaks restored s (Holding h) stops r k =
     let yes : holds w.flow w.start w.past s ≡ Some h.id = hold_holds w.flow w.start w.past s h k in
-    let st : state_of w.flow w.start w.past h.id ≡ tx_state w.flow h.machine = (state_served w.flow w.start w.past (serves w.flow w.start w.past s) h.id (tx_state w.flow h.machine) k.serves).1 in
+    let st : state_of w.flow w.start w.past h.id ≡ tx_state w.flow h.machine =
+    (state_served w.flow w.start w.past (serves w.flow w.start w.past s) h.id (tx_state w.flow h.machine) k.serves).1 in
     rw (yes, st, k.last, k.gone, r, flag_of_is w.start w.past breaks stops (participant_of (due_of w.flow (tx_state w.flow h.machine)))) refl
 
 pub next_ok : (w : World) (s : ℕ) (r : Next) → s < w.sessions → r ≡ next_of w s → Ok r ≡ answers (next_refusal w s) (next_of w s)
@@ -105,14 +108,21 @@ act_in a None = a
 act_in a (Some c) = c.act
 
 -- a due call's reply is due
-asked_at : (id : ℕ) (recovering : Bool) (d : Due) (r : Option (ℕ × Bool)) (c : Call) (st : TxState) → call_with id recovering d r ≡ Some c → IsReplyDue d st → IsAsked (kind_of c.act) st r
+asked_at : (id : ℕ) (recovering : Bool) (d : Due) (r : Option (ℕ × Bool)) (c : Call) (st : TxState) → call_with id recovering d r ≡ Some c →
+    IsReplyDue d st → IsAsked (kind_of c.act) st r
 unfolding act_in
-asked_at id recovering d (Some q) c st e due = let a : act.Recover q.1 ≡ c.act = ap (act_in c.act) e in subst (λ (x : Act). IsAsked (kind_of x) st (Some q)) a (q, refl)
-asked_at id recovering (due.Prepare s) None c st e h = let a : act.Prepare ≡ c.act = ap (act_in c.act) e in subst (λ (x : Act). IsAsked (kind_of x) st None) a ((λ b x. h), refl)
-asked_at id recovering (due.PrepareForAbort s) None c st e h = let a : act.PrepareForAbort ≡ c.act = ap (act_in c.act) e in subst (λ (x : Act). IsAsked (kind_of x) st None) a ((λ b x. h), refl)
-asked_at id recovering (due.Select s) None c st e h = let a : act.Select ≡ c.act = ap (act_in c.act) e in subst (λ (x : Act). IsAsked (kind_of x) st None) a ((λ t. h), refl)
-asked_at id recovering (due.Commit p) None c st e h = let a : act.Commit recovering ≡ c.act = ap (act_in c.act) e in subst (λ (x : Act). IsAsked (kind_of x) st None) a ((λ t. h), refl)
-asked_at id recovering (due.Abort p) None c st e h = let a : act.Abort recovering ≡ c.act = ap (act_in c.act) e in subst (λ (x : Act). IsAsked (kind_of x) st None) a ((λ t. h), refl)
+asked_at id recovering d (Some q) c st e due = let a : act.Recover q.1 ≡ c.act = ap (act_in c.act) e in
+    subst (λ (x : Act). IsAsked (kind_of x) st (Some q)) a (q, refl)
+asked_at id recovering (due.Prepare s) None c st e h = let a : act.Prepare ≡ c.act = ap (act_in c.act) e in
+    subst (λ (x : Act). IsAsked (kind_of x) st None) a ((λ b x. h), refl)
+asked_at id recovering (due.PrepareForAbort s) None c st e h = let a : act.PrepareForAbort ≡ c.act = ap (act_in c.act) e in
+    subst (λ (x : Act). IsAsked (kind_of x) st None) a ((λ b x. h), refl)
+asked_at id recovering (due.Select s) None c st e h = let a : act.Select ≡ c.act = ap (act_in c.act) e in
+    subst (λ (x : Act). IsAsked (kind_of x) st None) a ((λ t. h), refl)
+asked_at id recovering (due.Commit p) None c st e h = let a : act.Commit recovering ≡ c.act = ap (act_in c.act) e in
+    subst (λ (x : Act). IsAsked (kind_of x) st None) a ((λ t. h), refl)
+asked_at id recovering (due.Abort p) None c st e h = let a : act.Abort recovering ≡ c.act = ap (act_in c.act) e in
+    subst (λ (x : Act). IsAsked (kind_of x) st None) a ((λ t. h), refl)
 asked_at id recovering due.Shelve None c st e h = absurd (cc)
 asked_at id recovering due.Done None c st e h = absurd (cc)
 
@@ -122,33 +132,44 @@ asked_call k true b (Some c) h = absurd (cc)
 asked_call k false true (Some c) h = (c, refl, h)
 asked_call k false false (Some c) h = (c, refl, h)
 
-pub slot_asked : (f : Flow) (first : ℕ) (restored : Bool) (breaks : List Bool) (mark : ℕ) (h : Hold) (k : ReplyKind) → asked k (slot_next f first restored breaks mark (Holding h)) ≡ true
+pub slot_asked : (f : Flow) (first : ℕ) (restored : Bool) (breaks : List Bool) (mark : ℕ) (h : Hold) (k : ReplyKind) →
+    asked k (slot_next f first restored breaks mark (Holding h)) ≡ true
     → IsAsked k (tx_state f h.machine) (restoring f first restored h.id (due_of f (tx_state f h.machine)))
 slot_asked f first restored breaks mark h k asks =
     let st : TxState = tx_state f h.machine in
-    let w = asked_call k (nat_lt mark h.last) (flag_of breaks (participant_of (due_of f st)) && not h.let_go) (call_with h.id (nat_lt h.id first) (due_of f st) (restoring f first restored h.id (due_of f st))) asks in
+    let w = asked_call k (nat_lt mark h.last) (flag_of breaks (participant_of (due_of f st)) && not h.let_go)
+    (call_with h.id (nat_lt h.id first) (due_of f st) (restoring f first restored h.id (due_of f st))) asks in
     subst (λ (x : ReplyKind). IsAsked x st (restoring f first restored h.id (due_of f st))) (asks_is k (w.0).act w.2)
     (asked_at h.id (nat_lt h.id first) (due_of f st) (restoring f first restored h.id (due_of f st)) w.0 st w.1 (reply_due f st))
 
-pub restores_is : (f : Flow) (v : Start) (past : List Event) (s : ℕ) (h : Hold) (restored : Bool) → HoldIs f v past s h → restored ≡ is_restored past → restoring f v.view.next_id restored h.id (due_of f (tx_state f h.machine)) ≡ restores f v past h.id
+pub restores_is : (f : Flow) (v : Start) (past : List Event) (s : ℕ) (h : Hold) (restored : Bool) → HoldIs f v past s h → restored ≡ is_restored past →
+    restoring f v.view.next_id restored h.id (due_of f (tx_state f h.machine)) ≡ restores f v past h.id
 restores_is f v past s h restored k r =
     let st : state_of f v past h.id ≡ tx_state f h.machine = (state_served f v past (serves f v past s) h.id (tx_state f h.machine) k.serves).1 in
     rw (st, r) refl
 
 -- refusals of a reply, by what the session is to do
-pub reply_refused : (u w : World) (k : ReplyKind) (s : ℕ) (q : Next) → u ≡ w → s < u.sessions → q ≡ next_of u s → reply_refusal k w s ≡ first_of (refused_if (not (asked k q)) NotDue ∷ refused_if (is_full w) HistoryFull ∷ [])
+pub reply_refused : (u w : World) (k : ReplyKind) (s : ℕ) (q : Next) → u ≡ w → s < u.sessions → q ≡ next_of u s →
+    reply_refusal k w s ≡ first_of (refused_if (not (asked k q)) NotDue ∷ refused_if (is_full w) HistoryFull ∷ [])
 reply_refused u w k s q same lt is =
     let P : World → Type 0 = λ z. reply_refusal k z s ≡ first_of (refused_if (not (asked k q)) NotDue ∷ refused_if (is_full z) HistoryFull ∷ []) in
     let there : nat_le u.sessions s ≡ false = grind (arith, nat_tests) in
     subst P same (rw (there, is) refl)
 
-pub allows_at : (u w : World) (s : ℕ) (k : ReplyKind) (h : Hold) (restored : Bool) (breaks : List Bool) → u ≡ w → reply_refusal k w s ≡ None → s < u.sessions → HoldIs u.flow u.start u.past s h → restored ≡ is_restored u.past
+pub allows_at : (u w : World) (s : ℕ) (k : ReplyKind) (h : Hold) (restored : Bool) (breaks : List Bool) → u ≡ w → reply_refusal k w s ≡ None →
+    s < u.sessions → HoldIs u.flow u.start u.past s h → restored ≡ is_restored u.past
     → asked k (slot_next u.flow u.start.view.next_id restored breaks u.mark (Holding h)) ≡ true → Allows w s k h
 allows_at u w s k h restored breaks same none lt here renewed asks =
     let none' : reply_refusal k u s ≡ None = subst (λ (z : World). reply_refusal k z s ≡ None) (sym same) none in
     let is = slot_asked u.flow u.start.view.next_id restored breaks u.mark h k asks in
     subst (λ (z : World). Allows z s k h) same
-    (record { allowed = none'; session = lt; hold = here; asked = subst (λ (r : Option (ℕ × Bool)). IsAsked k (tx_state u.flow h.machine) r) (restores_is u.flow u.start u.past s h restored here renewed) is })
+    (record {
+      allowed = none';
+      session = lt;
+      hold = here;
+      asked = subst (λ (r : Option (ℕ × Bool)). IsAsked k (tx_state u.flow h.machine) r)
+          (restores_is u.flow u.start u.past s h restored here renewed) is;
+    })
 
 -- what is allowed has room
 pub has_room : (k : ReplyKind) (w : World) (s : ℕ) → reply_refusal k w s ≡ None → is_full w ≡ false
@@ -165,7 +186,8 @@ has_room k w s h = by (no_session w s) (asked k (next_of w s)) (is_full w) h
 pub allows_of : (u w : World) (s : ℕ) (k : ReplyKind) (h : Hold) → u ≡ w → Allows w s k h → Allows u s k h
 allows_of u w s k h same a = subst (λ (z : World). Allows z s k h) (sym same) a
 
-pub gives_answer : (u w : World) (s b : ℕ) (c : List ℕ) (h : Hold) (m : Machine) (restored : Bool) → u ≡ w → Allows w s kind.Answer h → IsSpelled c → restored ≡ is_restored u.past → IsSound u.flow m
+pub gives_answer : (u w : World) (s b : ℕ) (c : List ℕ) (h : Hold) (m : Machine) (restored : Bool) → u ≡ w → Allows w s kind.Answer h → IsSpelled c →
+    restored ≡ is_restored u.past → IsSound u.flow m
     → tx_state u.flow m ≡ step u.flow (tx_state u.flow h.machine) (Answer b c) → Gives w s h.id m (Answered s b c) None restored
 gives_answer u w s b c h m restored same allowed sp renewed sound went =
     let a = allows_of u w s kind.Answer h same allowed in
@@ -186,7 +208,8 @@ gives_answer u w s b c h m restored same allowed sp renewed sound went =
       restored_is = renewed;
     })
 
-pub gives_choice : (u w : World) (s : ℕ) (t : List ℕ) (h : Hold) (m : Machine) (restored : Bool) → u ≡ w → Allows w s kind.Choice h → restored ≡ is_restored u.past → IsSound u.flow m
+pub gives_choice : (u w : World) (s : ℕ) (t : List ℕ) (h : Hold) (m : Machine) (restored : Bool) → u ≡ w → Allows w s kind.Choice h →
+    restored ≡ is_restored u.past → IsSound u.flow m
     → tx_state u.flow m ≡ step u.flow (tx_state u.flow h.machine) (Choice t) → Gives w s h.id m (Chose s t) None restored
 gives_choice u w s t h m restored same allowed renewed sound went =
     let a = allows_of u w s kind.Choice h same allowed in
@@ -207,7 +230,8 @@ gives_choice u w s t h m restored same allowed renewed sound went =
       restored_is = renewed;
     })
 
-pub gives_told : (u w : World) (s place : ℕ) (a : Option (List ℕ)) (h : Hold) (m : Machine) (restored after : Bool) → u ≡ w → Allows w s kind.Told h → restored ≡ is_restored u.past → after ≡ (not (s == 0) && restored) → place ≡ (tx_state u.flow h.machine).told → IsSound u.flow m
+pub gives_told : (u w : World) (s place : ℕ) (a : Option (List ℕ)) (h : Hold) (m : Machine) (restored after : Bool) → u ≡ w → Allows w s kind.Told h →
+    restored ≡ is_restored u.past → after ≡ (not (s == 0) && restored) → place ≡ (tx_state u.flow h.machine).told → IsSound u.flow m
     → tx_state u.flow m ≡ step u.flow (tx_state u.flow h.machine) (ToldOne None) → Gives w s h.id m (Told s a) (put_advice (Some (h.id, place)) a) after
 gives_told u w s place a h m restored after same allowed renewed goes at sound went =
     let al = allows_of u w s kind.Told h same allowed in
@@ -236,9 +260,11 @@ free_rest u w s same lt k =
     let none : holds u.flow u.start u.past s ≡ None = holds_is u.flow u.start u.past s ∙ k in
     subst (λ (z : World). [] ≡ rest_of z s) same (rw (there, none) refl)
 
-pub held_rest : (u w : World) (s : ℕ) (h : Hold) → u ≡ w → s < u.sessions → HoldIs u.flow u.start u.past s h → places_of (tx_state u.flow h.machine).rest ≡ rest_of w s
+pub held_rest : (u w : World) (s : ℕ) (h : Hold) → u ≡ w → s < u.sessions → HoldIs u.flow u.start u.past s h →
+    places_of (tx_state u.flow h.machine).rest ≡ rest_of w s
 held_rest u w s h same lt k =
     let there : nat_le u.sessions s ≡ false = grind (arith, nat_tests) in
     let some : holds u.flow u.start u.past s ≡ Some h.id = hold_holds u.flow u.start u.past s h k in
-    let st : state_of u.flow u.start u.past h.id ≡ tx_state u.flow h.machine = (state_served u.flow u.start u.past (serves u.flow u.start u.past s) h.id (tx_state u.flow h.machine) k.serves).1 in
+    let st : state_of u.flow u.start u.past h.id ≡ tx_state u.flow h.machine =
+    (state_served u.flow u.start u.past (serves u.flow u.start u.past s) h.id (tx_state u.flow h.machine) k.serves).1 in
     subst (λ (z : World). places_of (tx_state u.flow h.machine).rest ≡ rest_of z s) same (rw (there, some, st) refl)

@@ -39,14 +39,16 @@ rising_get (x ∷ xs) n m (suc i) e rise h = let lo = rise.0 in let more = risin
 below : (a b : ℕ) → a + 1 ≤ b → nat_cmp b a ≡ Greater
 below a b le = goes_before nat_cmp nat_lt ids_order a b (grind (arith, nat_tests))
 
-rising_next : {A : Type 0} (items : List (ℕ × A)) (n m i : ℕ) (e : ℕ × A) → Rising n m items → slice_get items i ≡ Some e → insert_entry nat_cmp (take i items) e.0 e.1 ≡ take (suc i) items
+rising_next : {A : Type 0} (items : List (ℕ × A)) (n m i : ℕ) (e : ℕ × A) → Rising n m items → slice_get items i ≡ Some e →
+    insert_entry nat_cmp (take i items) e.0 e.1 ≡ take (suc i) items
 rising_next [] n m i e rise h = absurd (cc)
 rising_next {A} (x ∷ xs) n m zero e rise h = ap (λ (y : ℕ × A). y ∷ []) (sym (get_first x e h))
 rising_next {A} (x ∷ xs) n m (suc i) e rise h =
     let up : nat_cmp e.0 x.0 ≡ Greater = below x.0 e.0 (rising_get xs (x.0 + 1) m i e rise.2 h) in
     rw up (ap (λ (l : List (ℕ × A)). x ∷ l) (rising_next xs (x.0 + 1) m i e rise.2 h))
 
-pub rising_insert : {A : Type 0} (items : List (ℕ × A)) (n m i : ℕ) (e : ℕ × A) → Rising n m items → slice_get items i ≡ Some e → insert_entry nat_cmp (take i items) e.0 e.1 ≡ take (i + 1) items
+pub rising_insert : {A : Type 0} (items : List (ℕ × A)) (n m i : ℕ) (e : ℕ × A) → Rising n m items → slice_get items i ≡ Some e →
+    insert_entry nat_cmp (take i items) e.0 e.1 ≡ take (i + 1) items
 rising_insert items n m i e rise h = let one : suc i ≡ i + 1 = omega arith in rising_next items n m i e rise h ∙ ap (λ (k : ℕ). take k items) one
 
 -- under rising places
@@ -59,12 +61,14 @@ all_get P [] i e all h = absurd (cc)
 all_get P (x ∷ xs) zero e all h = subst P (get_first x e h) (All-head P x xs all)
 all_get P (x ∷ xs) (suc i) e all h = all_get P xs i e (All-tail P x xs all) h
 
-places_next : (items : List Advice) (n i : ℕ) (e : Advice) → PlacesRise n items → slice_get items i ≡ Some e → insert_entry place_cmp (take i items) e.0 e.1 ≡ take (suc i) items
+places_next : (items : List Advice) (n i : ℕ) (e : Advice) → PlacesRise n items → slice_get items i ≡ Some e →
+    insert_entry place_cmp (take i items) e.0 e.1 ≡ take (suc i) items
 places_next [] n i e rise h = absurd (cc)
 places_next (x ∷ xs) n zero e rise h = ap (λ (y : Advice). y ∷ []) (sym (get_first x e h))
 places_next (x ∷ xs) n (suc i) e rise h =
     let up : place_cmp e.0 x.0 ≡ Greater = goes_before place_cmp place_lt places_order x.0 e.0 (all_get (λ y. place_lt x.0 y.0 ≡ true) xs i e rise.3 h) in
     rw up (ap (λ (l : List Advice). x ∷ l) (places_next xs n i e rise.4 h))
 
-pub places_insert : (items : List Advice) (n i : ℕ) (e : Advice) → PlacesRise n items → slice_get items i ≡ Some e → insert_entry place_cmp (take i items) e.0 e.1 ≡ take (i + 1) items
+pub places_insert : (items : List Advice) (n i : ℕ) (e : Advice) → PlacesRise n items → slice_get items i ≡ Some e →
+    insert_entry place_cmp (take i items) e.0 e.1 ≡ take (i + 1) items
 places_insert items n i e rise h = let one : suc i ≡ i + 1 = omega arith in places_next items n i e rise h ∙ ap (λ (k : ℕ). take k items) one

@@ -19,11 +19,13 @@ use Rattle.tx_slots.specs.Slots.{slot_at}
 use Rattle.tx_engine.specs.Kept.{HoldIs, SlotIs}
 use Rattle.tx_engine.proofs.Keeps.{hold_holds, holds_is, state_served}
 
-pub at_slot_is : (w : World) (restored : Bool) (s : ℕ) (x : Slot) → restored ≡ is_restored w.past → SlotIs w.flow w.start w.past s x → slot_at w.flow w.start.view.next_id restored x ≡ at_in w (held_id w s)
+pub at_slot_is : (w : World) (restored : Bool) (s : ℕ) (x : Slot) → restored ≡ is_restored w.past → SlotIs w.flow w.start w.past s x →
+    slot_at w.flow w.start.view.next_id restored x ≡ at_in w (held_id w s)
 at_slot_is w restored s Free r k = let none : holds w.flow w.start w.past s ≡ None = holds_is w.flow w.start w.past s ∙ k in rw none refl
 at_slot_is w restored s (Holding h) r k =
     let some : holds w.flow w.start w.past s ≡ Some h.id = hold_holds w.flow w.start w.past s h k in
-    let st : state_of w.flow w.start w.past h.id ≡ tx_state w.flow h.machine = (state_served w.flow w.start w.past (serves w.flow w.start w.past s) h.id (tx_state w.flow h.machine) k.serves).1 in
+    let st : state_of w.flow w.start w.past h.id ≡ tx_state w.flow h.machine =
+    (state_served w.flow w.start w.past (serves w.flow w.start w.past s) h.id (tx_state w.flow h.machine) k.serves).1 in
     rw (some, st, r) refl
 
 pub at_there : (u w : World) (s : ℕ) (r : Option At) → u ≡ w → s < u.sessions → r ≡ at_in u (held_id u s) → r ≡ at_of w s
@@ -34,18 +36,21 @@ at_there u w s r same lt is =
 abbrev pub IsSaved : World → ℕ → Option (ℕ × Context) → Type 0
 IsSaved w s saved = option_map (λ (held : ℕ × Context). (held.0, bytes_of held.1)) saved ≡ saved_of w s
 
-pub saved_none : (u w : World) (s : ℕ) → u ≡ w → s < u.sessions → SlotIs u.flow u.start u.past s Free → Accepts OutOfMemory (next_refusal w s) (Ok None) (IsSaved w s) ⊤
+pub saved_none : (u w : World) (s : ℕ) → u ≡ w → s < u.sessions → SlotIs u.flow u.start u.past s Free →
+    Accepts OutOfMemory (next_refusal w s) (Ok None) (IsSaved w s) ⊤
 saved_none u w s same lt k =
     let there : nat_le u.sessions s ≡ false = grind (arith, nat_tests) in
     let none : holds u.flow u.start u.past s ≡ None = holds_is u.flow u.start u.past s ∙ k in
     subst (λ (z : World). Accepts OutOfMemory (next_refusal z s) (Ok None) (IsSaved z s) ⊤) same (rw (there, none) refl)
 
-pub saved_some : (u w : World) (s : ℕ) (h : Hold) (context : Context) → u ≡ w → s < u.sessions → HoldIs u.flow u.start u.past s h → bytes_of context ≡ (tx_state u.flow h.machine).saved
+pub saved_some : (u w : World) (s : ℕ) (h : Hold) (context : Context) → u ≡ w → s < u.sessions → HoldIs u.flow u.start u.past s h →
+    bytes_of context ≡ (tx_state u.flow h.machine).saved
     → Accepts OutOfMemory (next_refusal w s) (Ok (Some (h.id, context))) (IsSaved w s) ⊤
 saved_some u w s h context same lt k is =
     let there : nat_le u.sessions s ≡ false = grind (arith, nat_tests) in
     let some : holds u.flow u.start u.past s ≡ Some h.id = hold_holds u.flow u.start u.past s h k in
-    let st : state_of u.flow u.start u.past h.id ≡ tx_state u.flow h.machine = (state_served u.flow u.start u.past (serves u.flow u.start u.past s) h.id (tx_state u.flow h.machine) k.serves).1 in
+    let st : state_of u.flow u.start u.past h.id ≡ tx_state u.flow h.machine =
+    (state_served u.flow u.start u.past (serves u.flow u.start u.past s) h.id (tx_state u.flow h.machine) k.serves).1 in
     subst (λ (z : World). Accepts OutOfMemory (next_refusal z s) (Ok (Some (h.id, context))) (IsSaved z s) ⊤) same (rw (there, some, st, is) refl)
 
 pub may_save : (u w : World) (s : ℕ) → u ≡ w → s < u.sessions → next_refusal w s ≡ None

@@ -1,6 +1,7 @@
 -- How an accepted event keeps what the running parts say of the history.
 -- for: engine::Engine
-use Rattle.std.proofs.Common.{◌≡◌, ◌≢◌, ℕ, ◌+◌, ◌<◌, ◌≤◌, Bool, true, false, List, [], ◌∷◌, ◌++◌, length, Option, Some, None, refl, sym, ◌∙◌, ap, subst, arith, get_or}
+use Rattle.std.proofs.Common.{◌≡◌, ◌≢◌, ℕ, ◌+◌, ◌<◌, ◌≤◌, Bool, true, false, List, [], ◌∷◌, ◌++◌, length, Option, Some, None, refl, sym, ◌∙◌, ap, subst, arith}
+use Rattle.std.proofs.Common.{get_or}
 use Rattle.std.specs.Prelude.{if◌then◌else◌, slice_get, slice_set, ◌==◌, is_some, suc, zero}
 use Rattle.std.proofs.lemmas.Bool.Decides.{nat_tests}
 use Rattle.std.proofs.lemmas.Grind.{common_steps}
@@ -49,12 +50,14 @@ pub record Steps (f : Flow) (n : ℕ) (v : Start) (past : List Event) (e : Event
   pub recovers : to.recovering ≡ is_some (recovering f v (e ∷ past))
   pub spent : to.next_id ≤ 9223372036854775807
 
-pub in_turn : (f : Flow) (v : Start) (past : List Event) (e : Event) → IsAccepted f v past e → closes e ≡ false → length (to_close f v.view.rows) ≤ length past → length past < 1048576 → IsLawful f v past → IsLawful f v (e ∷ past)
+pub in_turn : (f : Flow) (v : Start) (past : List Event) (e : Event) → IsAccepted f v past e → closes e ≡ false →
+    length (to_close f v.view.rows) ≤ length past → length past < 1048576 → IsLawful f v past → IsLawful f v (e ∷ past)
 in_turn f v past e a usual closed few law = rw usual (a, (closed, few), law)
 
 pub kept_step : (f : Flow) (n m : ℕ) (v : Start) (es : List Entry) (mark reserved : ℕ) (r : Running) (e : Event) (number : ℕ) (ch : Change) (to : Running)
     → Kept (world f n v es mark reserved) es r → length es < 1048576 → number ≡ length es + 1 → m ≡ n → Steps f n v (past_of es) e ch r to
-    → Kept (world f m v (es ++ record { number = number; event = e; change = ch } ∷ []) mark reserved) (es ++ record { number = number; event = e; change = ch } ∷ []) to
+    → Kept (world f m v (es ++ record { number = number; event = e; change = ch } ∷ []) mark reserved)
+    (es ++ record { number = number; event = e; change = ch } ∷ []) to
 kept_step f n m v es mark reserved r e number ch to k few is same t =
     let past : List Event = past_of es in
     let len : length past ≡ length es = length_past es in
@@ -68,7 +71,8 @@ kept_step f n m v es mark reserved r e number ch to k few is same t =
       flow = k.flow;
       start = k.start;
       past = record { few = k.past.few; sessions = t.takers k.past.sessions; spelled = t.spelled k.past.spelled; lawful = law };
-      history = rw (num, t.change) (ap (λ (l : List Entry). l ++ record { number = length past + 1; event = e; change = change f v (e ∷ past) } ∷ []) k.history);
+      history = rw (num, t.change) (ap (λ (l : List Entry). l ++ record { number = length past + 1; event = e; change = change f v (e ∷ past) } ∷ [])
+          k.history);
       sessions = t.sessions;
       queued = t.queued;
       shelved = t.shelved ∙ (rw (t.change, k.shelved) (ap (λ (j : JournalView). j.shelf) led));
@@ -84,7 +88,8 @@ kept_step f n m v es mark reserved r e number ch to k few is same t =
 
 -- slots
 
-pub state_served : (f : Flow) (v : Start) (past : List Event) (o : Option ℕ) (id : ℕ) (st : TxState) → state_of_served f v past o ≡ Some (id, st) → (o ≡ Some id) × (state_of f v past id ≡ st)
+pub state_served : (f : Flow) (v : Start) (past : List Event) (o : Option ℕ) (id : ℕ) (st : TxState) → state_of_served f v past o ≡ Some (id, st) →
+    (o ≡ Some id) × (state_of f v past id ≡ st)
 state_served f v past None id st h = absurd (cc)
 state_served f v past (Some k) id st h =
     let a : k ≡ id = ap (λ (x : Option (ℕ × TxState)). going x) h in
@@ -101,7 +106,8 @@ state_served f v past (Some k) id st h =
 
 -- a slot that the event leaves alone
 pub slot_keep : (f : Flow) (v : Start) (past : List Event) (e : Event) (s : ℕ) (x : Slot) → session_state f v (e ∷ past) s ≡ session_state f v past s
-    → ((id : ℕ) → serves f v past s ≡ Some id → last_of f v (e ∷ past) id ≡ last_of f v past id) → is_let_go (e ∷ past) s ≡ is_let_go past s → SlotIs f v past s x → SlotIs f v (e ∷ past) s x
+    → ((id : ℕ) → serves f v past s ≡ Some id → last_of f v (e ∷ past) id ≡ last_of f v past id) → is_let_go (e ∷ past) s ≡ is_let_go past s →
+    SlotIs f v past s x → SlotIs f v (e ∷ past) s x
 slot_keep f v past e s Free h l g k = ap (going_on f) h ∙ k
 slot_keep f v past e s (Holding x) h l g k = record {
   serves = h ∙ k.serves;
@@ -126,13 +132,15 @@ pub slot_sound : (f : Flow) (v : Start) (past : List Event) (s : ℕ) (x : Slot)
 slot_sound f v past s Free k = tt
 slot_sound f v past s (Holding h) k = k.sound
 
-slot_made_if : (f : Flow) (v : Start) (past : List Event) (s : ℕ) (m : Machine) (id n : ℕ) (b : Bool) → session_state f v past s ≡ Some (id, tx_state f m) → IsSound f m → n ≡ last_of f v past id → is_let_go past s ≡ false → is_ended f (tx_state f m) ≡ b
+slot_made_if : (f : Flow) (v : Start) (past : List Event) (s : ℕ) (m : Machine) (id n : ℕ) (b : Bool) → session_state f v past s ≡ Some (id, tx_state f m) →
+    IsSound f m → n ≡ last_of f v past id → is_let_go past s ≡ false → is_ended f (tx_state f m) ≡ b
     → SlotIs f v past s (slot_of f m id n)
 slot_made_if f v past s m id n true h sound l g e = rw (e, h, e) refl
 slot_made_if f v past s m id n false h sound l g e = rw e (record { serves = h; unfinished = e; sound = sound; last = l; gone = sym g })
 
 -- the slot of a machine that stands where the session's transaction does
-pub slot_made : (f : Flow) (v : Start) (past : List Event) (s : ℕ) (m : Machine) (id n : ℕ) → session_state f v past s ≡ Some (id, tx_state f m) → IsSound f m → n ≡ last_of f v past id → is_let_go past s ≡ false → SlotIs f v past s (slot_of f m id n)
+pub slot_made : (f : Flow) (v : Start) (past : List Event) (s : ℕ) (m : Machine) (id n : ℕ) → session_state f v past s ≡ Some (id, tx_state f m) →
+    IsSound f m → n ≡ last_of f v past id → is_let_go past s ≡ false → SlotIs f v past s (slot_of f m id n)
 slot_made f v past s m id n h sound l g = slot_made_if f v past s m id n (is_ended f (tx_state f m)) h sound l g refl
 
 get_set_is : {A : Type 0} (xs : List A) (s : ℕ) (y x : A) → slice_get (slice_set xs s y) s ≡ Some x → y ≡ x
@@ -147,7 +155,8 @@ get_set_other (x ∷ xs) zero (suc t) y h = refl
 get_set_other (x ∷ xs) (suc s) zero y h = refl
 get_set_other (x ∷ xs) (suc s) (suc t) y h = get_set_other xs s t y (λ e. h (ap (λ n. suc n) e))
 
-set_if : (P Q : ℕ → Slot → Type 0) (slots : List Slot) (s : ℕ) (y : Slot) (t : ℕ) (x : Slot) → Q s y → ((t : ℕ) (x : Slot) → s ≢ t → P t x → Q t x) → ((t : ℕ) (x : Slot) → slice_get slots t ≡ Some x → P t x)
+set_if : (P Q : ℕ → Slot → Type 0) (slots : List Slot) (s : ℕ) (y : Slot) (t : ℕ) (x : Slot) → Q s y → ((t : ℕ) (x : Slot) → s ≢ t → P t x → Q t x) →
+    ((t : ℕ) (x : Slot) → slice_get slots t ≡ Some x → P t x)
     → slice_get (slice_set slots s y) t ≡ Some x → (b : Bool) → (s == t) ≡ b → Q t x
 set_if P Q slots s y t x here other all h true e =
     let same : s ≡ t = grind (arith, nat_tests) in
@@ -158,11 +167,13 @@ set_if P Q slots s y t x here other all h false e =
     other t x differ (all t x (sym (get_set_other slots s t y differ) ∙ h))
 
 -- one slot is replaced
-pub set_slots : (P Q : ℕ → Slot → Type 0) (slots : List Slot) (s : ℕ) (y : Slot) → Q s y → ((t : ℕ) (x : Slot) → s ≢ t → P t x → Q t x) → ((t : ℕ) (x : Slot) → slice_get slots t ≡ Some x → P t x)
+pub set_slots : (P Q : ℕ → Slot → Type 0) (slots : List Slot) (s : ℕ) (y : Slot) → Q s y → ((t : ℕ) (x : Slot) → s ≢ t → P t x → Q t x) →
+    ((t : ℕ) (x : Slot) → slice_get slots t ≡ Some x → P t x)
     → (t : ℕ) (x : Slot) → slice_get (slice_set slots s y) t ≡ Some x → Q t x
 set_slots P Q slots s y here other all t x h = set_if P Q slots s y t x here other all h (s == t) refl
 
-pub slot_there : (f : Flow) (v : Start) (past : List Event) (slots : List Slot) (s : ℕ) (x : Slot) → ((s : ℕ) (x : Slot) → slice_get slots s ≡ Some x → SlotIs f v past s x) → s < length slots → x ≡ get_or slots s x → SlotIs f v past s x
+pub slot_there : (f : Flow) (v : Start) (past : List Event) (slots : List Slot) (s : ℕ) (x : Slot) →
+    ((s : ℕ) (x : Slot) → slice_get slots s ≡ Some x → SlotIs f v past s x) → s < length slots → x ≡ get_or slots s x → SlotIs f v past s x
 slot_there f v past slots s x all lt is = all s x (slice_get_read slots (length slots) s x refl lt is)
 
 pub same_yes : (s : ℕ) → (s == s) ≡ true
@@ -178,7 +189,8 @@ length_set (x ∷ xs) (suc s) y = ap (λ n. suc n) (length_set xs s y)
 
 -- the mark
 
-pub kept_mark : (f : Flow) (n : ℕ) (v : Start) (es : List Entry) (mark reserved to : ℕ) (r : Running) → Kept (world f n v es mark reserved) es r → to ≤ length es → Kept (world f n v es to reserved) es r
+pub kept_mark : (f : Flow) (n : ℕ) (v : Start) (es : List Entry) (mark reserved to : ℕ) (r : Running) → Kept (world f n v es mark reserved) es r →
+    to ≤ length es → Kept (world f n v es to reserved) es r
 kept_mark f n v es mark reserved to r k le =
     let len : length (past_of es) ≡ length es = length_past es in
     record {

@@ -18,7 +18,8 @@ use Rattle.tx_engine.specs.Calls.{offer_refusal, spare_of, with_reserved}
 use Rattle.tx_engine.specs.Kept.{Kept, Running, past_of, world}
 use Rattle.tx_engine.proofs.Keeps.{Steps, slot_keep, length_past}
 
-pub steps_offered : (f : Flow) (n : ℕ) (v : Start) (es : List Entry) (mark reserved : ℕ) (r : Running) (c : List ℕ) → IsSpelled c → Kept (world f n v es mark reserved) es r
+pub steps_offered : (f : Flow) (n : ℕ) (v : Start) (es : List Entry) (mark reserved : ℕ) (r : Running) (c : List ℕ) → IsSpelled c →
+    Kept (world f n v es mark reserved) es r
     → Steps f n v (past_of es) (Offered c) no_change r (record r { queue = r.queue ++ record { tries = f.retries; context = c } ∷ [] })
 steps_offered f n v es mark reserved r c sp k = record {
   accepted = tt;
@@ -26,8 +27,10 @@ steps_offered f n v es mark reserved r c sp k = record {
   takers = λ h. h;
   spelled = λ h. (sp, h);
   change = refl;
-  sessions = λ s x h. slot_keep f v (past_of es) (Offered c) s x (held_offered f v (past_of es) c s k.start.view.ordered k.past.lawful) (λ id z. refl) refl (k.sessions s x h);
-  queued = rw (drop-append-le (takes (past_of es)) (arrivals f v (past_of es)) (record { tries = f.retries; context = c } ∷ []) (room f v (past_of es) k.past.lawful)) (ap (λ (l : List Waiting). l ++ record { tries = f.retries; context = c } ∷ []) k.queued);
+  sessions = λ s x h. slot_keep f v (past_of es) (Offered c) s x (held_offered f v (past_of es) c s k.start.view.ordered k.past.lawful) (λ id z. refl) refl
+      (k.sessions s x h);
+  queued = rw (drop-append-le (takes (past_of es)) (arrivals f v (past_of es)) (record { tries = f.retries; context = c } ∷ [])
+      (room f v (past_of es) k.past.lawful)) (ap (λ (l : List Waiting). l ++ record { tries = f.retries; context = c } ∷ []) k.queued);
   shelved = refl;
   advised = refl;
   stops = k.stops;
@@ -38,15 +41,22 @@ steps_offered f n v es mark reserved r c sp k = record {
 }
 
 pub steps_released : (f : Flow) (n : ℕ) (v : Start) (es : List Entry) (mark reserved : ℕ) (r : Running) → Kept (world f n v es mark reserved) es r
-    → Steps f n v (past_of es) Released (record { next_id = None; row = None; shelved = None; emptied = true; advice = None }) r (record r { queue = r.queue ++ map (λ (item : ℕ × Waiting). item.1) r.shelf; shelf = [] })
+    → Steps f n v (past_of es) Released (record { next_id = None; row = None; shelved = None; emptied = true; advice = None }) r
+    (record r { queue = r.queue ++ map (λ (item : ℕ × Waiting). item.1) r.shelf; shelf = [] })
 steps_released f n v es mark reserved r k = record {
   accepted = tt;
   usual = refl;
   takers = λ h. h;
   spelled = λ h. h;
   change = refl;
-  sessions = λ s x h. slot_keep f v (past_of es) Released s x (held_released f v (past_of es) s k.start.view.ordered k.past.lawful) (λ id z. refl) refl (k.sessions s x h);
-  queued = rw (drop-append-le (takes (past_of es)) (arrivals f v (past_of es)) (map (λ (item : ℕ × Waiting). item.1) (shelf_of f v (arrivals f v (past_of es)) (past_of es))) (room f v (past_of es) k.past.lawful), k.queued, k.shelved) refl;
+  sessions = λ s x h. slot_keep f v (past_of es) Released s x (held_released f v (past_of es) s k.start.view.ordered k.past.lawful) (λ id z. refl) refl
+      (k.sessions s x h);
+  queued = rw (
+    drop-append-le (takes (past_of es)) (arrivals f v (past_of es))
+        (map (λ (item : ℕ × Waiting). item.1) (shelf_of f v (arrivals f v (past_of es)) (past_of es))) (room f v (past_of es) k.past.lawful),
+    k.queued,
+    k.shelved,
+  ) refl;
   shelved = refl;
   advised = refl;
   stops = k.stops;
@@ -57,7 +67,8 @@ steps_released f n v es mark reserved r k = record {
 }
 
 -- memory that is reserved changes nothing else
-pub kept_reserved : (f : Flow) (n : ℕ) (v : Start) (es : List Entry) (mark a b : ℕ) (r : Running) → Kept (world f n v es mark a) es r → Kept (world f n v es mark b) es r
+pub kept_reserved : (f : Flow) (n : ℕ) (v : Start) (es : List Entry) (mark a b : ℕ) (r : Running) → Kept (world f n v es mark a) es r →
+    Kept (world f n v es mark b) es r
 kept_reserved f n v es mark a b r k = record {
   seats = k.seats;
   flow = k.flow;
@@ -81,13 +92,15 @@ kept_reserved f n v es mark a b r k = record {
 back : (w : World) → with_reserved (with_reserved w (w.reserved + 1)) (w.reserved + 1 - 1) ≡ w
 back w = let same : w.reserved + 1 - 1 ≡ w.reserved = omega arith in ap (λ (n : ℕ). with_reserved w n) same
 
-pub recorded_back : (w m new : World) (e : Event) (number : ℕ) → m ≡ with_reserved w (w.reserved + 1) → Recorded (with_reserved m (m.reserved - 1)) e number new → Recorded w e number new
+pub recorded_back : (w m new : World) (e : Event) (number : ℕ) → m ≡ with_reserved w (w.reserved + 1) →
+    Recorded (with_reserved m (m.reserved - 1)) e number new → Recorded w e number new
 recorded_back w m new e number is h =
     subst (λ (z : World). Recorded z e number new) (back w) (subst (λ (z : World). Recorded (with_reserved z (z.reserved - 1)) e number new) is h)
 
 -- an entry that is allowed has room
 pub entry_room : (u w : World) (es : List Entry) → u ≡ w → u.past ≡ past_of es → offer_refusal w ≡ None → length es < 1048576
-entry_room u w es same is none = let len = length_past es in let none' = subst (λ (x : World). offer_refusal x ≡ None) (sym same) none in grind (arith, nat_tests)
+entry_room u w es same is none = let len = length_past es in let none' = subst (λ (x : World). offer_refusal x ≡ None) (sym same) none in
+    grind (arith, nat_tests)
 
 -- there is room for an offer whose memory was reserved
 pub spare_made : (w : World) → offer_refusal w ≡ None → 1 ≤ spare_of (with_reserved w (w.reserved + 1))

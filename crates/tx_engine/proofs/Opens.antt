@@ -1,6 +1,7 @@
 -- What an opening leaves an engine with.
 -- for: engine::opening::open
-use Rattle.std.proofs.Common.{◌≡◌, ◌≢◌, ℕ, ◌+◌, ◌≤◌, Bool, true, false, List, [], ◌∷◌, length, Option, Some, None, refl, sym, ◌∙◌, ap, subst, arith, suc, zero, replicate}
+use Rattle.std.proofs.Common.{◌≡◌, ◌≢◌, ℕ, ◌+◌, ◌≤◌, Bool, true, false, List, [], ◌∷◌, length, Option, Some, None, refl, sym, ◌∙◌, ap, subst, arith, suc, zero}
+use Rattle.std.proofs.Common.{replicate}
 use Rattle.std.specs.Prelude.{slice_get, slice_set, ◌==◌, nat_lt, is_some, option_map}
 use Rattle.std.proofs.lemmas.Bool.Decides.{nat_tests}
 use Rattle.flow_model.specs.declared.flow.Flow.{Flow}
@@ -34,7 +35,8 @@ use Rattle.tx_engine.proofs.Turns.{next_is}
 
 -- closing entries leave all but the rows
 
-closes_same : {A : Type 0} (g : List Event → A) → ((id : ℕ) (past : List Event) → g (Closed id ∷ past) ≡ g past) → (ids : List ℕ) (past : List Event) → g (closes_of ids past) ≡ g past
+closes_same : {A : Type 0} (g : List Event → A) → ((id : ℕ) (past : List Event) → g (Closed id ∷ past) ≡ g past) → (ids : List ℕ) (past : List Event) →
+    g (closes_of ids past) ≡ g past
 closes_same g h [] past = refl
 closes_same g h (id ∷ ids) past = closes_same g h ids (Closed id ∷ past) ∙ h id past
 
@@ -56,10 +58,13 @@ past_entries f v [] = refl
 past_entries f v (e ∷ past) = past_snoc (entries f v past) _ ∙ ap (λ (l : List Event). e ∷ l) (past_entries f v past)
 
 recovering_first : (f : Flow) (j : JournalView) → IsOrdered j → recovering f (first_start j) [] ≡ option_map (λ (r : ℕ × Row). r.0) (next_row f j.rows 0)
-recovering_first f j o = ap (λ (rows : List (ℕ × Row)). first_unfinished f rows fresh_items) (sym (filter_above 0 1 j.next_id j.rows (omega arith) o.rows)) ∙ next_is f j.rows 0
+recovering_first f j o = ap (λ (rows : List (ℕ × Row)). first_unfinished f rows fresh_items) (sym (filter_above 0 1 j.next_id j.rows (omega arith) o.rows))
+    ∙ next_is f j.rows 0
 
-session_first : (f : Flow) (j : JournalView) → IsOrdered j → session_state f (first_start j) [] 0 ≡ next_reopened f (first_start j) (option_map (λ (r : ℕ × Row). r.0) (next_row f j.rows 0))
-session_first f j o = ap (λ (r : Option ℕ). state_of_served f (first_start j) [] (or_taken r None)) (recovering_first f j o) ∙ by (option_map (λ (r : ℕ × Row). r.0) (next_row f j.rows 0)) (recovering_first f j o)
+session_first : (f : Flow) (j : JournalView) → IsOrdered j →
+    session_state f (first_start j) [] 0 ≡ next_reopened f (first_start j) (option_map (λ (r : ℕ × Row). r.0) (next_row f j.rows 0))
+session_first f j o = ap (λ (r : Option ℕ). state_of_served f (first_start j) [] (or_taken r None)) (recovering_first f j o)
+    ∙ by (option_map (λ (r : ℕ × Row). r.0) (next_row f j.rows 0)) (recovering_first f j o)
   where
     by : (r : Option ℕ) → recovering f (first_start j) [] ≡ r → state_of_served f (first_start j) [] (or_taken r None) ≡ next_reopened f (first_start j) r
     by None e = refl
@@ -101,7 +106,8 @@ opened_parts f j n x =
       recovering = is_holding x;
     }
 
-pub kept_opened : (f : Flow) (j : JournalView) (n m : ℕ) (es : List Entry) (x : Slot) → FlowFits f → StartFits f (first_start j) → 1 ≤ n → n ≤ 16 → m ≡ n → es ≡ entries f (first_start j) (opened f (first_start j)) → IsNextSlot f j.rows 0 x
+pub kept_opened : (f : Flow) (j : JournalView) (n m : ℕ) (es : List Entry) (x : Slot) → FlowFits f → StartFits f (first_start j) → 1 ≤ n → n ≤ 16 → m ≡ n →
+    es ≡ entries f (first_start j) (opened f (first_start j)) → IsNextSlot f j.rows 0 x
     → Kept (world f m (first_start j) es 0 0) es (opened_parts f j n x)
 kept_opened f j n m es x fits st some few same is next =
     let v : Start = first_start j in
@@ -109,13 +115,15 @@ kept_opened f j n m es x fits st some few same is next =
     let past : List Event = opened f v in
     let o = st.view.ordered in
     let events : past_of es ≡ past = ap past_of is ∙ past_entries f v past in
-    let state : session_state f v past 0 ≡ next_reopened f v (option_map (λ (r : ℕ × Row). r.0) (next_row f j.rows 0)) = closes_same (λ p. session_state f v p 0) (λ id p. refl) ids [] ∙ session_first f j o in
+    let state : session_state f v past 0 ≡ next_reopened f v (option_map (λ (r : ℕ × Row). r.0) (next_row f j.rows 0)) =
+    closes_same (λ p. session_state f v p 0) (λ id p. refl) ids [] ∙ session_first f j o in
     let first : SlotIs f v past 0 x =
     next_made f v past (next_row f j.rows 0) x next
     (λ r h. ((next_found f j.rows 0 1 j.next_id r o.rows h).1, next_going f j.rows 0 r h, closes_same (λ p. last_of f v p r.0) (λ id p. refl) ids []))
     state (closes_same (λ p. is_let_go p 0) (λ id p. refl) ids []) in
     let busy : is_holding x ≡ is_some (recovering f v past) =
-    row_holding f (next_row f j.rows 0) x next ∙ sym (ap (λ (r : Option ℕ). is_some r) (closes_same (λ p. recovering f v p) (λ id p. refl) ids [] ∙ recovering_first f j o)) in
+    row_holding f (next_row f j.rows 0) x next ∙ sym (ap (λ (r : Option ℕ). is_some r) (closes_same (λ p. recovering f v p) (λ id p. refl) ids []
+    ∙ recovering_first f j o)) in
     let len = length_closes ids [] in
     let last = st.view.last in
     subst (λ (p : List Event). Kept (record { flow = f; sessions = m; start = v; past = p; mark = 0; reserved = 0 }) es (opened_parts f j n x)) (sym events)
@@ -126,12 +134,17 @@ kept_opened f j n m es x fits st some few same is next =
       past = record { few = few; sessions = closes_sessions n ids [] tt; spelled = closes_spelled ids [] tt; lawful = opened_lawful f v };
       history = is;
       sessions = set_slots (λ t z. z ≡ Free) (λ t z. SlotIs f v past t z) (replicate n Free) 0 x first
-          (λ t z differ free. subst (λ (z : Slot). SlotIs f v past t z) (sym free) (ap (going_on f) (closes_same (λ p. session_state f v p t) (λ id p. refl) ids []) ∙ free_slot f j t differ))
+          (λ t z differ free. subst (λ (z : Slot). SlotIs f v past t z) (sym free)
+          (ap (going_on f) (closes_same (λ p. session_state f v p t) (λ id p. refl) ids []) ∙ free_slot f j t differ))
           (λ t z h. get_replicate n t Free z h);
       queued = sym (closes_same (λ p. queue f v p) (λ id p. refl) ids []);
       shelved = sym (closes_same (λ p. shelf f v p) (λ id p. refl) ids [] ∙ ap (λ (w : JournalView). w.shelf) (journal_first f v o));
       advised = sym (closes_same (λ p. advices f v p) (λ id p. refl) ids []);
-      stops = (length_replicate (length (parts_of f)) false, λ p. flag_none (length (parts_of f)) p ∙ sym (closes_same (λ q. has_break v q p) (λ id q. refl) ids []));
+      stops = (
+        length_replicate (length (parts_of f)) false,
+        λ p. flag_none (length (parts_of f)) p
+            ∙ sym (closes_same (λ q. has_break v q p) (λ id q. refl) ids []),
+      );
       numbered = let zero_more : j.next_id + 0 ≡ j.next_id = omega arith in sym (closes_same (λ p. next_id v p) (λ id p. refl) ids [] ∙ zero_more);
       renewed = sym (closes_same (λ p. is_restored p) (λ id p. refl) ids []);
       recovers = busy;
@@ -141,7 +154,8 @@ kept_opened f j n m es x fits st some few same is next =
     }))
 
 -- what contracts see of it
-pub world_opened : (f : Flow) (j : JournalView) (n m : ℕ) (es : List Entry) → m ≡ n → es ≡ entries f (first_start j) (opened f (first_start j)) → world f m (first_start j) es 0 0 ≡ opened_world f j n
+pub world_opened : (f : Flow) (j : JournalView) (n m : ℕ) (es : List Entry) → m ≡ n → es ≡ entries f (first_start j) (opened f (first_start j)) →
+    world f m (first_start j) es 0 0 ≡ opened_world f j n
 world_opened f j n m es same is =
     let events : past_of es ≡ opened f (first_start j) = ap past_of is ∙ past_entries f (first_start j) (opened f (first_start j)) in
     rw (same, events) refl
@@ -150,9 +164,21 @@ pub sessions_are : (n : ℕ) (x : Slot) → length (slice_set (replicate n Free)
 sessions_are n x = length_set (replicate n Free) 0 x ∙ length_replicate n Free
 
 -- the same of parts that are equal to these
-pub kept_made : (f g : Flow) (j k : JournalView) (n m : ℕ) (es : List Entry) (x : Slot) (q : List Waiting) (b : List ℕ) (slots : List Slot) (waiting : List Waiting) (kept : List (ℕ × Waiting)) (stored : List ((ℕ × ℕ) × List ℕ)) (breaks : List Bool) (busy : Bool)
+pub kept_made : (f g : Flow) (j k : JournalView) (n m : ℕ) (es : List Entry) (x : Slot) (q : List Waiting) (b : List ℕ) (slots : List Slot)
+    (waiting : List Waiting) (kept : List (ℕ × Waiting)) (stored : List ((ℕ × ℕ) × List ℕ)) (breaks : List Bool) (busy : Bool)
     → FlowFits f → StartFits f (first_start j) → 1 ≤ n → n ≤ 16 → es ≡ entries f (first_start j) (opened f (first_start j)) → IsNextSlot f j.rows 0 x
-    → g ≡ f → k ≡ j → m ≡ n → q ≡ [] → b ≡ [] → slots ≡ slice_set (replicate n Free) 0 x → waiting ≡ [] → kept ≡ j.shelf → stored ≡ j.advices → breaks ≡ replicate (length (parts_of f)) false → busy ≡ is_holding x
-    → Kept (world g m (record { view = k; queue = q; breaks = b }) es 0 0) es (record { slots = slots; queue = waiting; shelf = kept; advices = stored; breaks = breaks; next_id = j.next_id; restored = false; recovering = busy })
+    → g ≡ f → k ≡ j → m ≡ n → q ≡ [] → b ≡ [] → slots ≡ slice_set (replicate n Free) 0 x → waiting ≡ [] → kept ≡ j.shelf → stored ≡ j.advices →
+    breaks ≡ replicate (length (parts_of f)) false → busy ≡ is_holding x
+    → Kept (world g m (record { view = k; queue = q; breaks = b }) es 0 0) es (record {
+      slots = slots;
+      queue = waiting;
+      shelf = kept;
+      advices =
+          stored;
+      breaks = breaks;
+      next_id = j.next_id;
+      restored = false;
+      recovering = busy;
+    })
 kept_made f g j k n m es x q b slots waiting kept stored breaks busy fits st some few is next eg ek em eq eb es' ew ek' et er ey =
     rw (eg, ek, eq, eb, es', ew, ek', et, er, ey) (kept_opened f j n m es x fits st some few em is next)

@@ -24,7 +24,8 @@ use Rattle.tx_slots.specs.Slots.{touched}
 use Rattle.tx_engine.specs.Kept.{Kept, Running, SlotIs, past_of, world}
 use Rattle.tx_engine.proofs.Keeps.{Steps, slot_keep, set_slots, state_served, hold_holds, length_past, same_yes, same_no}
 
-touched_is : (f : Flow) (v : Start) (past : List Event) (s : ℕ) (c : List ℕ) (x : Slot) (number : ℕ) → number ≡ length past + 1 → SlotIs f v past s x → SlotIs f v (Recovered s c ∷ past) s (touched x number)
+touched_is : (f : Flow) (v : Start) (past : List Event) (s : ℕ) (c : List ℕ) (x : Slot) (number : ℕ) → number ≡ length past + 1 → SlotIs f v past s x →
+    SlotIs f v (Recovered s c ∷ past) s (touched x number)
 touched_is f v past s c Free number is k = k
 touched_is f v past s c (Holding h) number is k =
     let who = (state_served f v past (serves f v past s) h.id (tx_state f h.machine) k.serves).0 in
@@ -36,8 +37,14 @@ touched_is f v past s c (Holding h) number is k =
       gone = rw (same_yes s) refl;
     }
 
-pub steps_recovered : (f : Flow) (n : ℕ) (v : Start) (es : List Entry) (mark reserved : ℕ) (r : Running) (s : ℕ) (c : List ℕ) (h : Hold) (x : Slot) (number : ℕ) → Kept (world f n v es mark reserved) es r → Allows (world f n v es mark reserved) s kind.Recovered h → IsSpelled c → SlotIs f v (past_of es) s x
-    → number ≡ length es + 1 → Steps f n v (past_of es) (Recovered s c) no_change r (record r { slots = slice_set r.slots s (touched x number); restored = true })
+pub steps_recovered : (f : Flow) (n : ℕ) (v : Start) (es : List Entry) (mark reserved : ℕ) (r : Running) (s : ℕ) (c : List ℕ) (h : Hold) (x : Slot)
+    (number : ℕ) → Kept (world f n v es mark reserved) es r → Allows (world f n v es mark reserved) s kind.Recovered h → IsSpelled c →
+    SlotIs f v (past_of es) s x
+    → number ≡ length es + 1 → Steps f n v (past_of es) (Recovered s c) no_change r (record r {
+      slots = slice_set r.slots s (touched x number);
+      restored =
+          true;
+    })
 steps_recovered f n v es mark reserved r s c h x number k a sp here is =
     let past : List Event = past_of es in
     let len : length past ≡ length es = length_past es in
@@ -49,9 +56,11 @@ steps_recovered f n v es mark reserved r s c h x number k a sp here is =
       takers = λ z. z;
       spelled = λ z. (sp, z);
       change = refl;
-      sessions = set_slots (SlotIs f v past) (SlotIs f v (Recovered s c ∷ past)) r.slots s (touched x number) (touched_is f v past s c x number (omega arith) here)
+      sessions = set_slots (SlotIs f v past) (SlotIs f v (Recovered s c ∷ past)) r.slots s (touched x number)
+          (touched_is f v past s c x number (omega arith) here)
           (λ t y d i. slot_keep f v past (Recovered s c) t y refl
-          (λ id z. rw (is_other (serves f v past s) h.id id who (λ q. d (served_once f v past s t h.id o who (z ∙ ap Some q)))) refl) (rw (same_no s t d) refl) i)
+          (λ id z. rw (is_other (serves f v past s) h.id id who (λ q. d (served_once f v past s t h.id o who (z ∙ ap Some q)))) refl)
+          (rw (same_no s t d) refl) i)
           k.sessions;
       queued = k.queued;
       shelved = refl;

@@ -11,7 +11,8 @@ use Rattle.tx_history.specs.declared.event.Event.TheVariants.{Offered, Taken, An
 use Rattle.tx_history.specs.declared.journal.Row.{Row}
 use Rattle.tx_history.specs.declared.journal.Waiting.{Waiting}
 use Rattle.tx_history.specs.Keys.{look, gather}
-use Rattle.tx_history.specs.History.{Start, is_ended, taken, is_id, serves, state_of, last_of, is_let_go, has_break, restores, place_in, put_advice, holds, reopened, first_unfinished, shelf, shelved_at, arrivals, ids}
+use Rattle.tx_history.specs.History.{Start, is_ended, taken, is_id, serves, state_of, last_of, is_let_go, has_break, restores, place_in, put_advice, holds}
+use Rattle.tx_history.specs.History.{reopened, first_unfinished, shelf, shelved_at, arrivals, ids}
 use Rattle.tx_history.specs.Journal.{IsAccepted, closes, change, touched, shelved_change}
 use Rattle.tx_history.specs.Views.{IsOrdered, AreSessions, AreSpelled}
 use Rattle.tx_history.proofs.GivenItems.{Gave, gave_answered, gave_chose, gave_told, unshelved_if}
@@ -39,7 +40,8 @@ pub record IsGiven (f : Flow) (v : Start) (past : List Event) (s id : ℕ) (x : 
   pub due : is_due (state_of f v past id) x ≡ true
   pub unrestored : restores f v past id ≡ None
 
-turn_answered : (f : Flow) (v : Start) (past : List Event) (s b : ℕ) (c : List ℕ) (id : ℕ) → IsGiven f v past s id (Answer b c) → Turn f v past (Answered s b c) s id (Answer b c) None
+turn_answered : (f : Flow) (v : Start) (past : List Event) (s b : ℕ) (c : List ℕ) (id : ℕ) → IsGiven f v past s id (Answer b c) →
+    Turn f v past (Answered s b c) s id (Answer b c) None
 turn_answered f v past s b c id g = record {
   accepted = (id, g.holds, g.due, g.unrestored);
   usual = refl;
@@ -53,7 +55,8 @@ turn_answered f v past s b c id g = record {
   breaks = λ p. refl;
 }
 
-turn_chose : (f : Flow) (v : Start) (past : List Event) (s : ℕ) (t : List ℕ) (id : ℕ) → IsGiven f v past s id (Choice t) → Turn f v past (Chose s t) s id (Choice t) None
+turn_chose : (f : Flow) (v : Start) (past : List Event) (s : ℕ) (t : List ℕ) (id : ℕ) → IsGiven f v past s id (Choice t) →
+    Turn f v past (Chose s t) s id (Choice t) None
 turn_chose f v past s t id g = record {
   accepted = (id, g.holds, g.due, g.unrestored);
   usual = refl;
@@ -67,7 +70,8 @@ turn_chose f v past s t id g = record {
   breaks = λ p. refl;
 }
 
-turn_told : (f : Flow) (v : Start) (past : List Event) (s : ℕ) (a : Option (List ℕ)) (id : ℕ) → IsGiven f v past s id (ToldOne a) → Turn f v past (Told s a) s id (ToldOne a) (put_advice (Some (id, (state_of f v past id).told)) a)
+turn_told : (f : Flow) (v : Start) (past : List Event) (s : ℕ) (a : Option (List ℕ)) (id : ℕ) → IsGiven f v past s id (ToldOne a) →
+    Turn f v past (Told s a) s id (ToldOne a) (put_advice (Some (id, (state_of f v past id).told)) a)
 turn_told f v past s a id g = record {
   accepted = (id, g.holds, g.due, g.unrestored);
   usual = refl;
@@ -81,7 +85,8 @@ turn_told f v past s a id g = record {
   breaks = λ p. refl;
 }
 
-pub turn : (f : Flow) (v : Start) (past : List Event) (e : Event) (s id : ℕ) (x : Item) → IsReply e s x → IsGiven f v past s id x → Turn f v past e s id x (advice_of e (id, (state_of f v past id).told))
+pub turn : (f : Flow) (v : Start) (past : List Event) (e : Event) (s id : ℕ) (x : Item) → IsReply e s x → IsGiven f v past s id x →
+    Turn f v past e s id x (advice_of e (id, (state_of f v past id).told))
 turn f v past (Answered t b c) s id x (same, is) g =
     subst (λ (u : ℕ). Turn f v past (Answered t b c) u id x None) same (subst (λ (y : Item). Turn f v past (Answered t b c) t id y None) (sym is)
     (turn_answered f v past t b c id (subst (λ (u : ℕ). IsGiven f v past u id (Answer b c)) (sym same) (subst (λ (y : Item). IsGiven f v past s id y) is g))))
@@ -108,23 +113,27 @@ look_apart : {A : Type 0} (h : ℕ → Option A) (n k id : ℕ) (o : Option A) �
 look_apart h n k id None e none = e
 look_apart h n k id (Some x) e none = let g = look_gather h n k id x e in absurd (let i = g.is in cc)
 
-pub shelf_lacks : (f : Flow) (v : Start) (past : List Event) (e : Event) (s id : ℕ) (x : Item) → IsOrdered v.view → Gave f v past e id x → serves f v past s ≡ Some id → is_ended f (state_of f v past id) ≡ false → look id (shelf f v past) ≡ None
+pub shelf_lacks : (f : Flow) (v : Start) (past : List Event) (e : Event) (s id : ℕ) (x : Item) → IsOrdered v.view → Gave f v past e id x →
+    serves f v past s ≡ Some id → is_ended f (state_of f v past id) ≡ false → look id (shelf f v past) ≡ None
 shelf_lacks f v past e s id x o g h u =
     let w = unshelved_if f v past e id s x o g h u (nat_lt id v.view.next_id) refl in
     look_apart (shelved_at f v (arrivals f v past) past) 1 (ids v past) id (look id (shelf f v past)) refl w.before
 
-pub lacks_change : (id : ℕ) (o : Option Waiting) (xs : List (ℕ × Waiting)) → look id xs ≡ None → IfSome (shelved_change id o) (λ (new : ℕ × Waiting). look new.0 xs ≡ None)
+pub lacks_change : (id : ℕ) (o : Option Waiting) (xs : List (ℕ × Waiting)) → look id xs ≡ None →
+    IfSome (shelved_change id o) (λ (new : ℕ × Waiting). look new.0 xs ≡ None)
 lacks_change id None xs h = search rules
 lacks_change id (Some w) xs h = search rules
 
 -- the next journalled transaction
 
-next_if : (f : Flow) (r : ℕ × Row) (rows : List (ℕ × Row)) (id : ℕ) → first_unfinished f (behind id rows) fresh_items ≡ option_map (λ (r : ℕ × Row). r.0) (next_row f rows id) → (a b : Bool) → nat_lt id r.0 ≡ a → is_ended f (reopened f r.1) ≡ b
+next_if : (f : Flow) (r : ℕ × Row) (rows : List (ℕ × Row)) (id : ℕ) → first_unfinished f (behind id rows) fresh_items ≡ option_map (λ (r : ℕ × Row). r.0)
+    (next_row f rows id) → (a b : Bool) → nat_lt id r.0 ≡ a → is_ended f (reopened f r.1) ≡ b
     → first_unfinished f (behind id (r ∷ rows)) fresh_items ≡ option_map (λ (r : ℕ × Row). r.0) (next_row f (r ∷ rows) id)
 next_if f r rows id ih true true above over = rw (above, over) ih
 next_if f r rows id ih true false above over = rw (above, over) refl
 next_if f r rows id ih false b above over = rw above ih
 
-pub next_is : (f : Flow) (rows : List (ℕ × Row)) (id : ℕ) → first_unfinished f (behind id rows) fresh_items ≡ option_map (λ (r : ℕ × Row). r.0) (next_row f rows id)
+pub next_is : (f : Flow) (rows : List (ℕ × Row)) (id : ℕ) → first_unfinished f (behind id rows) fresh_items ≡ option_map (λ (r : ℕ × Row). r.0)
+    (next_row f rows id)
 next_is f [] id = refl
 next_is f (r ∷ rows) id = next_if f r rows id (next_is f rows id) (nat_lt id r.0) (is_ended f (reopened f r.1)) refl refl

@@ -28,12 +28,15 @@ unfinished_none : (f : Flow) (rows : List (ℕ × Row)) (items : ℕ → List It
 unfinished_none f [] items h = refl
 unfinished_none f (r ∷ rows) items h = by (is_ended f (after_newest f (reopened f r.1) (items r.0))) h (unfinished_none f rows items)
   where
-    by : (b : Bool) → (if b then first_unfinished f rows items else Some r.0) ≡ None → (first_unfinished f rows items ≡ None → unfinished_in f items rows ≡ []) → (if not b then r ∷ unfinished_in f items rows else unfinished_in f items rows) ≡ []
+    by : (b : Bool) → (if b then first_unfinished f rows items else Some r.0) ≡ None →
+        (first_unfinished f rows items ≡ None → unfinished_in f items rows ≡ []) →
+        (if not b then r ∷ unfinished_in f items rows else unfinished_in f items rows) ≡ []
     by true e ih = ih e
     by false e ih = absurd (cc)
 
 -- nothing was given to those after the one that is recovered
-all_behind : (f : Flow) (rows : List (ℕ × Row)) (items : ℕ → List Item) (id n m : ℕ) → Rising n m rows → id < n → ((j : ℕ) → id < j → j < m → items j ≡ []) → unfinished_in f items rows ≡ behind f rows id
+all_behind : (f : Flow) (rows : List (ℕ × Row)) (items : ℕ → List Item) (id n m : ℕ) → Rising n m rows → id < n →
+    ((j : ℕ) → id < j → j < m → items j ≡ []) → unfinished_in f items rows ≡ behind f rows id
 all_behind f [] items id n m rise lt none = refl
 all_behind f (r ∷ rows) items id n m rise lt none =
     let lo = rise.0 in
@@ -42,7 +45,8 @@ all_behind f (r ∷ rows) items id n m rise lt none =
     let fresh : items r.0 ≡ [] = none r.0 (omega arith) hi in
     rw (above, fresh, all_behind f rows items id (r.0 + 1) m rise.2 (omega arith) none) refl
 
-unfinished_first_if : (f : Flow) (r : ℕ × Row) (rows : List (ℕ × Row)) (items : ℕ → List Item) (id n m : ℕ) → Rising n m (r ∷ rows) → ((j : ℕ) → id < j → j < m → items j ≡ [])
+unfinished_first_if : (f : Flow) (r : ℕ × Row) (rows : List (ℕ × Row)) (items : ℕ → List Item) (id n m : ℕ) → Rising n m (r ∷ rows) →
+    ((j : ℕ) → id < j → j < m → items j ≡ [])
     → (first_unfinished f rows items ≡ Some id → length (unfinished_in f items rows) ≡ length (behind f rows id) + 1)
     → (b : Bool) → is_ended f (after_newest f (reopened f r.1) (items r.0)) ≡ b → (if b then first_unfinished f rows items else Some r.0) ≡ Some id
     → length (unfinished_in f items (r ∷ rows)) ≡ length (behind f (r ∷ rows) id) + 1
@@ -59,13 +63,16 @@ unfinished_first_if f r rows items id n m rise none ih false e h =
     let len = ap (λ (l : List (ℕ × Row)). length l) rest in
     rw (e, below) (omega arith)
 
-unfinished_first : (f : Flow) (rows : List (ℕ × Row)) (items : ℕ → List Item) (id n m : ℕ) → Rising n m rows → ((j : ℕ) → id < j → j < m → items j ≡ []) → first_unfinished f rows items ≡ Some id
+unfinished_first : (f : Flow) (rows : List (ℕ × Row)) (items : ℕ → List Item) (id n m : ℕ) → Rising n m rows → ((j : ℕ) → id < j → j < m → items j ≡ []) →
+    first_unfinished f rows items ≡ Some id
     → length (unfinished_in f items rows) ≡ length (behind f rows id) + 1
 unfinished_first f [] items id n m rise none h = absurd (cc)
 unfinished_first f (r ∷ rows) items id n m rise none h =
-    unfinished_first_if f r rows items id n m rise none (λ e. unfinished_first f rows items id (r.0 + 1) m rise.2 none e) (is_ended f (after_newest f (reopened f r.1) (items r.0))) refl h
+    unfinished_first_if f r rows items id n m rise none (λ e. unfinished_first f rows items id (r.0 + 1) m rise.2 none e)
+    (is_ended f (after_newest f (reopened f r.1) (items r.0))) refl h
 
-is_recovering : (f : Flow) (v : Start) (past : List Event) (o : Option ℕ) → recovering f v past ≡ o → is_some o ≡ true → (id : ℕ) × (recovering f v past ≡ Some id)
+is_recovering : (f : Flow) (v : Start) (past : List Event) (o : Option ℕ) → recovering f v past ≡ o → is_some o ≡ true →
+    (id : ℕ) × (recovering f v past ≡ Some id)
 is_recovering f v past None e h = absurd (cc)
 is_recovering f v past (Some id) e h = (id, e)
 
@@ -80,7 +87,8 @@ none_unfinished u w es r k same h =
     (sym (ap (λ (l : List (ℕ × Row)). length l) (unfinished_none u.flow u.start.view.rows (own_items u.flow u.start u.past) none)))
 
 -- session 0 holds the one that is recovered
-pub unfinished_held : (u w : World) (es : List Entry) (r : Running) (x : Slot) (h : Hold) → Kept u es r → u ≡ w → r.recovering ≡ true → slice_get r.slots 0 ≡ Some x → x ≡ Holding h → length (behind u.flow u.start.view.rows h.id) + 1 ≡ unfinished w
+pub unfinished_held : (u w : World) (es : List Entry) (r : Running) (x : Slot) (h : Hold) → Kept u es r → u ≡ w → r.recovering ≡ true →
+    slice_get r.slots 0 ≡ Some x → x ≡ Holding h → length (behind u.flow u.start.view.rows h.id) + 1 ≡ unfinished w
 unfinished_held u w es r x h k same busy at is =
     let b = is_recovering u.flow u.start u.past (recovering u.flow u.start u.past) refl (sym k.recovers ∙ busy) in
     let o = k.start.view.ordered in
@@ -89,7 +97,8 @@ unfinished_held u w es r x h k same busy at is =
     let one : b.0 ≡ h.id = grind (arith) in
     let first : recovering u.flow u.start u.past ≡ Some h.id = b.1 ∙ who in
     subst (λ (z : World). length (behind u.flow u.start.view.rows h.id) + 1 ≡ unfinished z) same
-    (sym (unfinished_first u.flow u.start.view.rows (own_items u.flow u.start u.past) h.id 1 u.start.view.next_id o.rows (λ j lo hi. later_none u.flow u.start u.past h.id j o k.past.lawful first lo hi) first))
+    (sym (unfinished_first u.flow u.start.view.rows (own_items u.flow u.start u.past) h.id 1 u.start.view.next_id o.rows
+    (λ j lo hi. later_none u.flow u.start u.past h.id j o k.past.lawful first lo hi) first))
 
 pub recovered_held : (u : World) (es : List Entry) (r : Running) (x : Slot) → Kept u es r → r.recovering ≡ true → slice_get r.slots 0 ≡ Some x → x ≡ Free → ⊥
 recovered_held u es r x k busy at is =

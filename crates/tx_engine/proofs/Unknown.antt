@@ -26,7 +26,8 @@ unknown_append f id [] ys = refl
 unknown_append f id (x ∷ xs) ys = by (nat_lt (number_of f x) (length (parts_of f))) (unknown_append f id xs ys)
   where
     by : (b : Bool) → unknown_in f id (xs ++ ys) ≡ or_else (unknown_in f id xs) (unknown_in f id ys)
-        → (if b then unknown_in f id (xs ++ ys) else Some (UnknownParticipant id x)) ≡ or_else (if b then unknown_in f id xs else Some (UnknownParticipant id x)) (unknown_in f id ys)
+        → (if b then unknown_in f id (xs ++ ys) else Some (UnknownParticipant id x))
+        ≡ or_else (if b then unknown_in f id xs else Some (UnknownParticipant id x)) (unknown_in f id ys)
     by true ih = ih
     by false ih = refl
 
@@ -37,18 +38,21 @@ names_known : (f : Flow) (id : ℕ) (names : List (List ℕ)) → unknown_in f i
 names_known f id [] h = All-nil (Known f)
 names_known f id (x ∷ names) h = by (nat_lt (number_of f x) (length (parts_of f))) refl (names_known f id names) h
   where
-    by : (b : Bool) → nat_lt (number_of f x) (length (parts_of f)) ≡ b → (unknown_in f id names ≡ None → All (Known f) names) → (if b then unknown_in f id names else Some (UnknownParticipant id x)) ≡ None → All (Known f) (x ∷ names)
+    by : (b : Bool) → nat_lt (number_of f x) (length (parts_of f)) ≡ b → (unknown_in f id names ≡ None → All (Known f) names) →
+        (if b then unknown_in f id names else Some (UnknownParticipant id x)) ≡ None → All (Known f) (x ∷ names)
     by true e ih h = let lt : number_of f x < length (parts_of f) = grind (arith, nat_tests) in All-cons (Known f) x names lt (ih h)
     by false e ih h = absurd (cc)
 
 -- where no name is unknown, the flow has everybody who is to be told
 pub rows_known : (f : Flow) (rows : List (ℕ × Row)) → unknown_of f rows ≡ None → AreKnown f rows
 rows_known f [] h k r there = absurd (cc)
-rows_known f (x ∷ rows) h zero r there = let w = none_of (unknown_in f x.0 (to_tell x.1 x.1.doing)) (unknown_of f rows) h in subst (λ (y : ℕ × Row). All (Known f) (to_tell y.1 y.1.doing)) (get_first x r there) (names_known f x.0 (to_tell x.1 x.1.doing) w.0)
+rows_known f (x ∷ rows) h zero r there = let w = none_of (unknown_in f x.0 (to_tell x.1 x.1.doing)) (unknown_of f rows) h in
+    subst (λ (y : ℕ × Row). All (Known f) (to_tell y.1 y.1.doing)) (get_first x r there) (names_known f x.0 (to_tell x.1 x.1.doing) w.0)
 rows_known f (x ∷ rows) h (suc k) r there = let w = none_of (unknown_in f x.0 (to_tell x.1 x.1.doing)) (unknown_of f rows) h in rows_known f rows w.1 k r there
 
 -- what is found under an id stands somewhere
-looked : (rows : List (ℕ × Row)) (id : ℕ) (r : Row) (P : Row → Type 0) → ((k : ℕ) (x : ℕ × Row) → slice_get rows k ≡ Some x → P x.1) → look id rows ≡ Some r → P r
+looked : (rows : List (ℕ × Row)) (id : ℕ) (r : Row) (P : Row → Type 0) → ((k : ℕ) (x : ℕ × Row) → slice_get rows k ≡ Some x → P x.1) →
+    look id rows ≡ Some r → P r
 looked [] id r P all h = absurd (cc)
 looked (x ∷ rows) id r P all h = by (x.0 == id) (looked rows id r P (λ k y there. all (suc k) y there)) h
   where
@@ -57,7 +61,12 @@ looked (x ∷ rows) id r P all h = by (x.0 == id) (looked rows id r P (λ k y th
     by false ih h = ih h
 
 pub start_fits : (f : Flow) (j : JournalView) → IsOk j → AreKnown f j.rows → StartFits f (first_start j)
-start_fits f j ok known = record { view = ok; queue = All-nil WaitingFits; knows = λ id r h. looked j.rows id r (λ (r : Row). All (Known f) (to_tell r r.doing)) known h }
+start_fits f j ok known = record {
+  view = ok;
+  queue = All-nil WaitingFits;
+  knows =
+      λ id r h. looked j.rows id r (λ (r : Row). All (Known f) (to_tell r r.doing)) known h;
+}
 
 -- the first of two refusals is told first
 pub told_first : (a b : Option EngineError) (e : EngineError) → IsOpenRefusal a e → IsOpenRefusal (or_else a b) e
@@ -80,10 +89,13 @@ told_first None b error.InUse h = absurd (cc)
 told_first None b error.NotWritten h = absurd (cc)
 
 -- a member that is unknown comes before who is doing
-pub member_told : (f : Flow) (id : ℕ) (r : Row) (d : Option (List ℕ)) (e : EngineError) → IsOpenRefusal (unknown_in f id r.joined) e → IsOpenRefusal (unknown_in f id (to_tell r d)) e
+pub member_told : (f : Flow) (id : ℕ) (r : Row) (d : Option (List ℕ)) (e : EngineError) → IsOpenRefusal (unknown_in f id r.joined) e →
+    IsOpenRefusal (unknown_in f id (to_tell r d)) e
 member_told f id r None e h = h
-member_told f id r (Some name) e h = subst (λ (o : Option EngineError). IsOpenRefusal o e) (sym (unknown_append f id r.joined (name ∷ []))) (told_first (unknown_in f id r.joined) (unknown_in f id (name ∷ [])) e h)
+member_told f id r (Some name) e h = subst (λ (o : Option EngineError). IsOpenRefusal o e) (sym (unknown_append f id r.joined (name ∷ [])))
+    (told_first (unknown_in f id r.joined) (unknown_in f id (name ∷ [])) e h)
 
 -- where all members are known, it is by who is doing
-pub doing_told : (f : Flow) (id : ℕ) (r : Row) (name : List ℕ) → unknown_in f id r.joined ≡ None → unknown_in f id (to_tell r (Some name)) ≡ unknown_in f id (name ∷ [])
+pub doing_told : (f : Flow) (id : ℕ) (r : Row) (name : List ℕ) → unknown_in f id r.joined ≡ None →
+    unknown_in f id (to_tell r (Some name)) ≡ unknown_in f id (name ∷ [])
 doing_told f id r name h = unknown_append f id r.joined (name ∷ []) ∙ ap (λ (o : Option EngineError). or_else o (unknown_in f id (name ∷ []))) h

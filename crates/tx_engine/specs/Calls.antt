@@ -1,6 +1,7 @@
 -- Which calls the engine accepts, and what it answers.
 use Rattle.std.specs.Prelude.{if◌then◌else◌}
-use Rattle.std.specs.Prelude.{◌≡◌, ℕ, ◌+◌, ◌-◌, ◌<◌, ◌==◌, Bool, List, [], ◌∷◌, length, slice_get, option_map, Option, Some, None, is_some, nat_le, nat_lt, min, not, ◌||◌, Result, Ok, Err, filter}
+use Rattle.std.specs.Prelude.{◌≡◌, ℕ, ◌+◌, ◌-◌, ◌<◌, ◌==◌, Bool, List, [], ◌∷◌, length, slice_get, option_map, Option, Some, None, is_some, nat_le, nat_lt, min}
+use Rattle.std.specs.Prelude.{not, ◌||◌, Result, Ok, Err, filter}
 use Rattle.std.specs.Map.{lookup}
 use Rattle.sw_base.specs.Refusals.{refused_if, first_of}
 use Rattle.sw_context.specs.Spelling.{bytes_of}
@@ -12,7 +13,8 @@ use Rattle.tx_machine.specs.declared.values.Item.{Item}
 use Rattle.tx_machine.specs.Bounds.{after_newest}
 use Rattle.tx_history.specs.declared.journal.Row.{Row}
 use Rattle.tx_history.specs.declared.journal.Waiting.{Waiting}
-use Rattle.tx_history.specs.History.{next_id, queue, state_of, holds, last_of, is_held_at, recovering, restores, own_items, is_ended, reopened, number_of, is_held}
+use Rattle.tx_history.specs.History.{next_id, queue, state_of, holds, last_of, is_held_at, recovering, restores, own_items, is_ended, reopened, number_of}
+use Rattle.tx_history.specs.History.{is_held}
 use Rattle.tx_history.specs.Keys.{same_place}
 use Rattle.tx_history.specs.Journal.{advices}
 use Rattle.tx_engine.specs.declared.error.EngineError.{EngineError}

@@ -44,21 +44,7 @@ pub struct Engine {
 // Written out, so that no caller proves again how its parts are dropped.
 impl Drop for Engine {
     fn drop(self) {
-        let Engine {
-            code: _,
-            first: _,
-            first_queue: _,
-            first_breaks: _,
-            lists: _,
-            mark: _,
-            slots: _,
-            shelf: _,
-            advices: _,
-            breaks: _,
-            next_id: _,
-            restored: _,
-            recovering: _,
-        } = self;
+        let _code = self.into_code();
     }
 }
 

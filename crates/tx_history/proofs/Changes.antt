@@ -1,6 +1,7 @@
 -- Each entry's change leads from the journal before it to the journal after it.
 -- for: laws::changes_lead_on
-use Rattle.std.proofs.Common.{◌≡◌, ℕ, ◌+◌, ◌-◌, ◌<◌, ◌≤◌, Bool, true, false, List, [], ◌∷◌, ◌++◌, length, Option, Some, None, refl, sym, ◌∙◌, ap, subst, arith, suc, map, append-nil}
+use Rattle.std.proofs.Common.{◌≡◌, ℕ, ◌+◌, ◌-◌, ◌<◌, ◌≤◌, Bool, true, false, List, [], ◌∷◌, ◌++◌, length, Option, Some, None, refl, sym, ◌∙◌, ap, subst, arith}
+use Rattle.std.proofs.Common.{suc, map, append-nil}
 use Rattle.std.specs.Prelude.{if◌then◌else◌, slice_get, ◌==◌, nat_lt}
 use Rattle.std.proofs.lemmas.Bool.Decides.{nat_tests}
 use Rattle.flow_model.specs.declared.flow.Flow.{Flow}
@@ -13,7 +14,8 @@ use Rattle.tx_history.specs.declared.event.Event.TheVariants.{Offered, Taken, An
 use Rattle.tx_history.specs.declared.journal.Waiting.{Waiting}
 use Rattle.tx_history.specs.declared.journal.Row.{Row}
 use Rattle.tx_history.specs.Keys.{Rising, look, gather, put_at}
-use Rattle.tx_history.specs.History.{Start, reopened_at, begun, first, state_with, next_id, ids, own_items, is_fresh, arrivals, shelved, shelved_in, shelved_at, shelf_of, state_of}
+use Rattle.tx_history.specs.History.{Start, reopened_at, begun, first, state_with, next_id, ids, own_items, is_fresh, arrivals, shelved, shelved_in, shelved_at}
+use Rattle.tx_history.specs.History.{shelf_of, state_of}
 use Rattle.tx_history.specs.Journal.{written, IsLawful, row, row_at, old_row, journal, applied, Leads, change, no_change}
 use Rattle.tx_history.specs.Views.{IsOrdered}
 use Rattle.tx_history.proofs.RisingKeys.{gather_same, gather_none, gather_look, put_end, put_gather, get_append, look_within}
@@ -52,7 +54,8 @@ journal_first f v o =
     refl
 
 -- what arrives later changes no transaction's place
-first_if : (f : Flow) (v : Start) (past : List Event) (more : List Waiting) (j : ℕ) → IsOrdered v.view → IsLawful f v past → j < 1 + ids v past → (b : Bool) → nat_lt j v.view.next_id ≡ b
+first_if : (f : Flow) (v : Start) (past : List Event) (more : List Waiting) (j : ℕ) → IsOrdered v.view → IsLawful f v past → j < 1 + ids v past →
+    (b : Bool) → nat_lt j v.view.next_id ≡ b
     → (if b then reopened_at f (look j v.view.rows) else begun f (slice_get (arrivals f v past ++ more) (j - v.view.next_id)))
     ≡ (if b then reopened_at f (look j v.view.rows) else begun f (slice_get (arrivals f v past) (j - v.view.next_id)))
 first_if f v past more j o law hi true lt = refl
@@ -70,7 +73,8 @@ leads_offered f v past c o law =
     let more : List Waiting = record { tries = f.retries; context = c } ∷ [] in
     same_journal (applied no_change (journal f v past)) (journal f v (Offered c ∷ past)) refl
     (gather_same (row_at f v past) (row_at f v (Offered c ∷ past)) 1 (ids v past) (λ j a b. sym (rw (first_more f v past more j o law.2 b) refl)))
-    (gather_same (shelved_at f v (arrivals f v past) past) (shelved_at f v (arrivals f v past ++ more) (Offered c ∷ past)) 1 (ids v past) (λ j a b. sym (rw (first_more f v past more j o law.2 b) refl)))
+    (gather_same (shelved_at f v (arrivals f v past) past) (shelved_at f v (arrivals f v past ++ more) (Offered c ∷ past)) 1 (ids v past)
+    (λ j a b. sym (rw (first_more f v past more j o law.2 b) refl)))
     refl
 
 released_none : (b : Bool) (d : Due) (st : TxState) → (if b then None else shelved_in d false st) ≡ None
@@ -83,10 +87,12 @@ leads_released f v past o law =
     same_journal (applied (change f v (Released ∷ past)) (journal f v past)) (journal f v (Released ∷ past)) refl
     (gather_same (row_at f v past) (row_at f v (Released ∷ past)) 1 (ids v past) (λ j a b. sym (rw (first_more f v past more j o law.2 b) refl)))
     (sym (gather_none (shelved_at f v (arrivals f v past ++ more) (Released ∷ past)) 1 (ids v past)
-    (λ j a b. released_none (nat_lt j v.view.next_id) (due_of f (state_with f v (arrivals f v past ++ more) (Released ∷ past) j)) (state_with f v (arrivals f v past ++ more) (Released ∷ past) j))))
+    (λ j a b. released_none (nat_lt j v.view.next_id) (due_of f (state_with f v (arrivals f v past ++ more) (Released ∷ past) j))
+    (state_with f v (arrivals f v past ++ more) (Released ∷ past) j))))
     refl
 
-row_new : (f : Flow) (v : Start) (past : List Event) (s : ℕ) → IsOrdered v.view → row f (state_of f v (Taken s ∷ past) (next_id v past)) ≡ row_at f v (Taken s ∷ past) (next_id v past)
+row_new : (f : Flow) (v : Start) (past : List Event) (s : ℕ) → IsOrdered v.view → row f (state_of f v (Taken s ∷ past) (next_id v past))
+    ≡ row_at f v (Taken s ∷ past) (next_id v past)
 row_new f v past s o = let no : nat_lt (next_id v past) v.view.next_id ≡ false = grind (arith, nat_tests) in rw no refl
 
 shelf_new : (f : Flow) (v : Start) (past : List Event) (s : ℕ) → IsOrdered v.view → shelved_at f v (arrivals f v past) (Taken s ∷ past) (next_id v past) ≡ None

@@ -16,7 +16,17 @@ plain = record { selector = false; abort_aware = false; recovers = false }
 
 flow : Flow
 unfolding plain
-flow = record { retries = 0; groups = record { name = codes "main"; entries = record { participant = codes "check"; kind = plain } ∷ record { participant = codes "send"; kind = plain } ∷ [] } ∷ [] }
+flow = record {
+  retries = 0;
+  groups = record {
+    name = codes "main";
+    entries = record { participant = codes "check"; kind = plain } ∷ record {
+      participant =
+          codes "send";
+      kind = plain;
+    } ∷ [];
+  } ∷ [];
+}
 
 start : Start
 start = record { view = record { next_id = 1; rows = []; shelf = []; advices = [] }; queue = []; breaks = [] }
@@ -25,7 +35,14 @@ past : List Event
 past = Answered 0 1 (0 ∷ []) ∷ Taken 0 ∷ Offered (0 ∷ []) ∷ []
 
 -- after the first answer of `main check send`: the row that a stop leaves
-left : journal flow start past ≡ record { next_id = 2; rows = (1, record { phase = Preparing; joined = codes "check" ∷ []; told = 0; doing = Some (codes "send"); tries = 0; context = 0 ∷ [] }) ∷ []; shelf = []; advices = [] }
+left : journal flow start past ≡ record {
+  next_id = 2;
+  rows =
+      (1, record { phase = Preparing; joined = codes "check" ∷ []; told = 0; doing = Some (codes "send"); tries = 0; context = 0 ∷ [] }) ∷ [];
+  shelf =
+      [];
+  advices = [];
+}
 unfolding plain flow start past
 left = refl
 
@@ -34,25 +51,50 @@ again : holds flow (stopped flow start past) [] 0 ≡ Some 1
 unfolding plain flow start past
 again = refl
 
-once : (journal flow (stopped flow start past) (Told 0 None ∷ [])).rows ≡ (1, record { phase = Undoing; joined = codes "check" ∷ codes "send" ∷ []; told = 1; doing = None; tries = 0; context = 0 ∷ [] }) ∷ []
+once : (journal flow (stopped flow start past) (Told 0 None ∷ [])).rows
+    ≡ (1, record { phase = Undoing; joined = codes "check" ∷ codes "send" ∷ []; told = 1; doing = None; tries = 0; context = 0 ∷ [] }) ∷ []
 unfolding plain flow start past
 once = refl
 
-twice : journal flow (stopped flow start past) (Told 0 None ∷ Told 0 (Some (7 ∷ [])) ∷ []) ≡ record { next_id = 2; rows = []; shelf = []; advices = ((1, 0), 7 ∷ []) ∷ [] }
+twice : journal flow (stopped flow start past) (Told 0 None ∷ Told 0 (Some (7 ∷ [])) ∷ []) ≡ record {
+  next_id = 2;
+  rows = [];
+  shelf = [];
+  advices =
+      ((1, 0), 7 ∷ []) ∷ [];
+}
 unfolding plain flow start past
 twice = refl
 
 -- a take before any answer of a flow with nobody doing would be closed at opening
-closed : opened flow (record { view = record { next_id = 2; rows = (1, record { phase = Preparing; joined = []; told = 0; doing = None; tries = 0; context = 0 ∷ [] }) ∷ []; shelf = []; advices = [] }; queue = []; breaks = [] }) ≡ Closed 1 ∷ []
+closed : opened flow (record {
+  view = record {
+    next_id = 2;
+    rows =
+        (1, record { phase = Preparing; joined = []; told = 0; doing = None; tries = 0; context = 0 ∷ [] }) ∷ [];
+    shelf = [];
+    advices = [];
+  };
+  queue =
+      [];
+  breaks = [];
+}) ≡ Closed 1 ∷ []
 unfolding plain flow
 closed = refl
 
--- a participant that restores contexts is asked before it is told, again after a stop
+-- a participant that restores contexts is asked before it is notified, again after a stop
 restoring : Flow
 unfolding plain
 restoring = record {
   retries = 1;
-  groups = record { name = codes "main"; entries = record { participant = codes "check"; kind = record { selector = false; abort_aware = false; recovers = true } } ∷ record { participant = codes "send"; kind = plain } ∷ [] } ∷ [];
+  groups = record {
+    name = codes "main";
+    entries = record {
+      participant = codes "check";
+      kind =
+          record { selector = false; abort_aware = false; recovers = true };
+    } ∷ record { participant = codes "send"; kind = plain } ∷ [];
+  } ∷ [];
 }
 
 asked : restores restoring (stopped restoring start past) [] 1 ≡ Some (0, false)

@@ -1,6 +1,7 @@
 -- Each entry's change leads from the journal before it to the journal after it.
 -- for: laws::changes_lead_on
-use Rattle.std.proofs.Common.{◌≡◌, ◌≢◌, ℕ, ◌+◌, ◌-◌, ◌<◌, ◌≤◌, Bool, true, false, List, [], ◌∷◌, length, Option, Some, None, refl, sym, ◌∙◌, ap, subst, arith, suc, zero}
+use Rattle.std.proofs.Common.{◌≡◌, ◌≢◌, ℕ, ◌+◌, ◌-◌, ◌<◌, ◌≤◌, Bool, true, false, List, [], ◌∷◌, length, Option, Some, None, refl, sym, ◌∙◌, ap, subst, arith}
+use Rattle.std.proofs.Common.{suc, zero}
 use Rattle.std.specs.Prelude.{if◌then◌else◌, slice_get, ◌==◌, nat_lt, ◌||◌}
 use Rattle.std.proofs.lemmas.Bool.Decides.{nat_tests}
 use Rattle.flow_model.specs.declared.flow.Flow.{Flow}
@@ -17,7 +18,8 @@ use Rattle.tx_history.specs.declared.journal.Row.{Row}
 use Rattle.tx_history.specs.declared.journal.JournalView.{JournalView}
 use Rattle.tx_history.specs.Keys.{Rising, look, gather, put_at, put_new}
 use Rattle.tx_machine.specs.Bounds.{after_newest}
-use Rattle.tx_history.specs.History.{Start, reopened, is_ended, takes, ids, is_id, serves, own_items, is_fresh, is_released, arrivals, shelved, shelved_in, shelved_at, shelf, state_of, advice_place, put_advice}
+use Rattle.tx_history.specs.History.{Start, reopened, is_ended, takes, ids, is_id, serves, own_items, is_fresh, is_released, arrivals, shelved, shelved_in}
+use Rattle.tx_history.specs.History.{shelved_at, shelf, state_of, advice_place, put_advice}
 use Rattle.tx_history.specs.Journal.{IsLawful, to_close, row, row_at, is_closed, journal, applied, Leads, touched, shelved_change}
 use Rattle.tx_history.specs.Views.{IsOrdered}
 use Rattle.tx_history.proofs.RisingKeys.{put_gather, put_none, look_within}
@@ -39,7 +41,8 @@ pub record Gave (f : Flow) (v : Start) (past : List Event) (e : Event) (id : ℕ
 fresh_same : (o : Option ℕ) (id : ℕ) (b : Bool) → o ≡ Some id → (is_id o id || b) ≡ true
 fresh_same o id b e = rw (is_yes o id e) refl
 
-pub gave_answered : (f : Flow) (v : Start) (past : List Event) (s b : ℕ) (c : List ℕ) (id : ℕ) → serves f v past s ≡ Some id → Gave f v past (Answered s b c) id (Answer b c)
+pub gave_answered : (f : Flow) (v : Start) (past : List Event) (s b : ℕ) (c : List ℕ) (id : ℕ) → serves f v past s ≡ Some id →
+    Gave f v past (Answered s b c) id (Answer b c)
 gave_answered f v past s b c id h = record {
   arrived = refl;
   took = refl;
@@ -51,7 +54,8 @@ gave_answered f v past s b c id h = record {
   stale = λ j d. rw (is_other (serves f v past s) id j h d) refl;
 }
 
-pub gave_chose : (f : Flow) (v : Start) (past : List Event) (s : ℕ) (t : List ℕ) (id : ℕ) → serves f v past s ≡ Some id → Gave f v past (Chose s t) id (Choice t)
+pub gave_chose : (f : Flow) (v : Start) (past : List Event) (s : ℕ) (t : List ℕ) (id : ℕ) → serves f v past s ≡ Some id →
+    Gave f v past (Chose s t) id (Choice t)
 gave_chose f v past s t id h = record {
   arrived = refl;
   took = refl;
@@ -63,7 +67,8 @@ gave_chose f v past s t id h = record {
   stale = λ j d. rw (is_other (serves f v past s) id j h d) refl;
 }
 
-pub gave_told : (f : Flow) (v : Start) (past : List Event) (s : ℕ) (a : Option (List ℕ)) (id : ℕ) → serves f v past s ≡ Some id → Gave f v past (Told s a) id (ToldOne a)
+pub gave_told : (f : Flow) (v : Start) (past : List Event) (s : ℕ) (a : Option (List ℕ)) (id : ℕ) → serves f v past s ≡ Some id →
+    Gave f v past (Told s a) id (ToldOne a)
 gave_told f v past s a id h = record {
   arrived = refl;
   took = refl;
@@ -76,10 +81,12 @@ gave_told f v past s a id h = record {
 }
 
 -- the others stand where they stood
-pub state_other : (f : Flow) (v : Start) (past : List Event) (e : Event) (id : ℕ) (x : Item) (j : ℕ) → Gave f v past e id x → j ≢ id → state_of f v (e ∷ past) j ≡ state_of f v past j
+pub state_other : (f : Flow) (v : Start) (past : List Event) (e : Event) (id : ℕ) (x : Item) (j : ℕ) → Gave f v past e id x → j ≢ id →
+    state_of f v (e ∷ past) j ≡ state_of f v past j
 state_other f v past e id x j g d = rw (g.arrived, g.others j d) refl
 
-row_other : (f : Flow) (v : Start) (past : List Event) (e : Event) (id : ℕ) (x : Item) (j : ℕ) → Gave f v past e id x → j ≢ id → row_at f v (e ∷ past) j ≡ row_at f v past j
+row_other : (f : Flow) (v : Start) (past : List Event) (e : Event) (id : ℕ) (x : Item) (j : ℕ) → Gave f v past e id x → j ≢ id →
+    row_at f v (e ∷ past) j ≡ row_at f v past j
 row_other f v past e id x j g d = rw (g.arrived, g.closed j, g.others j d) refl
 
 -- a closing entry is of a transaction with nobody to notify
@@ -97,7 +104,8 @@ look_other x xs m id y rise h =
 close_later : (f : Flow) (r : ℕ × Row) (rows : List (ℕ × Row)) (m id : ℕ) → Rising (r.0 + 1) m rows → Closing f rows id → Closing f (r ∷ rows) id
 close_later f r rows m id rise w = record { row = w.row; there = look_other r rows m id w.row rise w.there; over = w.over }
 
-close_if : (f : Flow) (r : ℕ × Row) (rows : List (ℕ × Row)) (m k id : ℕ) → Rising (r.0 + 1) m rows → ((i : ℕ) → slice_get (to_close f rows) i ≡ Some id → Closing f rows id)
+close_if : (f : Flow) (r : ℕ × Row) (rows : List (ℕ × Row)) (m k id : ℕ) → Rising (r.0 + 1) m rows →
+    ((i : ℕ) → slice_get (to_close f rows) i ≡ Some id → Closing f rows id)
     → (b : Bool) → is_ended f (reopened f r.1) ≡ b → slice_get (if b then r.0 ∷ to_close f rows else to_close f rows) k ≡ Some id → Closing f (r ∷ rows) id
 close_if f r rows m zero id rise ih true e h =
     let same : r.0 ≡ id = grind (arith) in
@@ -111,7 +119,8 @@ closing f [] n m k id rise h = absurd (cc)
 closing f (r ∷ rows) n m k id rise h = close_if f r rows m k id rise.2 (λ i. closing f rows (r.0 + 1) m i id rise.2) (is_ended f (reopened f r.1)) refl h
 
 -- a closed transaction had nobody to notify
-closed_if : (f : Flow) (v : Start) (past : List Event) (k id : ℕ) → IsOrdered v.view → slice_get (to_close f v.view.rows) (length past) ≡ Some k → (is_closed past id ≡ true → Closing f v.view.rows id)
+closed_if : (f : Flow) (v : Start) (past : List Event) (k id : ℕ) → IsOrdered v.view → slice_get (to_close f v.view.rows) (length past) ≡ Some k →
+    (is_closed past id ≡ true → Closing f v.view.rows id)
     → (b : Bool) → (k == id) ≡ b → (b || is_closed past id) ≡ true → Closing f v.view.rows id
 closed_if f v past k id o at ih true e h =
     let same : k ≡ id = grind (arith, nat_tests) in
@@ -134,16 +143,19 @@ closed_over f v (LetGo t ∷ past) id o law h = closed_over f v past id o law.2 
 closed_over f v (Closed k ∷ past) id o law h = closed_if f v past k id o law.0 (closed_over f v past id o law.2) (k == id) refl h
 
 -- a journalled transaction that is served was not closed
-unclosed_if : (f : Flow) (v : Start) (past : List Event) (id : ℕ) → IsOrdered v.view → IsLawful f v past → Found f v.view.rows (own_items f v past) id → (b : Bool) → is_closed past id ≡ b → b ≡ false
+unclosed_if : (f : Flow) (v : Start) (past : List Event) (id : ℕ) → IsOrdered v.view → IsLawful f v past → Found f v.view.rows (own_items f v past) id →
+    (b : Bool) → is_closed past id ≡ b → b ≡ false
 unclosed_if f v past id o law w false e = refl
 unclosed_if f v past id o law w true e =
     let c = closed_over f v past id o law e in
     let same : c.row ≡ w.row = let a = c.there in let b = w.there in grind (arith) in
-    let over : is_ended f (after_newest f (reopened f w.row) (own_items f v past id)) ≡ true = ended_stays f w.row (own_items f v past id) (subst (λ (r : Row). is_ended f (reopened f r) ≡ true) same c.over) in
+    let over : is_ended f (after_newest f (reopened f w.row) (own_items f v past id)) ≡ true =
+    ended_stays f w.row (own_items f v past id) (subst (λ (r : Row). is_ended f (reopened f r) ≡ true) same c.over) in
     absurd (let u = w.unfinished in cc)
 
 -- the row of the one that the item was given for
-row_given_if : (f : Flow) (v : Start) (past : List Event) (e : Event) (id s : ℕ) (x : Item) → IsOrdered v.view → IsLawful f v past → Gave f v past e id x → serves f v past s ≡ Some id
+row_given_if : (f : Flow) (v : Start) (past : List Event) (e : Event) (id s : ℕ) (x : Item) → IsOrdered v.view → IsLawful f v past → Gave f v past e id x →
+    serves f v past s ≡ Some id
     → (b : Bool) → nat_lt id v.view.next_id ≡ b → row_at f v (e ∷ past) id ≡ row f (state_of f v (e ∷ past) id)
 row_given_if f v past e id s x o law g h false lt = rw lt refl
 row_given_if f v past e id s x o law g h true lt =
@@ -152,11 +164,13 @@ row_given_if f v past e id s x o law g h true lt =
     let unclosed : is_closed (e ∷ past) id ≡ false = g.closed id ∙ unclosed_if f v past id o law w (is_closed past id) refl in
     rw (lt, unclosed, w.there, g.given) refl
 
-row_given : (f : Flow) (v : Start) (past : List Event) (e : Event) (id s : ℕ) (x : Item) → IsOrdered v.view → IsLawful f v past → Gave f v past e id x → serves f v past s ≡ Some id
+row_given : (f : Flow) (v : Start) (past : List Event) (e : Event) (id s : ℕ) (x : Item) → IsOrdered v.view → IsLawful f v past → Gave f v past e id x →
+    serves f v past s ≡ Some id
     → row_at f v (e ∷ past) id ≡ row f (state_of f v (e ∷ past) id)
 row_given f v past e id s x o law g h = row_given_if f v past e id s x o law g h (nat_lt id v.view.next_id) refl
 
-pub rows_gave : (f : Flow) (v : Start) (past : List Event) (e : Event) (id s : ℕ) (x : Item) → IsOrdered v.view → IsLawful f v past → Gave f v past e id x → serves f v past s ≡ Some id
+pub rows_gave : (f : Flow) (v : Start) (past : List Event) (e : Event) (id s : ℕ) (x : Item) → IsOrdered v.view → IsLawful f v past → Gave f v past e id x →
+    serves f v past s ≡ Some id
     → put_at id (row f (state_of f v (e ∷ past) id)) (journal f v past).rows ≡ (journal f v (e ∷ past)).rows
 rows_gave f v past e id s x o law g h =
     let within = serves_below f v past s id o h in
@@ -205,12 +219,15 @@ pub record Unshelved (f : Flow) (v : Start) (past : List Event) (e : Event) (id 
   pub before : shelved_at f v (arrivals f v past) past id ≡ None
   pub after : shelved f (state_of f v (e ∷ past) id) true ≡ shelved_at f v (arrivals f v (e ∷ past)) (e ∷ past) id
 
-pub unshelved_if : (f : Flow) (v : Start) (past : List Event) (e : Event) (id s : ℕ) (x : Item) → IsOrdered v.view → Gave f v past e id x → serves f v past s ≡ Some id → is_ended f (state_of f v past id) ≡ false
+pub unshelved_if : (f : Flow) (v : Start) (past : List Event) (e : Event) (id s : ℕ) (x : Item) → IsOrdered v.view → Gave f v past e id x →
+    serves f v past s ≡ Some id → is_ended f (state_of f v past id) ≡ false
     → (b : Bool) → nat_lt id v.view.next_id ≡ b → Unshelved f v past e id
 unshelved_if f v past e id s x o g h u false lt =
-    let no : shelved f (state_of f v past id) (is_fresh f v past id) ≡ None = not_shelved_in (due_of f (state_of f v past id)) (is_fresh f v past id) (state_of f v past id) (not_over f (state_of f v past id) u) in
+    let no : shelved f (state_of f v past id) (is_fresh f v past id) ≡ None = not_shelved_in (due_of f (state_of f v past id)) (is_fresh f v past id)
+    (state_of f v past id) (not_over f (state_of f v past id) u) in
     record {
-      before = else_none (nat_lt id v.view.next_id) (if is_released past then None else look id v.view.shelf) (shelved f (state_of f v past id) (is_fresh f v past id)) lt no;
+      before = else_none (nat_lt id v.view.next_id) (if is_released past then None else look id v.view.shelf)
+          (shelved f (state_of f v past id) (is_fresh f v past id)) lt no;
       after = rw (lt, g.fresh) refl;
     }
 unshelved_if f v past e id s x o g h u true lt =
@@ -219,7 +236,8 @@ unshelved_if f v past e id s x o g h u true lt =
     let none : look id v.view.shelf ≡ None = look_none id v.view.shelf (look id v.view.shelf) refl (λ y i. o.apart id w.row y w.there i) in
     let out = old_outcome f w.row (own_items f v (e ∷ past) id) in
     let never : shelved f (after_newest f (reopened f w.row) (own_items f v (e ∷ past) id)) true ≡ None =
-    not_shelved_in (due_of f (after_newest f (reopened f w.row) (own_items f v (e ∷ past) id))) true (after_newest f (reopened f w.row) (own_items f v (e ∷ past) id)) out.unshelved in
+    not_shelved_in (due_of f (after_newest f (reopened f w.row) (own_items f v (e ∷ past) id))) true
+    (after_newest f (reopened f w.row) (own_items f v (e ∷ past) id)) out.unshelved in
     record {
       before = rw lt (none_for (is_released past) (look id v.view.shelf) none);
       after = rw (lt, w.there) (never ∙ sym (none_for (is_released (e ∷ past)) (look id v.view.shelf) none));
@@ -229,12 +247,15 @@ shelved_other : (f : Flow) (v : Start) (past : List Event) (e : Event) (id : ℕ
     → shelved_at f v (arrivals f v (e ∷ past)) (e ∷ past) j ≡ shelved_at f v (arrivals f v past) past j
 shelved_other f v past e id x j g d = rw (g.arrived, g.others j d, g.stale j d, g.kept) refl
 
-put_new_gather : (h g : ℕ → Option Waiting) (n k id : ℕ) (o : Option Waiting) → n ≤ id → id < n + k → h id ≡ None → o ≡ g id → ((j : ℕ) → n ≤ j → j < n + k → j ≢ id → h j ≡ g j)
+put_new_gather : (h g : ℕ → Option Waiting) (n k id : ℕ) (o : Option Waiting) → n ≤ id → id < n + k → h id ≡ None → o ≡ g id →
+    ((j : ℕ) → n ≤ j → j < n + k → j ≢ id → h j ≡ g j)
     → put_new (shelved_change id o) (gather h n k) ≡ gather g n k
 put_new_gather h g n k id None le lt none is same = put_none h g n k id le lt none same None is refl
-put_new_gather h g n k id (Some w) le lt none is same = subst (λ (o : Option Waiting). put_at id o (gather h n k) ≡ gather g n k) (sym is) (put_gather h g n k id le lt same)
+put_new_gather h g n k id (Some w) le lt none is same = subst (λ (o : Option Waiting). put_at id o (gather h n k) ≡ gather g n k) (sym is)
+    (put_gather h g n k id le lt same)
 
-pub shelf_gave : (f : Flow) (v : Start) (past : List Event) (e : Event) (id s : ℕ) (x : Item) → IsOrdered v.view → Gave f v past e id x → serves f v past s ≡ Some id → is_ended f (state_of f v past id) ≡ false
+pub shelf_gave : (f : Flow) (v : Start) (past : List Event) (e : Event) (id s : ℕ) (x : Item) → IsOrdered v.view → Gave f v past e id x →
+    serves f v past s ≡ Some id → is_ended f (state_of f v past id) ≡ false
     → put_new (shelved_change id (shelved f (state_of f v (e ∷ past) id) true)) (shelf f v past) ≡ shelf f v (e ∷ past)
 shelf_gave f v past e id s x o g h u =
     let within = serves_below f v past s id o h in
@@ -242,15 +263,23 @@ shelf_gave f v past e id s x o g h u =
     let hi : id < 1 + ids v past = let a = within.1 in omega arith in
     let same_ids : ids v (e ∷ past) ≡ ids v past = ap (λ (n : ℕ). v.view.next_id + n - 1) g.took in
     let w = unshelved_if f v past e id s x o g h u (nat_lt id v.view.next_id) refl in
-    put_new_gather (shelved_at f v (arrivals f v past) past) (shelved_at f v (arrivals f v (e ∷ past)) (e ∷ past)) 1 (ids v past) id (shelved f (state_of f v (e ∷ past) id) true) lo hi w.before w.after
+    put_new_gather (shelved_at f v (arrivals f v past) past) (shelved_at f v (arrivals f v (e ∷ past)) (e ∷ past)) 1 (ids v past) id
+    (shelved f (state_of f v (e ∷ past) id) true) lo hi w.before w.after
     (λ j a b d. sym (shelved_other f v past e id x j g d))
     ∙ ap (λ (k : ℕ). gather (shelved_at f v (arrivals f v (e ∷ past)) (e ∷ past)) 1 k) (sym same_ids)
 
 pub same_journal : (a b : JournalView) → a.next_id ≡ b.next_id → a.rows ≡ b.rows → a.shelf ≡ b.shelf → a.advices ≡ b.advices → a ≡ b
 same_journal a b n r s d =
-    let e : record { next_id = a.next_id; rows = a.rows; shelf = a.shelf; advices = a.advices } ≡ record { next_id = b.next_id; rows = b.rows; shelf = b.shelf; advices = b.advices } = rw (n, r, s, d) refl in e
+    let e : record { next_id = a.next_id; rows = a.rows; shelf = a.shelf; advices = a.advices } ≡ record {
+      next_id = b.next_id;
+      rows = b.rows;
+      shelf =
+          b.shelf;
+      advices = b.advices;
+    } = rw (n, r, s, d) refl in e
 
-pub leads_answered : (f : Flow) (v : Start) (past : List Event) (s b : ℕ) (c : List ℕ) → IsOrdered v.view → IsLawful f v (Answered s b c ∷ past) → Leads f v past (Answered s b c)
+pub leads_answered : (f : Flow) (v : Start) (past : List Event) (s b : ℕ) (c : List ℕ) → IsOrdered v.view → IsLawful f v (Answered s b c ∷ past) →
+    Leads f v past (Answered s b c)
 leads_answered f v past s b c o law =
     let id : ℕ = law.0.0 in
     let session_state = holds_serves f v past s id law.0.1 in
@@ -261,7 +290,8 @@ leads_answered f v past s b c o law =
     (shelf_gave f v past (Answered s b c) id s (Answer b c) o g session_state.0 session_state.1)
     refl
 
-pub leads_chose : (f : Flow) (v : Start) (past : List Event) (s : ℕ) (t : List ℕ) → IsOrdered v.view → IsLawful f v (Chose s t ∷ past) → Leads f v past (Chose s t)
+pub leads_chose : (f : Flow) (v : Start) (past : List Event) (s : ℕ) (t : List ℕ) → IsOrdered v.view → IsLawful f v (Chose s t ∷ past) →
+    Leads f v past (Chose s t)
 leads_chose f v past s t o law =
     let id : ℕ = law.0.0 in
     let session_state = holds_serves f v past s id law.0.1 in
@@ -272,13 +302,15 @@ leads_chose f v past s t o law =
     (shelf_gave f v past (Chose s t) id s (Choice t) o g session_state.0 session_state.1)
     refl
 
-pub leads_told : (f : Flow) (v : Start) (past : List Event) (s : ℕ) (a : Option (List ℕ)) → IsOrdered v.view → IsLawful f v (Told s a ∷ past) → Leads f v past (Told s a)
+pub leads_told : (f : Flow) (v : Start) (past : List Event) (s : ℕ) (a : Option (List ℕ)) → IsOrdered v.view → IsLawful f v (Told s a ∷ past) →
+    Leads f v past (Told s a)
 leads_told f v past s a o law =
     let id : ℕ = law.0.0 in
     let session_state = holds_serves f v past s id law.0.1 in
     let g = gave_told f v past s a id session_state.0 in
     ap (λ (o : Option ℕ). applied (touched f v (Told s a ∷ past) (put_advice (advice_place f v past s) a) o) (journal f v past)) session_state.0
-    ∙ same_journal (applied (touched f v (Told s a ∷ past) (put_advice (advice_place f v past s) a) (Some id)) (journal f v past)) (journal f v (Told s a ∷ past)) refl
+    ∙ same_journal (applied (touched f v (Told s a ∷ past) (put_advice (advice_place f v past s) a) (Some id)) (journal f v past))
+    (journal f v (Told s a ∷ past)) refl
     (rows_gave f v past (Told s a) id s (ToldOne a) o law.2 g session_state.0)
     (shelf_gave f v past (Told s a) id s (ToldOne a) o g session_state.0 session_state.1)
     refl

@@ -30,7 +30,8 @@ module _ {K : Type 0} (cmp : K → K → Ordering) (lt : K → K → Bool) (o : 
 
 module _ {K A : Type 0} (cmp : K → K → Ordering) (lt : K → K → Bool) (o : Orders cmp lt) where
   -- nothing after a key that is not below k is below k
-  none_low : (k x : K) (xs : List (K × A)) → (cmp k x ≡ Less) ⊎ (k ≡ x) → AllByRecursion (λ y. cmp x y ≡ Less) (keys_of xs) → filter (λ (p : K × A). lt p.0 k) xs ≡ []
+  none_low : (k x : K) (xs : List (K × A)) → (cmp k x ≡ Less) ⊎ (k ≡ x) → AllByRecursion (λ y. cmp x y ≡ Less) (keys_of xs) →
+      filter (λ (p : K × A). lt p.0 k) xs ≡ []
   none_low k x [] h all = refl
   none_low k x (y ∷ xs) h all =
       let up : cmp k y.0 ≡ Less = elim h [ inl l ↦ o.total.trans k x y.0 l all.0 | inr e ↦ subst (λ (z : K). cmp z y.0 ≡ Less) (sym e) all.0 ] in
@@ -38,14 +39,16 @@ module _ {K A : Type 0} (cmp : K → K → Ordering) (lt : K → K → Bool) (o 
       rw no (none_low k x xs h all.1)
 
   -- and all after it is above k
-  all_high : (k x : K) (xs : List (K × A)) → (cmp k x ≡ Less) ⊎ (k ≡ x) → AllByRecursion (λ y. cmp x y ≡ Less) (keys_of xs) → filter (λ (p : K × A). lt k p.0) xs ≡ xs
+  all_high : (k x : K) (xs : List (K × A)) → (cmp k x ≡ Less) ⊎ (k ≡ x) → AllByRecursion (λ y. cmp x y ≡ Less) (keys_of xs) →
+      filter (λ (p : K × A). lt k p.0) xs ≡ xs
   all_high k x [] h all = refl
   all_high k x (y ∷ xs) h all =
       let up : cmp k y.0 ≡ Less = elim h [ inl l ↦ o.total.trans k x y.0 l all.0 | inr e ↦ subst (λ (z : K). cmp z y.0 ≡ Less) (sym e) all.0 ] in
       let yes : lt k y.0 ≡ true = o.less k y.0 ∙ ap is_lt up in
       rw yes (ap (λ (l : List (K × A)). y ∷ l) (all_high k x xs h all.1))
 
-  insert_at : (x : K × A) (xs : List (K × A)) (k : K) (v : A) → IsStrictlySortedBy cmp (keys_of (x ∷ xs)) → insert_entry cmp xs k v ≡ put_by lt k (Some v) xs → (r : Ordering) → cmp k x.0 ≡ r
+  insert_at : (x : K × A) (xs : List (K × A)) (k : K) (v : A) → IsStrictlySortedBy cmp (keys_of (x ∷ xs)) →
+      insert_entry cmp xs k v ≡ put_by lt k (Some v) xs → (r : Ordering) → cmp k x.0 ≡ r
       → insert_entry cmp (x ∷ xs) k v ≡ put_by lt k (Some v) (x ∷ xs)
   insert_at x xs k v sorted ih Less e =
       let above = sorted_head cmp x.0 (keys_of xs) sorted in
@@ -68,7 +71,8 @@ module _ {K A : Type 0} (cmp : K → K → Ordering) (lt : K → K → Bool) (o 
   insert_put_by [] k v sorted = refl
   insert_put_by (x ∷ xs) k v sorted = insert_at x xs k v sorted (insert_put_by xs k v (sorted_tail cmp x.0 (keys_of xs) sorted)) (cmp k x.0) refl
 
-  remove_at : (x : K × A) (xs : List (K × A)) (k : K) → IsStrictlySortedBy cmp (keys_of (x ∷ xs)) → remove_entry (is_at (cmp k)) xs ≡ put_by lt k None xs → (r : Ordering) → cmp k x.0 ≡ r
+  remove_at : (x : K × A) (xs : List (K × A)) (k : K) → IsStrictlySortedBy cmp (keys_of (x ∷ xs)) → remove_entry (is_at (cmp k)) xs ≡ put_by lt k None xs →
+      (r : Ordering) → cmp k x.0 ≡ r
       → remove_entry (is_at (cmp k)) (x ∷ xs) ≡ put_by lt k None (x ∷ xs)
   remove_at x xs k sorted ih Less e =
       let above = sorted_head cmp x.0 (keys_of xs) sorted in
@@ -116,7 +120,8 @@ place_exact a b h = by (nat_cmp a.0 b.0) refl h
   where
     by : (r : Ordering) → nat_cmp a.0 b.0 ≡ r → ordering_then r (nat_cmp a.1 b.1) ≡ Equal → a ≡ b
     by Less e h = absurd (cc)
-    by Equal e h = let p : a.0 ≡ b.0 = exact_unsigned a.0 b.0 e in let q : a.1 ≡ b.1 = exact_unsigned a.1 b.1 h in ap (λ (x : ℕ). (x, a.1)) p ∙ ap (λ (y : ℕ). (b.0, y)) q
+    by Equal e h = let p : a.0 ≡ b.0 = exact_unsigned a.0 b.0 e in let q : a.1 ≡ b.1 = exact_unsigned a.1 b.1 h in
+        ap (λ (x : ℕ). (x, a.1)) p ∙ ap (λ (y : ℕ). (b.0, y)) q
     by Greater e h = absurd (cc)
 
 place_less : (a b : ℕ × ℕ) → place_lt a b ≡ is_lt (place_cmp a b)
@@ -128,4 +133,9 @@ place_less a b = ap (λ (x : Bool). nat_lt a.0 b.0 || ((a.0 == b.0) && x)) (nat_
     by false false r = refl
 
 pub places_order : Orders place_cmp place_lt
-places_order = record { total = then_total (on_total (λ (a : ℕ × ℕ). a.0) nat_cmp_total) (on_total (λ (a : ℕ × ℕ). a.1) nat_cmp_total); exact = place_exact; less = place_less }
+places_order = record {
+  total = then_total (on_total (λ (a : ℕ × ℕ). a.0) nat_cmp_total) (on_total (λ (a : ℕ × ℕ). a.1) nat_cmp_total);
+  exact =
+      place_exact;
+  less = place_less;
+}

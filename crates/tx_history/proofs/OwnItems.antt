@@ -1,6 +1,7 @@
 -- Whose an item is: what a session serves, and what its own items are.
 -- for: laws::items_are_of_their_holders
-use Rattle.std.proofs.Common.{◌≡◌, ◌≢◌, ℕ, ◌+◌, ◌<◌, ◌≤◌, Bool, true, false, ◌⊎◌, inl, inr, List, [], ◌∷◌, length, Option, Some, None, refl, sym, ◌∙◌, subst, arith, length-append}
+use Rattle.std.proofs.Common.{◌≡◌, ◌≢◌, ℕ, ◌+◌, ◌<◌, ◌≤◌, Bool, true, false, ◌⊎◌, inl, inr, List, [], ◌∷◌, length, Option, Some, None, refl, sym, ◌∙◌, subst}
+use Rattle.std.proofs.Common.{arith, length-append}
 use Rattle.std.specs.Prelude.{if◌then◌else◌, ◌==◌, nat_lt, not}
 use Rattle.std.proofs.lemmas.Bool.Decides.{nat_tests}
 use Rattle.flow_model.specs.declared.flow.Flow.{Flow}
@@ -16,7 +17,8 @@ use Rattle.tx_history.specs.declared.event.Event.TheVariants.{Offered, Taken, An
 use Rattle.tx_history.specs.declared.journal.Row.{Row}
 use Rattle.tx_history.specs.Keys.{Rising, look}
 use Rattle.tx_machine.specs.Bounds.{after_newest}
-use Rattle.tx_history.specs.History.{Start, reopened, is_ended, is_over, is_committing, takes, next_id, taken, is_id, first_unfinished, or_taken, serves, own_items, recovering, is_fresh, arrivals, state_of, held_of, holds}
+use Rattle.tx_history.specs.History.{Start, reopened, is_ended, is_over, is_committing, takes, next_id, taken, is_id, first_unfinished, or_taken, serves}
+use Rattle.tx_history.specs.History.{own_items, recovering, is_fresh, arrivals, state_of, held_of, holds}
 use Rattle.tx_history.specs.Journal.{IsLawful}
 use Rattle.tx_history.specs.Views.{IsOrdered}
 use Rattle.tx_history.proofs.RisingKeys.{look_within}
@@ -56,7 +58,7 @@ old_stays f st (ToldOne a ∷ items) r t =
     let more = ih.told in
     record { phase = ih.phase; rest = ih.rest; retry = ih.retry; joined = ih.joined; saved = ih.saved; tries = ih.tries; told = omega arith }
 
--- it ends when all are told, and never on the shelf
+-- it ends when all are notified, and never on the shelf
 pub record AtOutcome (f : Flow) (s : TxState) : Type 0 where
   pub ended : is_ended f s ≡ not (nat_lt s.told (length s.joined))
   pub unshelved : due_of f s ≡ Shelve → ⊥
@@ -122,8 +124,10 @@ look_other x xs m id y rise h =
     let no : (x.0 == id) ≡ false = grind (arith, nat_tests) in
     rw no h
 
-found_if : (f : Flow) (r : ℕ × Row) (rows : List (ℕ × Row)) (items : ℕ → List Item) (n m id : ℕ) → Rising n m (r ∷ rows) → (first_unfinished f rows items ≡ Some id → Found f rows items id)
-    → (b : Bool) → is_ended f (after_newest f (reopened f r.1) (items r.0)) ≡ b → (if b then first_unfinished f rows items else Some r.0) ≡ Some id → Found f (r ∷ rows) items id
+found_if : (f : Flow) (r : ℕ × Row) (rows : List (ℕ × Row)) (items : ℕ → List Item) (n m id : ℕ) → Rising n m (r ∷ rows) →
+    (first_unfinished f rows items ≡ Some id → Found f rows items id)
+    → (b : Bool) → is_ended f (after_newest f (reopened f r.1) (items r.0)) ≡ b → (if b then first_unfinished f rows items else Some r.0) ≡ Some id →
+    Found f (r ∷ rows) items id
 found_if f r rows items n m id rise ih true e h =
     let w = ih h in
     record { row = w.row; there = look_other r rows m id w.row rise.2 w.there; unfinished = w.unfinished }
@@ -132,13 +136,15 @@ found_if f r rows items n m id rise ih false e h =
     let yes : (r.0 == r.0) ≡ true = grind (arith, nat_tests) in
     subst (λ (i : ℕ). Found f (r ∷ rows) items i) same (record { row = r.1; there = rw yes refl; unfinished = e })
 
-pub found : (f : Flow) (rows : List (ℕ × Row)) (items : ℕ → List Item) (n m id : ℕ) → Rising n m rows → first_unfinished f rows items ≡ Some id → Found f rows items id
+pub found : (f : Flow) (rows : List (ℕ × Row)) (items : ℕ → List Item) (n m id : ℕ) → Rising n m rows → first_unfinished f rows items ≡ Some id →
+    Found f rows items id
 found f [] items n m id rise h = absurd (cc)
 found f (r ∷ rows) items n m id rise h =
     found_if f r rows items n m id rise (found f rows items (r.0 + 1) m id rise.2) (is_ended f (after_newest f (reopened f r.1) (items r.0))) refl h
 
 -- only the items of journalled transactions count
-pub open_same : (f : Flow) (rows : List (ℕ × Row)) (a b : ℕ → List Item) (n m : ℕ) → Rising n m rows → ((j : ℕ) → n ≤ j → j < m → a j ≡ b j) → first_unfinished f rows a ≡ first_unfinished f rows b
+pub open_same : (f : Flow) (rows : List (ℕ × Row)) (a b : ℕ → List Item) (n m : ℕ) → Rising n m rows → ((j : ℕ) → n ≤ j → j < m → a j ≡ b j) →
+    first_unfinished f rows a ≡ first_unfinished f rows b
 open_same f [] a b n m rise same = refl
 open_same f (r ∷ rows) a b n m rise same =
     let lo = rise.0 in
@@ -151,7 +157,8 @@ pick true None t id h = inr h
 pick true (Some k) t id h = inl h
 pick false o t id h = inr h
 
-pub serves_one : (f : Flow) (v : Start) (past : List Event) (s id : ℕ) → serves f v past s ≡ Some id → (recovering f v past ≡ Some id) ⊎ (taken v past s ≡ Some id)
+pub serves_one : (f : Flow) (v : Start) (past : List Event) (s id : ℕ) → serves f v past s ≡ Some id →
+    (recovering f v past ≡ Some id) ⊎ (taken v past s ≡ Some id)
 serves_one f v past s id h = pick (s == 0) (recovering f v past) (taken v past s) id h
 
 pub is_yes : (o : Option ℕ) (id : ℕ) → o ≡ Some id → is_id o id ≡ true
@@ -207,7 +214,8 @@ serves_below f v past s id o h = elim (serves_one f v past s id h) [
 ]
 
 -- a journalled id that is served has its row there
-pub serves_old : (f : Flow) (v : Start) (past : List Event) (s id : ℕ) → IsOrdered v.view → serves f v past s ≡ Some id → id < v.view.next_id → Found f v.view.rows (own_items f v past) id
+pub serves_old : (f : Flow) (v : Start) (past : List Event) (s id : ℕ) → IsOrdered v.view → serves f v past s ≡ Some id → id < v.view.next_id →
+    Found f v.view.rows (own_items f v past) id
 serves_old f v past s id o h lt = elim (serves_one f v past s id h) [
   | inl old ↦ found f v.view.rows (own_items f v past) 1 v.view.next_id id o.rows old
   | inr new ↦ absurd (let b = taken_from v past s id new in omega arith)
@@ -218,9 +226,12 @@ pub fresh_none : (f : Flow) (v : Start) (past : List Event) (id : ℕ) → IsOrd
 fresh_none f v [] id o h = refl
 fresh_none f v (Offered x ∷ past) id o h = fresh_none f v past id o h
 fresh_none f v (Taken t ∷ past) id o h = fresh_none f v past id o (omega arith)
-fresh_none f v (Answered t b x ∷ past) id o h = rw (is_no (serves f v past t) id (λ e. let w = (serves_below f v past t id o e).1 in omega arith)) (fresh_none f v past id o h)
-fresh_none f v (Chose t x ∷ past) id o h = rw (is_no (serves f v past t) id (λ e. let w = (serves_below f v past t id o e).1 in omega arith)) (fresh_none f v past id o h)
-fresh_none f v (Told t x ∷ past) id o h = rw (is_no (serves f v past t) id (λ e. let w = (serves_below f v past t id o e).1 in omega arith)) (fresh_none f v past id o h)
+fresh_none f v (Answered t b x ∷ past) id o h = rw (is_no (serves f v past t) id (λ e. let w = (serves_below f v past t id o e).1 in omega arith))
+    (fresh_none f v past id o h)
+fresh_none f v (Chose t x ∷ past) id o h = rw (is_no (serves f v past t) id (λ e. let w = (serves_below f v past t id o e).1 in omega arith))
+    (fresh_none f v past id o h)
+fresh_none f v (Told t x ∷ past) id o h = rw (is_no (serves f v past t) id (λ e. let w = (serves_below f v past t id o e).1 in omega arith))
+    (fresh_none f v past id o h)
 fresh_none f v (Recovered t x ∷ past) id o h = fresh_none f v past id o h
 fresh_none f v (Released ∷ past) id o h = refl
 fresh_none f v (Acked k n ∷ past) id o h = fresh_none f v past id o h
@@ -230,15 +241,18 @@ fresh_none f v (LetGo t ∷ past) id o h = fresh_none f v past id o h
 fresh_none f v (Closed k ∷ past) id o h = fresh_none f v past id o h
 
 -- what is held is served and not over
-held_in : (f : Flow) (v : Start) (past : List Event) (o : Option ℕ) (id : ℕ) → held_of f v past o ≡ Some id → (o ≡ Some id) × (is_ended f (state_of f v past id) ≡ false)
+held_in : (f : Flow) (v : Start) (past : List Event) (o : Option ℕ) (id : ℕ) → held_of f v past o ≡ Some id →
+    (o ≡ Some id) × (is_ended f (state_of f v past id) ≡ false)
 held_in f v past None id h = absurd (cc)
 held_in f v past (Some k) id h = held_if (is_ended f (state_of f v past k)) refl h
   where
-    held_if : (b : Bool) → is_ended f (state_of f v past k) ≡ b → (if b then None else Some k) ≡ Some id → (Some k ≡ Some id) × (is_ended f (state_of f v past id) ≡ false)
+    held_if : (b : Bool) → is_ended f (state_of f v past k) ≡ b → (if b then None else Some k) ≡ Some id →
+        (Some k ≡ Some id) × (is_ended f (state_of f v past id) ≡ false)
     held_if true e h = absurd (cc)
     held_if false e h = let same : k ≡ id = grind (arith) in (h, subst (λ (i : ℕ). is_ended f (state_of f v past i) ≡ false) same e)
 
-pub holds_serves : (f : Flow) (v : Start) (past : List Event) (s id : ℕ) → holds f v past s ≡ Some id → (serves f v past s ≡ Some id) × (is_ended f (state_of f v past id) ≡ false)
+pub holds_serves : (f : Flow) (v : Start) (past : List Event) (s id : ℕ) → holds f v past s ≡ Some id →
+    (serves f v past s ≡ Some id) × (is_ended f (state_of f v past id) ≡ false)
 holds_serves f v past s id h = held_in f v past (serves f v past s) id h
 
 -- no more was taken than arrived

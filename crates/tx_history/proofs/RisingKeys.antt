@@ -1,6 +1,7 @@
 -- Lists under rising keys: gathering, looking up and putting.
 -- for: laws::changes_lead_on
-use Rattle.std.proofs.Common.{◌≡◌, ◌≢◌, ℕ, ◌+◌, ◌-◌, ◌<◌, ◌≤◌, Bool, true, false, List, [], ◌∷◌, ◌++◌, length, Option, Some, None, refl, sym, ◌∙◌, ap, subst, arith, suc, zero, filter, append_assoc, append-nil}
+use Rattle.std.proofs.Common.{◌≡◌, ◌≢◌, ℕ, ◌+◌, ◌-◌, ◌<◌, ◌≤◌, Bool, true, false, List, [], ◌∷◌, ◌++◌, length, Option, Some, None, refl, sym, ◌∙◌, ap, subst}
+use Rattle.std.proofs.Common.{arith, suc, zero, filter, append_assoc, append-nil}
 use Rattle.std.specs.Prelude.{if◌then◌else◌, slice_get, ◌==◌, nat_lt}
 use Rattle.std.proofs.lemmas.Bool.Decides.{nat_tests}
 use Rattle.tx_history.specs.Keys.{keyed, gather, look, put_at, Rising}
@@ -33,24 +34,46 @@ keyed_not_high id j (Some x) h = let t : nat_lt id j ≡ false = grind (arith, n
 
 pub gather_low : {A : Type 0} (h : ℕ → Option A) (n k id : ℕ) → n + k ≤ id → filter (λ p. nat_lt p.0 id) (gather h n k) ≡ gather h n k
 gather_low h n zero id le = refl
-gather_low h n (suc k) id le = rw (filter_append (λ p. nat_lt p.0 id) (gather h n k) (keyed (n + k) (h (n + k))), gather_low h n k id (omega arith), keyed_low id (n + k) (h (n + k)) (omega arith)) refl
+gather_low h n (suc k) id le = rw (
+  filter_append (λ p. nat_lt p.0 id) (gather h n k) (keyed (n + k) (h (n + k))),
+  gather_low h n k id (omega arith),
+  keyed_low id (n + k) (h (n + k)) (omega arith),
+) refl
 
 pub gather_not_high : {A : Type 0} (h : ℕ → Option A) (n k id : ℕ) → n + k ≤ id + 1 → filter (λ p. nat_lt id p.0) (gather h n k) ≡ []
 gather_not_high h n zero id le = refl
-gather_not_high h n (suc k) id le = rw (filter_append (λ p. nat_lt id p.0) (gather h n k) (keyed (n + k) (h (n + k))), gather_not_high h n k id (omega arith), keyed_not_high id (n + k) (h (n + k)) (omega arith)) refl
+gather_not_high h n (suc k) id le = rw (
+  filter_append (λ p. nat_lt id p.0) (gather h n k) (keyed (n + k) (h (n + k))),
+  gather_not_high h n k id (omega arith),
+  keyed_not_high id (n + k) (h (n + k)) (omega arith),
+) refl
 
 -- a new id, above all others
-pub put_end : {A : Type 0} (h g : ℕ → Option A) (n k : ℕ) → ((j : ℕ) → n ≤ j → j < n + k → h j ≡ g j) → put_at (n + k) (g (n + k)) (gather h n k) ≡ gather g n (suc k)
+pub put_end : {A : Type 0} (h g : ℕ → Option A) (n k : ℕ) → ((j : ℕ) → n ≤ j → j < n + k → h j ≡ g j) →
+    put_at (n + k) (g (n + k)) (gather h n k) ≡ gather g n (suc k)
 put_end h g n k same = rw (gather_low h n k (n + k) (omega arith), gather_not_high h n k (n + k) (omega arith), append-nil, gather_same h g n k same) refl
 
 put_before : {A : Type 0} (id j : ℕ) (x o : Option A) (xs : List (ℕ × A)) → id < j → put_at id x (xs ++ keyed j o) ≡ put_at id x xs ++ keyed j o
 put_before id j x o xs lt =
-    rw (filter_append (λ p. nat_lt p.0 id) xs (keyed j o), filter_append (λ p. nat_lt id p.0) xs (keyed j o), keyed_not_low id j o (omega arith), keyed_high id j o lt, append-nil)
+    rw (
+      filter_append (λ p. nat_lt p.0 id) xs (keyed j o),
+      filter_append (λ p. nat_lt id p.0) xs (keyed j o),
+      keyed_not_low id j o (omega arith),
+      keyed_high id j o lt,
+      append-nil,
+    )
     (sym (append_assoc (filter (λ p. nat_lt p.0 id) xs ++ keyed id x) (filter (λ p. nat_lt id p.0) xs) (keyed j o)))
 
 put_over : {A : Type 0} (id : ℕ) (x o : Option A) (xs : List (ℕ × A)) → put_at id x (xs ++ keyed id o) ≡ put_at id x xs
 put_over id x o xs =
-    rw (filter_append (λ p. nat_lt p.0 id) xs (keyed id o), filter_append (λ p. nat_lt id p.0) xs (keyed id o), keyed_not_low id id o (omega arith), keyed_not_high id id o (omega arith), append-nil, append-nil) refl
+    rw (
+      filter_append (λ p. nat_lt p.0 id) xs (keyed id o),
+      filter_append (λ p. nat_lt id p.0) xs (keyed id o),
+      keyed_not_low id id o (omega arith),
+      keyed_not_high id id o (omega arith),
+      append-nil,
+      append-nil,
+    ) refl
 
 -- an id that is there
 put_gather_if : {A : Type 0} (h g : ℕ → Option A) (n k id : ℕ) → n ≤ id → id < n + suc k → ((j : ℕ) → n ≤ j → j < n + suc k → j ≢ id → h j ≡ g j)
@@ -65,7 +88,8 @@ put_gather_if h g n k id le lt same ih false e =
     let P : ℕ → Type 0 = λ i. put_at i (g i) (gather h n k ++ keyed (n + k) (h (n + k))) ≡ gather g n k ++ keyed (n + k) (g (n + k)) in
     subst P here (put_over (n + k) (g (n + k)) (h (n + k)) (gather h n k) ∙ put_end h g n k (λ j a b. same j a (omega arith) (omega arith)))
 
-pub put_gather : {A : Type 0} (h g : ℕ → Option A) (n k id : ℕ) → n ≤ id → id < n + k → ((j : ℕ) → n ≤ j → j < n + k → j ≢ id → h j ≡ g j) → put_at id (g id) (gather h n k) ≡ gather g n k
+pub put_gather : {A : Type 0} (h g : ℕ → Option A) (n k id : ℕ) → n ≤ id → id < n + k → ((j : ℕ) → n ≤ j → j < n + k → j ≢ id → h j ≡ g j) →
+    put_at id (g id) (gather h n k) ≡ gather g n k
 put_gather h g n zero id le lt same = absurd (omega arith)
 put_gather h g n (suc k) id le lt same = put_gather_if h g n k id le lt same (put_gather h g n k id) (nat_lt id (n + k)) refl
 
@@ -80,7 +104,8 @@ gather_none h n (suc k) e =
     rw (gather_none h n k (λ j a b. e j a (omega arith)), last) refl
 
 -- nothing under an id: the list is as without it
-pub put_none : {A : Type 0} (h g : ℕ → Option A) (n k id : ℕ) → n ≤ id → id < n + k → h id ≡ None → ((j : ℕ) → n ≤ j → j < n + k → j ≢ id → h j ≡ g j) → (o : Option A) → o ≡ g id
+pub put_none : {A : Type 0} (h g : ℕ → Option A) (n k id : ℕ) → n ≤ id → id < n + k → h id ≡ None → ((j : ℕ) → n ≤ j → j < n + k → j ≢ id → h j ≡ g j) →
+    (o : Option A) → o ≡ g id
     → (o ≡ None → gather h n k ≡ gather g n k)
 put_none h g n k id le lt none same o is e = gather_same h g n k (λ j a b. all_same h g id j (j == id) (none ∙ (sym e ∙ is)) refl (same j a b))
 
@@ -117,7 +142,8 @@ gather_look (x ∷ xs) n k rise =
     let low : gather (λ id. look id (x ∷ xs)) n a ≡ [] = gather_none (λ id. look id (x ∷ xs)) n a
     (λ j c d. let no : (x.0 == j) ≡ false = grind (arith, nat_tests) in rw no (look_below xs (x.0 + 1) (n + k) j rise.2 (omega arith))) in
     let yes : (x.0 == x.0) ≡ true = grind (arith, nat_tests) in
-    let high : gather (λ id. look id (x ∷ xs)) (x.0 + 1) b ≡ gather (λ id. look id xs) (x.0 + 1) b = gather_same (λ id. look id (x ∷ xs)) (λ id. look id xs) (x.0 + 1) b
+    let high : gather (λ id. look id (x ∷ xs)) (x.0 + 1) b ≡ gather (λ id. look id xs) (x.0 + 1) b =
+    gather_same (λ id. look id (x ∷ xs)) (λ id. look id xs) (x.0 + 1) b
     (λ j c d. let no : (x.0 == j) ≡ false = grind (arith, nat_tests) in rw no refl) in
     let rest : gather (λ id. look id xs) (x.0 + 1) b ≡ xs = gather_look xs (x.0 + 1) b (subst (λ (m : ℕ). Rising (x.0 + 1) m xs) end rise.2) in
     let one : gather (λ id. look id (x ∷ xs)) x.0 1 ≡ x ∷ [] = let z : x.0 + 0 ≡ x.0 = omega arith in rw (z, yes) refl in

@@ -1,6 +1,7 @@
 -- The bounds of a state and of its row.
 -- for: laws::rows_are_bounded
-use Rattle.std.proofs.Common.{◌≡◌, ℕ, ◌+◌, ◌<◌, ◌≤◌, Bool, true, false, ◌⊎◌, inl, inr, List, [], ◌∷◌, ◌++◌, length, Some, None, refl, ap, subst, arith, map, length-append, suc, sym, Option, ◌∙◌}
+use Rattle.std.proofs.Common.{◌≡◌, ℕ, ◌+◌, ◌<◌, ◌≤◌, Bool, true, false, ◌⊎◌, inl, inr, List, [], ◌∷◌, ◌++◌, length, Some, None, refl, ap, subst, arith, map}
+use Rattle.std.proofs.Common.{length-append, suc, sym, Option, ◌∙◌}
 use Rattle.std.specs.Prelude.{if◌then◌else◌, ◌==◌, nat_lt, not, ◌&&◌, codes, option_map}
 use Rattle.std.specs.List.{All, flat_map}
 use Rattle.std.proofs.lemmas.Bool.Decides.{nat_tests}
@@ -15,7 +16,9 @@ use Rattle.tx_machine.specs.declared.values.Phase.TheVariants.{Preparing, Aborti
 use Rattle.tx_machine.specs.declared.values.Due.TheVariants.{Prepare as DuePrepare, PrepareForAbort, Select as DueSelect, Commit, Abort, Shelve, Done}
 use Rattle.tx_machine.specs.declared.values.Item.{Item}
 use Rattle.tx_machine.specs.declared.values.Item.TheVariants.{Answer, Choice, Told as ToldOne}
-use Rattle.tx_machine.specs.Table.{TxState, Upcoming, Prepare, Select, next, after, opening, chosen, is_open, is_due, prepares_next, selects_next, passed, settled, is_aborting, cut_at, limited, decide_at, advanced, entered, after_byte, retry_after, joined_after, saved_after, answered_at, chosen_at}
+use Rattle.tx_machine.specs.Table.{TxState, Upcoming, Prepare, Select, next, after, opening, chosen, is_open, is_due, prepares_next, selects_next, passed}
+use Rattle.tx_machine.specs.Table.{settled, is_aborting, cut_at, limited, decide_at, advanced, entered, after_byte, retry_after, joined_after, saved_after}
+use Rattle.tx_machine.specs.Table.{answered_at, chosen_at}
 use Rattle.tx_machine.specs.Lists.{is_lawful}
 use Rattle.tx_machine.specs.Due.{due_at, due_of}
 use Rattle.tx_machine.specs.declared.values.Due.{Due}
@@ -83,20 +86,76 @@ record Cut (f : Flow) (s : TxState) : Type 0 where
 cut_open : (f : Flow) (s : TxState) (ms : List Upcoming) (full : Bool) → s.rest ≡ ms → (full ≡ false → s.calls < 1000) → Open f s → Cut f (cut_at s ms full)
 cut_open f s [] full r h o = record { open_one = o; more = inl r }
 cut_open f s (m ∷ ms) false r h o = record { open_one = o; more = inr (h refl) }
-cut_open f s (m ∷ ms) true r h o = record { open_one = record { calls = o.calls; members = o.members; told = o.told; phase = refl; names = o.names; marks = All-nil (UpcomingNamed f); saved = o.saved; tries = o.tries }; more = inl refl }
+cut_open f s (m ∷ ms) true r h o = record {
+  open_one = record {
+    calls = o.calls;
+    members = o.members;
+    told = o.told;
+    phase = refl;
+    names = o.names;
+    marks =
+        All-nil (UpcomingNamed f);
+    saved = o.saved;
+    tries = o.tries;
+  };
+  more = inl refl;
+}
 
 not_full : (n : ℕ) → n ≤ 1000 → (n == 1000) ≡ false → n < 1000
 not_full n h e = grind (arith, nat_tests)
 
 decide_proper : (f : Flow) (s : TxState) (ms : List Upcoming) (ps : List ℕ) → s.rest ≡ ms → Cut f s → Proper f (decide_at s ms ps)
-decide_proper f s (m ∷ ms) ps r c = let o = c.open_one in let t = o.told in record { calls = o.calls; more = c.more; members = o.members; told = omega arith; fresh = λ h. t; names = o.names; marks = o.marks; saved = o.saved; tries = o.tries }
-decide_proper f s [] [] r c = let o = c.open_one in let t = o.told in record { calls = o.calls; more = c.more; members = o.members; told = omega arith; fresh = λ h. t; names = o.names; marks = o.marks; saved = o.saved; tries = o.tries }
-decide_proper f s [] (p ∷ ps) r c = let o = c.open_one in let t = o.told in record { calls = o.calls; more = c.more; members = o.members; told = omega arith; fresh = λ h. t; names = o.names; marks = o.marks; saved = o.saved; tries = o.tries }
+decide_proper f s (m ∷ ms) ps r c = let o = c.open_one in let t = o.told in record {
+  calls = o.calls;
+  more = c.more;
+  members = o.members;
+  told =
+      omega arith;
+  fresh = λ h. t;
+  names = o.names;
+  marks = o.marks;
+  saved = o.saved;
+  tries = o.tries;
+}
+decide_proper f s [] [] r c = let o = c.open_one in let t = o.told in record {
+  calls = o.calls;
+  more = c.more;
+  members = o.members;
+  told =
+      omega arith;
+  fresh = λ h. t;
+  names = o.names;
+  marks = o.marks;
+  saved = o.saved;
+  tries = o.tries;
+}
+decide_proper f s [] (p ∷ ps) r c = let o = c.open_one in let t = o.told in record {
+  calls = o.calls;
+  more = c.more;
+  members = o.members;
+  told =
+      omega arith;
+  fresh = λ h. t;
+  names = o.names;
+  marks = o.marks;
+  saved = o.saved;
+  tries = o.tries;
+}
 
 advance_proper : (f : Flow) (s : TxState) → Open f s → Proper f (advanced s)
 advance_proper f s o =
     let t : TxState = record s { rest = settled (is_aborting s.phase) s.rest } in
-    let ot : Open f t = record { calls = o.calls; members = o.members; told = o.told; phase = o.phase; names = o.names; marks = settled_named f (is_aborting s.phase) s.rest o.marks; saved = o.saved; tries = o.tries } in
+    let ot : Open f t = record {
+      calls = o.calls;
+      members = o.members;
+      told = o.told;
+      phase = o.phase;
+      names = o.names;
+      marks =
+          settled_named f (is_aborting s.phase) s.rest o.marks;
+      saved = o.saved;
+      tries = o.tries;
+    } in
     let c : Cut f (limited t) = cut_open f t t.rest (t.calls == 1000) refl (not_full t.calls o.calls) ot in
     decide_proper f (limited t) (limited t).rest (limited t).joined refl c
 
@@ -125,14 +184,16 @@ joined_length b p ps = by (stays_out b)
     by true = omega arith
     by false = omega (arith, length-append ps (p ∷ []))
 
-joined_named : (f : Flow) (b p : ℕ) (ps : List ℕ) → All (λ p. IsNamed (name_of f p)) ps → IsNamed (name_of f p) → All (λ p. IsNamed (name_of f p)) (joined_after b p ps)
+joined_named : (f : Flow) (b p : ℕ) (ps : List ℕ) → All (λ p. IsNamed (name_of f p)) ps → IsNamed (name_of f p) →
+    All (λ p. IsNamed (name_of f p)) (joined_after b p ps)
 joined_named f b p ps h n = by (stays_out b)
   where
     by : (out : Bool) → All (λ p. IsNamed (name_of f p)) (if out then ps else ps ++ p ∷ [])
     by true = h
     by false = All-push (λ p. IsNamed (name_of f p)) ps p h n
 
-entered_named : (f : Flow) (s : PlacedEntry) (ms : List Upcoming) → IsNamed (name_of f s.participant) → All (UpcomingNamed f) ms → All (UpcomingNamed f) (entered s ms)
+entered_named : (f : Flow) (s : PlacedEntry) (ms : List Upcoming) → IsNamed (name_of f s.participant) → All (UpcomingNamed f) ms →
+    All (UpcomingNamed f) (entered s ms)
 entered_named f s ms n h = by s.kind.selector
   where
     by : (x : Bool) → All (UpcomingNamed f) (if x then Select s ∷ ms else ms)
@@ -146,7 +207,8 @@ saved_spelled b c saved h k = by (is_readonly b)
     by true = k
     by false = h
 
-answer_proper : (f : Flow) (s : TxState) (b : ℕ) (c : List ℕ) (ms : List Upcoming) → s.rest ≡ ms → is_open s.phase ≡ true → prepares_next ms ≡ true → IsSpelled c → Proper f s → Proper f (answered_at s b c ms)
+answer_proper : (f : Flow) (s : TxState) (b : ℕ) (c : List ℕ) (ms : List Upcoming) → s.rest ≡ ms → is_open s.phase ≡ true → prepares_next ms ≡ true →
+    IsSpelled c → Proper f s → Proper f (answered_at s b c ms)
 answer_proper f s b c [] r o e i h = absurd (cc)
 answer_proper f s b c (Select x ∷ tail) r o e i h = absurd (cc)
 answer_proper f s b c (Prepare x ∷ tail) r o e i h =
@@ -155,7 +217,15 @@ answer_proper f s b c (Prepare x ∷ tail) r o e i h =
     let one : IsNamed (name_of f x.participant) = All-head (UpcomingNamed f) (Prepare x) tail all in
     let len = joined_length b x.participant s.joined in
     let few = h.members in
-    advance_proper f (record s { phase = after_byte s.phase b; rest = entered x tail; retry = retry_after s.phase b s.retry; calls = s.calls + 1; joined = joined_after b x.participant s.joined; saved = saved_after b c s.saved })
+    advance_proper f (record s {
+      phase = after_byte s.phase b;
+      rest = entered x tail;
+      retry = retry_after s.phase b s.retry;
+      calls = s.calls + 1;
+      joined =
+          joined_after b x.participant s.joined;
+      saved = saved_after b c s.saved;
+    })
     (record {
       calls = omega arith;
       members = omega arith;
@@ -169,9 +239,11 @@ answer_proper f s b c (Prepare x ∷ tail) r o e i h =
 
 slots_all : (f : Flow) → FlowFits f → (ns : List (List ℕ)) → All (λ (s : PlacedEntry). IsNamed (name_of f s.participant)) (flat_map (entries_named f) ns)
 slots_all f fits [] = All-nil (λ (s : PlacedEntry). IsNamed (name_of f s.participant))
-slots_all f fits (n ∷ ns) = All-append (λ (s : PlacedEntry). IsNamed (name_of f s.participant)) (entries_named f n) (flat_map (entries_named f) ns) (fits.names n) (slots_all f fits ns)
+slots_all f fits (n ∷ ns) = All-append (λ (s : PlacedEntry). IsNamed (name_of f s.participant)) (entries_named f n) (flat_map (entries_named f) ns)
+    (fits.names n) (slots_all f fits ns)
 
-choice_proper : (f : Flow) (s : TxState) (t : List ℕ) (ms : List Upcoming) → FlowFits f → s.rest ≡ ms → is_open s.phase ≡ true → selects_next ms ≡ true → Proper f s → Proper f (chosen_at f s t ms)
+choice_proper : (f : Flow) (s : TxState) (t : List ℕ) (ms : List Upcoming) → FlowFits f → s.rest ≡ ms → is_open s.phase ≡ true → selects_next ms ≡ true →
+    Proper f s → Proper f (chosen_at f s t ms)
 choice_proper f s t [] fits r o e h = absurd (cc)
 choice_proper f s t (Prepare x ∷ tail) fits r o e h = absurd (cc)
 choice_proper f s t (Select x ∷ tail) fits r o e h =
@@ -185,7 +257,8 @@ choice_proper f s t (Select x ∷ tail) fits r o e h =
       told = h.fresh o;
       phase = o;
       names = h.names;
-      marks = All-append (UpcomingNamed f) (map Prepare (chosen f t)) tail (All-map (UpcomingNamed f) Prepare (chosen f t) (slots_all f fits _)) (All-tail (UpcomingNamed f) (Select x) tail all);
+      marks = All-append (UpcomingNamed f) (map Prepare (chosen f t)) tail (All-map (UpcomingNamed f) Prepare (chosen f t) (slots_all f fits _))
+          (All-tail (UpcomingNamed f) (Select x) tail all);
       saved = h.saved;
       tries = h.tries;
     })
@@ -204,12 +277,44 @@ pub next_proper : (f : Flow) (s : TxState) (x : Item) → FlowFits f → IsItem 
 next_proper f s (Answer b c) fits i d h = let w = both (is_open s.phase) (prepares_next s.rest) d in answer_proper f s b c s.rest refl w.0 w.1 i h
 next_proper f s (Choice t) fits i d h = let w = both (is_open s.phase) (selects_next s.rest) d in choice_proper f s t s.rest fits refl w.0 w.1 h
 next_proper f s (ToldOne a) fits i d h =
-    record { calls = h.calls; more = h.more; members = h.members; told = tells (not (is_open s.phase)) s.told (length s.joined) d; fresh = λ o. absurd (closed_not s.phase (nat_lt s.told (length s.joined)) d o); names = h.names; marks = h.marks; saved = h.saved; tries = h.tries }
+    record {
+      calls = h.calls;
+      more = h.more;
+      members = h.members;
+      told = tells (not (is_open s.phase)) s.told (length s.joined) d;
+      fresh =
+          λ o. absurd (closed_not s.phase (nat_lt s.told (length s.joined)) d o);
+      names = h.names;
+      marks = h.marks;
+      saved = h.saved;
+      tries = h.tries;
+    }
 
 pub opening_proper : (f : Flow) (tries : ℕ) (saved : List ℕ) → FlowFits f → tries ≤ 100 → IsSpelled saved → Proper f (opening f tries saved)
 opening_proper f tries saved fits few i =
-    advance_proper f (record { phase = Preparing; rest = map Prepare (entries_named f (codes "main")); retry = false; bound = false; calls = 0; joined = []; told = 0; saved = saved; tries = tries })
-    (record { calls = omega arith; members = omega arith; told = refl; phase = refl; names = All-nil (λ p. IsNamed (name_of f p)); marks = All-map (UpcomingNamed f) Prepare (entries_named f (codes "main")) (fits.names (codes "main")); saved = i; tries = few })
+    advance_proper f (record {
+      phase = Preparing;
+      rest = map Prepare (entries_named f (codes "main"));
+      retry = false;
+      bound = false;
+      calls = 0;
+      joined =
+          [];
+      told = 0;
+      saved = saved;
+      tries = tries;
+    })
+    (record {
+      calls = omega arith;
+      members = omega arith;
+      told = refl;
+      phase = refl;
+      names = All-nil (λ p. IsNamed (name_of f p));
+      marks =
+          All-map (UpcomingNamed f) Prepare (entries_named f (codes "main")) (fits.names (codes "main"));
+      saved = i;
+      tries = few;
+    })
 
 -- the row
 
@@ -227,14 +332,30 @@ doing f (PrepareForAbort s) = Some (name_of f s.participant)
 doing f _ = None
 
 abbrev pub as_row : Flow → TxState → Row
-as_row f st = record { phase = st.phase; joined = map (name_of f) st.joined; told = st.told; doing = doing f (due_of f st); tries = st.tries; context = st.saved }
+as_row f st = record {
+  phase = st.phase;
+  joined = map (name_of f) st.joined;
+  told = st.told;
+  doing = doing f (due_of f st);
+  tries = st.tries;
+  context =
+      st.saved;
+}
 
 -- a row is there while the transaction is unfinished
 pub row_unended : (f : Flow) (st : TxState) → row f st ≡ (if is_ended f st then None else Some (as_row f st))
 row_unended f st = by (due_of f st)
   where
     by : (d : Due) → option_map (named_row f) (row_at st d)
-        ≡ (if is_over d then None else Some (record { phase = st.phase; joined = map (name_of f) st.joined; told = st.told; doing = doing f d; tries = st.tries; context = st.saved }))
+        ≡ (if is_over d then None else Some (record {
+          phase = st.phase;
+          joined = map (name_of f) st.joined;
+          told = st.told;
+          doing = doing f d;
+          tries =
+              st.tries;
+          context = st.saved;
+        }))
     by (DuePrepare s) = refl
     by (PrepareForAbort s) = refl
     by (DueSelect s) = refl
@@ -266,12 +387,13 @@ doing_named f s Undoing ms h = by (nat_lt s.told (length s.joined)) (s.retry && 
     by false true p = tt
     by false false p = tt
 
--- whoever is told has nothing doing, and somebody is left
+-- whoever is notified has nothing doing, and somebody is left
 pub record Telling (f : Flow) (s : TxState) (p : Phase) (ms : List Upcoming) : Type 0 where
   pub doing_none : doing f (due_at f s p ms) ≡ None
   pub left : s.told < length s.joined
 
-telling_if : (f : Flow) (s : TxState) (p : Phase) (ms : List Upcoming) (b : Bool) → nat_lt s.told (length s.joined) ≡ b → is_open p ≡ false → is_over (due_at f s p ms) ≡ false → Telling f s p ms
+telling_if : (f : Flow) (s : TxState) (p : Phase) (ms : List Upcoming) (b : Bool) → nat_lt s.told (length s.joined) ≡ b → is_open p ≡ false →
+    is_over (due_at f s p ms) ≡ false → Telling f s p ms
 telling_if f s Preparing ms b e o u = absurd (cc)
 telling_if f s Aborting ms b e o u = absurd (cc)
 telling_if f s Committing ms true e o u = record { doing_none = rw e refl; left = grind (arith, nat_tests) }
@@ -301,7 +423,8 @@ as_row_fits f s h u =
       context = h.saved;
     }
 
-row_is : (f : Flow) (s : TxState) (r : Row) (b : Bool) → is_ended f s ≡ b → (if b then None else Some (as_row f s)) ≡ Some r → (is_ended f s ≡ false) × (as_row f s ≡ r)
+row_is : (f : Flow) (s : TxState) (r : Row) (b : Bool) → is_ended f s ≡ b → (if b then None else Some (as_row f s)) ≡ Some r →
+    (is_ended f s ≡ false) × (as_row f s ≡ r)
 row_is f s r true e h = absurd (cc)
 row_is f s r false e h = let same : as_row f s ≡ r = grind (arith) in (e, same)
 
@@ -318,6 +441,8 @@ after_proper f s (x ∷ xs) fits is law h =
     let w = both (is_due s x) (is_lawful f (next f s x) xs) law in
     after_proper f (next f s x) xs fits is.1 w.1 (next_proper f s x fits is.0 w.0 h)
 
-pub rows_bounded : (f : Flow) (tries : ℕ) (saved : List ℕ) (items : List Item) (r : Row) → FlowFits f → tries ≤ 100 → IsSpelled saved → AreItems items → is_lawful f (opening f tries saved) items ≡ true
+pub rows_bounded : (f : Flow) (tries : ℕ) (saved : List ℕ) (items : List Item) (r : Row) → FlowFits f → tries ≤ 100 → IsSpelled saved → AreItems items →
+    is_lawful f (opening f tries saved) items ≡ true
     → row f (after f (opening f tries saved) items) ≡ Some r → RowFits r
-rows_bounded f tries saved items r fits few i is law h = row_fits f (after f (opening f tries saved) items) r (after_proper f (opening f tries saved) items fits is law (opening_proper f tries saved fits few i)) h
+rows_bounded f tries saved items r fits few i is law h = row_fits f (after f (opening f tries saved) items) r
+    (after_proper f (opening f tries saved) items fits is law (opening_proper f tries saved fits few i)) h

@@ -10,7 +10,8 @@ use Rattle.tx_machine.specs.Table.{next}
 use Rattle.tx_history.specs.declared.event.Event.{Event}
 use Rattle.tx_history.specs.declared.event.Event.TheVariants.{Offered, Taken, Answered, Chose, Told, Recovered, Released, Acked, Broke, Cleared, LetGo, Closed}
 use Rattle.tx_history.specs.declared.journal.Waiting.{Waiting}
-use Rattle.tx_history.specs.History.{Start, is_ended, takes, next_id, taken, is_id, or_taken, serves, own_items, recovering, arrivals, state_of, held_of, holds, shelf_of}
+use Rattle.tx_history.specs.History.{Start, is_ended, takes, next_id, taken, is_id, or_taken, serves, own_items, recovering, arrivals, state_of, held_of, holds}
+use Rattle.tx_history.specs.History.{shelf_of}
 use Rattle.tx_history.specs.Journal.{IsLawful, IsAccepted}
 use Rattle.tx_history.specs.Views.{IsOrdered}
 use Rattle.tx_history.proofs.RisingKeys.{look_within}
@@ -24,7 +25,8 @@ pick_who s true e None t id h = inr h
 pick_who s true e (Some k) t id h = let z : s ≡ 0 = grind (arith, nat_tests) in inl (h, z)
 pick_who s false e o t id h = inr h
 
-pub serves_who : (f : Flow) (v : Start) (past : List Event) (s id : ℕ) → serves f v past s ≡ Some id → ((recovering f v past ≡ Some id) × (s ≡ 0)) ⊎ (taken v past s ≡ Some id)
+pub serves_who : (f : Flow) (v : Start) (past : List Event) (s id : ℕ) → serves f v past s ≡ Some id →
+    ((recovering f v past ≡ Some id) × (s ≡ 0)) ⊎ (taken v past s ≡ Some id)
 serves_who f v past s id h = pick_who s (s == 0) refl (recovering f v past) (taken v past s) id h
 
 -- a recovered id is a journalled one
@@ -65,22 +67,29 @@ served_once f v past s t id o h k = elim (serves_who f v past s id h) [
 -- what a session is recovering is over before anything is taken
 
 -- an item for a transaction that was taken leaves the journalled ones
-pub recovering_other : (f : Flow) (v : Start) (past : List Event) (e : Event) (id : ℕ) (x : Item) → IsOrdered v.view → Gave f v past e id x → v.view.next_id ≤ id → recovering f v (e ∷ past) ≡ recovering f v past
-recovering_other f v past e id x o g le = open_same f v.view.rows (own_items f v (e ∷ past)) (own_items f v past) 1 v.view.next_id o.rows (λ j a b. g.others j (λ d. omega arith))
+pub recovering_other : (f : Flow) (v : Start) (past : List Event) (e : Event) (id : ℕ) (x : Item) → IsOrdered v.view → Gave f v past e id x →
+    v.view.next_id ≤ id → recovering f v (e ∷ past) ≡ recovering f v past
+recovering_other f v past e id x o g le = open_same f v.view.rows (own_items f v (e ∷ past)) (own_items f v past) 1 v.view.next_id o.rows
+    (λ j a b. g.others j (λ d. omega arith))
 
-none_recovering : (f : Flow) (v : Start) (past : List Event) (e : Event) (id s : ℕ) (x : Item) → IsOrdered v.view → Gave f v past e id x → serves f v past s ≡ Some id → recovering f v past ≡ None → recovering f v (e ∷ past) ≡ None
+none_recovering : (f : Flow) (v : Start) (past : List Event) (e : Event) (id s : ℕ) (x : Item) → IsOrdered v.view → Gave f v past e id x →
+    serves f v past s ≡ Some id → recovering f v past ≡ None → recovering f v (e ∷ past) ≡ None
 none_recovering f v past e id s x o g h none = elim (serves_who f v past s id h) [
   | inl a ↦ absurd (let w = a.0 in cc)
   | inr a ↦ recovering_other f v past e id x o g (taken_from v past s id a) ∙ none
 ]
 
 -- what is recovered stays so
-pub recovered_stays : (f : Flow) (v : Start) (past : List Event) (e : Event) → IsOrdered v.view → IsAccepted f v past e → recovering f v past ≡ None → recovering f v (e ∷ past) ≡ None
+pub recovered_stays : (f : Flow) (v : Start) (past : List Event) (e : Event) → IsOrdered v.view → IsAccepted f v past e → recovering f v past ≡ None →
+    recovering f v (e ∷ past) ≡ None
 recovered_stays f v past (Offered x) o acc none = none
 recovered_stays f v past (Taken t) o acc none = none
-recovered_stays f v past (Answered t b x) o acc none = let w = holds_serves f v past t acc.0 acc.1 in none_recovering f v past (Answered t b x) acc.0 t (Answer b x) o (gave_answered f v past t b x acc.0 w.0) w.0 none
-recovered_stays f v past (Chose t x) o acc none = let w = holds_serves f v past t acc.0 acc.1 in none_recovering f v past (Chose t x) acc.0 t (Choice x) o (gave_chose f v past t x acc.0 w.0) w.0 none
-recovered_stays f v past (Told t x) o acc none = let w = holds_serves f v past t acc.0 acc.1 in none_recovering f v past (Told t x) acc.0 t (ToldOne x) o (gave_told f v past t x acc.0 w.0) w.0 none
+recovered_stays f v past (Answered t b x) o acc none = let w = holds_serves f v past t acc.0 acc.1 in
+    none_recovering f v past (Answered t b x) acc.0 t (Answer b x) o (gave_answered f v past t b x acc.0 w.0) w.0 none
+recovered_stays f v past (Chose t x) o acc none = let w = holds_serves f v past t acc.0 acc.1 in
+    none_recovering f v past (Chose t x) acc.0 t (Choice x) o (gave_chose f v past t x acc.0 w.0) w.0 none
+recovered_stays f v past (Told t x) o acc none = let w = holds_serves f v past t acc.0 acc.1 in
+    none_recovering f v past (Told t x) acc.0 t (ToldOne x) o (gave_told f v past t x acc.0 w.0) w.0 none
 recovered_stays f v past (Recovered t x) o acc none = none
 recovered_stays f v past Released o acc none = none
 recovered_stays f v past (Acked k n) o acc none = none
@@ -90,25 +99,35 @@ recovered_stays f v past (LetGo t) o acc none = none
 recovered_stays f v past (Closed k) o acc none = none
 
 -- nothing was taken while something is recovered
-first_if : (f : Flow) (v : Start) (past : List Event) (e : Event) (id : ℕ) → IsOrdered v.view → IsAccepted f v past e → recovering f v (e ∷ past) ≡ Some id → (o : Option ℕ) → recovering f v past ≡ o
+first_if : (f : Flow) (v : Start) (past : List Event) (e : Event) (id : ℕ) → IsOrdered v.view → IsAccepted f v past e →
+    recovering f v (e ∷ past) ≡ Some id → (o : Option ℕ) → recovering f v past ≡ o
     → ((k : ℕ) → recovering f v past ≡ Some k → takes past ≡ 0) → takes past ≡ 0
 first_if f v past e id o acc h None was ih = absurd (let n = recovered_stays f v past e o acc was in cc)
 first_if f v past e id o acc h (Some k) was ih = ih k was
 
-pub recovered_first : (f : Flow) (v : Start) (past : List Event) (id : ℕ) → IsOrdered v.view → IsLawful f v past → recovering f v past ≡ Some id → takes past ≡ 0
+pub recovered_first : (f : Flow) (v : Start) (past : List Event) (id : ℕ) → IsOrdered v.view → IsLawful f v past → recovering f v past ≡ Some id →
+    takes past ≡ 0
 recovered_first f v [] id o law h = refl
-recovered_first f v (Offered x ∷ past) id o law h = first_if f v past (Offered x) id o law.0 h (recovering f v past) refl (λ i. recovered_first f v past i o law.2)
+recovered_first f v (Offered x ∷ past) id o law h = first_if f v past (Offered x) id o law.0 h (recovering f v past) refl
+    (λ i. recovered_first f v past i o law.2)
 recovered_first f v (Taken t ∷ past) id o law h = absurd (let n = law.0.0 in cc)
-recovered_first f v (Answered t b x ∷ past) id o law h = first_if f v past (Answered t b x) id o law.0 h (recovering f v past) refl (λ i. recovered_first f v past i o law.2)
-recovered_first f v (Chose t x ∷ past) id o law h = first_if f v past (Chose t x) id o law.0 h (recovering f v past) refl (λ i. recovered_first f v past i o law.2)
-recovered_first f v (Told t x ∷ past) id o law h = first_if f v past (Told t x) id o law.0 h (recovering f v past) refl (λ i. recovered_first f v past i o law.2)
-recovered_first f v (Recovered t x ∷ past) id o law h = first_if f v past (Recovered t x) id o law.0 h (recovering f v past) refl (λ i. recovered_first f v past i o law.2)
+recovered_first f v (Answered t b x ∷ past) id o law h = first_if f v past (Answered t b x) id o law.0 h (recovering f v past) refl
+    (λ i. recovered_first f v past i o law.2)
+recovered_first f v (Chose t x ∷ past) id o law h = first_if f v past (Chose t x) id o law.0 h (recovering f v past) refl
+    (λ i. recovered_first f v past i o law.2)
+recovered_first f v (Told t x ∷ past) id o law h = first_if f v past (Told t x) id o law.0 h (recovering f v past) refl
+    (λ i. recovered_first f v past i o law.2)
+recovered_first f v (Recovered t x ∷ past) id o law h = first_if f v past (Recovered t x) id o law.0 h (recovering f v past) refl
+    (λ i. recovered_first f v past i o law.2)
 recovered_first f v (Released ∷ past) id o law h = first_if f v past Released id o law.0 h (recovering f v past) refl (λ i. recovered_first f v past i o law.2)
-recovered_first f v (Acked k n ∷ past) id o law h = first_if f v past (Acked k n) id o law.0 h (recovering f v past) refl (λ i. recovered_first f v past i o law.2)
+recovered_first f v (Acked k n ∷ past) id o law h = first_if f v past (Acked k n) id o law.0 h (recovering f v past) refl
+    (λ i. recovered_first f v past i o law.2)
 recovered_first f v (Broke p ∷ past) id o law h = first_if f v past (Broke p) id o law.0 h (recovering f v past) refl (λ i. recovered_first f v past i o law.2)
-recovered_first f v (Cleared p ∷ past) id o law h = first_if f v past (Cleared p) id o law.0 h (recovering f v past) refl (λ i. recovered_first f v past i o law.2)
+recovered_first f v (Cleared p ∷ past) id o law h = first_if f v past (Cleared p) id o law.0 h (recovering f v past) refl
+    (λ i. recovered_first f v past i o law.2)
 recovered_first f v (LetGo t ∷ past) id o law h = first_if f v past (LetGo t) id o law.0 h (recovering f v past) refl (λ i. recovered_first f v past i o law.2)
-recovered_first f v (Closed k ∷ past) id o law h = first_if f v past (Closed k) id o law.0 h (recovering f v past) refl (λ i. recovered_first f v past i o law.2)
+recovered_first f v (Closed k ∷ past) id o law h = first_if f v past (Closed k) id o law.0 h (recovering f v past) refl
+    (λ i. recovered_first f v past i o law.2)
 
 -- session 0 holds the recovered ones first
 pub holds_recovered : (f : Flow) (v : Start) (past : List Event) (id : ℕ) → IsOrdered v.view → recovering f v past ≡ Some id → holds f v past 0 ≡ Some id
@@ -140,11 +159,13 @@ own_told f v past s a id acc =
 
 -- for the engine: what one event changes of what the sessions serve --
 
-pub state_given : (f : Flow) (v : Start) (past : List Event) (e : Event) (id : ℕ) (x : Item) → Gave f v past e id x → state_of f v (e ∷ past) id ≡ next f (state_of f v past id) x
+pub state_given : (f : Flow) (v : Start) (past : List Event) (e : Event) (id : ℕ) (x : Item) → Gave f v past e id x →
+    state_of f v (e ∷ past) id ≡ next f (state_of f v past id) x
 state_given f v past e id x g = rw (g.arrived, g.given) refl
 
 -- the other sessions serve whom they served
-other_if : (f : Flow) (v : Start) (past : List Event) (e : Event) (id t : ℕ) (x : Item) → IsOrdered v.view → Gave f v past e id x → ((recovering f v past ≡ Some id) × (0 ≡ t) → ⊥) → ((recovering f v past ≡ Some id → ⊥) → v.view.next_id ≤ id)
+other_if : (f : Flow) (v : Start) (past : List Event) (e : Event) (id t : ℕ) (x : Item) → IsOrdered v.view → Gave f v past e id x →
+    ((recovering f v past ≡ Some id) × (0 ≡ t) → ⊥) → ((recovering f v past ≡ Some id → ⊥) → v.view.next_id ≤ id)
     → taken v (e ∷ past) t ≡ taken v past t → (b : Bool) → (t == 0) ≡ b → serves f v (e ∷ past) t ≡ serves f v past t
 other_if f v past e id t x o g apart new same true z =
     let zero_is : 0 ≡ t = grind (arith, nat_tests) in
@@ -152,17 +173,22 @@ other_if f v past e id t x o g apart new same true z =
     rw (z, same, recovering_other f v past e id x o g le) refl
 other_if f v past e id t x o g apart new same false z = rw (z, same) refl
 
-pub serves_other : (f : Flow) (v : Start) (past : List Event) (e : Event) (id s t : ℕ) (x : Item) → IsOrdered v.view → Gave f v past e id x → serves f v past s ≡ Some id → s ≢ t
+pub serves_other : (f : Flow) (v : Start) (past : List Event) (e : Event) (id s t : ℕ) (x : Item) → IsOrdered v.view → Gave f v past e id x →
+    serves f v past s ≡ Some id → s ≢ t
     → taken v (e ∷ past) t ≡ taken v past t → serves f v (e ∷ past) t ≡ serves f v past t
 serves_other f v past e id s t x o g h d same =
     elim (serves_who f v past s id h) [
       | inl a ↦ other_if f v past e id t x o g (λ w. d (let p = a.1 in let q = w.1 in omega arith)) (λ n. absurd (n a.0)) same (t == 0) refl
-      | inr a ↦ other_if f v past e id t x o g (λ w. let p = recovering_below f v past id o w.0 in let q = taken_from v past s id a in omega arith) (λ n. taken_from v past s id a) same (t == 0) refl
+      | inr a ↦ other_if f v past e id t x o g (λ w. let p = recovering_below f v past id o w.0 in let q = taken_from v past s id a in omega arith)
+          (λ n. taken_from v past s id a) same (t == 0) refl
     ]
 
 -- what arrives later leaves everybody where he stands
-pub state_more : (f : Flow) (v : Start) (past : List Event) (c : List ℕ) (j : ℕ) → IsOrdered v.view → IsLawful f v past → j < next_id v past → state_of f v (Offered c ∷ past) j ≡ state_of f v past j
+pub state_more : (f : Flow) (v : Start) (past : List Event) (c : List ℕ) (j : ℕ) → IsOrdered v.view → IsLawful f v past → j < next_id v past →
+    state_of f v (Offered c ∷ past) j ≡ state_of f v past j
 state_more f v past c j o law lt = let n = o.next in rw (first_more f v past (record { tries = f.retries; context = c } ∷ []) j o law (omega arith)) refl
 
-pub state_released : (f : Flow) (v : Start) (past : List Event) (j : ℕ) → IsOrdered v.view → IsLawful f v past → j < next_id v past → state_of f v (Released ∷ past) j ≡ state_of f v past j
-state_released f v past j o law lt = let n = o.next in rw (first_more f v past (map (λ (item : ℕ × Waiting). item.1) (shelf_of f v (arrivals f v past) past)) j o law (omega arith)) refl
+pub state_released : (f : Flow) (v : Start) (past : List Event) (j : ℕ) → IsOrdered v.view → IsLawful f v past → j < next_id v past →
+    state_of f v (Released ∷ past) j ≡ state_of f v past j
+state_released f v past j o law lt = let n = o.next in rw (first_more f v past
+    (map (λ (item : ℕ × Waiting). item.1) (shelf_of f v (arrivals f v past) past)) j o law (omega arith)) refl

@@ -1,6 +1,7 @@
 -- The journal of a lawful history that begins from a sound view is sound.
 -- for: laws::journals_are_sound
-use Rattle.std.proofs.Common.{◌≡◌, ◌≢◌, ℕ, ◌+◌, ◌-◌, ◌<◌, ◌≤◌, Bool, true, false, ◌⊎◌, inl, inr, List, [], ◌∷◌, ◌++◌, length, Option, Some, None, refl, sym, ◌∙◌, ap, subst, arith, suc, zero, map, length-append}
+use Rattle.std.proofs.Common.{◌≡◌, ◌≢◌, ℕ, ◌+◌, ◌-◌, ◌<◌, ◌≤◌, Bool, true, false, ◌⊎◌, inl, inr, List, [], ◌∷◌, ◌++◌, length, Option, Some, None, refl, sym}
+use Rattle.std.proofs.Common.{◌∙◌, ap, subst, arith, suc, zero, map, length-append}
 use Rattle.std.specs.Prelude.{if◌then◌else◌, slice_get, ◌==◌, nat_lt}
 use Rattle.std.proofs.lemmas.Bool.Decides.{nat_tests}
 use Rattle.flow_model.specs.declared.flow.Flow.{Flow}
@@ -16,7 +17,8 @@ use Rattle.tx_history.specs.declared.journal.Waiting.{Waiting}
 use Rattle.tx_history.specs.declared.journal.Row.{Row}
 use Rattle.tx_history.specs.Keys.{Rising, look, keyed, gather}
 use Rattle.tx_machine.specs.Bounds.{after_newest}
-use Rattle.tx_history.specs.History.{Start, to_tell, name_of, number_of, is_committing, is_over, reopened, begun, is_ended, takes, next_id, ids, serves, own_items, is_fresh, is_released, arrivals, shelved, shelved_in, shelved_at, shelf_of, shelf, state_of}
+use Rattle.tx_history.specs.History.{Start, to_tell, name_of, number_of, is_committing, is_over, reopened, begun, is_ended, takes, next_id, ids, serves}
+use Rattle.tx_history.specs.History.{own_items, is_fresh, is_released, arrivals, shelved, shelved_in, shelved_at, shelf_of, shelf, state_of}
 use Rattle.tx_history.specs.Journal.{IsLawful, row, row_at, old_row, is_closed, journal}
 use Rattle.tx_history.specs.Views.{IsOrdered, IsNamed, IsDoing, RowFits, WaitingFits, FlowFits, StartFits, IsItem, AreSpelled}
 use Rattle.tx_history.proofs.OwnItems.{old_stays, serves_below, is_no, holds_serves}
@@ -64,7 +66,8 @@ look_append : {A : Type 0} (id : ℕ) (xs ys : List (ℕ × A)) (x : A) → look
 look_append id [] ys x h = inr h
 look_append id (y ∷ xs) ys x h = by (y.0 == id) h (look_append id xs ys x)
   where
-    by : (b : Bool) → (if b then Some y.1 else look id (xs ++ ys)) ≡ Some x → (look id (xs ++ ys) ≡ Some x → (look id xs ≡ Some x) ⊎ (look id ys ≡ Some x)) → ((if b then Some y.1 else look id xs) ≡ Some x) ⊎ (look id ys ≡ Some x)
+    by : (b : Bool) → (if b then Some y.1 else look id (xs ++ ys)) ≡ Some x → (look id (xs ++ ys) ≡ Some x → (look id xs ≡ Some x) ⊎ (look id ys ≡ Some x))
+        → ((if b then Some y.1 else look id xs) ≡ Some x) ⊎ (look id ys ≡ Some x)
     by true h ih = inl h
     by false h ih = ih h
 
@@ -80,10 +83,12 @@ look_gather h n (suc k) id x e = elim (look_append id (gather h n k) (keyed (n +
   | inr a ↦ (let w = look_keyed (n + k) id (h (n + k)) x a in let s = w.0 in record { from = omega arith; below = omega arith; is = ap h (sym s) ∙ w.1 })
 ]
 
-all_gather : {A : Type 0} (P : A → Type 0) (h : ℕ → Option A) (n k : ℕ) → ((j : ℕ) (x : A) → n ≤ j → j < n + k → h j ≡ Some x → P x) → All (λ (p : ℕ × A). P p.1) (gather h n k)
+all_gather : {A : Type 0} (P : A → Type 0) (h : ℕ → Option A) (n k : ℕ) → ((j : ℕ) (x : A) → n ≤ j → j < n + k → h j ≡ Some x → P x) →
+    All (λ (p : ℕ × A). P p.1) (gather h n k)
 all_gather {A = A} P h n zero each = All-nil (λ p. P p.1)
 all_gather {A = A} P h n (suc k) each =
-    All-append (λ p. P p.1) (gather h n k) (keyed (n + k) (h (n + k))) (all_gather P h n k (λ j x a b. each j x a (omega arith))) (one (h (n + k)) (λ x. each (n + k) x (omega arith) (omega arith)))
+    All-append (λ p. P p.1) (gather h n k) (keyed (n + k) (h (n + k))) (all_gather P h n k (λ j x a b. each j x a (omega arith)))
+    (one (h (n + k)) (λ x. each (n + k) x (omega arith) (omega arith)))
   where
     one : (o : Option A) → ((x : A) → o ≡ Some x → P x) → All (λ (p : ℕ × A). P p.1) (keyed (n + k) o)
     one None f = All-nil (λ p. P p.1)
@@ -91,15 +96,18 @@ all_gather {A = A} P h n (suc k) each =
 
 -- names
 
-pub name_back : (ps : List Part) (name : List ℕ) → number_in ps name < length ps → option_map_or (λ (x : Part). x.name) (slice_get ps (number_in ps name)) [] ≡ name
+pub name_back : (ps : List Part) (name : List ℕ) → number_in ps name < length ps → option_map_or (λ (x : Part). x.name) (slice_get ps (number_in ps name))
+    [] ≡ name
 name_back [] name h = absurd (omega arith)
 name_back (p ∷ ps) name h = by (bytes_eq p.name name) refl (name_back ps name)
   where
-    by : (b : Bool) → bytes_eq p.name name ≡ b → (number_in ps name < length ps → option_map_or (λ (x : Part). x.name) (slice_get ps (number_in ps name)) [] ≡ name)
+    by : (b : Bool) → bytes_eq p.name name ≡ b → (number_in ps name < length ps → option_map_or (λ (x : Part). x.name) (slice_get ps (number_in ps name)) []
+        ≡ name)
         → option_map_or (λ (x : Part). x.name) (slice_get (p ∷ ps) (number_in (p ∷ ps) name)) [] ≡ name
     by true e ih = rw e ((bytes_eq-Decides p.name name).0 e)
     by false e ih =
-        let n : number_in (p ∷ ps) name ≡ suc (number_in ps name) = ap (λ (b : Bool). if b then 0 else number_in ps name + 1) e ∙ (let s : number_in ps name + 1 ≡ suc (number_in ps name) = omega arith in s) in
+        let n : number_in (p ∷ ps) name ≡ suc (number_in ps name) = ap (λ (b : Bool). if b then 0 else number_in ps name + 1) e
+        ∙ (let s : number_in ps name + 1 ≡ suc (number_in ps name) = omega arith in s) in
         let lt : number_in ps name < length ps = omega arith in
         rw n (ih lt)
 
@@ -131,7 +139,8 @@ not_open : (b : Bool) → is_open (if b then Committing else Undoing) ≡ false
 not_open true = refl
 not_open false = refl
 
-pub reopened_fits : (f : Flow) (r : Row) (items : List Item) → RowFits r → All (λ n. number_of f n < length (parts_of f)) (to_tell r r.doing) → is_ended f (after_newest f (reopened f r) items) ≡ false
+pub reopened_fits : (f : Flow) (r : Row) (items : List Item) → RowFits r → All (λ n. number_of f n < length (parts_of f)) (to_tell r r.doing) →
+    is_ended f (after_newest f (reopened f r) items) ≡ false
     → RowFits (as_row f (after_newest f (reopened f r) items))
 reopened_fits f r items h known u =
     let s : TxState = after_newest f (reopened f r) items in
@@ -158,9 +167,12 @@ pub own_none : (f : Flow) (v : Start) (past : List Event) (id : ℕ) → IsOrder
 own_none f v [] id o h = refl
 own_none f v (Offered x ∷ past) id o h = own_none f v past id o h
 own_none f v (Taken t ∷ past) id o h = own_none f v past id o (omega arith)
-own_none f v (Answered t b x ∷ past) id o h = rw (is_no (serves f v past t) id (λ e. let w = (serves_below f v past t id o e).1 in omega arith)) (own_none f v past id o h)
-own_none f v (Chose t x ∷ past) id o h = rw (is_no (serves f v past t) id (λ e. let w = (serves_below f v past t id o e).1 in omega arith)) (own_none f v past id o h)
-own_none f v (Told t x ∷ past) id o h = rw (is_no (serves f v past t) id (λ e. let w = (serves_below f v past t id o e).1 in omega arith)) (own_none f v past id o h)
+own_none f v (Answered t b x ∷ past) id o h = rw (is_no (serves f v past t) id (λ e. let w = (serves_below f v past t id o e).1 in omega arith))
+    (own_none f v past id o h)
+own_none f v (Chose t x ∷ past) id o h = rw (is_no (serves f v past t) id (λ e. let w = (serves_below f v past t id o e).1 in omega arith))
+    (own_none f v past id o h)
+own_none f v (Told t x ∷ past) id o h = rw (is_no (serves f v past t) id (λ e. let w = (serves_below f v past t id o e).1 in omega arith))
+    (own_none f v past id o h)
 own_none f v (Recovered t x ∷ past) id o h = own_none f v past id o h
 own_none f v (Released ∷ past) id o h = own_none f v past id o h
 own_none f v (Acked k n ∷ past) id o h = own_none f v past id o h
@@ -187,7 +199,8 @@ shelved_fits_in Shelve true f s w h e =
     let less : s.tries - 1 ≤ 100 = omega arith in
     subst WaitingFits same (record { tries = less; context = h.saved })
 
-shelf_if : (f : Flow) (v : Start) (past : List Event) (j : ℕ) (w : Waiting) → StartFits f v → Good f v past → j < next_id v past → (b c : Bool) → nat_lt j v.view.next_id ≡ b
+shelf_if : (f : Flow) (v : Start) (past : List Event) (j : ℕ) (w : Waiting) → StartFits f v → Good f v past → j < next_id v past → (b c : Bool) →
+    nat_lt j v.view.next_id ≡ b
     → (if b then (if c then None else look j v.view.shelf) else shelved f (state_of f v past j) (is_fresh f v past j)) ≡ Some w → WaitingFits w
 shelf_if f v past j w st g lt true true e h = absurd (cc)
 shelf_if f v past j w st g lt true false e h = st.view.shelf j w h
@@ -195,10 +208,12 @@ shelf_if f v past j w st g lt false c e h =
     let above : v.view.next_id ≤ j = grind (arith, nat_tests) in
     shelved_fits_in (due_of f (state_of f v past j)) (is_fresh f v past j) f (state_of f v past j) w (g.proper j above lt) h
 
-pub shelf_fits : (f : Flow) (v : Start) (past : List Event) (j : ℕ) (w : Waiting) → StartFits f v → Good f v past → j < next_id v past → shelved_at f v (arrivals f v past) past j ≡ Some w → WaitingFits w
+pub shelf_fits : (f : Flow) (v : Start) (past : List Event) (j : ℕ) (w : Waiting) → StartFits f v → Good f v past → j < next_id v past →
+    shelved_at f v (arrivals f v past) past j ≡ Some w → WaitingFits w
 shelf_fits f v past j w st g lt h = shelf_if f v past j w st g lt (nat_lt j v.view.next_id) (is_released past) refl h
 
-good_gave : (f : Flow) (v : Start) (past : List Event) (e : Event) (id : ℕ) (x : Item) → FlowFits f → Gave f v past e id x → IsItem x → is_due (state_of f v past id) x ≡ true → Good f v past → Good f v (e ∷ past)
+good_gave : (f : Flow) (v : Start) (past : List Event) (e : Event) (id : ℕ) (x : Item) → FlowFits f → Gave f v past e id x → IsItem x →
+    is_due (state_of f v past id) x ≡ true → Good f v past → Good f v (e ∷ past)
 good_gave f v past e id x fits g i d h = record {
   arrived = All-same WaitingFits (arrivals f v (e ∷ past)) (arrivals f v past) g.arrived h.arrived;
   proper = λ j lo hi. (let t = g.took in let below : j < next_id v past = omega arith in by j (j == id) refl (h.proper j lo below));
@@ -212,7 +227,8 @@ good_gave f v past e id x fits g i d h = record {
         (subst (Proper f) (sym (state_given f v past e id x g)) (next_proper f (state_of f v past id) x fits i d q))
     by j false z p = let differ : j ≢ id = grind (arith, nat_tests) in subst (Proper f) (sym (state_other f v past e id x j g differ)) p
 
-begun_proper : (f : Flow) (o : Option Waiting) (ws : List Waiting) (k : ℕ) → FlowFits f → All WaitingFits ws → k < length ws → slice_get ws k ≡ o → Proper f (begun f o)
+begun_proper : (f : Flow) (o : Option Waiting) (ws : List Waiting) (k : ℕ) → FlowFits f → All WaitingFits ws → k < length ws → slice_get ws k ≡ o →
+    Proper f (begun f o)
 begun_proper f None ws k fits all lt e = absurd (within ws k lt e)
   where
     within : (ws : List Waiting) (k : ℕ) → k < length ws → slice_get ws k ≡ None → ⊥
@@ -221,19 +237,23 @@ begun_proper f None ws k fits all lt e = absurd (within ws k lt e)
     within (w ∷ ws) (suc k) lt e = within ws k (omega arith) e
 begun_proper f (Some w) ws k fits all lt e = let i = get_all WaitingFits ws k w all e in opening_proper f w.tries w.context fits i.tries i.context
 
-taken_proper : (f : Flow) (v : Start) (past : List Event) (s : ℕ) → FlowFits f → IsOrdered v.view → IsLawful f v (Taken s ∷ past) → Good f v past → Proper f (state_of f v (Taken s ∷ past) (next_id v past))
+taken_proper : (f : Flow) (v : Start) (past : List Event) (s : ℕ) → FlowFits f → IsOrdered v.view → IsLawful f v (Taken s ∷ past) → Good f v past →
+    Proper f (state_of f v (Taken s ∷ past) (next_id v past))
 taken_proper f v past s fits o law g =
     let no : nat_lt (next_id v past) v.view.next_id ≡ false = grind (arith, nat_tests) in
     let place : next_id v past - v.view.next_id ≡ takes past = omega arith in
     let none : own_items f v past (next_id v past) ≡ [] = own_none f v past (next_id v past) o (omega arith) in
-    let p : Proper f (begun f (slice_get (arrivals f v past) (takes past))) = begun_proper f (slice_get (arrivals f v past) (takes past)) (arrivals f v past) (takes past) fits g.arrived law.0.2 refl in
+    let p : Proper f (begun f (slice_get (arrivals f v past) (takes past))) =
+    begun_proper f (slice_get (arrivals f v past) (takes past)) (arrivals f v past) (takes past) fits g.arrived law.0.2 refl in
     rw (no, none, place) p
 
-good_taken : (f : Flow) (v : Start) (past : List Event) (s : ℕ) → FlowFits f → IsOrdered v.view → IsLawful f v (Taken s ∷ past) → Good f v past → Good f v (Taken s ∷ past)
+good_taken : (f : Flow) (v : Start) (past : List Event) (s : ℕ) → FlowFits f → IsOrdered v.view → IsLawful f v (Taken s ∷ past) → Good f v past →
+    Good f v (Taken s ∷ past)
 good_taken f v past s fits o law g = record { arrived = g.arrived; proper = λ j lo hi. by j lo hi (j == next_id v past) refl }
   where
     by : (j : ℕ) → v.view.next_id ≤ j → j < next_id v (Taken s ∷ past) → (b : Bool) → (j == next_id v past) ≡ b → Proper f (state_of f v (Taken s ∷ past) j)
-    by j lo hi true e = let same : j ≡ next_id v past = grind (arith, nat_tests) in subst (λ (i : ℕ). Proper f (state_of f v (Taken s ∷ past) i)) (sym same) (taken_proper f v past s fits o law g)
+    by j lo hi true e = let same : j ≡ next_id v past = grind (arith, nat_tests) in subst (λ (i : ℕ). Proper f (state_of f v (Taken s ∷ past) i)) (sym same)
+        (taken_proper f v past s fits o law g)
     by j lo hi false e = let differ : j ≢ next_id v past = grind (arith, nat_tests) in g.proper j lo (omega arith)
 
 all_items : {A : Type 0} (P : A → Type 0) (xs : List (ℕ × A)) → All (λ p. P p.1) xs → All P (map (λ (p : ℕ × A). p.1) xs)
@@ -245,7 +265,8 @@ good f v (Offered c ∷ past) fits st sp law =
     let o = st.view.ordered in
     let g = good f v past fits st sp.1 law.2 in
     record {
-      arrived = All-push WaitingFits (arrivals f v past) (record { tries = f.retries; context = c }) g.arrived (record { tries = fits.retries; context = sp.0 });
+      arrived = All-push WaitingFits (arrivals f v past) (record { tries = f.retries; context = c }) g.arrived
+          (record { tries = fits.retries; context = sp.0 });
       proper = λ j lo hi. subst (Proper f) (sym (state_more f v past c j o law.2 hi)) (g.proper j lo hi);
     }
 good f v (Released ∷ past) fits st sp law =
@@ -254,7 +275,8 @@ good f v (Released ∷ past) fits st sp law =
     let n = o.next in
     record {
       arrived = All-append WaitingFits (arrivals f v past) (map (λ (p : ℕ × Waiting). p.1) (shelf_of f v (arrivals f v past) past)) g.arrived
-          (all_items WaitingFits (shelf_of f v (arrivals f v past) past) (all_gather WaitingFits (shelved_at f v (arrivals f v past) past) 1 (ids v past) (λ j w a b h. shelf_fits f v past j w st g (omega arith) h)));
+          (all_items WaitingFits (shelf_of f v (arrivals f v past) past) (all_gather WaitingFits (shelved_at f v (arrivals f v past) past) 1 (ids v past)
+          (λ j w a b h. shelf_fits f v past j w st g (omega arith) h)));
       proper = λ j lo hi. subst (Proper f) (sym (state_released f v past j o law.2 hi)) (g.proper j lo hi);
     }
 good f v (Taken t ∷ past) fits st sp law = good_taken f v past t fits st.view.ordered law (good f v past fits st sp law.2)
@@ -276,7 +298,8 @@ good f v (Closed k ∷ past) fits st sp law = let g = good f v past fits st sp l
 
 -- rows
 
-old_fits : (f : Flow) (v : Start) (o : Option Row) (b : Bool) (items : List Item) (r : Row) → ((q : Row) → o ≡ Some q → RowFits q × All (λ n. number_of f n < length (parts_of f)) (to_tell q q.doing)) → old_row f o b items ≡ Some r → RowFits r
+old_fits : (f : Flow) (v : Start) (o : Option Row) (b : Bool) (items : List Item) (r : Row) →
+    ((q : Row) → o ≡ Some q → RowFits q × All (λ n. number_of f n < length (parts_of f)) (to_tell q q.doing)) → old_row f o b items ≡ Some r → RowFits r
 old_fits f v None b items r h e = absurd (cc)
 old_fits f v (Some q) true items r h e = absurd (cc)
 old_fits f v (Some q) false [] r h e = let same : q ≡ r = grind (arith) in subst RowFits same (h q refl).0
@@ -285,14 +308,17 @@ old_fits f v (Some q) false (x ∷ items) r h e =
     let k = h q refl in
     subst RowFits w.1 (reopened_fits f q (x ∷ items) k.0 k.1 w.0)
 
-row_if : (f : Flow) (v : Start) (past : List Event) (j : ℕ) (r : Row) → StartFits f v → Good f v past → j < next_id v past → (b : Bool) → nat_lt j v.view.next_id ≡ b
+row_if : (f : Flow) (v : Start) (past : List Event) (j : ℕ) (r : Row) → StartFits f v → Good f v past → j < next_id v past → (b : Bool) →
+    nat_lt j v.view.next_id ≡ b
     → (if b then old_row f (look j v.view.rows) (is_closed past j) (own_items f v past j) else row f (state_of f v past j)) ≡ Some r → RowFits r
-row_if f v past j r st g lt true e h = old_fits f v (look j v.view.rows) (is_closed past j) (own_items f v past j) r (λ q i. (st.view.rows j q i, st.knows j q i)) h
+row_if f v past j r st g lt true e h = old_fits f v (look j v.view.rows) (is_closed past j) (own_items f v past j) r
+    (λ q i. (st.view.rows j q i, st.knows j q i)) h
 row_if f v past j r st g lt false e h =
     let above : v.view.next_id ≤ j = grind (arith, nat_tests) in
     row_fits f (state_of f v past j) r (g.proper j above lt) h
 
-pub row_at_fits : (f : Flow) (v : Start) (past : List Event) (j : ℕ) (r : Row) → StartFits f v → Good f v past → j < next_id v past → row_at f v past j ≡ Some r → RowFits r
+pub row_at_fits : (f : Flow) (v : Start) (past : List Event) (j : ℕ) (r : Row) → StartFits f v → Good f v past → j < next_id v past →
+    row_at f v past j ≡ Some r → RowFits r
 row_at_fits f v past j r st g lt h = row_if f v past j r st g lt (nat_lt j v.view.next_id) refl h
 
 -- no id has a row and a place on the shelf
@@ -328,7 +354,8 @@ journal_ordered f v past o =
       next = omega arith;
       rows = subst (λ (m : ℕ). Rising 1 m (gather (row_at f v past) 1 (ids v past))) all (rising_gather (row_at f v past) 1 (ids v past));
       shelf = subst (λ (m : ℕ). Rising 1 m (shelf f v past)) all (rising_gather (shelved_at f v (arrivals f v past) past) 1 (ids v past));
-      apart = λ id r w h k. (let a = look_gather (row_at f v past) 1 (ids v past) id r h in let b = look_gather (shelved_at f v (arrivals f v past) past) 1 (ids v past) id w k in
+      apart = λ id r w h k. (let a = look_gather (row_at f v past) 1 (ids v past) id r h in let b =
+          look_gather (shelved_at f v (arrivals f v past) past) 1 (ids v past) id w k in
           apart_if f v past id r w o (nat_lt id v.view.next_id) (is_released past) a.is b.is);
     }
 

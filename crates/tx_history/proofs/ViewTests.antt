@@ -60,7 +60,8 @@ found_all {A = A} P n m (y ∷ xs) rising found =
         found id x (ap (λ (b : Bool). if b then Some y.1 else look id xs) other ∙ h)
 
 -- no id in both
-found_apart : (rows : List (ℕ × Row)) (shelf : List (ℕ × Waiting)) → are_apart rows shelf ≡ true → (id : ℕ) (r : Row) → look id rows ≡ Some r → not (is_some (look id shelf)) ≡ true
+found_apart : (rows : List (ℕ × Row)) (shelf : List (ℕ × Waiting)) → are_apart rows shelf ≡ true → (id : ℕ) (r : Row) → look id rows ≡ Some r →
+    not (is_some (look id shelf)) ≡ true
 found_apart [] shelf h id r there = absurd (cc)
 found_apart (x ∷ rows) shelf h id r there =
     let w = both (not (is_some (look x.0 shelf))) (are_apart rows shelf) h in
@@ -71,21 +72,25 @@ found_apart (x ∷ rows) shelf h id r there =
     by true e there here ih = let same : x.0 ≡ id = grind (arith, nat_tests) in subst (λ k. not (is_some (look k shelf)) ≡ true) same here
     by false e there here ih = ih there
 
-pub apart_tested : (rows : List (ℕ × Row)) (shelf : List (ℕ × Waiting)) → are_apart rows shelf ≡ true → (id : ℕ) (r : Row) (w : Waiting) → look id rows ≡ Some r → look id shelf ≡ Some w → ⊥
+pub apart_tested : (rows : List (ℕ × Row)) (shelf : List (ℕ × Waiting)) → are_apart rows shelf ≡ true → (id : ℕ) (r : Row) (w : Waiting) →
+    look id rows ≡ Some r → look id shelf ≡ Some w → ⊥
 apart_tested rows shelf h id r w there other =
     let free = found_apart rows shelf h id r there in
     let taken : not (is_some (look id shelf)) ≡ false = ap (λ o. not (is_some o)) other in
     absurd (cc)
 
-not_found : (shelf : List (ℕ × Waiting)) (id : ℕ) (o : Option Waiting) → look id shelf ≡ o → ((w : Waiting) → look id shelf ≡ Some w → ⊥) → not (is_some o) ≡ true
+not_found : (shelf : List (ℕ × Waiting)) (id : ℕ) (o : Option Waiting) → look id shelf ≡ o → ((w : Waiting) → look id shelf ≡ Some w → ⊥) →
+    not (is_some o) ≡ true
 not_found shelf id None e none = refl
 not_found shelf id (Some w) e none = absurd (none w e)
 
-pub apart_tests : (n m : ℕ) (rows : List (ℕ × Row)) (shelf : List (ℕ × Waiting)) → Rising n m rows → ((id : ℕ) (r : Row) (w : Waiting) → look id rows ≡ Some r → look id shelf ≡ Some w → ⊥) → are_apart rows shelf ≡ true
+pub apart_tests : (n m : ℕ) (rows : List (ℕ × Row)) (shelf : List (ℕ × Waiting)) → Rising n m rows →
+    ((id : ℕ) (r : Row) (w : Waiting) → look id rows ≡ Some r → look id shelf ≡ Some w → ⊥) → are_apart rows shelf ≡ true
 apart_tests n m [] shelf rising apart = refl
 apart_tests n m (x ∷ rows) shelf rising apart =
     let here : x.0 == x.0 ≡ true = grind (arith, nat_tests) in
-    let free : not (is_some (look x.0 shelf)) ≡ true = not_found shelf x.0 (look x.0 shelf) refl (λ w h. apart x.0 x.1 w (ap (λ (b : Bool). if b then Some x.1 else look x.0 rows) here) h) in
+    let free : not (is_some (look x.0 shelf)) ≡ true = not_found shelf x.0 (look x.0 shelf) refl
+    (λ w h. apart x.0 x.1 w (ap (λ (b : Bool). if b then Some x.1 else look x.0 rows) here) h) in
     rw free (apart_tests (x.0 + 1) m rows shelf rising.2 later)
   where
     later : (id : ℕ) (r : Row) (w : Waiting) → look id rows ≡ Some r → look id shelf ≡ Some w → ⊥
@@ -102,7 +107,8 @@ abbrev Above : Option (ℕ × ℕ) → List Advice → Type 0
 Above None xs = Unit {0}
 Above (Some before) xs = All (λ (y : Advice). place_lt before y.0 ≡ true) xs
 
-above_tail : (before : Option (ℕ × ℕ)) (x : Advice) (xs : List Advice) → follows before x.0 ≡ true → All (λ (y : Advice). place_lt x.0 y.0 ≡ true) xs → Above before (x ∷ xs)
+above_tail : (before : Option (ℕ × ℕ)) (x : Advice) (xs : List Advice) → follows before x.0 ≡ true → All (λ (y : Advice). place_lt x.0 y.0 ≡ true) xs →
+    Above before (x ∷ xs)
 above_tail None x xs h all = tt
 above_tail (Some before) x xs h all =
     All-cons (λ (y : Advice). place_lt before y.0 ≡ true) x xs h
@@ -151,7 +157,8 @@ rising_least n m (x ∷ xs) h = let a : n ≤ x.0 = h.0 in let b : x.0 < m = h.1
 
 pub ok_tested : (v : JournalView) → frame_fits v ≡ true → AllUnder RowFits v.rows → AllUnder WaitingFits v.shelf → IsOk v
 ok_tested v h rows shelf =
-    let all = both (nat_le v.next_id 9223372036854775807 && nat_le (length v.rows) 16) (((rises 1 v.next_id v.rows && rises 1 v.next_id v.shelf) && are_apart v.rows v.shelf) && places_rise None v.next_id v.advices) h in
+    let all = both (nat_le v.next_id 9223372036854775807 && nat_le (length v.rows) 16)
+    (((rises 1 v.next_id v.rows && rises 1 v.next_id v.shelf) && are_apart v.rows v.shelf) && places_rise None v.next_id v.advices) h in
     let bounds = both (nat_le v.next_id 9223372036854775807) (nat_le (length v.rows) 16) all.0 in
     let lists = both ((rises 1 v.next_id v.rows && rises 1 v.next_id v.shelf) && are_apart v.rows v.shelf) (places_rise None v.next_id v.advices) all.1 in
     let keys = both (rises 1 v.next_id v.rows && rises 1 v.next_id v.shelf) (are_apart v.rows v.shelf) lists.0 in

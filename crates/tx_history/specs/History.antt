@@ -1,5 +1,6 @@
 -- What a list of accepted events means. The lists of events, and of a transaction's own items, have the newest first.
-use Rattle.std.specs.Prelude.{ℕ, ◌+◌, ◌-◌, Bool, true, false, List, [], ◌∷◌, ◌++◌, length, drop, map, Option, Some, None, slice_get, nat_lt, ◌==◌, not, ◌&&◌, ◌||◌, if◌then◌else◌}
+use Rattle.std.specs.Prelude.{ℕ, ◌+◌, ◌-◌, Bool, true, false, List, [], ◌∷◌, ◌++◌, length, drop, map, Option, Some, None, slice_get, nat_lt, ◌==◌, not, ◌&&◌}
+use Rattle.std.specs.Prelude.{◌||◌, if◌then◌else◌}
 use Rattle.std.specs.Option.{option_map_or}
 use Rattle.flow_model.specs.declared.flow.Flow.{Flow}
 use Rattle.flow_model.specs.declared.numbering.Part.{Part}
@@ -53,7 +54,7 @@ is_over _ = false
 abbrev pub is_ended : Flow → TxState → Bool
 is_ended f st = is_over (due_of f st)
 
--- the participants to tell of a journalled transaction: one that may have been prepared is told too
+-- the participants to notify of a journalled transaction: one that may have been prepared is notified too
 abbrev pub to_tell : Row → Option (List ℕ) → List (List ℕ)
 to_tell r None = r.joined
 to_tell r (Some name) = r.joined ++ name ∷ []
@@ -113,7 +114,8 @@ serves_by f v past s items = if s == 0 then or_taken (first_unfinished f v.view.
 -- a transaction's own items: those given by sessions that served it
 abbrev pub own_items : Flow → Start → List Event → ℕ → List Item
 own_items f v [] id = []
-own_items f v (Answered s b c ∷ past) id = if is_id (serves_by f v past s (own_items f v past)) id then Answer b c ∷ own_items f v past id else own_items f v past id
+own_items f v (Answered s b c ∷ past) id = if is_id (serves_by f v past s (own_items f v past)) id then Answer b c ∷ own_items f v past id else own_items f
+    v past id
 own_items f v (Chose s t ∷ past) id = if is_id (serves_by f v past s (own_items f v past)) id then Choice t ∷ own_items f v past id else own_items f v past id
 own_items f v (Told s a ∷ past) id = if is_id (serves_by f v past s (own_items f v past)) id then ToldOne a ∷ own_items f v past id else own_items f v past id
 own_items f v (_ ∷ past) id = own_items f v past id
@@ -256,7 +258,7 @@ is_held_at f v past s (Some id) = on_break v past (participant_of (due_of f (sta
 abbrev pub is_held : Flow → Start → List Event → ℕ → Bool
 is_held f v past s = is_held_at f v past s (holds f v past s)
 
--- whether an entry of the transaction is the session's last one: 0 stands for none. A recovered transaction counts its own entries alone.
+-- whether an entry of the transaction is the session's last one: 0 means none. A recovered transaction counts its own entries alone.
 abbrev pub last_of : Flow → Start → List Event → ℕ → ℕ
 last_of f v [] id = 0
 last_of f v (Taken s ∷ past) id = if next_id v past == id then length past + 1 else last_of f v past id

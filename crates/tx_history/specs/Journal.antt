@@ -1,5 +1,6 @@
 -- The journal that a history makes, and the change that each entry is.
-use Rattle.std.specs.Prelude.{◌≡◌, ℕ, ◌+◌, Bool, true, false, List, [], ◌∷◌, ◌++◌, length, map, Option, Some, None, nat_lt, option_map, unwrap_or, slice_get, if◌then◌else◌, ◌<◌, ◌≤◌, ◌==◌, ◌||◌}
+use Rattle.std.specs.Prelude.{◌≡◌, ℕ, ◌+◌, Bool, true, false, List, [], ◌∷◌, ◌++◌, length, map, Option, Some, None, nat_lt, option_map, unwrap_or, slice_get}
+use Rattle.std.specs.Prelude.{if◌then◌else◌, ◌<◌, ◌≤◌, ◌==◌, ◌||◌}
 use Rattle.flow_model.specs.declared.flow.Flow.{Flow}
 use Rattle.flow_model.specs.Places.{parts_of}
 use Rattle.tx_machine.specs.declared.values.Item.{Item}
@@ -15,11 +16,20 @@ use Rattle.tx_history.specs.declared.event.Change.{Change}
 use Rattle.tx_history.specs.declared.event.Entry.{Entry}
 use Rattle.tx_history.specs.Keys.{gather, look, put_by, put_some, put_new, put_place, place_lt}
 use Rattle.tx_machine.specs.Bounds.{after_newest}
-use Rattle.tx_history.specs.History.{Start, name_of, is_ended, reopened, next_id, ids, takes, own_items, serves, state_of, shelf, shelved, recovering, restores, holds, is_held, arrivals, advice_place, put_advice}
+use Rattle.tx_history.specs.History.{Start, name_of, is_ended, reopened, next_id, ids, takes, own_items, serves, state_of, shelf, shelved, recovering, restores}
+use Rattle.tx_history.specs.History.{holds, is_held, arrivals, advice_place, put_advice}
 
 -- a transaction's row as the journal has it: participants by name
 abbrev pub named_row : Flow → TxRow → Row
-named_row f r = record { phase = r.phase; joined = map (name_of f) r.joined; told = r.told; doing = option_map (name_of f) r.doing; tries = r.tries; context = r.saved }
+named_row f r = record {
+  phase = r.phase;
+  joined = map (name_of f) r.joined;
+  told = r.told;
+  doing = option_map (name_of f) r.doing;
+  tries =
+      r.tries;
+  context = r.saved;
+}
 
 -- the row of a transaction that is not finished
 abbrev pub row : Flow → TxState → Option Row
@@ -94,7 +104,14 @@ touched f v past advice (Some id) =
 abbrev pub change : Flow → Start → List Event → Change
 change f v [] = no_change
 change f v (Taken s ∷ past) =
-    record { next_id = Some (next_id v past + 1); row = Some (next_id v past, row f (state_of f v (Taken s ∷ past) (next_id v past))); shelved = None; emptied = false; advice = None }
+    record {
+      next_id = Some (next_id v past + 1);
+      row = Some (next_id v past, row f (state_of f v (Taken s ∷ past) (next_id v past)));
+      shelved =
+          None;
+      emptied = false;
+      advice = None;
+    }
 change f v (Answered s b c ∷ past) = touched f v (Answered s b c ∷ past) None (serves f v past s)
 change f v (Chose s t ∷ past) = touched f v (Chose s t ∷ past) None (serves f v past s)
 change f v (Told s a ∷ past) = touched f v (Told s a ∷ past) (put_advice (advice_place f v past s) a) (serves f v past s)
@@ -121,7 +138,8 @@ Gives f v past s x = (id : ℕ) × (holds f v past s ≡ Some id) × (is_due (st
 
 abbrev pub IsAccepted : Flow → Start → List Event → Event → Type 0
 IsAccepted f v past (Offered c) = Unit {0}
-IsAccepted f v past (Taken s) = (recovering f v past ≡ None) × (holds f v past s ≡ None) × (takes past < length (arrivals f v past)) × (next_id v past < 9223372036854775807)
+IsAccepted f v past (Taken s) = (recovering f v past ≡ None) × (holds f v past s ≡ None) × (takes past < length (arrivals f v past))
+    × (next_id v past < 9223372036854775807)
 IsAccepted f v past (Answered s b c) = Gives f v past s (Answer b c)
 IsAccepted f v past (Chose s t) = Gives f v past s (Choice t)
 IsAccepted f v past (Told s a) = Gives f v past s (ToldOne a)

@@ -33,15 +33,18 @@ pub fn items_are_of_their_holders()
     ensures answered { (f : Flow) (v : Start) (past : List Event) (s b : ℕ) (c : List ℕ) (id : ℕ)
         → IsAccepted f v past (Event.Answered s b c)
         → own_items f v (Event.Answered s b c ∷ past) id
-        ≡ (if is_id (holds f v past s) id then Answer b c ∷ own_items f v past id else own_items f v past id) }
+        ≡ (if is_id (holds f v past s) id then Answer b c ∷ own_items f v past id
+        else own_items f v past id) }
     ensures chose { (f : Flow) (v : Start) (past : List Event) (s : ℕ) (t : List ℕ) (id : ℕ)
         → IsAccepted f v past (Event.Chose s t)
         → own_items f v (Event.Chose s t ∷ past) id
-        ≡ (if is_id (holds f v past s) id then Choice t ∷ own_items f v past id else own_items f v past id) }
+        ≡ (if is_id (holds f v past s) id then Choice t ∷ own_items f v past id
+        else own_items f v past id) }
     ensures told { (f : Flow) (v : Start) (past : List Event) (s : ℕ) (a : Option (List ℕ)) (id : ℕ)
         → IsAccepted f v past (Event.Told s a)
         → own_items f v (Event.Told s a ∷ past) id
-        ≡ (if is_id (holds f v past s) id then Told a ∷ own_items f v past id else own_items f v past id) }
+        ≡ (if is_id (holds f v past s) id then Told a ∷ own_items f v past id
+        else own_items f v past id) }
     ensures first { (f : Flow) (v : Start) (past : List Event) (id : ℕ)
         → IsOrdered v.view → recovering f v past ≡ Some id → holds f v past 0 ≡ Some id }
     ensures untaken { (f : Flow) (v : Start) (past : List Event) (id : ℕ)
@@ -67,7 +70,8 @@ pub fn journals_are_sound()
     ensures stop { (f : Flow) (v : Start) (past : List Event) (n : ℕ)
         → FlowFits f → StartFits f v → IsHistory f v n past → StartFits f (stopped f v past) }
     ensures cut { (f : Flow) (v : Start) (past : List Event) (breaks : List ℕ) (n : ℕ)
-        → FlowFits f → StartFits f v → IsHistory f v n past → StartFits f (after_cut f v past breaks) }
+        → FlowFits f → StartFits f v → IsHistory f v n past
+        → StartFits f (after_cut f v past breaks) }
     ensures opening { (f : Flow) (v : Start) → IsLawful f v (opened f v) }
 {}
 
@@ -83,14 +87,17 @@ pub fn recovered_in_turn()
     ensures untouched { (f : Flow) (v : Start) (past : List Event) (id j : ℕ)
         → IsOrdered v.view → IsLawful f v past → recovering f v past ≡ Some id
         → id < j → j < v.view.next_id → own_items f v past j ≡ [] }
-    ensures follows { (f : Flow) (v : Start) (past : List Event) (s : ℕ) (a : Option (List ℕ)) (id : ℕ)
+    ensures follows { (f : Flow) (v : Start) (past : List Event) (s : ℕ)
+        (a : Option (List ℕ)) (id : ℕ)
         → IsOrdered v.view → IsLawful f v past → serves f v past s ≡ Some id
         → recovering f v past ≡ Some id
         → recovering f v (Event.Told s a ∷ past) ≡ recovering_next f v (Event.Told s a ∷ past) id }
-    ensures moves { (f : Flow) (v : Start) (past : List Event) (s : ℕ) (a : Option (List ℕ)) (id : ℕ)
+    ensures moves { (f : Flow) (v : Start) (past : List Event) (s : ℕ)
+        (a : Option (List ℕ)) (id : ℕ)
         → serves f v past s ≡ Some id
         → state_of f v (Event.Told s a ∷ past) id ≡ next f (state_of f v past id) (Told a) }
-    ensures stays { (f : Flow) (v : Start) (past : List Event) (s : ℕ) (a : Option (List ℕ)) (id j : ℕ)
+    ensures stays { (f : Flow) (v : Start) (past : List Event) (s : ℕ)
+        (a : Option (List ℕ)) (id j : ℕ)
         → serves f v past s ≡ Some id → j ≢ id
         → state_of f v (Event.Told s a ∷ past) j ≡ state_of f v past j }
 {}

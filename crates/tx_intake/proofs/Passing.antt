@@ -1,6 +1,7 @@
 -- Each move of an intake keeps its rule.
 -- for: intake::Intake::new, intake::Intake::put, intake::Intake::get, intake::Intake::settle
-use Rattle.std.proofs.Common.{◌≡◌, ◌≢◌, ◌≤◌, ℕ, zero, suc, true, false, true≢false, List, [], ◌∷◌, ◌++◌, length, set, sym, refl, ap, ◌∙◌, subst, ⊎_elim, append_assoc, arith, length-append, lit≤}
+use Rattle.std.proofs.Common.{◌≡◌, ◌≢◌, ◌≤◌, ℕ, zero, suc, true, false, true≢false, List, [], ◌∷◌, ◌++◌, length, set, sym, refl, ap, ◌∙◌, subst, ⊎_elim}
+use Rattle.std.proofs.Common.{append_assoc, arith, length-append, lit≤}
 use mathlib.Core.Option.{some, some-ne-none}
 use lib.ListN.{get_elem?}
 use Rattle.crossbeam_queue.specs.Fifo.{Pushes, Pops, Forks, Merges, Learns}
@@ -37,20 +38,21 @@ begins = (
 )
 
 pub puts : (n pass : ℕ) (v : Side) (x : List ℕ) → n ≤ 4096 → v.puts ≡ true → Pushes Passed n pass v x (λ w. w ≡ side v.puts v.gets (v.put ++ x ∷ []) v.got)
-puts n pass v x small may held views room h at = let w : Side = side v.puts v.gets (v.put ++ x ∷ []) v.got in let mine = h.5 pass v at in let put = h.2 ++ x ∷ [] in (
-  w,
-  (
-    h.0,
-    h.1,
-    put,
-    h.3,
-    ap (λ l. l ++ x ∷ []) h.4 ∙ append_assoc h.3 held (x ∷ []),
-    all_set (Fits h.0 h.1 put h.3) views pass w ((λ _. ((mine.0 may).0, ap (λ l. l ++ x ∷ []) (mine.0 may).1)), mine.1)
-        (λ j u other e. ((λ p. absurd (other (((h.5 j u e).0 p).0 ∙ sym (mine.0 may).0))), (h.5 j u e).1)),
-    omega (arith, length-append held (x ∷ []), small, room),
-  ),
-  refl,
-)
+puts n pass v x small may held views room h at = let w : Side = side v.puts v.gets (v.put ++ x ∷ []) v.got in let mine = h.5 pass v at in let put =
+    h.2 ++ x ∷ [] in (
+      w,
+      (
+        h.0,
+        h.1,
+        put,
+        h.3,
+        ap (λ l. l ++ x ∷ []) h.4 ∙ append_assoc h.3 held (x ∷ []),
+        all_set (Fits h.0 h.1 put h.3) views pass w ((λ _. ((mine.0 may).0, ap (λ l. l ++ x ∷ []) (mine.0 may).1)), mine.1)
+            (λ j u other e. ((λ p. absurd (other (((h.5 j u e).0 p).0 ∙ sym (mine.0 may).0))), (h.5 j u e).1)),
+        omega (arith, length-append held (x ∷ []), small, room),
+      ),
+      refl,
+    )
 
 pub gets : (pass : ℕ) (v : Side) → v.gets ≡ true → Pops Passed pass v (λ x w. w ≡ side v.puts v.gets v.put (v.got ++ x ∷ []))
 gets pass v may x held views h at = let w : Side = side v.puts v.gets v.put (v.got ++ x ∷ []) in let mine = h.5 pass v at in let got = h.3 ++ x ∷ [] in (
@@ -70,27 +72,46 @@ gets pass v may x held views h at = let w : Side = side v.puts v.gets v.put (v.g
 
 -- one pass becomes the putter's, and a new one the getter's
 pub parts : (pass : ℕ) (v : Side) → v.puts ≡ true → v.gets ≡ true → Forks Passed pass v (side true false v.put []) (side false true [] v.got)
-parts pass v a b held views h at = let l : Side = side true false v.put [] in let r : Side = side false true [] v.got in let mine = h.5 pass v at in let vs : List Side = set views pass l in
+parts pass v a b held views h at = let l : Side = side true false v.put [] in let r : Side = side false true [] v.got in let mine = h.5 pass v at in
+    let vs : List Side = set views pass l in
     let Old : ℕ → Side → Type 0 = λ j u. (u.puts ≡ true → (j ≡ h.0) × (u.put ≡ h.2)) × (u.gets ≢ true) in
-    let old : All Old vs = all_set Old views pass l ((λ _. mine.0 a), λ p. true≢false (sym p)) (λ j u other e. ((h.5 j u e).0, λ p. other (((h.5 j u e).1 p).0 ∙ sym (mine.1 b).0))) in (
+    let old : All Old vs = all_set Old views pass l ((λ _. mine.0 a), λ p. true≢false (sym p))
+    (λ j u other e. ((h.5 j u e).0, λ p. other (((h.5 j u e).1 p).0 ∙ sym (mine.1 b).0))) in (
       h.0,
       length vs,
       h.2,
       h.3,
       h.4,
       λ j u e. ⊎_elim (λ x. ((old j u x).0, λ p. absurd ((old j u x).1 p)))
-          (λ (is : r ≡ u). ((λ p. absurd (true≢false (sym (ap (λ (y : Side). y.puts) is ∙ p)))), λ p. (at_end vs r u j (λ x. (old j u x).1 p) e, ap (λ (y : Side). y.got) (sym is) ∙ (mine.1 b).1)))
+          (λ (is : r ≡ u). (
+            (λ p. absurd (true≢false (sym (ap (λ (y : Side). y.puts) is ∙ p)))),
+            λ p. (at_end vs r u j (λ x. (old j u x).1 p) e, ap (λ (y : Side). y.got) (sym is) ∙ (mine.1 b).1),
+          ))
           (at_snoc vs r u j e),
       h.6,
     )
 
 -- both become one again
-pub joins : (pass : ℕ) (v : Side) (other : ℕ) (u : Side) → v.puts ≡ true → u.gets ≡ true → Merges Passed pass v other u (side true true v.put u.got) (side false false [] [])
-joins pass v other u a b held views h at two at' = let both : Side = side true true v.put u.got in let mine = h.5 pass v at in let vs : List Side = set views pass both in
-    let was : get_elem? views other ≡ some u = ⊎_elim (λ x. absurd (two x.0)) (λ x. x.1) (at_set views pass other both u at') in let theirs = (h.5 other u was).1 b in
+pub joins : (pass : ℕ) (v : Side) (other : ℕ) (u : Side) → v.puts ≡ true → u.gets ≡ true →
+    Merges Passed pass v other u (side true true v.put u.got) (side false false [] [])
+joins pass v other u a b held views h at two at' = let both : Side = side true true v.put u.got in let mine = h.5 pass v at in let vs : List Side =
+    set views pass both in
+    let was : get_elem? views other ≡ some u = ⊎_elim (λ x. absurd (two x.0)) (λ x. x.1) (at_set views pass other both u at') in let theirs =
+    (h.5 other u was).1 b in
     let Now : ℕ → Side → Type 0 = λ j y. j ≢ other → Fits h.0 pass h.2 h.3 j y in
-    let now : All Now vs = all_set Now views pass both (λ _. ((λ _. mine.0 a), λ _. (refl, theirs.1))) (λ j y _ e apart. ((h.5 j y e).0, λ p. absurd (apart (((h.5 j y e).1 p).0 ∙ sym theirs.0)))) in
-    (h.0, pass, h.2, h.3, h.4, all_set (Fits h.0 pass h.2 h.3) vs other (side false false [] []) ((λ p. absurd (true≢false (sym p))), λ p. absurd (true≢false (sym p))) (λ j y apart e. now j y e apart), h.6)
+    let now : All Now vs = all_set Now views pass both (λ _. ((λ _. mine.0 a), λ _. (refl, theirs.1)))
+    (λ j y _ e apart. ((h.5 j y e).0, λ p. absurd (apart (((h.5 j y e).1 p).0 ∙ sym theirs.0)))) in (
+      h.0,
+      pass,
+      h.2,
+      h.3,
+      h.4,
+      all_set (Fits h.0 pass h.2 h.3) vs other (side false false [] []) (
+        (λ p. absurd (true≢false (sym p))),
+        λ p. absurd (true≢false (sym p)),
+      ) (λ j y apart e. now j y e apart),
+      h.6,
+    )
 
 pub held_of_put : (pass : ℕ) (v : Side) → Learns Passed pass v (HeldOfPut v)
 held_of_put pass v held views h at may = (h.3, ((h.5 pass v at).0 may).1 ∙ h.4)

@@ -6,7 +6,7 @@ use Rattle.sw_base.specs.Refusals.{refused_if}
 use Rattle.tx_intake.specs.declared.error.IntakeError.{IntakeError}
 use Rattle.tx_intake.specs.declared.error.IntakeError.TheVariants.{BadCapacity}
 
--- by which one intake is told from another
+-- by which one intake is distinguished from another
 abbrev pub IntakeId : Type 0
 IntakeId = TableId
 

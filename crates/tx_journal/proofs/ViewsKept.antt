@@ -1,6 +1,6 @@
 -- The view that a database has is that of the journal that is opened of it.
 -- for: journal::Journal::open
-use Rattle.std.proofs.Common.{◌≡◌, ◌⊎◌, ◌∙◌, None, inl, inr, refl, sym, subst}
+use Rattle.std.proofs.Common.{◌≡◌, ◌∙◌, None, inl, inr, refl, sym, subst}
 use Rattle.sqlite.specs.Effect.{Database}
 use Rattle.sqlite_catalog.specs.Listing.{IsSound}
 use Rattle.sqlite_schema.specs.declared.schema.Schema.{Schema}
@@ -14,7 +14,7 @@ use Rattle.journal_tables.specs.Turning.{IsFirst}
 use Rattle.journal_tables.proofs.Types.{turned_from}
 use Rattle.tx_journal.specs.Kept.{OpensAs}
 use Rattle.tx_journal.specs.Making.{new_tables}
-use Rattle.tx_journal.specs.Opened.{IsViewOf, blank_view}
+use Rattle.tx_journal.specs.Opened.{IsViewOf}
 use Rattle.tx_journal.proofs.Opens.{journal_sound, opens_empty, opens_first, opens_sound}
 
 first_sound : (d : Database) → IsFirst d → IsSound first_schema d.trees
@@ -43,7 +43,8 @@ view_kept was t o db v same is = view_opened db v t is (subst (λ (d : Trees). O
 pub view_same : (t u : Tables) (v : JournalView) → u ≡ t → IsViewIn t v → IsViewIn u v
 view_same t u v same is = subst (λ (w : Tables). IsViewIn w v) (sym same) is
 
-pub view_left : (was : Trees) (u : Tables) → ((t : Tables) → OpensAs was t → u ≡ t) → (db : Database) (v : JournalView) → db.trees ≡ was → IsViewOf db v → IsViewIn u v
+pub view_left : (was : Trees) (u : Tables) → ((t : Tables) → OpensAs was t → u ≡ t) → (db : Database) (v : JournalView) → db.trees ≡ was → IsViewOf db v →
+    IsViewIn u v
 view_left was u once db v same is =
     let o = opened_of db v is in
     let there = subst (λ (d : Trees). OpensAs d o.0) same o.1 in

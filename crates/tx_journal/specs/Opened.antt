@@ -1,5 +1,5 @@
 -- The view that a database has in either layout, and what an opening makes of it.
-use Rattle.std.specs.Prelude.{◌≡◌, ◌⊎◌, ⊤, [], None}
+use Rattle.std.specs.Prelude.{◌≡◌, ◌⊎◌, [], None}
 use Rattle.sqlite.specs.Effect.{Database}
 use Rattle.sqlite_catalog.specs.Listing.{IsSound}
 use Rattle.sqlite_trees.specs.Tree.{Trees}

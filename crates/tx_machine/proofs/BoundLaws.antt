@@ -1,6 +1,7 @@
 -- What every lawful list keeps of a state, and the bounds of rows.
 -- for: laws::lists_extend, laws::lists_keep_bounds
-use Rattle.std.proofs.Common.{◌≡◌, ℕ, ◌+◌, ◌<◌, ◌≤◌, Bool, true, false, ◌⊎◌, inl, inr, List, [], ◌∷◌, ◌++◌, length, map, Option, Some, None, refl, ap, subst, arith, length-append, if◌then◌else◌}
+use Rattle.std.proofs.Common.{◌≡◌, ℕ, ◌+◌, ◌<◌, ◌≤◌, Bool, true, false, ◌⊎◌, inl, inr, List, [], ◌∷◌, ◌++◌, length, map, Option, Some, None, refl, ap, subst}
+use Rattle.std.proofs.Common.{arith, length-append, if◌then◌else◌}
 use Rattle.std.specs.Prelude.{◌==◌, nat_lt, not, ◌&&◌, codes, reverse, slice_index}
 use Rattle.std.specs.List.{All, flat_map}
 use Rattle.std.proofs.lemmas.Bool.Decides.{nat_tests}
@@ -16,7 +17,9 @@ use Rattle.tx_machine.specs.declared.values.Phase.TheVariants.{Preparing, Aborti
 use Rattle.tx_machine.specs.declared.values.Due.TheVariants as due
 use Rattle.tx_machine.specs.declared.values.Item.{Item}
 use Rattle.tx_machine.specs.declared.values.Item.TheVariants.{Answer, Choice, Told}
-use Rattle.tx_machine.specs.Table.{TxState, Upcoming, Prepare, Select, next, after, opening, reopening, chosen, is_open, is_due, prepares_next, selects_next, passed, settled, is_aborting, cut_at, limited, decide_at, advanced, outcome, entered, after_byte, retry_after, joined_after, saved_after, answered_at, chosen_at}
+use Rattle.tx_machine.specs.Table.{TxState, Upcoming, Prepare, Select, next, after, opening, reopening, chosen, is_open, is_due, prepares_next, selects_next}
+use Rattle.tx_machine.specs.Table.{passed, settled, is_aborting, cut_at, limited, decide_at, advanced, outcome, entered, after_byte, retry_after, joined_after}
+use Rattle.tx_machine.specs.Table.{saved_after, answered_at, chosen_at}
 use Rattle.tx_machine.specs.Lists.{is_lawful}
 use Rattle.tx_machine.specs.Due.{due_at, end_by}
 use Rattle.tx_machine.specs.Row.{Row, row_with, row_at, row_of, IsDoing, IsInPhase, IsRow}
@@ -132,7 +135,15 @@ decide_proper f s [] (p ∷ ps) r j c = let o = c.opened in record {
 advance_proper : (f : Flow) (s : TxState) → IsOpen f s → IsProper f (advanced s)
 advance_proper f s o =
     let t : TxState = record s { rest = settled (is_aborting s.phase) s.rest } in
-    let ot : IsOpen f t = record { calls = o.calls; members = o.members; told = o.told; phase = o.phase; joined = o.joined; rest = settled_of_flow f (is_aborting s.phase) s.rest o.rest } in
+    let ot : IsOpen f t = record {
+      calls = o.calls;
+      members = o.members;
+      told = o.told;
+      phase = o.phase;
+      joined = o.joined;
+      rest =
+          settled_of_flow f (is_aborting s.phase) s.rest o.rest;
+    } in
     let c : IsCut f (limited t) = cut_open f t t.rest (t.calls == 1000) refl (not_full t.calls o.calls) ot in
     decide_proper f (limited t) (limited t).rest (limited t).joined refl refl c
 
@@ -177,7 +188,8 @@ entered_of_flow f s ms n h = by s.kind.selector
     by true = All-cons (IsOfFlow f) (Select s) ms n h
     by false = h
 
-answer_proper : (f : Flow) (s : TxState) (b : ℕ) (c : List ℕ) (ms : List Upcoming) → s.rest ≡ ms → is_open s.phase ≡ true → prepares_next ms ≡ true → IsProper f s → IsProper f (answered_at s b c ms)
+answer_proper : (f : Flow) (s : TxState) (b : ℕ) (c : List ℕ) (ms : List Upcoming) → s.rest ≡ ms → is_open s.phase ≡ true → prepares_next ms ≡ true →
+    IsProper f s → IsProper f (answered_at s b c ms)
 answer_proper f s b c [] r o e h = absurd (cc)
 answer_proper f s b c (Select x ∷ tail) r o e h = absurd (cc)
 answer_proper f s b c (Prepare x ∷ tail) r o e h =
@@ -187,7 +199,15 @@ answer_proper f s b c (Prepare x ∷ tail) r o e h =
     let long = joined_length b x.participant s.joined in
     let u = h.undecided o in
     let few = u.members in
-    advance_proper f (record s { phase = after_byte s.phase b; rest = entered x tail; retry = retry_after s.phase b s.retry; calls = s.calls + 1; joined = joined_after b x.participant s.joined; saved = saved_after b c s.saved })
+    advance_proper f (record s {
+      phase = after_byte s.phase b;
+      rest = entered x tail;
+      retry = retry_after s.phase b s.retry;
+      calls = s.calls + 1;
+      joined =
+          joined_after b x.participant s.joined;
+      saved = saved_after b c s.saved;
+    })
     (record {
       calls = omega arith;
       members = omega arith;
@@ -201,7 +221,8 @@ chosen_of_flow : (f : Flow) (ns : List (List ℕ)) → All (IsOfParticipant f) (
 chosen_of_flow f [] = All-nil (IsOfParticipant f)
 chosen_of_flow f (n ∷ ns) = All-append (IsOfParticipant f) (entries_named f n) (flat_map (entries_named f) ns) (named_of_participants f n) (chosen_of_flow f ns)
 
-choice_proper : (f : Flow) (s : TxState) (t : List ℕ) (ms : List Upcoming) → s.rest ≡ ms → is_open s.phase ≡ true → selects_next ms ≡ true → IsProper f s → IsProper f (chosen_at f s t ms)
+choice_proper : (f : Flow) (s : TxState) (t : List ℕ) (ms : List Upcoming) → s.rest ≡ ms → is_open s.phase ≡ true → selects_next ms ≡ true → IsProper f s →
+    IsProper f (chosen_at f s t ms)
 choice_proper f s t [] r o e h = absurd (cc)
 choice_proper f s t (Prepare x ∷ tail) r o e h = absurd (cc)
 choice_proper f s t (Select x ∷ tail) r o e h =
@@ -216,7 +237,8 @@ choice_proper f s t (Select x ∷ tail) r o e h =
       told = u.untold;
       phase = o;
       joined = h.joined;
-      rest = All-append (IsOfFlow f) (map Prepare (chosen f t)) tail (All-map (IsOfFlow f) Prepare (chosen f t) (chosen_of_flow f _)) (All-tail (IsOfFlow f) (Select x) tail all);
+      rest = All-append (IsOfFlow f) (map Prepare (chosen f t)) tail (All-map (IsOfFlow f) Prepare (chosen f t) (chosen_of_flow f _))
+          (All-tail (IsOfFlow f) (Select x) tail all);
     })
 
 tells : (x : Bool) (n k : ℕ) → (x && nat_lt n k) ≡ true → n + 1 ≤ k
@@ -247,7 +269,18 @@ next_proper f s (Told a) d h = record {
 
 pub opening_proper : (f : Flow) (tries : ℕ) (saved : List ℕ) → IsProper f (opening f tries saved)
 opening_proper f tries saved =
-    advance_proper f (record { phase = Preparing; rest = map Prepare (entries_named f (codes "main")); retry = false; bound = false; calls = 0; joined = []; told = 0; saved = saved; tries = tries })
+    advance_proper f (record {
+      phase = Preparing;
+      rest = map Prepare (entries_named f (codes "main"));
+      retry = false;
+      bound = false;
+      calls = 0;
+      joined =
+          [];
+      told = 0;
+      saved = saved;
+      tries = tries;
+    })
     (record {
       calls = omega arith;
       members = omega arith;
@@ -257,11 +290,32 @@ opening_proper f tries saved =
       rest = All-map (IsOfFlow f) Prepare (entries_named f (codes "main")) (named_of_participants f (codes "main"));
     })
 
-pub reopening_proper : (f : Flow) (committing : Bool) (joined : List ℕ) (told tries : ℕ) (saved : List ℕ) → told ≤ length joined → length joined ≤ 1001 → All (λ p. p < length (parts_of f)) joined → IsProper f (reopening committing joined told tries saved)
+pub reopening_proper : (f : Flow) (committing : Bool) (joined : List ℕ) (told tries : ℕ) (saved : List ℕ) → told ≤ length joined → length joined ≤ 1001 →
+    All (λ p. p < length (parts_of f)) joined → IsProper f (reopening committing joined told tries saved)
 reopening_proper f true joined told tries saved within few all =
-    record { calls = omega arith; more = inl refl; undecided = λ o. absurd cc; decided = λ _. refl; few = few; told = within; joined = all; rest = All-nil (IsOfFlow f) }
+    record {
+      calls = omega arith;
+      more = inl refl;
+      undecided = λ o. absurd cc;
+      decided = λ _. refl;
+      few = few;
+      told = within;
+      joined = all;
+      rest =
+          All-nil (IsOfFlow f);
+    }
 reopening_proper f false joined told tries saved within few all =
-    record { calls = omega arith; more = inl refl; undecided = λ o. absurd cc; decided = λ _. refl; few = few; told = within; joined = all; rest = All-nil (IsOfFlow f) }
+    record {
+      calls = omega arith;
+      more = inl refl;
+      undecided = λ o. absurd cc;
+      decided = λ _. refl;
+      few = few;
+      told = within;
+      joined = all;
+      rest =
+          All-nil (IsOfFlow f);
+    }
 
 pub after_proper : (f : Flow) (s : TxState) (xs : List Item) → IsProper f s → is_lawful f s xs ≡ true → IsProper f (after f s xs)
 after_proper f s [] h law = h
@@ -286,7 +340,8 @@ closed_phase Aborting r o t d l = absurd cc
 closed_phase Committing r o t d l = (t, d, l)
 closed_phase Undoing r o t d l = (t, d, l)
 
-open_row : (f : Flow) (s : TxState) (doing : Option ℕ) → is_open s.phase ≡ true → IsProper f s → IsDoing (length (parts_of f)) doing → IsRow f (row_with s doing)
+open_row : (f : Flow) (s : TxState) (doing : Option ℕ) → is_open s.phase ≡ true → IsProper f s → IsDoing (length (parts_of f)) doing →
+    IsRow f (row_with s doing)
 open_row f s doing o h d =
     let u = h.undecided o in
     let few = u.members in
@@ -294,26 +349,36 @@ open_row f s doing o h d =
     record { phase = open_phase s.phase (row_with s doing) o u.untold (omega arith); members = h.joined; doing = d }
 
 closed_row : (f : Flow) (s : TxState) → is_open s.phase ≡ false → IsProper f s → nat_lt s.told (length s.joined) ≡ true → IsRow f (row_with s None)
-closed_row f s o h lt = record { phase = closed_phase s.phase (row_with s None) o (let l : s.told < length s.joined = grind (arith, nat_tests) in l) refl h.few; members = h.joined; doing = tt }
+closed_row f s o h lt = record {
+  phase = closed_phase s.phase (row_with s None) o (let l : s.told < length s.joined = grind (arith, nat_tests) in l) refl
+      h.few;
+  members = h.joined;
+  doing = tt;
+}
 
 no_row : (s : TxState) (r : Row) (b : Bool) → row_at s (if b then due.Shelve else due.Done) ≡ Some r → ⊥
 no_row s r true e = cc
 no_row s r false e = cc
 
-commit_row : (f : Flow) (s : TxState) (r : Row) (b : Bool) (p : ℕ) → nat_lt s.told (length s.joined) ≡ b → is_open s.phase ≡ false → IsProper f s → row_at s (if b then due.Commit p else due.Done) ≡ Some r → IsRow f r
+commit_row : (f : Flow) (s : TxState) (r : Row) (b : Bool) (p : ℕ) → nat_lt s.told (length s.joined) ≡ b → is_open s.phase ≡ false → IsProper f s →
+    row_at s (if b then due.Commit p else due.Done) ≡ Some r → IsRow f r
 commit_row f s r true p lt o h e = subst (IsRow f) (same_row (row_with s None) r e) (closed_row f s o h lt)
 commit_row f s r false p lt o h e = absurd cc
 
-abort_row : (f : Flow) (s : TxState) (r : Row) (b : Bool) (p : ℕ) → nat_lt s.told (length s.joined) ≡ b → is_open s.phase ≡ false → IsProper f s → row_at s (if b then due.Abort p else end_by s.retry s.tries) ≡ Some r → IsRow f r
+abort_row : (f : Flow) (s : TxState) (r : Row) (b : Bool) (p : ℕ) → nat_lt s.told (length s.joined) ≡ b → is_open s.phase ≡ false → IsProper f s →
+    row_at s (if b then due.Abort p else end_by s.retry s.tries) ≡ Some r → IsRow f r
 abort_row f s r true p lt o h e = subst (IsRow f) (same_row (row_with s None) r e) (closed_row f s o h lt)
 abort_row f s r false p lt o h e = absurd (no_row s r (s.retry && nat_lt 0 s.tries) e)
 
-row_in : (f : Flow) (s : TxState) (r : Row) (p : Phase) (ms : List Upcoming) → s.phase ≡ p → s.rest ≡ ms → IsProper f s → row_at s (due_at f s p ms) ≡ Some r → IsRow f r
+row_in : (f : Flow) (s : TxState) (r : Row) (p : Phase) (ms : List Upcoming) → s.phase ≡ p → s.rest ≡ ms → IsProper f s →
+    row_at s (due_at f s p ms) ≡ Some r → IsRow f r
 row_in f s r Preparing [] ep er h e = absurd cc
-row_in f s r Preparing (Prepare x ∷ tail) ep er h e = subst (IsRow f) (same_row (row_with s (Some x.participant)) r e) (open_row f s (Some x.participant) (ap is_open ep) h (All-head (IsOfFlow f) (Prepare x) tail (subst (All (IsOfFlow f)) er h.rest)))
+row_in f s r Preparing (Prepare x ∷ tail) ep er h e = subst (IsRow f) (same_row (row_with s (Some x.participant)) r e)
+    (open_row f s (Some x.participant) (ap is_open ep) h (All-head (IsOfFlow f) (Prepare x) tail (subst (All (IsOfFlow f)) er h.rest)))
 row_in f s r Preparing (Select x ∷ tail) ep er h e = subst (IsRow f) (same_row (row_with s None) r e) (open_row f s None (ap is_open ep) h tt)
 row_in f s r Aborting [] ep er h e = absurd (no_row s r (s.retry && nat_lt 0 s.tries) e)
-row_in f s r Aborting (Prepare x ∷ tail) ep er h e = subst (IsRow f) (same_row (row_with s (Some x.participant)) r e) (open_row f s (Some x.participant) (ap is_open ep) h (All-head (IsOfFlow f) (Prepare x) tail (subst (All (IsOfFlow f)) er h.rest)))
+row_in f s r Aborting (Prepare x ∷ tail) ep er h e = subst (IsRow f) (same_row (row_with s (Some x.participant)) r e)
+    (open_row f s (Some x.participant) (ap is_open ep) h (All-head (IsOfFlow f) (Prepare x) tail (subst (All (IsOfFlow f)) er h.rest)))
 row_in f s r Aborting (Select x ∷ tail) ep er h e = subst (IsRow f) (same_row (row_with s None) r e) (open_row f s None (ap is_open ep) h tt)
 row_in f s r Committing ms ep er h e = commit_row f s r (nat_lt s.told (length s.joined)) (slice_index s.joined s.told) refl (ap is_open ep) h e
 row_in f s r Undoing ms ep er h e = abort_row f s r (nat_lt s.told (length s.joined)) (slice_index s.joined s.told) refl (ap is_open ep) h e

@@ -22,7 +22,9 @@ same_upcoming f (x ∷ xs) (y ∷ ys) h =
     let rest : map shown xs ≡ map shown ys = cc in
     let back : x.back ≡ y.back = ap (λ (p : ℕ × List ℕ). p.0) same in
     let pending : x.pending.items ≡ y.pending.items = ap (λ (p : ℕ × List ℕ). p.1) same in
-    ap (λ ms. ms ++ frame_upcoming f x) (same_upcoming f xs ys rest) ∙ ap (λ gs. stack_upcoming f ys ++ (map Prepare (entries_in f gs) ++ upcoming_at f x.back)) pending ∙ ap (λ k. stack_upcoming f ys ++ (map Prepare (entries_in f y.pending.items) ++ upcoming_at f k)) back
+    ap (λ ms. ms ++ frame_upcoming f x) (same_upcoming f xs ys rest)
+    ∙ ap (λ gs. stack_upcoming f ys ++ (map Prepare (entries_in f gs) ++ upcoming_at f x.back)) pending
+    ∙ ap (λ k. stack_upcoming f ys ++ (map Prepare (entries_in f y.pending.items) ++ upcoming_at f k)) back
 
 same_rest : (f : Flow) (step : ℕ) (xs ys : List Frame) → map shown xs ≡ map shown ys → rest_of f step xs ≡ rest_of f step ys
 same_rest f step xs ys h = ap (λ ms. upcoming_at f step ++ ms) (same_upcoming f xs ys h)
@@ -41,7 +43,8 @@ pub record IsSame (m n : Machine) : Type 0 where
 
 pub same_state : (f : Flow) (m n : Machine) → IsSame m n → state f n ≡ state f m
 same_state f m n s =
-    let rest : rest_of f n.step n.stack.items ≡ rest_of f m.step m.stack.items = same_rest f n.step n.stack.items m.stack.items s.stack ∙ ap (λ k. rest_of f k m.stack.items) s.step in
+    let rest : rest_of f n.step n.stack.items ≡ rest_of f m.step m.stack.items = same_rest f n.step n.stack.items m.stack.items s.stack
+    ∙ ap (λ k. rest_of f k m.stack.items) s.step in
     rw (s.phase, rest, s.retry, s.bound, s.calls, s.joined, s.told, s.tries, s.saved) refl
 
 same_frames : (f : Flow) (xs ys : List Frame) → map shown xs ≡ map shown ys → AllByRecursion (IsFrame f) ys → AllByRecursion (IsFrame f) xs
@@ -52,8 +55,10 @@ same_frames f (x ∷ xs) (y ∷ ys) h all =
     let same : shown x ≡ shown y = cc in
     let rest : map shown xs ≡ map shown ys = cc in
     let back : y.back ≡ x.back = sym (ap (λ (p : ℕ × List ℕ). p.0) same) in
-    let pending : y.pending.items ≡ x.pending.items = sym (ap (λ (p : ℕ × List ℕ). p.1) same) in
-    (record { back = subst (λ n. n < length (stages f)) back all.0.back; pending = subst (All (λ g. g < length (layout f))) pending all.0.pending }, same_frames f xs ys rest all.1)
+    let pending : y.pending.items ≡ x.pending.items = sym (ap (λ (p : ℕ × List ℕ). p.1) same) in (
+      record { back = subst (λ n. n < length (stages f)) back all.0.back; pending = subst (All (λ g. g < length (layout f))) pending all.0.pending },
+      same_frames f xs ys rest all.1,
+    )
 
 same_empty : (xs ys : List Frame) → map shown xs ≡ map shown ys → ys ≡ [] → xs ≡ []
 same_empty [] ys h e = refl
@@ -65,7 +70,8 @@ same_ready f m n s h = record {
   settled = record {
     fits = record {
       within = subst (λ k. k < length (stages f)) (sym s.step) h.settled.fits.within;
-      frames = All-from_recursion (IsFrame f) n.stack.items (same_frames f n.stack.items m.stack.items s.stack (recursion_from_All (IsFrame f) m.stack.items h.settled.fits.frames));
+      frames = All-from_recursion (IsFrame f) n.stack.items (same_frames f n.stack.items m.stack.items s.stack
+          (recursion_from_All (IsFrame f) m.stack.items h.settled.fits.frames));
       few = subst (λ k. k ≤ 1000) (sym s.calls) h.settled.fits.few;
       members = subst (All (λ p. p < length (parts_of f))) (sym s.joined) h.settled.fits.members;
     };

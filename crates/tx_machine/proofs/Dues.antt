@@ -14,11 +14,13 @@ ends true true s = tt
 ends true false s = tt
 ends false b s = tt
 
-commits : (b : Bool) (p : ℕ) (s : TxState) → nat_lt s.told (length s.joined) ≡ b → IsReplyDue (if b then due.Commit p else due.Done) (record s { phase = Committing })
+commits : (b : Bool) (p : ℕ) (s : TxState) → nat_lt s.told (length s.joined) ≡ b →
+    IsReplyDue (if b then due.Commit p else due.Done) (record s { phase = Committing })
 commits true p s h = h
 commits false p s h = tt
 
-aborts : (b : Bool) (p : ℕ) (s : TxState) → nat_lt s.told (length s.joined) ≡ b → IsReplyDue (if b then due.Abort p else end_by s.retry s.tries) (record s { phase = Undoing })
+aborts : (b : Bool) (p : ℕ) (s : TxState) → nat_lt s.told (length s.joined) ≡ b →
+    IsReplyDue (if b then due.Abort p else end_by s.retry s.tries) (record s { phase = Undoing })
 aborts true p s h = h
 aborts false p s h = ends s.retry (nat_lt 0 s.tries) (record s { phase = Undoing })
 

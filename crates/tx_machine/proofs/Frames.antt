@@ -1,6 +1,7 @@
 -- The stack: its top frame, and what a return does.
 -- for: walk::leave, walk::enter, walk::settle
-use Rattle.std.proofs.Common.{◌≡◌, ℕ, suc, ◌+◌, ◌<◌, Bool, true, false, ◌⊎◌, ⊎_elim, List, [], ◌∷◌, ◌++◌, length, map, take, get_or, set, refl, sym, ap, ◌∙◌, subst, arith, append_assoc, if◌then◌else◌}
+use Rattle.std.proofs.Common.{◌≡◌, ℕ, suc, ◌+◌, ◌<◌, Bool, true, false, ◌⊎◌, ⊎_elim, List, [], ◌∷◌, ◌++◌, length, map, take, get_or, set, refl, sym, ap, ◌∙◌}
+use Rattle.std.proofs.Common.{subst, arith, append_assoc, if◌then◌else◌}
 use Rattle.std.specs.List.{All, remove}
 use Rattle.std.proofs.lemmas.List.{take_all, take_more, take-set, set_split, drop_all, map-append}
 use Rattle.std.proofs.lemmas.List.Elements.{All-set, All-take}
@@ -10,7 +11,8 @@ use Rattle.flow_asm.specs.Steps.{first_step, layout}
 use Rattle.flow_asm.specs.Places.{group_at}
 use Rattle.tx_machine.specs.declared.walk.Frame.{Frame}
 use Rattle.tx_machine.specs.Table.{Upcoming, Prepare, Select, passed, settled}
-use Rattle.tx_machine.specs.Position.{upcoming_at, left_at, frame_upcoming, stack_upcoming, frame_left, stack_left, groups_left, rest_of, entries_in, IsFrame, IsCall, IsPick}
+use Rattle.tx_machine.specs.Position.{upcoming_at, left_at, frame_upcoming, stack_upcoming, frame_left, stack_left, groups_left, rest_of, entries_in, IsFrame}
+use Rattle.tx_machine.specs.Position.{IsCall, IsPick}
 use Rattle.tx_machine.proofs.StepsAhead.{is_first, stack_upcoming_top, stack_left_top}
 
 -- the stack is what lies below, and the top
@@ -26,11 +28,13 @@ pub record IsLeft (f : Flow) (step : ℕ) (new old : List Frame) : Type 0 where
   pub left : left_at f step + stack_left f new ≡ stack_left f old
 
 -- the top frame has no group left: the way back
-goes_back : (f : Flow) (xs : List Frame) (top : ℕ) (d : Frame) → length xs ≡ top + 1 → (get_or xs top d).pending.items ≡ [] → IsLeft f (get_or xs top d).back (take top xs) xs
+goes_back : (f : Flow) (xs : List Frame) (top : ℕ) (d : Frame) → length xs ≡ top + 1 → (get_or xs top d).pending.items ≡ [] →
+    IsLeft f (get_or xs top d).back (take top xs) xs
 goes_back f xs top d e p =
     let t : Frame = get_or xs top d in
     let whole : xs ≡ take top xs ++ t ∷ [] = top_of xs top d e in
-    let upcoming : stack_upcoming f xs ≡ frame_upcoming f t ++ stack_upcoming f (take top xs) = ap (stack_upcoming f) whole ∙ stack_upcoming_top f (take top xs) t in
+    let upcoming : stack_upcoming f xs ≡ frame_upcoming f t ++ stack_upcoming f (take top xs) =
+    ap (stack_upcoming f) whole ∙ stack_upcoming_top f (take top xs) t in
     let lefts : stack_left f xs ≡ frame_left f t + stack_left f (take top xs) = ap (stack_left f) whole ∙ stack_left_top f (take top xs) t in
     let none : frame_left f t ≡ 0 + left_at f t.back = ap (λ gs. groups_left f gs + left_at f t.back) p in
     record {
@@ -39,7 +43,8 @@ goes_back f xs top d e p =
     }
 
 -- the top frame's next group is entered
-goes_in : (f : Flow) (xs : List Frame) (top : ℕ) (d new : Frame) (g : ℕ) (gs : List ℕ) → length xs ≡ top + 1 → (get_or xs top d).pending.items ≡ g ∷ gs → new.pending.items ≡ gs → new.back ≡ (get_or xs top d).back → g < length (layout f) → IsLeft f (first_step f g) (set xs top new) xs
+goes_in : (f : Flow) (xs : List Frame) (top : ℕ) (d new : Frame) (g : ℕ) (gs : List ℕ) → length xs ≡ top + 1 → (get_or xs top d).pending.items ≡ g ∷ gs →
+    new.pending.items ≡ gs → new.back ≡ (get_or xs top d).back → g < length (layout f) → IsLeft f (first_step f g) (set xs top new) xs
 goes_in f xs top d new g gs e p q b h =
     let t : Frame = get_or xs top d in
     let first = is_first f g h in
@@ -52,13 +57,18 @@ goes_in f xs top d new g gs e p q b h =
     let lefts : stack_left f xs ≡ frame_left f t + stack_left f (take top xs) = ap (stack_left f) whole ∙ stack_left_top f (take top xs) t in
     let put = set_top xs top new e in
     let new_upcoming : stack_upcoming f (set xs top new) ≡ frame_upcoming f new ++ below = ap (stack_upcoming f) put ∙ stack_upcoming_top f (take top xs) new in
-    let new_lefts : stack_left f (set xs top new) ≡ frame_left f new + stack_left f (take top xs) = ap (stack_left f) put ∙ stack_left_top f (take top xs) new in
-    let old_frame : frame_upcoming f t ≡ es ++ (later ++ upcoming_at f t.back) = ap (λ ps. map Prepare (entries_in f ps) ++ upcoming_at f t.back) p ∙ ap (λ ms. ms ++ upcoming_at f t.back) (map-append Prepare ss (entries_in f gs)) ∙ append_assoc es later (upcoming_at f t.back) in
-    let new_frame : frame_upcoming f new ≡ later ++ upcoming_at f t.back = ap (λ ps. map Prepare (entries_in f ps) ++ upcoming_at f new.back) q ∙ ap (λ n. later ++ upcoming_at f n) b in
+    let new_lefts : stack_left f (set xs top new) ≡ frame_left f new + stack_left f (take top xs) =
+    ap (stack_left f) put ∙ stack_left_top f (take top xs) new in
+    let old_frame : frame_upcoming f t ≡ es ++ (later ++ upcoming_at f t.back) = ap (λ ps. map Prepare (entries_in f ps) ++ upcoming_at f t.back) p
+    ∙ ap (λ ms. ms ++ upcoming_at f t.back) (map-append Prepare ss (entries_in f gs)) ∙ append_assoc es later (upcoming_at f t.back) in
+    let new_frame : frame_upcoming f new ≡ later ++ upcoming_at f t.back = ap (λ ps. map Prepare (entries_in f ps) ++ upcoming_at f new.back) q
+    ∙ ap (λ n. later ++ upcoming_at f n) b in
     let old_left : frame_left f t ≡ groups_left f (g ∷ gs) + left_at f t.back = ap (λ ps. groups_left f ps + left_at f t.back) p in
-    let new_left : frame_left f new ≡ groups_left f gs + left_at f t.back = ap (λ ps. groups_left f ps + left_at f new.back) q ∙ ap (λ n. groups_left f gs + left_at f n) b in
+    let new_left : frame_left f new ≡ groups_left f gs + left_at f t.back = ap (λ ps. groups_left f ps + left_at f new.back) q
+    ∙ ap (λ n. groups_left f gs + left_at f n) b in
     record {
-      rest = ap (λ ms. ms ++ stack_upcoming f (set xs top new)) first.upcoming ∙ ap (λ ms. es ++ ms) new_upcoming ∙ ap (λ ms. es ++ (ms ++ below)) new_frame ∙ sym (append_assoc es (later ++ upcoming_at f t.back) below) ∙ ap (λ ms. ms ++ below) (sym old_frame) ∙ sym upcoming;
+      rest = ap (λ ms. ms ++ stack_upcoming f (set xs top new)) first.upcoming ∙ ap (λ ms. es ++ ms) new_upcoming ∙ ap (λ ms. es ++ (ms ++ below)) new_frame
+          ∙ sym (append_assoc es (later ++ upcoming_at f t.back) below) ∙ ap (λ ms. ms ++ below) (sym old_frame) ∙ sym upcoming;
       left = omega (arith, first.left);
     }
 
@@ -67,21 +77,27 @@ uncons [] d h = absurd (omega (arith, h))
 uncons (x ∷ xs) d h = refl
 
 -- an abort passes over a call
-pub passes : (f : Flow) (k : ℕ) (s : PlacedEntry) (tail ms : List Upcoming) → IsCall f k s tail → s.kind.abort_aware ≡ false → passed (upcoming_at f (k + 1) ++ ms) ≡ passed (upcoming_at f k ++ ms)
+pub passes : (f : Flow) (k : ℕ) (s : PlacedEntry) (tail ms : List Upcoming) → IsCall f k s tail → s.kind.abort_aware ≡ false →
+    passed (upcoming_at f (k + 1) ++ ms) ≡ passed (upcoming_at f k ++ ms)
 passes f k s tail ms is a =
     ap (λ l. passed (l ++ ms)) is.after ∙ by s.kind.selector refl ∙ sym (ap (λ l. passed (l ++ ms)) is.upcoming)
   where
-    by : (b : Bool) → s.kind.selector ≡ b → passed ((if b then Select s ∷ tail else tail) ++ ms) ≡ (if s.kind.abort_aware then Prepare s ∷ (tail ++ ms) else if b then Select s ∷ (tail ++ ms) else passed (tail ++ ms))
+    by : (b : Bool) → s.kind.selector ≡ b → passed ((if b then Select s ∷ tail else tail) ++ ms)
+        ≡ (if s.kind.abort_aware then Prepare s ∷ (tail ++ ms) else if b then Select s ∷ (tail ++ ms) else passed (tail ++ ms))
     by true e = ap (λ c. if c then Prepare s ∷ (tail ++ ms) else Select s ∷ (tail ++ ms)) (sym a)
     by false e = ap (λ c. if c then Prepare s ∷ (tail ++ ms) else passed (tail ++ ms)) (sym a)
 
 -- and stops at one of an abort-aware participant, and at a pick
-pub settled_call : (f : Flow) (k : ℕ) (s : PlacedEntry) (tail ms : List Upcoming) (aborting : Bool) → IsCall f k s tail → ((s.kind.abort_aware ≡ true) ⊎ (aborting ≡ false)) → settled aborting (upcoming_at f k ++ ms) ≡ upcoming_at f k ++ ms
+pub settled_call : (f : Flow) (k : ℕ) (s : PlacedEntry) (tail ms : List Upcoming) (aborting : Bool) → IsCall f k s tail →
+    ((s.kind.abort_aware ≡ true) ⊎ (aborting ≡ false)) → settled aborting (upcoming_at f k ++ ms) ≡ upcoming_at f k ++ ms
 settled_call f k s tail ms false is h = refl
 settled_call f k s tail ms true is h =
-    ap (λ l. passed (l ++ ms)) is.upcoming ∙ ⊎_elim (λ a. ap (λ c. if c then Prepare s ∷ (tail ++ ms) else (if s.kind.selector then Select s ∷ (tail ++ ms) else passed (tail ++ ms))) a) (λ (e : true ≡ false). absurd cc) h ∙ sym (ap (λ l. l ++ ms) is.upcoming)
+    ap (λ l. passed (l ++ ms)) is.upcoming ∙ ⊎_elim (λ a. ap
+    (λ c. if c then Prepare s ∷ (tail ++ ms) else (if s.kind.selector then Select s ∷ (tail ++ ms) else passed (tail ++ ms))) a)
+    (λ (e : true ≡ false). absurd cc) h ∙ sym (ap (λ l. l ++ ms) is.upcoming)
 
-pub settled_pick : (f : Flow) (k : ℕ) (s : PlacedEntry) (ms : List Upcoming) (aborting : Bool) → IsPick f k s → settled aborting (upcoming_at f k ++ ms) ≡ upcoming_at f k ++ ms
+pub settled_pick : (f : Flow) (k : ℕ) (s : PlacedEntry) (ms : List Upcoming) (aborting : Bool) → IsPick f k s →
+    settled aborting (upcoming_at f k ++ ms) ≡ upcoming_at f k ++ ms
 settled_pick f k s ms false is = refl
 settled_pick f k s ms true is = ap (λ l. passed (l ++ ms)) is.upcoming ∙ sym (ap (λ l. l ++ ms) is.upcoming)
 
@@ -89,15 +105,19 @@ pub settled_nil : (aborting : Bool) → settled aborting [] ≡ []
 settled_nil true = refl
 settled_nil false = refl
 
-pub back_at : (f : Flow) (xs ys : List Frame) (top : ℕ) (t : Frame) → length xs ≡ top + 1 → t ≡ get_or xs top t → t.pending.items ≡ [] → ys ≡ take top (set xs top t) → IsLeft f t.back ys xs
+pub back_at : (f : Flow) (xs ys : List Frame) (top : ℕ) (t : Frame) → length xs ≡ top + 1 → t ≡ get_or xs top t → t.pending.items ≡ [] →
+    ys ≡ take top (set xs top t) → IsLeft f t.back ys xs
 back_at f xs ys top t e h p q =
     let w = goes_back f xs top t e (ap (λ (x : Frame). x.pending.items) (sym h) ∙ p) in
     let same : take top xs ≡ ys = sym (q ∙ take-set xs top t) in
     subst (λ zs. IsLeft f t.back zs xs) same (subst (λ (x : Frame). IsLeft f x.back (take top xs) xs) (sym h) w)
 
-pub in_at : (f : Flow) (xs : List Frame) (top : ℕ) (t new : Frame) (g step : ℕ) → length xs ≡ top + 1 → t ≡ get_or xs top t → g ≡ get_or t.pending.items 0 g → 0 < length t.pending.items → new.pending.items ≡ remove t.pending.items 0 → new.back ≡ t.back → g < length (layout f) → step ≡ first_step f g → IsLeft f step (set xs top new) xs
+pub in_at : (f : Flow) (xs : List Frame) (top : ℕ) (t new : Frame) (g step : ℕ) → length xs ≡ top + 1 → t ≡ get_or xs top t →
+    g ≡ get_or t.pending.items 0 g → 0 < length t.pending.items → new.pending.items ≡ remove t.pending.items 0 → new.back ≡ t.back → g < length (layout f) →
+    step ≡ first_step f g → IsLeft f step (set xs top new) xs
 in_at f xs top t new g step e h v l q b w s =
-    let cut : (get_or xs top t).pending.items ≡ g ∷ remove t.pending.items 0 = ap (λ (x : Frame). x.pending.items) (sym h) ∙ uncons t.pending.items g l ∙ ap (λ n. n ∷ remove t.pending.items 0) (sym v) in
+    let cut : (get_or xs top t).pending.items ≡ g ∷ remove t.pending.items 0 = ap (λ (x : Frame). x.pending.items) (sym h) ∙ uncons t.pending.items g l
+    ∙ ap (λ n. n ∷ remove t.pending.items 0) (sym v) in
     let way : new.back ≡ (get_or xs top t).back = b ∙ ap (λ (x : Frame). x.back) h in
     subst (λ n. IsLeft f n (set xs top new) xs) (sym s) (goes_in f xs top t new g (remove t.pending.items 0) e cut q way w)
 

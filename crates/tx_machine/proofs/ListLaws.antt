@@ -1,7 +1,8 @@
 -- Over whole lists of items: members, number told, saved context and calls are those of the list,
 -- and the bound holds.
 -- for: laws::whole_lists, laws::bounded_lists
-use Rattle.std.proofs.Common.{◌≡◌, ℕ, ◌+◌, ◌≤◌, Bool, true, false, List, [], ◌∷◌, ◌++◌, length, map, refl, sym, ap, ◌∙◌, arith, if◌then◌else◌, append_assoc, length-append}
+use Rattle.std.proofs.Common.{◌≡◌, ℕ, ◌+◌, ◌≤◌, Bool, true, false, List, [], ◌∷◌, ◌++◌, length, map, refl, sym, ap, ◌∙◌, arith, if◌then◌else◌, append_assoc}
+use Rattle.std.proofs.Common.{length-append}
 use Rattle.std.specs.Prelude.{◌==◌, ◌&&◌, codes}
 use Rattle.std.proofs.lemmas.List.{append-nil}
 use Rattle.sw_participant.specs.Answers.{stays_out}
@@ -10,7 +11,9 @@ use Rattle.flow_model.specs.Places.{entries_named}
 use Rattle.tx_machine.specs.declared.values.Phase.TheVariants.{Preparing}
 use Rattle.tx_machine.specs.declared.values.Item.{Item}
 use Rattle.tx_machine.specs.declared.values.Item.TheVariants.{Answer, Choice, Told}
-use Rattle.tx_machine.specs.Table.{TxState, Upcoming, Prepare, Select, next, after, is_due, is_open, prepares_next, selects_next, advanced, limited, cut_at, decide_at, settled, is_aborting, after_byte, retry_after, joined_after, saved_after, entered, chosen, answered_at, chosen_at, opening}
+use Rattle.tx_machine.specs.Table.{TxState, Upcoming, Prepare, Select, next, after, is_due, is_open, prepares_next, selects_next, advanced, limited, cut_at}
+use Rattle.tx_machine.specs.Table.{decide_at, settled, is_aborting, after_byte, retry_after, joined_after, saved_after, entered, chosen, answered_at, chosen_at}
+use Rattle.tx_machine.specs.Table.{opening}
 use Rattle.tx_machine.specs.Lists.{is_lawful, saved_in, joined_in, calls_in, preparing, IsWhole, IsBounded}
 use Rattle.tx_machine.proofs.BoundLaws.{opening_proper, after_proper}
 
@@ -61,7 +64,15 @@ at_answer : (s : TxState) (b : ℕ) (c : List ℕ) (ms : List Upcoming) → prep
 at_answer s b c [] h = absurd (cc)
 at_answer s b c (Select e ∷ tail) h = absurd (cc)
 at_answer s b c (Prepare e ∷ tail) h =
-    let w = advance_same (record s { phase = after_byte s.phase b; rest = entered e tail; retry = retry_after s.phase b s.retry; calls = s.calls + 1; joined = joined_after b e.participant s.joined; saved = saved_after b c s.saved }) in
+    let w = advance_same (record s {
+      phase = after_byte s.phase b;
+      rest = entered e tail;
+      retry = retry_after s.phase b s.retry;
+      calls =
+          s.calls + 1;
+      joined = joined_after b e.participant s.joined;
+      saved = saved_after b c s.saved;
+    }) in
     record { saved = w.saved; told = w.told; joined = w.joined ∙ joins (stays_out b) s.joined e.participant; calls = w.calls; tries = w.tries }
 
 record IsChosen (s t : TxState) : Type 0 where
@@ -87,7 +98,8 @@ whole f s (Answer b c ∷ xs) h =
     record {
       saved = ih.saved ∙ ap (λ z. saved_in z xs) w.saved;
       told = omega (arith, ih.told, w.told);
-      joined = ih.joined ∙ ap (λ z. z ++ joined_in f (next f s (Answer b c)) xs) w.joined ∙ append_assoc s.joined (if stays_out b then [] else preparing s.rest) (joined_in f (next f s (Answer b c)) xs);
+      joined = ih.joined ∙ ap (λ z. z ++ joined_in f (next f s (Answer b c)) xs) w.joined ∙ append_assoc s.joined
+          (if stays_out b then [] else preparing s.rest) (joined_in f (next f s (Answer b c)) xs);
       calls = omega (arith, ih.calls, w.calls);
       tries = ih.tries ∙ w.tries;
     }
@@ -120,17 +132,40 @@ joins_one false ms = preparing_one ms
 few_joined : (f : Flow) (s : TxState) (xs : List Item) → length (joined_in f s xs) ≤ calls_in xs
 few_joined f s [] = omega arith
 few_joined f s (Answer b c ∷ xs) =
-    omega (arith, length-append (if stays_out b then [] else preparing s.rest) (joined_in f (next f s (Answer b c)) xs), joins_one (stays_out b) s.rest, few_joined f (next f s (Answer b c)) xs)
+    omega (
+      arith,
+      length-append (if stays_out b then [] else preparing s.rest) (joined_in f (next f s (Answer b c)) xs),
+      joins_one (stays_out b) s.rest,
+      few_joined f (next f s (Answer b c)) xs,
+    )
 few_joined f s (Choice t ∷ xs) = omega (arith, few_joined f (next f s (Choice t)) xs)
 few_joined f s (Told a ∷ xs) = few_joined f (next f s (Told a)) xs
 
 pub bounded : (f : Flow) (tries : ℕ) (saved : List ℕ) (xs : List Item) → is_lawful f (opening f tries saved) xs ≡ true → IsBounded f (opening f tries saved) xs
 bounded f tries saved xs l =
-    let first : TxState = record { phase = Preparing; rest = map Prepare (entries_named f (codes "main")); retry = false; bound = false; calls = 0; joined = []; told = 0; saved = saved; tries = tries } in
+    let first : TxState = record {
+      phase = Preparing;
+      rest = map Prepare (entries_named f (codes "main"));
+      retry = false;
+      bound = false;
+      calls = 0;
+      joined =
+          [];
+      told = 0;
+      saved = saved;
+      tries = tries;
+    } in
     let s : TxState = opening f tries saved in
     let start = advance_same first in
     let w = whole f s xs l in
     let p = after_proper f s xs (opening_proper f tries saved) l in
     let few : calls_in xs ≤ 1000 = omega (arith, w.calls, p.calls) in
-    let members : length (after f s xs).joined ≤ 1000 = omega (arith, ap length w.joined, length-append s.joined (joined_in f s xs), ap length start.joined, few_joined f s xs, few) in
+    let members : length (after f s xs).joined ≤ 1000 = omega (
+      arith,
+      ap length w.joined,
+      length-append s.joined (joined_in f s xs),
+      ap length start.joined,
+      few_joined f s xs,
+      few,
+    ) in
     record { calls = few; members = members; told = omega (arith, w.told, start.told, p.told, members) }

@@ -1,6 +1,7 @@
 -- What is to come from a step on.
 -- for: walk::look, walk::group_step, walk::last_step, walk::settle
-use Rattle.std.proofs.Common.{◌≡◌, ℕ, suc, ◌+◌, ◌<◌, Bool, true, false, ⊎_elim, List, [], ◌∷◌, ◌++◌, length, map, drop, Some, refl, sym, ap, ◌∙◌, subst, arith, append_assoc, if◌then◌else◌}
+use Rattle.std.proofs.Common.{◌≡◌, ℕ, suc, ◌+◌, ◌<◌, Bool, true, false, ⊎_elim, List, [], ◌∷◌, ◌++◌, length, map, drop, Some, refl, sym, ap, ◌∙◌, subst, arith}
+use Rattle.std.proofs.Common.{append_assoc, if◌then◌else◌}
 use Rattle.std.specs.Prelude.{slice_get}
 use Rattle.std.specs.List.{flat_map}
 use Rattle.std.proofs.lemmas.List.{append-nil}
@@ -15,7 +16,8 @@ use Rattle.flow_asm.proofs.Stages.{front, group_front}
 use Rattle.flow_asm.proofs.StepOrder.{Goes, Picks, behind_call, behind_pick, goes_group, goes_within, picks_within}
 use Rattle.tx_machine.specs.declared.walk.Frame.{Frame}
 use Rattle.tx_machine.specs.Table.{Prepare, Select}
-use Rattle.tx_machine.specs.Position.{calls_of, upcoming_from, upcoming_at, left_from, left_at, IsAhead, frame_upcoming, stack_upcoming, frame_left, stack_left, IsCall, IsPick, IsReturn}
+use Rattle.tx_machine.specs.Position.{calls_of, upcoming_from, upcoming_at, left_from, left_at, IsAhead, frame_upcoming, stack_upcoming, frame_left, stack_left}
+use Rattle.tx_machine.specs.Position.{IsCall, IsPick, IsReturn}
 
 goes_upcoming : (xs : List Stage) → Goes xs → upcoming_from xs ≡ calls_of xs
 goes_upcoming [] h = refl
@@ -35,9 +37,12 @@ is_call f k s h =
     let xs : List Stage = drop (k + 1) (stages f) in
     record {
       stage = h;
-      next = ⊎_elim (λ (p : (s.kind.selector ≡ true) × Picks s xs). picks_within f (k + 1) s p.1) (λ (p : (s.kind.selector ≡ false) × Goes xs). goes_within f (k + 1) p.1) (behind_call f k s h);
+      next = ⊎_elim (λ (p : (s.kind.selector ≡ true) × Picks s xs). picks_within f (k + 1) s p.1)
+          (λ (p : (s.kind.selector ≡ false) × Goes xs). goes_within f (k + 1) p.1) (behind_call f k s h);
       upcoming = ap upcoming_from e;
-      after = ⊎_elim (λ (p : (s.kind.selector ≡ true) × Picks s xs). picks_upcoming s xs p.1 ∙ ap (λ b. if b then Select s ∷ calls_of xs else calls_of xs) (sym p.0)) (λ (p : (s.kind.selector ≡ false) × Goes xs). goes_upcoming xs p.1 ∙ ap (λ b. if b then Select s ∷ calls_of xs else calls_of xs) (sym p.0)) (behind_call f k s h);
+      after = ⊎_elim (λ (p : (s.kind.selector ≡ true) × Picks s xs). picks_upcoming s xs p.1 ∙ ap (λ b. if b then Select s ∷ calls_of xs else calls_of xs)
+          (sym p.0)) (λ (p : (s.kind.selector ≡ false) × Goes xs). goes_upcoming xs p.1 ∙ ap (λ b. if b then Select s ∷ calls_of xs else calls_of xs)
+          (sym p.0)) (behind_call f k s h);
       left = ap left_from e;
     }
 
@@ -66,7 +71,8 @@ group_calls : (ss : List PlacedEntry) (more : List Stage) → calls_of (stages_o
 group_calls [] more = refl
 group_calls (s ∷ ss) more = by s.kind.selector (ap (λ ms. Prepare s ∷ ms) (group_calls ss more))
   where
-    by : (b : Bool) → Prepare s ∷ calls_of (stages_of_group ss ++ more) ≡ Prepare s ∷ map Prepare ss → calls_of (((if b then AtCall s ∷ AtPick s ∷ [] else AtCall s ∷ []) ++ stages_of_group ss) ++ more) ≡ Prepare s ∷ map Prepare ss
+    by : (b : Bool) → Prepare s ∷ calls_of (stages_of_group ss ++ more) ≡ Prepare s ∷ map Prepare ss →
+        calls_of (((if b then AtCall s ∷ AtPick s ∷ [] else AtCall s ∷ []) ++ stages_of_group ss) ++ more) ≡ Prepare s ∷ map Prepare ss
     by true e = e
     by false e = e
 
@@ -74,7 +80,9 @@ group_lefts : (ss : List PlacedEntry) (more : List Stage) → left_from (stages_
 group_lefts [] more = refl
 group_lefts (s ∷ ss) more = by s.kind.selector (group_lefts ss more)
   where
-    by : (b : Bool) → left_from (stages_of_group ss ++ more) ≡ length (stages_of_group ss) → left_from (((if b then AtCall s ∷ AtPick s ∷ [] else AtCall s ∷ []) ++ stages_of_group ss) ++ more) ≡ length ((if b then AtCall s ∷ AtPick s ∷ [] else AtCall s ∷ []) ++ stages_of_group ss)
+    by : (b : Bool) → left_from (stages_of_group ss ++ more) ≡ length (stages_of_group ss) →
+        left_from (((if b then AtCall s ∷ AtPick s ∷ [] else AtCall s ∷ []) ++ stages_of_group ss) ++ more)
+        ≡ length ((if b then AtCall s ∷ AtPick s ∷ [] else AtCall s ∷ []) ++ stages_of_group ss)
     by true e = omega arith
     by false e = omega arith
 
@@ -98,7 +106,8 @@ is_first f g h =
 -- the top frame
 pub stack_upcoming_top : (f : Flow) (xs : List Frame) (frame : Frame) → stack_upcoming f (xs ++ frame ∷ []) ≡ frame_upcoming f frame ++ stack_upcoming f xs
 stack_upcoming_top f [] frame = sym (append-nil (frame_upcoming f frame))
-stack_upcoming_top f (x ∷ xs) frame = ap (λ ms. ms ++ frame_upcoming f x) (stack_upcoming_top f xs frame) ∙ append_assoc (frame_upcoming f frame) (stack_upcoming f xs) (frame_upcoming f x)
+stack_upcoming_top f (x ∷ xs) frame = ap (λ ms. ms ++ frame_upcoming f x) (stack_upcoming_top f xs frame) ∙ append_assoc (frame_upcoming f frame)
+    (stack_upcoming f xs) (frame_upcoming f x)
 
 pub stack_left_top : (f : Flow) (xs : List Frame) (frame : Frame) → stack_left f (xs ++ frame ∷ []) ≡ frame_left f frame + stack_left f xs
 stack_left_top f [] frame = omega arith

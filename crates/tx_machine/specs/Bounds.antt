@@ -24,7 +24,7 @@ pub record IsUndecided (s : TxState) : Type 0 where
   pub ended : s.rest ≡ [] → s.joined ≡ []
 
 -- A state that a lawful list leads to. At most 1,000 answers and choices, and fewer where more is to come; members of
--- the flow, at most 1,001 (of a recovered transaction; of another at most 1,000), of which no more are told than there
+-- the flow, at most 1,001 (of a recovered transaction; of another at most 1,000), of which no more are notified than there
 -- are.
 pub record IsProper (f : Flow) (s : TxState) : Type 0 where
   pub calls : s.calls ≤ 1000

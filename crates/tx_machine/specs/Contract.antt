@@ -1,4 +1,4 @@
--- What a machine stands for, and when it is sound: the only words of the machine's contract that know how it is made.
+-- What a machine represents, and when it is sound: the only words of the machine's contract that know how it is made.
 use Rattle.std.specs.Prelude.{◌≡◌, ◌<◌, ◌≤◌, ◌⊎◌, true, false, [], length, Some, slice_get, Result, Err, OnOk, OnErr, IfErr}
 use Rattle.std.specs.List.{All}
 use Rattle.flow_model.specs.declared.flow.Flow.{Flow}
@@ -12,7 +12,18 @@ use Rattle.tx_machine.specs.Position.{IsFrame, rest_of}
 use Rattle.tx_machine.specs.Table.{TxState, is_due, next}
 
 abbrev pub state : Flow → Machine → TxState
-state f m = record { phase = m.phase; rest = rest_of f m.step m.stack.items; retry = m.retry; bound = m.bound; calls = m.calls; joined = m.joined.items; told = m.told; saved = m.saved.items; tries = m.tries }
+state f m = record {
+  phase = m.phase;
+  rest = rest_of f m.step m.stack.items;
+  retry = m.retry;
+  bound = m.bound;
+  calls = m.calls;
+  joined =
+      m.joined.items;
+  told = m.told;
+  saved = m.saved.items;
+  tries = m.tries;
+}
 
 unfoldable pub tx_state : Flow → Machine → TxState
 tx_state f m = state f m

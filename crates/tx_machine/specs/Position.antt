@@ -1,4 +1,4 @@
--- What a step and a stack stand for: what is still to come.
+-- What a step and a stack represent: what is still to come.
 use Rattle.std.specs.Prelude.{◌≡◌, ℕ, ◌+◌, ◌<◌, List, [], ◌∷◌, ◌++◌, length, map, drop, Some, slice_get}
 use Rattle.std.specs.List.{flat_map, All}
 use Rattle.flow_model.specs.declared.flow.Flow.{Flow}
@@ -95,6 +95,7 @@ pub record IsReturn (f : Flow) (step : ℕ) : Type 0 where
 
 -- what is to come from a step on, by what stands there; the participant is one of the flow's
 abbrev pub IsAhead : Flow → ℕ → StepView → Type 0
-IsAhead f step (view.Call p kind) = (s : PlacedEntry) × (tail : List Upcoming) × IsCall f step s tail × (s.participant ≡ p) × (s.kind ≡ kind) × (p < length (parts_of f))
+IsAhead f step (view.Call p kind) = (s : PlacedEntry) × (tail : List Upcoming) × IsCall f step s tail × (s.participant ≡ p) × (s.kind ≡ kind)
+    × (p < length (parts_of f))
 IsAhead f step (view.Pick p) = (s : PlacedEntry) × IsPick f step s × (s.participant ≡ p) × (p < length (parts_of f))
 IsAhead f step view.Return = IsReturn f step

@@ -156,11 +156,33 @@ is_due s (Told advice) = not (is_open s.phase) && nat_lt s.told (length s.joined
 
 -- before the first item: the entries of the group `main`
 abbrev pub opening : Flow → ℕ → List ℕ → TxState
-opening f tries saved = advanced (record { phase = Preparing; rest = map Prepare (entries_named f (codes "main")); retry = false; bound = false; calls = 0; joined = []; told = 0; saved = saved; tries = tries })
+opening f tries saved = advanced (record {
+  phase = Preparing;
+  rest = map Prepare (entries_named f (codes "main"));
+  retry = false;
+  bound = false;
+  calls =
+      0;
+  joined = [];
+  told = 0;
+  saved = saved;
+  tries = tries;
+})
 
 -- a transaction that the journal has, before its first item: its members are notified from a number on
 abbrev pub reopening : Bool → List ℕ → ℕ → ℕ → List ℕ → TxState
-reopening committing joined told tries saved = record { phase = if committing then Committing else Undoing; rest = []; retry = false; bound = false; calls = 0; joined = joined; told = told; saved = saved; tries = tries }
+reopening committing joined told tries saved = record {
+  phase = if committing then Committing else Undoing;
+  rest = [];
+  retry = false;
+  bound = false;
+  calls =
+      0;
+  joined = joined;
+  told = told;
+  saved = saved;
+  tries = tries;
+}
 
 -- after a list of items, the latest one last
 abbrev pub after : Flow → TxState → List Item → TxState

@@ -19,7 +19,7 @@ pub fn whole_lists()
 {}
 
 /// A transaction has at most 1,000 answers and choices together, so at most 1,000 members, each of
-/// which is told at most once.
+/// which is notified at most once.
 pub fn bounded_lists()
     ensures { (f : Flow) (tries : ℕ) (saved : List ℕ) (items : List Item)
         → is_lawful f (opening f tries saved) items ≡ true

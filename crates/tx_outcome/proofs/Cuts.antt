@@ -22,23 +22,33 @@ good_ended t st adv g none = record {
   decided = g.decided;
 }
 
-pub cut_holds : (known : Bool) (s : Option Standing) (x : Option FullReply) (t : List Deed) (adv : ℕ → Option (List ℕ)) → IdFits known s x t adv → standing_row s ≡ None → x ≡ None → IdFits known None None t adv
+pub cut_holds : (known : Bool) (s : Option Standing) (x : Option FullReply) (t : List Deed) (adv : ℕ → Option (List ℕ)) → IdFits known s x t adv →
+    standing_row s ≡ None → x ≡ None → IdFits known None None t adv
 cut_holds false None None t adv h none is = h
 cut_holds true None None t adv h none is = h
 cut_holds true (Some st) None t adv h none is = good_ended t st adv h none
 cut_holds known s (Some x) t adv h none is = absurd (grind (arith, is))
 cut_holds false (Some st) x t adv h none is = absurd h
 
-pub cut_good : (f : Flow) (c : AbstractCore) → CoreFits f c → c.late ≡ [] → ((id : ℕ) → (standing_row (standing_of f (at f c.start c.gone id)) ≡ None) × (unfinished f (at f c.start c.gone id) ≡ false)) → CoreFits f (cut_of f c)
+pub cut_good : (f : Flow) (c : AbstractCore) → CoreFits f c → c.late ≡ [] →
+    ((id : ℕ) → (standing_row (standing_of f (at f c.start c.gone id)) ≡ None) × (unfinished f (at f c.start c.gone id) ≡ false)) → CoreFits f (cut_of f c)
 cut_good f c k none idle =
-    let may_tell : (id : ℕ) → first (c.kept id) (given c.late id) ≡ None = λ id. none_of (first (c.kept id) (given c.late id)) (λ y h. grind (arith, waits_unfinished f (at f c.start c.gone id) y (k.alive id y h), (idle id).1)) in
+    let may_tell : (id : ℕ) → first (c.kept id) (given c.late id) ≡ None =
+    λ id. none_of (first (c.kept id) (given c.late id)) (λ y h. grind (
+      arith,
+      waits_unfinished f (at f c.start c.gone id) y (k.alive id y h),
+      (idle id).1,
+    )) in
     let gone : (id : ℕ) → reopened ((written f c).row id) ≡ None = λ id. ap reopened (idle id).0 in
     record {
       ones = λ id.
           let old : IdFits (nat_lt id (next_id c.start c.gone)) None None (trail_of id c.calls) (advice f c.start c.gone id) =
-          cut_holds (nat_lt id (next_id c.start c.gone)) (standing_of f (at f c.start c.gone id)) (first (c.kept id) (given c.late id)) (trail_of id c.calls) (advice f c.start c.gone id) (k.ones id) (idle id).0 (may_tell id) in
-          subst (λ (n : ℕ). IdFits (nat_lt id n) (standing_of f (reopened ((written f c).row id))) None (trail_of id c.calls) (advice f c.start c.gone id)) (omega arith)
-          (subst (λ (o : Option FullState). IdFits (nat_lt id (next_id c.start c.gone)) (standing_of f o) None (trail_of id c.calls) (advice f c.start c.gone id)) (sym (gone id)) old);
+          cut_holds (nat_lt id (next_id c.start c.gone)) (standing_of f (at f c.start c.gone id)) (first (c.kept id) (given c.late id))
+          (trail_of id c.calls) (advice f c.start c.gone id) (k.ones id) (idle id).0 (may_tell id) in
+          subst (λ (n : ℕ). IdFits (nat_lt id n) (standing_of f (reopened ((written f c).row id))) None (trail_of id c.calls) (advice f c.start c.gone id))
+          (omega arith)
+          (subst (λ (o : Option FullState). IdFits (nat_lt id (next_id c.start c.gone)) (standing_of f o) None (trail_of id c.calls)
+          (advice f c.start c.gone id)) (sym (gone id)) old);
       once = tt;
       apart = λ id x h. refl;
       alive = λ id x h. absurd (grind (arith, h));

@@ -31,7 +31,145 @@ covers_two true r is none = someone r is none
 covers_two false r is none = grind (arith, is)
 
 pub runs : SomeRun
-runs = (_, (_, (refl, λ id h. absurd (grind (arith, h)), refl), (_, ([], _, refl, refl), (_, (omega arith, omega arith, refl), (_, (1, _, refl, refl, omega arith, refl, refl, refl), (_, (Answer 1 (9 ∷ []), refl, refl), (_, ([], _, refl, refl), (_, (omega arith, omega arith, refl), (_, ((tt, λ id r is none. absurd (covers_one (1 == id) r is none)), refl), (_, (1, _, refl, refl, omega arith, refl, refl, refl), (_, (Restored, refl, refl), (_, ([], _, refl, refl), (_, (omega arith, omega arith, refl), (_, (1, _, refl, refl, omega arith, refl, refl, refl), (_, (Advice None, refl, refl), (_, ((tt, λ id r is none. absurd (covers_two (1 == id) r is none)), refl), (_, (1, _, refl, refl, omega arith, refl, refl, refl), refl)))))))))))))))), refl)
+runs = (
+  _,
+  (
+    _,
+    (refl, λ id h. absurd (grind (arith, h)), refl),
+    (
+      _,
+      ([], _, refl, refl),
+      (
+        _,
+        (omega arith, omega arith, refl),
+        (
+          _,
+          (1, _, refl, refl, omega arith, refl, refl, refl),
+          (
+            _,
+            (Answer 1 (9 ∷ []), refl, refl),
+            (
+              _,
+              ([], _, refl, refl),
+              (
+                _,
+                (omega arith, omega arith, refl),
+                (
+                  _,
+                  ((tt, λ id r is none. absurd (covers_one (1 == id) r is none)), refl),
+                  (
+                    _,
+                    (1, _, refl, refl, omega arith, refl, refl, refl),
+                    (
+                      _,
+                      (Restored, refl, refl),
+                      (
+                        _,
+                        ([], _, refl, refl),
+                        (
+                          _,
+                          (omega arith, omega arith, refl),
+                          (
+                            _,
+                            (1, _, refl, refl, omega arith, refl, refl, refl),
+                            (
+                              _,
+                              (Advice None, refl, refl),
+                              (
+                                _,
+                                ((tt, λ id r is none. absurd (covers_two (1 == id) r is none)), refl),
+                                (_, (1, _, refl, refl, omega arith, refl, refl, refl), refl),
+                              ),
+                            ),
+                          ),
+                        ),
+                      ),
+                    ),
+                  ),
+                ),
+              ),
+            ),
+          ),
+        ),
+      ),
+    ),
+  ),
+  refl,
+)
 
 pub shelves : ShelvingRun
-shelves = (_, (_, (refl, λ id h. absurd (grind (arith, h)), refl), (_, ([], _, refl, refl), (_, (omega arith, omega arith, refl), (_, (1, _, refl, refl, omega arith, refl, refl, refl), (_, (Answer 65 [], refl, refl), (_, ([], _, refl, refl), (_, (omega arith, omega arith, refl), (_, (1, _, refl, refl, omega arith, refl, refl, refl), (_, (Chosen (codes "card"), refl, refl), (_, ([], _, refl, refl), (_, (omega arith, omega arith, refl), (_, (1, _, refl, refl, omega arith, refl, refl, refl), (_, (Answer 2 [], refl, refl), (_, ([], _, refl, refl), (_, (omega arith, omega arith, refl), (_, (1, _, refl, refl, omega arith, refl, refl, refl), (_, (Advice (Some (7 ∷ [])), refl, refl), (_, ([], _, refl, refl), (_, (omega arith, omega arith, refl), refl))))))))))))))))))), refl, refl, refl)
+shelves = (
+  _,
+  (
+    _,
+    (refl, λ id h. absurd (grind (arith, h)), refl),
+    (
+      _,
+      ([], _, refl, refl),
+      (
+        _,
+        (omega arith, omega arith, refl),
+        (
+          _,
+          (1, _, refl, refl, omega arith, refl, refl, refl),
+          (
+            _,
+            (Answer 65 [], refl, refl),
+            (
+              _,
+              ([], _, refl, refl),
+              (
+                _,
+                (omega arith, omega arith, refl),
+                (
+                  _,
+                  (1, _, refl, refl, omega arith, refl, refl, refl),
+                  (
+                    _,
+                    (Chosen (codes "card"), refl, refl),
+                    (
+                      _,
+                      ([], _, refl, refl),
+                      (
+                        _,
+                        (omega arith, omega arith, refl),
+                        (
+                          _,
+                          (1, _, refl, refl, omega arith, refl, refl, refl),
+                          (
+                            _,
+                            (Answer 2 [], refl, refl),
+                            (
+                              _,
+                              ([], _, refl, refl),
+                              (
+                                _,
+                                (omega arith, omega arith, refl),
+                                (
+                                  _,
+                                  (1, _, refl, refl, omega arith, refl, refl, refl),
+                                  (
+                                    _,
+                                    (Advice (Some (7 ∷ [])), refl, refl),
+                                    (_, ([], _, refl, refl), (_, (omega arith, omega arith, refl), refl)),
+                                  ),
+                                ),
+                              ),
+                            ),
+                          ),
+                        ),
+                      ),
+                    ),
+                  ),
+                ),
+              ),
+            ),
+          ),
+        ),
+      ),
+    ),
+  ),
+  refl,
+  refl,
+  refl,
+)

@@ -20,7 +20,8 @@ use Rattle.tx_outcome.specs.One.{Preparation, Selection, Standing, Made, commits
 use Rattle.tx_outcome.specs.States.{FullState, restores, outcome_due, seen, decision, standing}
 use Rattle.tx_outcome.specs.Stations.{deed_of, outcome_act, station_call, with_context}
 
-pub outcome_made : (q c : Bool) (p : ℕ) (again : Bool) (r : Reply) (w : List ℕ) (st : Standing) (m : Deed) → commits st.decision ≡ c → deed_of (outcome_act q c again) p st.told r ≡ Some m → Made (outcome_due q p) (with_context r w) st m
+pub outcome_made : (q c : Bool) (p : ℕ) (again : Bool) (r : Reply) (w : List ℕ) (st : Standing) (m : Deed) → commits st.decision ≡ c →
+    deed_of (outcome_act q c again) p st.told r ≡ Some m → Made (outcome_due q p) (with_context r w) st m
 outcome_made true c p again (station.Answer b) w st m is h = absurd (grind (arith, h))
 outcome_made true c p again (station.Chosen t) w st m is h = absurd (grind (arith, h))
 outcome_made true c p again (station.Told a) w st m is h = absurd (grind (arith, h))
@@ -43,7 +44,8 @@ is_preparation _ = false
 abbrev pub call_from : ℕ → ℕ → Act → Call
 call_from id p a = record { id = id; participant = p; act = a }
 
-pub same_deed : (id p : ℕ) (a : Act) (call : Call) (n : ℕ) (r : Reply) (m : Deed) → Some (call_from id p a) ≡ Some call → deed_of call.act call.participant n r ≡ Some m → deed_of a p n r ≡ Some m
+pub same_deed : (id p : ℕ) (a : Act) (call : Call) (n : ℕ) (r : Reply) (m : Deed) → Some (call_from id p a) ≡ Some call →
+    deed_of call.act call.participant n r ≡ Some m → deed_of a p n r ≡ Some m
 same_deed id p a call n r m is h =
     let same : call_from id p a ≡ call = some_call (call_from id p a) call is in ap (λ (k : Call). deed_of k.act k.participant n r) same ∙ h
   where
@@ -51,7 +53,8 @@ same_deed id p a call n r m is h =
     some_call x y e = grind (arith, e)
 
 -- the reply to a preparation or a selection
-pub answer_made : (p : ℕ) (a : Act) (r : Reply) (w : List ℕ) (to : Standing) (m : Deed) → is_preparation a ≡ true → deed_of a p to.told r ≡ Some m → Made (Preparation p) (with_context r w) to m
+pub answer_made : (p : ℕ) (a : Act) (r : Reply) (w : List ℕ) (to : Standing) (m : Deed) → is_preparation a ≡ true → deed_of a p to.told r ≡ Some m →
+    Made (Preparation p) (with_context r w) to m
 answer_made p act.Prepare (station.Answer b) w to m e k = grind (arith, k)
 answer_made p act.Prepare (station.Chosen t) w to m e k = absurd (grind (arith, k))
 answer_made p act.Prepare (station.Told v) w to m e k = absurd (grind (arith, k))
@@ -65,7 +68,8 @@ answer_made p (act.Commit b) r w to m e k = absurd (grind (arith, e))
 answer_made p (act.Abort b) r w to m e k = absurd (grind (arith, e))
 answer_made p (act.Recover b) r w to m e k = absurd (grind (arith, e))
 
-pub choice_made : (p : ℕ) (r : Reply) (w : List ℕ) (to : Standing) (m : Deed) → deed_of act.Select p to.told r ≡ Some m → Made (Selection p) (with_context r w) to m
+pub choice_made : (p : ℕ) (r : Reply) (w : List ℕ) (to : Standing) (m : Deed) → deed_of act.Select p to.told r ≡ Some m →
+    Made (Selection p) (with_context r w) to m
 choice_made p (station.Chosen t) w to m k = grind (arith, k)
 choice_made p (station.Answer b) w to m k = absurd (grind (arith, k))
 choice_made p (station.Told v) w to m k = absurd (grind (arith, k))
@@ -78,11 +82,15 @@ pub due_made : (f : Flow) (id : ℕ) (st : FullState) (d : Due) (to : Standing) 
 due_made f id st Shelve to call r w m x y is h = absurd (grind (arith, is))
 due_made f id st Done to call r w m x y is h = absurd (grind (arith, is))
 due_made f id st (Commit q) to call r w m x y is h =
-    outcome_made (restores f st q) true q st.recovered r w to m (x q refl) (same_deed id q (outcome_act (restores f st q) true st.recovered) call to.told r m is h)
+    outcome_made (restores f st q) true q st.recovered r w to m (x q refl) (same_deed id q (outcome_act (restores f st q) true st.recovered) call to.told r
+    m is h)
 due_made f id st (Abort q) to call r w m x y is h =
-    outcome_made (restores f st q) false q st.recovered r w to m (y q refl) (same_deed id q (outcome_act (restores f st q) false st.recovered) call to.told r m is h)
-due_made f id st (Prepare s) to call r w m x y is h = answer_made s.participant act.Prepare r w to m refl (same_deed id s.participant act.Prepare call to.told r m is h)
-due_made f id st (PrepareForAbort s) to call r w m x y is h = answer_made s.participant act.PrepareForAbort r w to m refl (same_deed id s.participant act.PrepareForAbort call to.told r m is h)
+    outcome_made (restores f st q) false q st.recovered r w to m (y q refl) (same_deed id q (outcome_act (restores f st q) false st.recovered) call to.told
+    r m is h)
+due_made f id st (Prepare s) to call r w m x y is h = answer_made s.participant act.Prepare r w to m refl
+    (same_deed id s.participant act.Prepare call to.told r m is h)
+due_made f id st (PrepareForAbort s) to call r w m x y is h =
+    answer_made s.participant act.PrepareForAbort r w to m refl (same_deed id s.participant act.PrepareForAbort call to.told r m is h)
 due_made f id st (Select s) to call r w m x y is h = choice_made s.participant r w to m (same_deed id s.participant act.Select call to.told r m is h)
 
 pub ended_not : (b : Bool) (q : ℕ) → (if b then Shelve else Done) ≡ Commit q → ⊥
@@ -115,5 +123,7 @@ abort_decision f st Committing ms q h = absurd (no_abort (nat_lt st.state.told (
 
 -- the call that is due, made by its station, is a call of the core
 pub made : (f : Flow) (id : ℕ) (st : FullState) (call : Call) (r : Reply) (w : List ℕ) (m : Deed)
-    → station_call f id st (due_of f st.state) ≡ Some call → deed_of call.act call.participant st.state.told r ≡ Some m → Made (standing f st).due (with_context r w) (standing f st) m
-made f id st call r w m is h = due_made f id st (due_of f st.state) (standing f st) call r w m (commit_decision f st st.state.phase st.state.rest) (abort_decision f st st.state.phase st.state.rest) is h
+    → station_call f id st (due_of f st.state) ≡ Some call → deed_of call.act call.participant st.state.told r ≡ Some m →
+    Made (standing f st).due (with_context r w) (standing f st) m
+made f id st call r w m is h = due_made f id st (due_of f st.state) (standing f st) call r w m (commit_decision f st st.state.phase st.state.rest)
+    (abort_decision f st st.state.phase st.state.rest) is h

@@ -1,6 +1,7 @@
 -- The table gives what the law needs.
 -- for: laws::table_is_sound
-use Rattle.std.proofs.Common.{◌≡◌, ℕ, ◌+◌, ◌<◌, ◌≤◌, Bool, true, false, List, [], ◌∷◌, ◌++◌, length, map, Option, Some, None, refl, sym, ◌∙◌, ap, subst, arith, length-append}
+use Rattle.std.proofs.Common.{◌≡◌, ℕ, ◌+◌, ◌<◌, ◌≤◌, Bool, true, false, List, [], ◌∷◌, ◌++◌, length, map, Option, Some, None, refl, sym, ◌∙◌, ap, subst, arith}
+use Rattle.std.proofs.Common.{length-append}
 use Rattle.std.specs.Prelude.{if◌then◌else◌, slice_get, slice_index, nat_lt, not, ◌==◌, ◌&&◌, codes}
 use Rattle.std.proofs.lemmas.Bool.Decides.{nat_tests}
 use Rattle.std.proofs.lemmas.Option.{slice_get-get_or}
@@ -17,8 +18,10 @@ use Rattle.tx_machine.specs.Table.{TxState, Upcoming}
 use Rattle.tx_machine.specs.Due.{due_at, end_by, spot_of, select_spot}
 use Rattle.tx_machine.specs.Row.{Row, row_with, IsInPhase}
 use Rattle.tx_outcome.specs.Trail.{joins, count, one_of, listed, is_committing}
-use Rattle.tx_outcome.specs.One.{Decision, Undecided, ToCommit, ToAbort, DueCall, Preparation, Selection, Telling, NoCall, FullReply, Answer, Chosen, Advice, Restored, Standing, commits, DueFits, IsRowOf, IsStanding, Follows, Reopened}
-use Rattle.tx_outcome.specs.States.{FullState, Head, own, begin, after, outcome_due, restores, seen, due, table_row, row_in, decision, standing_at, standing, reopen, PhaseFits, IsOpenedFrom, WhileOpen, WhileTelling, StateFitsIn, StateFits, answers}
+use Rattle.tx_outcome.specs.One.{Decision, Undecided, ToCommit, ToAbort, DueCall, Preparation, Selection, Telling, NoCall, FullReply, Answer, Chosen, Advice}
+use Rattle.tx_outcome.specs.One.{Restored, Standing, commits, DueFits, IsRowOf, IsStanding, Follows, Reopened}
+use Rattle.tx_outcome.specs.States.{FullState, Head, own, begin, after, outcome_due, restores, seen, due, table_row, row_in, decision, standing_at, standing}
+use Rattle.tx_outcome.specs.States.{reopen, PhaseFits, IsOpenedFrom, WhileOpen, WhileTelling, StateFitsIn, StateFits, answers}
 use Rattle.tx_outcome.specs.Plant.{is_idle}
 use Rattle.tx_outcome.proofs.Trails.{count-append}
 
@@ -40,10 +43,12 @@ preparation_is p q h = grind (arith, h)
 
 -- what is sound, by what is due
 
-pub fits_row : (ph : Phase) (m : Decision) (s : TxState) (d : DueCall) (back : Bool) (row : Option Row) (o : Option ℕ) (r : Row) → is_committing ph ≡ commits m → ((q : ℕ) → d ≡ Preparation q → o ≡ Some q) → Some (row_by ph s o) ≡ Some r
+pub fits_row : (ph : Phase) (m : Decision) (s : TxState) (d : DueCall) (back : Bool) (row : Option Row) (o : Option ℕ) (r : Row) →
+    is_committing ph ≡ commits m → ((q : ℕ) → d ≡ Preparation q → o ≡ Some q) → Some (row_by ph s o) ≡ Some r
     → IsRowOf (record { decision = m; members = s.joined; told = s.told; due = d; restored = back; row = row }) r
 fits_row ph m s d back row o r same asks is =
-    subst (λ (r : Row). IsRowOf (record { decision = m; members = s.joined; told = s.told; due = d; restored = back; row = row }) r) (some_is (row_by ph s o) r is)
+    subst (λ (r : Row). IsRowOf (record { decision = m; members = s.joined; told = s.told; due = d; restored = back; row = row }) r)
+    (some_is (row_by ph s o) r is)
     (record {
       phase = same;
       told = refl;
@@ -52,7 +57,8 @@ fits_row ph m s d back row o r same asks is =
       doing = λ k due q. subst (λ (o : Option ℕ). count q (s.joined ++ k ∷ []) ≤ count q (listed (row_by ph s o))) (sym (asks k due)) (omega arith);
     })
 
-pub fits_opened : (m : Decision) (ph : Phase) (st : FullState) (d : DueCall) (row : Option Row) (r : Row) → decision ph ≡ m → ((p : ℕ) → d ≡ Preparation p → ⊥) → IsOpenedFrom r ph st
+pub fits_opened : (m : Decision) (ph : Phase) (st : FullState) (d : DueCall) (row : Option Row) (r : Row) → decision ph ≡ m →
+    ((p : ℕ) → d ≡ Preparation p → ⊥) → IsOpenedFrom r ph st
     → IsRowOf (record { decision = m; members = st.state.joined; told = st.state.told; due = d; restored = st.restored; row = row }) r
 fits_opened m ph st d row r is not f = record {
   phase = f.phase ∙ ap commits is;
@@ -71,7 +77,8 @@ sound_idle m ms told back row all not none = record {
   back = λ h. absurd (grind (arith, not, h));
 }
 
-pub sound_preparation : (ph : Phase) (s : TxState) (p : ℕ) (back : Bool) (row : Option Row) → is_committing ph ≡ false → s.told ≡ 0 → back ≡ false → row ≡ Some (row_by ph s (Some p))
+pub sound_preparation : (ph : Phase) (s : TxState) (p : ℕ) (back : Bool) (row : Option Row) → is_committing ph ≡ false → s.told ≡ 0 → back ≡ false →
+    row ≡ Some (row_by ph s (Some p))
     → IsStanding (record { decision = Undecided; members = s.joined; told = s.told; due = Preparation p; restored = back; row = row })
 sound_preparation ph s p back row same z not is = record {
   due = (refl, z);
@@ -80,7 +87,8 @@ sound_preparation ph s p back row same z not is = record {
   back = λ h. absurd (grind (arith, not, h));
 }
 
-pub sound_selection : (ph : Phase) (s : TxState) (p : ℕ) (back : Bool) (row : Option Row) → is_committing ph ≡ false → s.told ≡ 0 → back ≡ false → row ≡ Some (row_by ph s None)
+pub sound_selection : (ph : Phase) (s : TxState) (p : ℕ) (back : Bool) (row : Option Row) → is_committing ph ≡ false → s.told ≡ 0 → back ≡ false →
+    row ≡ Some (row_by ph s None)
     → IsStanding (record { decision = Undecided; members = s.joined; told = s.told; due = Selection p; restored = back; row = row })
 sound_selection ph s p back row same z not is = record {
   due = (refl, z);
@@ -89,7 +97,8 @@ sound_selection ph s p back row same z not is = record {
   back = λ h. absurd (grind (arith, not, h));
 }
 
-pub row_cases : (o : Option Row) (d : Due) (ph : Phase) (st : FullState) (r : Row) (X : Type 0) → st.opened ≡ o → row_in o d ph st.state ≡ Some r → (table_row d ph st.state ≡ Some r → X) → ((st.opened ≡ Some r) → X) → X
+pub row_cases : (o : Option Row) (d : Due) (ph : Phase) (st : FullState) (r : Row) (X : Type 0) → st.opened ≡ o → row_in o d ph st.state ≡ Some r →
+    (table_row d ph st.state ≡ Some r → X) → ((st.opened ≡ Some r) → X) → X
 row_cases None d ph st r X e is mine old = mine is
 row_cases (Some k) d ph st r X e is mine old = old (e ∙ is)
 
@@ -114,24 +123,66 @@ outcome_told q p h = ap (λ (q : Bool). outcome_due q p) h
 pub not_restores : (f : Flow) (st : FullState) (p : ℕ) → st.restored ≡ true → restores f st p ≡ false
 not_restores f st p h = grind (arith, h)
 
-pub sound_yes : (f : Flow) (st : FullState) (ph : Phase) (m : Decision) (p : ℕ) (tell : Due) → decision ph ≡ m → (m ≡ Undecided → ⊥) → is_committing ph ≡ commits m → slice_get st.state.joined st.state.told ≡ Some p
+pub sound_yes : (f : Flow) (st : FullState) (ph : Phase) (m : Decision) (p : ℕ) (tell : Due) → decision ph ≡ m → (m ≡ Undecided → ⊥) →
+    is_committing ph ≡ commits m → slice_get st.state.joined st.state.told ≡ Some p
     → table_row tell ph st.state ≡ Some (row_by ph st.state None) → WhileTelling ph st
-    → IsStanding (record { decision = m; members = st.state.joined; told = st.state.told; due = outcome_due (restores f st p) p; restored = st.restored; row = row_in st.opened tell ph st.state })
+    → IsStanding (record {
+      decision = m;
+      members = st.state.joined;
+      told = st.state.told;
+      due = outcome_due (restores f st p) p;
+      restored =
+          st.restored;
+      row = row_in st.opened tell ph st.state;
+    })
 sound_yes f st ph m p tell is not same get row t = record {
-  due = outcome_fits (restores f st p) p (record { decision = m; members = st.state.joined; told = st.state.told; due = outcome_due (restores f st p) p; restored = st.restored; row = row_in st.opened tell ph st.state }) not get;
+  due = outcome_fits (restores f st p) p (record {
+    decision = m;
+    members = st.state.joined;
+    told = st.state.told;
+    due = outcome_due (restores f st p) p;
+    restored = st.restored;
+    row = row_in st.opened tell ph st.state;
+  }) not get;
   ended = λ k. absurd (grind (arith, row, row_none st.opened tell ph st.state k));
-  row = λ r k. row_cases st.opened tell ph st r (IsRowOf (record { decision = m; members = st.state.joined; told = st.state.told; due = outcome_due (restores f st p) p; restored = st.restored; row = row_in st.opened tell ph st.state }) r) refl k
-      (λ h. fits_row ph m st.state (outcome_due (restores f st p) p) st.restored (row_in st.opened tell ph st.state) None r same (λ q e. absurd (outcome_asks (restores f st p) p q e)) (sym row ∙ h))
+  row = λ r k. row_cases st.opened tell ph st r (IsRowOf (record {
+    decision = m;
+    members = st.state.joined;
+    told = st.state.told;
+    due =
+        outcome_due (restores f st p) p;
+    restored = st.restored;
+    row = row_in st.opened tell ph st.state;
+  }) r) refl k
+      (λ h. fits_row ph m st.state (outcome_due (restores f st p) p) st.restored (row_in st.opened tell ph st.state) None r same
+      (λ q e. absurd (outcome_asks (restores f st p) p q e)) (sym row ∙ h))
       (λ h. fits_opened m ph st (outcome_due (restores f st p) p) (row_in st.opened tell ph st.state) r is (outcome_asks (restores f st p) p) (t.opened r h));
   back = λ h. (p, outcome_told (restores f st p) p (not_restores f st p h));
 }
 
-pub sound_no : (st : FullState) (ph : Phase) (m : Decision) (last : Due) → decision ph ≡ m → nat_lt st.state.told (length st.state.joined) ≡ false → table_row last ph st.state ≡ None → WhileTelling ph st
-    → IsStanding (record { decision = m; members = st.state.joined; told = st.state.told; due = NoCall; restored = st.restored; row = row_in st.opened last ph st.state })
+pub sound_no : (st : FullState) (ph : Phase) (m : Decision) (last : Due) → decision ph ≡ m → nat_lt st.state.told (length st.state.joined) ≡ false →
+    table_row last ph st.state ≡ None → WhileTelling ph st
+    → IsStanding (record {
+      decision = m;
+      members = st.state.joined;
+      told = st.state.told;
+      due = NoCall;
+      restored = st.restored;
+      row =
+          row_in st.opened last ph st.state;
+    })
 sound_no st ph m last is past row t = record {
   due = tt;
   ended = λ k. (grind (arith, nat_tests, past, t.room), refl);
-  row = λ r k. row_cases st.opened last ph st r (IsRowOf (record { decision = m; members = st.state.joined; told = st.state.told; due = NoCall; restored = st.restored; row = row_in st.opened last ph st.state }) r) refl k
+  row = λ r k. row_cases st.opened last ph st r (IsRowOf (record {
+    decision = m;
+    members = st.state.joined;
+    told = st.state.told;
+    due = NoCall;
+    restored =
+        st.restored;
+    row = row_in st.opened last ph st.state;
+  }) r) refl k
       (λ h. absurd (grind (arith, row, h)))
       (λ h. fits_opened m ph st NoCall (row_in st.opened last ph st.state) r is (λ p e. grind (arith, e)) (t.opened r h));
   back = λ h. absurd (grind (arith, past, t.restored h));
@@ -141,13 +192,33 @@ pub get_index : (xs : List ℕ) (n : ℕ) → nat_lt n (length xs) ≡ true → 
 get_index xs n h = slice_get-get_or xs n 0 (grind (arith, nat_tests, h))
 
 pub sound_commit : (f : Flow) (st : FullState) (b : Bool) → nat_lt st.state.told (length st.state.joined) ≡ b → WhileTelling Committing st
-    → IsStanding (record { decision = ToCommit; members = st.state.joined; told = st.state.told; due = seen f st (if b then Commit (slice_index st.state.joined st.state.told) else Done); restored = st.restored; row = row_in st.opened (if b then Commit (slice_index st.state.joined st.state.told) else Done) Committing st.state })
-sound_commit f st true e t = sound_yes f st Committing ToCommit (slice_index st.state.joined st.state.told) (Commit (slice_index st.state.joined st.state.told)) refl (λ h. grind (arith, h)) refl (get_index st.state.joined st.state.told e) refl t
+    → IsStanding (record {
+      decision = ToCommit;
+      members = st.state.joined;
+      told = st.state.told;
+      due =
+          seen f st (if b then Commit (slice_index st.state.joined st.state.told) else Done);
+      restored = st.restored;
+      row =
+          row_in st.opened (if b then Commit (slice_index st.state.joined st.state.told) else Done) Committing st.state;
+    })
+sound_commit f st true e t = sound_yes f st Committing ToCommit (slice_index st.state.joined st.state.told)
+    (Commit (slice_index st.state.joined st.state.told)) refl (λ h. grind (arith, h)) refl (get_index st.state.joined st.state.told e) refl t
 sound_commit f st false e t = sound_no st Committing ToCommit Done refl e refl t
 
 pub sound_abort : (f : Flow) (st : FullState) (b c : Bool) → nat_lt st.state.told (length st.state.joined) ≡ b → WhileTelling Undoing st
-    → IsStanding (record { decision = ToAbort; members = st.state.joined; told = st.state.told; due = seen f st (if b then Abort (slice_index st.state.joined st.state.told) else (if c then Shelve else Done)); restored = st.restored; row = row_in st.opened (if b then Abort (slice_index st.state.joined st.state.told) else (if c then Shelve else Done)) Undoing st.state })
-sound_abort f st true c e t = sound_yes f st Undoing ToAbort (slice_index st.state.joined st.state.told) (Abort (slice_index st.state.joined st.state.told)) refl (λ h. grind (arith, h)) refl (get_index st.state.joined st.state.told e) refl t
+    → IsStanding (record {
+      decision = ToAbort;
+      members = st.state.joined;
+      told = st.state.told;
+      due =
+          seen f st (if b then Abort (slice_index st.state.joined st.state.told) else (if c then Shelve else Done));
+      restored = st.restored;
+      row =
+          row_in st.opened (if b then Abort (slice_index st.state.joined st.state.told) else (if c then Shelve else Done)) Undoing st.state;
+    })
+sound_abort f st true c e t = sound_yes f st Undoing ToAbort (slice_index st.state.joined st.state.told) (Abort (slice_index st.state.joined st.state.told))
+    refl (λ h. grind (arith, h)) refl (get_index st.state.joined st.state.told e) refl t
 sound_abort f st false true e t = sound_no st Undoing ToAbort Shelve refl e refl t
 sound_abort f st false false e t = sound_no st Undoing ToAbort Done refl e refl t
 
@@ -155,17 +226,35 @@ pub all_none : (s : TxState) → s.told ≡ 0 → s.joined ≡ [] → s.told ≡
 all_none s z none = z ∙ sym (ap length none)
 
 pub sound_ended : (f : Flow) (st : FullState) (c : Bool) → WhileOpen [] st
-    → IsStanding (record { decision = Undecided; members = st.state.joined; told = st.state.told; due = seen f st (if c then Shelve else Done); restored = st.restored; row = row_in st.opened (if c then Shelve else Done) Aborting st.state })
-sound_ended f st true o = sound_idle Undecided st.state.joined st.state.told st.restored (row_in st.opened Shelve Aborting st.state) (all_none st.state o.none (o.ended refl)) o.restored (row_own st.opened Shelve Aborting st.state o.opened)
-sound_ended f st false o = sound_idle Undecided st.state.joined st.state.told st.restored (row_in st.opened Done Aborting st.state) (all_none st.state o.none (o.ended refl)) o.restored (row_own st.opened Done Aborting st.state o.opened)
+    → IsStanding (record {
+      decision = Undecided;
+      members = st.state.joined;
+      told = st.state.told;
+      due = seen f st (if c then Shelve else Done);
+      restored =
+          st.restored;
+      row = row_in st.opened (if c then Shelve else Done) Aborting st.state;
+    })
+sound_ended f st true o = sound_idle Undecided st.state.joined st.state.told st.restored (row_in st.opened Shelve Aborting st.state)
+    (all_none st.state o.none (o.ended refl)) o.restored (row_own st.opened Shelve Aborting st.state o.opened)
+sound_ended f st false o = sound_idle Undecided st.state.joined st.state.told st.restored (row_in st.opened Done Aborting st.state)
+    (all_none st.state o.none (o.ended refl)) o.restored (row_own st.opened Done Aborting st.state o.opened)
 
 pub sound_at : (f : Flow) (st : FullState) (ph : Phase) (ms : List Upcoming) → StateFitsIn ph ms st → IsStanding (standing_at f st ph ms)
-sound_at f st Preparing [] o = sound_idle Undecided st.state.joined st.state.told st.restored (row_in st.opened Done Preparing st.state) (all_none st.state o.none (o.ended refl)) o.restored (row_own st.opened Done Preparing st.state o.opened)
-sound_at f st Preparing (table.Prepare e ∷ ms) o = sound_preparation Preparing st.state e.participant st.restored (row_in st.opened (Prepare (spot_of f e)) Preparing st.state) refl o.none o.restored (row_own st.opened (Prepare (spot_of f e)) Preparing st.state o.opened)
-sound_at f st Preparing (table.Select e ∷ ms) o = sound_selection Preparing st.state e.participant st.restored (row_in st.opened (Select (select_spot f e)) Preparing st.state) refl o.none o.restored (row_own st.opened (Select (select_spot f e)) Preparing st.state o.opened)
+sound_at f st Preparing [] o = sound_idle Undecided st.state.joined st.state.told st.restored (row_in st.opened Done Preparing st.state)
+    (all_none st.state o.none (o.ended refl)) o.restored (row_own st.opened Done Preparing st.state o.opened)
+sound_at f st Preparing (table.Prepare e ∷ ms) o = sound_preparation Preparing st.state e.participant st.restored
+    (row_in st.opened (Prepare (spot_of f e)) Preparing st.state) refl o.none o.restored (row_own st.opened (Prepare (spot_of f e)) Preparing st.state o.opened)
+sound_at f st Preparing (table.Select e ∷ ms) o = sound_selection Preparing st.state e.participant st.restored
+    (row_in st.opened (Select (select_spot f e)) Preparing st.state) refl o.none o.restored
+    (row_own st.opened (Select (select_spot f e)) Preparing st.state o.opened)
 sound_at f st Aborting [] o = sound_ended f st (st.state.retry && nat_lt 0 st.state.tries) o
-sound_at f st Aborting (table.Prepare e ∷ ms) o = sound_preparation Aborting st.state e.participant st.restored (row_in st.opened (PrepareForAbort (spot_of f e)) Aborting st.state) refl o.none o.restored (row_own st.opened (PrepareForAbort (spot_of f e)) Aborting st.state o.opened)
-sound_at f st Aborting (table.Select e ∷ ms) o = sound_selection Aborting st.state e.participant st.restored (row_in st.opened (Select (select_spot f e)) Aborting st.state) refl o.none o.restored (row_own st.opened (Select (select_spot f e)) Aborting st.state o.opened)
+sound_at f st Aborting (table.Prepare e ∷ ms) o = sound_preparation Aborting st.state e.participant st.restored
+    (row_in st.opened (PrepareForAbort (spot_of f e)) Aborting st.state) refl o.none o.restored
+    (row_own st.opened (PrepareForAbort (spot_of f e)) Aborting st.state o.opened)
+sound_at f st Aborting (table.Select e ∷ ms) o = sound_selection Aborting st.state e.participant st.restored
+    (row_in st.opened (Select (select_spot f e)) Aborting st.state) refl o.none o.restored
+    (row_own st.opened (Select (select_spot f e)) Aborting st.state o.opened)
 sound_at f st Committing ms t = sound_commit f st (nat_lt st.state.told (length st.state.joined)) refl t
 sound_at f st Undoing ms t = sound_abort f st (nat_lt st.state.told (length st.state.joined)) (st.state.retry && nat_lt 0 st.state.tries) refl t
 
@@ -180,7 +269,8 @@ proper_open Aborting ms st h o = o
 proper_open Committing ms st h o = absurd (grind (arith, h))
 proper_open Undoing ms st h o = absurd (grind (arith, h))
 
-pub proper_telling : (ph : Phase) (ms : List Upcoming) (st : FullState) → table.is_open ph ≡ true → WhileTelling (table.outcome ph) st → StateFitsIn (table.outcome ph) ms st
+pub proper_telling : (ph : Phase) (ms : List Upcoming) (st : FullState) → table.is_open ph ≡ true → WhileTelling (table.outcome ph) st →
+    StateFitsIn (table.outcome ph) ms st
 proper_telling Preparing ms st h t = t
 proper_telling Aborting ms st h t = t
 proper_telling Committing ms st h t = absurd (grind (arith, h))
@@ -189,22 +279,48 @@ proper_telling Undoing ms st h t = absurd (grind (arith, h))
 abbrev pub mine : TxState → Option Row → Bool → Bool → FullState
 mine s o r q = record { state = s; opened = o; recovered = r; restored = q }
 
-pub proper_decided : (s : TxState) (ms : List Upcoming) (ps : List ℕ) (o : Option Row) (r q : Bool) → s.rest ≡ ms → s.joined ≡ ps → table.is_open s.phase ≡ true → s.told ≡ 0 → o ≡ None → q ≡ false
+pub proper_decided : (s : TxState) (ms : List Upcoming) (ps : List ℕ) (o : Option Row) (r q : Bool) → s.rest ≡ ms → s.joined ≡ ps →
+    table.is_open s.phase ≡ true → s.told ≡ 0 → o ≡ None → q ≡ false
     → s.calls ≤ 1000 → ((s.rest ≡ [] → ⊥) → s.calls < 1000) → length s.joined ≤ s.calls → StateFits (mine (table.decide_at s ms ps) o r q)
 proper_decided s (m ∷ ms) ps o r q rest joined wide z none not few more members =
-    proper_open s.phase s.rest (mine s o r q) wide (record { none = z; ended = λ h. absurd (grind (arith, sym rest ∙ h)); opened = none; restored = not; few = few; more = more; members = members })
+    proper_open s.phase s.rest (mine s o r q) wide (record {
+      none = z;
+      ended = λ h. absurd (grind (arith, sym rest ∙ h));
+      opened = none;
+      restored =
+          not;
+      few = few;
+      more = more;
+      members = members;
+    })
 proper_decided s [] [] o r q rest joined wide z none not few more members =
-    proper_open s.phase s.rest (mine s o r q) wide (record { none = z; ended = λ h. joined; opened = none; restored = not; few = few; more = more; members = members })
+    proper_open s.phase s.rest (mine s o r q) wide (record {
+      none = z;
+      ended = λ h. joined;
+      opened = none;
+      restored = not;
+      few = few;
+      more = more;
+      members =
+          members;
+    })
 proper_decided s [] (p ∷ ps) o r q rest joined wide z none not few more members =
     proper_telling s.phase s.rest (mine (record s { phase = table.outcome s.phase }) o r q) wide
-    (record { room = omega (arith, z); opened = λ k h. absurd (grind (arith, none, h)); restored = λ h. absurd (grind (arith, not, h)); members = omega (arith, few, members) })
+    (record {
+      room = omega (arith, z);
+      opened = λ k h. absurd (grind (arith, none, h));
+      restored = λ h. absurd (grind (arith, not, h));
+      members =
+          omega (arith, few, members);
+    })
 
 pub cut_calls : (s : TxState) (ms : List Upcoming) (full : Bool) → (table.cut_at s ms full).calls ≡ s.calls
 cut_calls s [] full = refl
 cut_calls s (m ∷ ms) false = refl
 cut_calls s (m ∷ ms) true = refl
 
-pub cut_more : (s : TxState) (ms : List Upcoming) (full : Bool) → s.rest ≡ ms → (full ≡ false → s.calls < 1000) → ((table.cut_at s ms full).rest ≡ [] → ⊥) → s.calls < 1000
+pub cut_more : (s : TxState) (ms : List Upcoming) (full : Bool) → s.rest ≡ ms → (full ≡ false → s.calls < 1000) → ((table.cut_at s ms full).rest ≡ [] → ⊥) →
+    s.calls < 1000
 cut_more s [] full r h not = absurd (not r)
 cut_more s (m ∷ ms) false r h not = h refl
 cut_more s (m ∷ ms) true r h not = absurd (not refl)
@@ -248,17 +364,30 @@ pub advanced_joined : (s : TxState) → (table.advanced s).joined ≡ s.joined
 advanced_joined s =
     let u : TxState = table.limited (passing s) in decide_joined u u.rest u.joined ∙ cut_joined (passing s) (passing s).rest (s.calls == 1000)
 
-pub proper_advanced : (s : TxState) (o : Option Row) (r q : Bool) → table.is_open s.phase ≡ true → s.told ≡ 0 → o ≡ None → q ≡ false → s.calls ≤ 1000 → length s.joined ≤ s.calls → StateFits (mine (table.advanced s) o r q)
+pub proper_advanced : (s : TxState) (o : Option Row) (r q : Bool) → table.is_open s.phase ≡ true → s.told ≡ 0 → o ≡ None → q ≡ false → s.calls ≤ 1000 →
+    length s.joined ≤ s.calls → StateFits (mine (table.advanced s) o r q)
 proper_advanced s o r q wide z none not few members =
     let t : TxState = passing s in
     let u : TxState = table.limited t in
     let calls : u.calls ≡ s.calls = cut_calls t t.rest (s.calls == 1000) in
     let joined : u.joined ≡ s.joined = cut_joined t t.rest (s.calls == 1000) in
     proper_decided u u.rest u.joined o r q refl refl (cut_open t t.rest (s.calls == 1000) wide) (cut_told t t.rest (s.calls == 1000) ∙ z) none not
-    (omega (arith, calls, few)) (λ h. let less : s.calls < 1000 = cut_more t t.rest (s.calls == 1000) refl (not_full s.calls few) h in omega (arith, calls, less)) (omega (arith, calls, ap length joined, members))
+    (omega (arith, calls, few)) (λ h. let less : s.calls < 1000 = cut_more t t.rest (s.calls == 1000) refl (not_full s.calls few) h in
+    omega (arith, calls, less)) (omega (arith, calls, ap length joined, members))
 
 pub proper_begin : (f : Flow) (head : Head) → StateFits (begin f head)
-proper_begin f head = proper_advanced (record { phase = Preparing; rest = map table.Prepare (entries_named f (codes "main")); retry = false; bound = false; calls = 0; joined = []; told = 0; saved = head.1; tries = head.0 }) None false false refl refl refl refl (omega arith) (omega arith)
+proper_begin f head = proper_advanced (record {
+  phase = Preparing;
+  rest = map table.Prepare (entries_named f (codes "main"));
+  retry = false;
+  bound =
+      false;
+  calls = 0;
+  joined = [];
+  told = 0;
+  saved = head.1;
+  tries = head.0;
+}) None false false refl refl refl refl (omega arith) (omega arith)
 
 pub joined_length : (b p : ℕ) (ps : List ℕ) → length (table.joined_after b p ps) ≤ length ps + 1
 joined_length b p ps = by (stays_out b)
@@ -284,21 +413,39 @@ joined_is b p ps = by (stays_out b)
     by true = refl
     by false = refl
 
-pub answered : (st : FullState) (b : ℕ) (c : List ℕ) (e : PlacedEntry) (ms : List Upcoming) → table.is_open st.state.phase ≡ true → WhileOpen (table.Prepare e ∷ ms) st
+pub answered : (st : FullState) (b : ℕ) (c : List ℕ) (e : PlacedEntry) (ms : List Upcoming) → table.is_open st.state.phase ≡ true →
+    WhileOpen (table.Prepare e ∷ ms) st
     → StateFits (record st { state = table.answered_at st.state b c (table.Prepare e ∷ ms) })
-    × (((table.answered_at st.state b c (table.Prepare e ∷ ms)).joined ≡ (if joins b then st.state.joined ++ e.participant ∷ [] else st.state.joined)) × ((table.answered_at st.state b c (table.Prepare e ∷ ms)).told ≡ st.state.told))
+    × (((table.answered_at st.state b c (table.Prepare e ∷ ms)).joined ≡ (if joins b then st.state.joined ++ e.participant ∷ [] else st.state.joined))
+    × ((table.answered_at st.state b c (table.Prepare e ∷ ms)).told ≡ st.state.told))
 answered st b c e ms wide o =
     let s = st.state in
-    let to : TxState = record s { phase = table.after_byte s.phase b; rest = table.entered e ms; retry = table.retry_after s.phase b s.retry; calls = s.calls + 1; joined = table.joined_after b e.participant s.joined; saved = table.saved_after b c s.saved } in
-    (proper_advanced to st.opened st.recovered st.restored (byte_open s.phase b wide) o.none o.opened o.restored (omega (arith, o.more (λ k. grind (arith, k)))) (omega (arith, joined_length b e.participant s.joined, o.members)), (advanced_joined to ∙ joined_is b e.participant s.joined, advanced_told to))
+    let to : TxState = record s {
+      phase = table.after_byte s.phase b;
+      rest = table.entered e ms;
+      retry = table.retry_after s.phase b s.retry;
+      calls =
+          s.calls + 1;
+      joined = table.joined_after b e.participant s.joined;
+      saved = table.saved_after b c s.saved;
+    } in (
+      proper_advanced to st.opened st.recovered st.restored (byte_open s.phase b wide) o.none o.opened o.restored
+          (omega (arith, o.more (λ k. grind (arith, k)))) (omega (arith, joined_length b e.participant s.joined, o.members)),
+      (advanced_joined to ∙ joined_is b e.participant s.joined, advanced_told to),
+    )
 
-pub chose : (f : Flow) (st : FullState) (t : List ℕ) (e : PlacedEntry) (ms : List Upcoming) → table.is_open st.state.phase ≡ true → WhileOpen (table.Select e ∷ ms) st
+pub chose : (f : Flow) (st : FullState) (t : List ℕ) (e : PlacedEntry) (ms : List Upcoming) → table.is_open st.state.phase ≡ true →
+    WhileOpen (table.Select e ∷ ms) st
     → StateFits (record st { state = table.chosen_at f st.state t (table.Select e ∷ ms) })
-    × (((table.chosen_at f st.state t (table.Select e ∷ ms)).joined ≡ st.state.joined) × ((table.chosen_at f st.state t (table.Select e ∷ ms)).told ≡ st.state.told))
+    × (((table.chosen_at f st.state t (table.Select e ∷ ms)).joined ≡ st.state.joined)
+    × ((table.chosen_at f st.state t (table.Select e ∷ ms)).told ≡ st.state.told))
 chose f st t e ms wide o =
     let s = st.state in
-    let to : TxState = record s { rest = map table.Prepare (table.chosen f t) ++ ms; calls = s.calls + 1 } in
-    (proper_advanced to st.opened st.recovered st.restored wide o.none o.opened o.restored (omega (arith, o.more (λ k. grind (arith, k)))) (omega (arith, o.members)), (advanced_joined to, advanced_told to))
+    let to : TxState = record s { rest = map table.Prepare (table.chosen f t) ++ ms; calls = s.calls + 1 } in (
+      proper_advanced to st.opened st.recovered st.restored wide o.none o.opened o.restored (omega (arith, o.more (λ k. grind (arith, k))))
+          (omega (arith, o.members)),
+      (advanced_joined to, advanced_told to),
+    )
 
 -- each reply leads on
 
@@ -317,15 +464,18 @@ pub ended_silent : (f : Flow) (st : FullState) (c : Bool) (x : FullReply) → an
 ended_silent f st true x h = grind (arith, h)
 ended_silent f st false x h = grind (arith, h)
 
-pub telling_answer : (f : Flow) (st : FullState) (b c : Bool) (tell : Due) (p : ℕ) (n : ℕ) (w : List ℕ) → seen f st tell ≡ outcome_due (restores f st p) p → answers (seen f st (if b then tell else (if c then Shelve else Done))) (Answer n w) ≡ true → ⊥
+pub telling_answer : (f : Flow) (st : FullState) (b c : Bool) (tell : Due) (p : ℕ) (n : ℕ) (w : List ℕ) → seen f st tell ≡ outcome_due (restores f st p) p →
+    answers (seen f st (if b then tell else (if c then Shelve else Done))) (Answer n w) ≡ true → ⊥
 telling_answer f st true c tell p n w is h = no_answer (restores f st p) p n w (ap (λ (d : DueCall). answers d (Answer n w)) (sym is) ∙ h)
 telling_answer f st false c tell p n w is h = ended_silent f st c (Answer n w) h
 
-pub telling_choice : (f : Flow) (st : FullState) (b c : Bool) (tell : Due) (p : ℕ) (w : List ℕ) → seen f st tell ≡ outcome_due (restores f st p) p → answers (seen f st (if b then tell else (if c then Shelve else Done))) (Chosen w) ≡ true → ⊥
+pub telling_choice : (f : Flow) (st : FullState) (b c : Bool) (tell : Due) (p : ℕ) (w : List ℕ) → seen f st tell ≡ outcome_due (restores f st p) p →
+    answers (seen f st (if b then tell else (if c then Shelve else Done))) (Chosen w) ≡ true → ⊥
 telling_choice f st true c tell p w is h = no_choice (restores f st p) p w (ap (λ (d : DueCall). answers d (Chosen w)) (sym is) ∙ h)
 telling_choice f st false c tell p w is h = ended_silent f st c (Chosen w) h
 
-pub leads_answer : (f : Flow) (st : FullState) (b : ℕ) (c : List ℕ) (ph : Phase) (ms : List Upcoming) → st.state.phase ≡ ph → StateFitsIn ph ms st → answers (seen f st (due_at f st.state ph ms)) (Answer b c) ≡ true
+pub leads_answer : (f : Flow) (st : FullState) (b : ℕ) (c : List ℕ) (ph : Phase) (ms : List Upcoming) → st.state.phase ≡ ph → StateFitsIn ph ms st →
+    answers (seen f st (due_at f st.state ph ms)) (Answer b c) ≡ true
     → StateFits (record st { state = table.answered_at st.state b c ms })
     × Follows (seen f st (due_at f st.state ph ms)) (Answer b c) (standing_at f st ph ms) (standing f (record st { state = table.answered_at st.state b c ms }))
 leads_answer f st b c Preparing [] is o h = absurd (grind (arith, h))
@@ -334,10 +484,13 @@ leads_answer f st b c Preparing (table.Select e ∷ ms) is o h = absurd (grind (
 leads_answer f st b c Aborting [] is o h = absurd (ended_silent f st (st.state.retry && nat_lt 0 st.state.tries) (Answer b c) h)
 leads_answer f st b c Aborting (table.Prepare e ∷ ms) is o h = answered st b c e ms (open_is st.state Aborting is refl) o
 leads_answer f st b c Aborting (table.Select e ∷ ms) is o h = absurd (grind (arith, h))
-leads_answer f st b c Committing ms is t h = absurd (telling_answer f st (nat_lt st.state.told (length st.state.joined)) false (Commit (slice_index st.state.joined st.state.told)) (slice_index st.state.joined st.state.told) b c refl h)
-leads_answer f st b c Undoing ms is t h = absurd (telling_answer f st (nat_lt st.state.told (length st.state.joined)) (st.state.retry && nat_lt 0 st.state.tries) (Abort (slice_index st.state.joined st.state.told)) (slice_index st.state.joined st.state.told) b c refl h)
+leads_answer f st b c Committing ms is t h = absurd (telling_answer f st (nat_lt st.state.told (length st.state.joined)) false
+    (Commit (slice_index st.state.joined st.state.told)) (slice_index st.state.joined st.state.told) b c refl h)
+leads_answer f st b c Undoing ms is t h = absurd (telling_answer f st (nat_lt st.state.told (length st.state.joined))
+    (st.state.retry && nat_lt 0 st.state.tries) (Abort (slice_index st.state.joined st.state.told)) (slice_index st.state.joined st.state.told) b c refl h)
 
-pub leads_choice : (f : Flow) (st : FullState) (w : List ℕ) (ph : Phase) (ms : List Upcoming) → st.state.phase ≡ ph → StateFitsIn ph ms st → answers (seen f st (due_at f st.state ph ms)) (Chosen w) ≡ true
+pub leads_choice : (f : Flow) (st : FullState) (w : List ℕ) (ph : Phase) (ms : List Upcoming) → st.state.phase ≡ ph → StateFitsIn ph ms st →
+    answers (seen f st (due_at f st.state ph ms)) (Chosen w) ≡ true
     → StateFits (record st { state = table.chosen_at f st.state w ms })
     × Follows (seen f st (due_at f st.state ph ms)) (Chosen w) (standing_at f st ph ms) (standing f (record st { state = table.chosen_at f st.state w ms }))
 leads_choice f st w Preparing [] is o h = absurd (grind (arith, h))
@@ -346,8 +499,10 @@ leads_choice f st w Preparing (table.Select e ∷ ms) is o h = chose f st w e ms
 leads_choice f st w Aborting [] is o h = absurd (ended_silent f st (st.state.retry && nat_lt 0 st.state.tries) (Chosen w) h)
 leads_choice f st w Aborting (table.Prepare e ∷ ms) is o h = absurd (grind (arith, h))
 leads_choice f st w Aborting (table.Select e ∷ ms) is o h = chose f st w e ms (open_is st.state Aborting is refl) o
-leads_choice f st w Committing ms is t h = absurd (telling_choice f st (nat_lt st.state.told (length st.state.joined)) false (Commit (slice_index st.state.joined st.state.told)) (slice_index st.state.joined st.state.told) w refl h)
-leads_choice f st w Undoing ms is t h = absurd (telling_choice f st (nat_lt st.state.told (length st.state.joined)) (st.state.retry && nat_lt 0 st.state.tries) (Abort (slice_index st.state.joined st.state.told)) (slice_index st.state.joined st.state.told) w refl h)
+leads_choice f st w Committing ms is t h = absurd (telling_choice f st (nat_lt st.state.told (length st.state.joined)) false
+    (Commit (slice_index st.state.joined st.state.told)) (slice_index st.state.joined st.state.told) w refl h)
+leads_choice f st w Undoing ms is t h = absurd (telling_choice f st (nat_lt st.state.told (length st.state.joined))
+    (st.state.retry && nat_lt 0 st.state.tries) (Abort (slice_index st.state.joined st.state.told)) (slice_index st.state.joined st.state.told) w refl h)
 
 abbrev pub told_more : FullState → FullState
 told_more st = record st { state = record (st.state) { told = st.state.told + 1 }; opened = None; restored = false }
@@ -355,36 +510,54 @@ told_more st = record st { state = record (st.state) { told = st.state.told + 1 
 pub proper_is : (ph : Phase) (st : FullState) → st.state.phase ≡ ph → StateFitsIn ph st.state.rest st → StateFits st
 proper_is ph st is h = subst (λ (ph : Phase). StateFitsIn ph st.state.rest st) (sym is) h
 
-pub told_telling : (ph : Phase) (st : FullState) → length st.state.joined ≤ 1001 → nat_lt st.state.told (length st.state.joined) ≡ true → WhileTelling ph (told_more st)
-told_telling ph st few e = record { members = few; room = grind (arith, nat_tests, e); opened = λ r h. absurd (grind (arith, h)); restored = λ h. absurd (grind (arith, h)) }
+pub told_telling : (ph : Phase) (st : FullState) → length st.state.joined ≤ 1001 → nat_lt st.state.told (length st.state.joined) ≡ true →
+    WhileTelling ph (told_more st)
+told_telling ph st few e = record {
+  members = few;
+  room = grind (arith, nat_tests, e);
+  opened = λ r h. absurd (grind (arith, h));
+  restored =
+      λ h. absurd (grind (arith, h));
+}
 
-pub outcome_advice : (q : Bool) (p : ℕ) (a : Option (List ℕ)) (st to : Standing) → to.members ≡ st.members → to.told ≡ st.told + 1 → to.decision ≡ st.decision → answers (outcome_due q p) (Advice a) ≡ true → Follows (outcome_due q p) (Advice a) st to
+pub outcome_advice : (q : Bool) (p : ℕ) (a : Option (List ℕ)) (st to : Standing) → to.members ≡ st.members → to.told ≡ st.told + 1 →
+    to.decision ≡ st.decision → answers (outcome_due q p) (Advice a) ≡ true → Follows (outcome_due q p) (Advice a) st to
 outcome_advice true p a st to x y z h = absurd (grind (arith, h))
 outcome_advice false p a st to x y z h = (x, y, z)
 
-pub outcome_back : (q : Bool) (p : ℕ) (st to : Standing) → to.members ≡ st.members → to.told ≡ st.told → to.decision ≡ st.decision → to.restored ≡ true → answers (outcome_due q p) Restored ≡ true → Follows (outcome_due q p) Restored st to
+pub outcome_back : (q : Bool) (p : ℕ) (st to : Standing) → to.members ≡ st.members → to.told ≡ st.told → to.decision ≡ st.decision → to.restored ≡ true →
+    answers (outcome_due q p) Restored ≡ true → Follows (outcome_due q p) Restored st to
 outcome_back true p st to x y z w h = (x, y, z, w)
 outcome_back false p st to x y z w h = absurd (grind (arith, h))
 
-pub tell_commit : (f : Flow) (st : FullState) (a : Option (List ℕ)) (b : Bool) (from : Standing) → length st.state.joined ≤ 1001 → st.state.phase ≡ Committing → from.members ≡ st.state.joined → from.told ≡ st.state.told → from.decision ≡ ToCommit → nat_lt st.state.told (length st.state.joined) ≡ b
+pub tell_commit : (f : Flow) (st : FullState) (a : Option (List ℕ)) (b : Bool) (from : Standing) → length st.state.joined ≤ 1001 →
+    st.state.phase ≡ Committing → from.members ≡ st.state.joined → from.told ≡ st.state.told → from.decision ≡ ToCommit →
+    nat_lt st.state.told (length st.state.joined) ≡ b
     → answers (seen f st (if b then Commit (slice_index st.state.joined st.state.told) else Done)) (Advice a) ≡ true
-    → StateFits (told_more st) × Follows (seen f st (if b then Commit (slice_index st.state.joined st.state.told) else Done)) (Advice a) from (standing f (told_more st))
+    → StateFits (told_more st) × Follows (seen f st (if b then Commit (slice_index st.state.joined st.state.told) else Done)) (Advice a) from
+    (standing f (told_more st))
 tell_commit f st a false from few is x y z e h = absurd (grind (arith, h))
 tell_commit f st a true from few is x y z e h = (
   proper_is Committing (told_more st) is (told_telling Committing st few e),
-  outcome_advice (restores f st (slice_index st.state.joined st.state.told)) (slice_index st.state.joined st.state.told) a from (standing f (told_more st)) (sym x) (omega (arith, y)) (ap decision is ∙ sym z) h,
+  outcome_advice (restores f st (slice_index st.state.joined st.state.told)) (slice_index st.state.joined st.state.told) a from (standing f (told_more st))
+      (sym x) (omega (arith, y)) (ap decision is ∙ sym z) h,
 )
 
-pub tell_abort : (f : Flow) (st : FullState) (a : Option (List ℕ)) (b c : Bool) (from : Standing) → length st.state.joined ≤ 1001 → st.state.phase ≡ Undoing → from.members ≡ st.state.joined → from.told ≡ st.state.told → from.decision ≡ ToAbort → nat_lt st.state.told (length st.state.joined) ≡ b
+pub tell_abort : (f : Flow) (st : FullState) (a : Option (List ℕ)) (b c : Bool) (from : Standing) → length st.state.joined ≤ 1001 →
+    st.state.phase ≡ Undoing → from.members ≡ st.state.joined → from.told ≡ st.state.told → from.decision ≡ ToAbort →
+    nat_lt st.state.told (length st.state.joined) ≡ b
     → answers (seen f st (if b then Abort (slice_index st.state.joined st.state.told) else (if c then Shelve else Done))) (Advice a) ≡ true
-    → StateFits (told_more st) × Follows (seen f st (if b then Abort (slice_index st.state.joined st.state.told) else (if c then Shelve else Done))) (Advice a) from (standing f (told_more st))
+    → StateFits (told_more st) × Follows (seen f st (if b then Abort (slice_index st.state.joined st.state.told) else (if c then Shelve else Done)))
+    (Advice a) from (standing f (told_more st))
 tell_abort f st a false c from few is x y z e h = absurd (ended_silent f st c (Advice a) h)
 tell_abort f st a true c from few is x y z e h = (
   proper_is Undoing (told_more st) is (told_telling Undoing st few e),
-  outcome_advice (restores f st (slice_index st.state.joined st.state.told)) (slice_index st.state.joined st.state.told) a from (standing f (told_more st)) (sym x) (omega (arith, y)) (ap decision is ∙ sym z) h,
+  outcome_advice (restores f st (slice_index st.state.joined st.state.told)) (slice_index st.state.joined st.state.told) a from (standing f (told_more st))
+      (sym x) (omega (arith, y)) (ap decision is ∙ sym z) h,
 )
 
-pub leads_advice : (f : Flow) (st : FullState) (a : Option (List ℕ)) (ph : Phase) (ms : List Upcoming) → st.state.phase ≡ ph → StateFitsIn ph ms st → answers (seen f st (due_at f st.state ph ms)) (Advice a) ≡ true
+pub leads_advice : (f : Flow) (st : FullState) (a : Option (List ℕ)) (ph : Phase) (ms : List Upcoming) → st.state.phase ≡ ph → StateFitsIn ph ms st →
+    answers (seen f st (due_at f st.state ph ms)) (Advice a) ≡ true
     → StateFits (told_more st) × Follows (seen f st (due_at f st.state ph ms)) (Advice a) (standing_at f st ph ms) (standing f (told_more st))
 leads_advice f st a Preparing [] is o h = absurd (grind (arith, h))
 leads_advice f st a Preparing (table.Prepare e ∷ ms) is o h = absurd (grind (arith, h))
@@ -392,8 +565,10 @@ leads_advice f st a Preparing (table.Select e ∷ ms) is o h = absurd (grind (ar
 leads_advice f st a Aborting [] is o h = absurd (ended_silent f st (st.state.retry && nat_lt 0 st.state.tries) (Advice a) h)
 leads_advice f st a Aborting (table.Prepare e ∷ ms) is o h = absurd (grind (arith, h))
 leads_advice f st a Aborting (table.Select e ∷ ms) is o h = absurd (grind (arith, h))
-leads_advice f st a Committing ms is t h = tell_commit f st a (nat_lt st.state.told (length st.state.joined)) (standing_at f st Committing ms) t.members is refl refl refl refl h
-leads_advice f st a Undoing ms is t h = tell_abort f st a (nat_lt st.state.told (length st.state.joined)) (st.state.retry && nat_lt 0 st.state.tries) (standing_at f st Undoing ms) t.members is refl refl refl refl h
+leads_advice f st a Committing ms is t h = tell_commit f st a (nat_lt st.state.told (length st.state.joined)) (standing_at f st Committing ms) t.members is
+    refl refl refl refl h
+leads_advice f st a Undoing ms is t h = tell_abort f st a (nat_lt st.state.told (length st.state.joined)) (st.state.retry && nat_lt 0 st.state.tries)
+    (standing_at f st Undoing ms) t.members is refl refl refl refl h
 
 abbrev pub brought : FullState → FullState
 brought st = record st { restored = true }
@@ -404,25 +579,32 @@ matches_brought ph r st m = record { phase = m.phase; told = m.told; members = m
 pub back_telling : (ph : Phase) (st : FullState) → WhileTelling ph st → nat_lt st.state.told (length st.state.joined) ≡ true → WhileTelling ph (brought st)
 back_telling ph st t e = record { room = t.room; opened = λ r h. matches_brought ph r st (t.opened r h); restored = λ h. e; members = t.members }
 
-pub back_commit : (f : Flow) (st : FullState) (b : Bool) (from : Standing) → st.state.phase ≡ Committing → WhileTelling Committing st → from.members ≡ st.state.joined → from.told ≡ st.state.told → from.decision ≡ ToCommit → nat_lt st.state.told (length st.state.joined) ≡ b
+pub back_commit : (f : Flow) (st : FullState) (b : Bool) (from : Standing) → st.state.phase ≡ Committing → WhileTelling Committing st →
+    from.members ≡ st.state.joined → from.told ≡ st.state.told → from.decision ≡ ToCommit → nat_lt st.state.told (length st.state.joined) ≡ b
     → answers (seen f st (if b then Commit (slice_index st.state.joined st.state.told) else Done)) Restored ≡ true
-    → StateFits (brought st) × Follows (seen f st (if b then Commit (slice_index st.state.joined st.state.told) else Done)) Restored from (standing f (brought st))
+    → StateFits (brought st) × Follows (seen f st (if b then Commit (slice_index st.state.joined st.state.told) else Done)) Restored from
+    (standing f (brought st))
 back_commit f st false from is t x y z e h = absurd (grind (arith, h))
 back_commit f st true from is t x y z e h = (
   proper_is Committing (brought st) is (back_telling Committing st t e),
-  outcome_back (restores f st (slice_index st.state.joined st.state.told)) (slice_index st.state.joined st.state.told) from (standing f (brought st)) (sym x) (sym y) (ap decision is ∙ sym z) refl h,
+  outcome_back (restores f st (slice_index st.state.joined st.state.told)) (slice_index st.state.joined st.state.told) from (standing f (brought st))
+      (sym x) (sym y) (ap decision is ∙ sym z) refl h,
 )
 
-pub back_abort : (f : Flow) (st : FullState) (b c : Bool) (from : Standing) → st.state.phase ≡ Undoing → WhileTelling Undoing st → from.members ≡ st.state.joined → from.told ≡ st.state.told → from.decision ≡ ToAbort → nat_lt st.state.told (length st.state.joined) ≡ b
+pub back_abort : (f : Flow) (st : FullState) (b c : Bool) (from : Standing) → st.state.phase ≡ Undoing → WhileTelling Undoing st →
+    from.members ≡ st.state.joined → from.told ≡ st.state.told → from.decision ≡ ToAbort → nat_lt st.state.told (length st.state.joined) ≡ b
     → answers (seen f st (if b then Abort (slice_index st.state.joined st.state.told) else (if c then Shelve else Done))) Restored ≡ true
-    → StateFits (brought st) × Follows (seen f st (if b then Abort (slice_index st.state.joined st.state.told) else (if c then Shelve else Done))) Restored from (standing f (brought st))
+    → StateFits (brought st) × Follows (seen f st (if b then Abort (slice_index st.state.joined st.state.told) else (if c then Shelve else Done))) Restored
+    from (standing f (brought st))
 back_abort f st false c from is t x y z e h = absurd (ended_silent f st c Restored h)
 back_abort f st true c from is t x y z e h = (
   proper_is Undoing (brought st) is (back_telling Undoing st t e),
-  outcome_back (restores f st (slice_index st.state.joined st.state.told)) (slice_index st.state.joined st.state.told) from (standing f (brought st)) (sym x) (sym y) (ap decision is ∙ sym z) refl h,
+  outcome_back (restores f st (slice_index st.state.joined st.state.told)) (slice_index st.state.joined st.state.told) from (standing f (brought st))
+      (sym x) (sym y) (ap decision is ∙ sym z) refl h,
 )
 
-pub leads_back : (f : Flow) (st : FullState) (ph : Phase) (ms : List Upcoming) → st.state.phase ≡ ph → StateFitsIn ph ms st → answers (seen f st (due_at f st.state ph ms)) Restored ≡ true
+pub leads_back : (f : Flow) (st : FullState) (ph : Phase) (ms : List Upcoming) → st.state.phase ≡ ph → StateFitsIn ph ms st →
+    answers (seen f st (due_at f st.state ph ms)) Restored ≡ true
     → StateFits (brought st) × Follows (seen f st (due_at f st.state ph ms)) Restored (standing_at f st ph ms) (standing f (brought st))
 leads_back f st Preparing [] is o h = absurd (grind (arith, h))
 leads_back f st Preparing (table.Prepare e ∷ ms) is o h = absurd (grind (arith, h))
@@ -430,10 +612,13 @@ leads_back f st Preparing (table.Select e ∷ ms) is o h = absurd (grind (arith,
 leads_back f st Aborting [] is o h = absurd (ended_silent f st (st.state.retry && nat_lt 0 st.state.tries) Restored h)
 leads_back f st Aborting (table.Prepare e ∷ ms) is o h = absurd (grind (arith, h))
 leads_back f st Aborting (table.Select e ∷ ms) is o h = absurd (grind (arith, h))
-leads_back f st Committing ms is t h = back_commit f st (nat_lt st.state.told (length st.state.joined)) (standing_at f st Committing ms) is t refl refl refl refl h
-leads_back f st Undoing ms is t h = back_abort f st (nat_lt st.state.told (length st.state.joined)) (st.state.retry && nat_lt 0 st.state.tries) (standing_at f st Undoing ms) is t refl refl refl refl h
+leads_back f st Committing ms is t h = back_commit f st (nat_lt st.state.told (length st.state.joined)) (standing_at f st Committing ms) is t refl refl refl
+    refl h
+leads_back f st Undoing ms is t h = back_abort f st (nat_lt st.state.told (length st.state.joined)) (st.state.retry && nat_lt 0 st.state.tries)
+    (standing_at f st Undoing ms) is t refl refl refl refl h
 
-pub leads : (f : Flow) (st : FullState) (x : FullReply) → StateFits st → answers (due f st) x ≡ true → StateFits (after f st x) × Follows (due f st) x (standing f st) (standing f (after f st x))
+pub leads : (f : Flow) (st : FullState) (x : FullReply) → StateFits st → answers (due f st) x ≡ true →
+    StateFits (after f st x) × Follows (due f st) x (standing f st) (standing f (after f st x))
 leads f st (Answer b c) p h = leads_answer f st b c st.state.phase st.state.rest refl p h
 leads f st (Chosen t) p h = leads_choice f st t st.state.phase st.state.rest refl p h
 leads f st (Advice a) p h = leads_advice f st a st.state.phase st.state.rest refl p h
@@ -451,29 +636,34 @@ pub one_length : (o : Option ℕ) → length (one_of o) ≤ 1
 one_length None = omega arith
 one_length (Some p) = omega arith
 
-pub proper_reopen_in : (ph : Phase) (joined : List ℕ) (told : ℕ) (doing : Option ℕ) (tries : ℕ) (saved : List ℕ) → PhaseFits (a_row ph joined told doing tries saved) → StateFits (reopen (a_row ph joined told doing tries saved))
+pub proper_reopen_in : (ph : Phase) (joined : List ℕ) (told : ℕ) (doing : Option ℕ) (tries : ℕ) (saved : List ℕ) →
+    PhaseFits (a_row ph joined told doing tries saved) → StateFits (reopen (a_row ph joined told doing tries saved))
 proper_reopen_in Preparing joined told doing tries saved h = record {
   room = omega (arith, h.0);
   members = omega (arith, h.1, length-append joined, one_length doing);
-  opened = λ k. reopen_opened (a_row Preparing joined told doing tries saved) k Undoing (record { phase = refl; told = refl; members = λ n less. absurd (omega (arith, h.0)); listed = refl; ok = h });
+  opened = λ k. reopen_opened (a_row Preparing joined told doing tries saved) k Undoing
+      (record { phase = refl; told = refl; members = λ n less. absurd (omega (arith, h.0)); listed = refl; ok = h });
   restored = λ e. absurd (grind (arith, e));
 }
 proper_reopen_in Aborting joined told doing tries saved h = record {
   room = omega (arith, h.0);
   members = omega (arith, h.1, length-append joined, one_length doing);
-  opened = λ k. reopen_opened (a_row Aborting joined told doing tries saved) k Undoing (record { phase = refl; told = refl; members = λ n less. absurd (omega (arith, h.0)); listed = refl; ok = h });
+  opened = λ k. reopen_opened (a_row Aborting joined told doing tries saved) k Undoing
+      (record { phase = refl; told = refl; members = λ n less. absurd (omega (arith, h.0)); listed = refl; ok = h });
   restored = λ e. absurd (grind (arith, e));
 }
 proper_reopen_in Committing joined told None tries saved h = record {
   room = omega (arith, h.0, length-append joined);
   members = omega (arith, h.2, ap length (append_none joined));
-  opened = λ k. reopen_opened (a_row Committing joined told None tries saved) k Committing (record { phase = refl; told = refl; members = λ n less. ap (λ (xs : List ℕ). slice_get xs n) (sym (append_none joined)); listed = refl; ok = h });
+  opened = λ k. reopen_opened (a_row Committing joined told None tries saved) k Committing
+      (record { phase = refl; told = refl; members = λ n less. ap (λ (xs : List ℕ). slice_get xs n) (sym (append_none joined)); listed = refl; ok = h });
   restored = λ e. absurd (grind (arith, e));
 }
 proper_reopen_in Undoing joined told None tries saved h = record {
   room = omega (arith, h.0, length-append joined);
   members = omega (arith, h.2, ap length (append_none joined));
-  opened = λ k. reopen_opened (a_row Undoing joined told None tries saved) k Undoing (record { phase = refl; told = refl; members = λ n less. ap (λ (xs : List ℕ). slice_get xs n) (sym (append_none joined)); listed = refl; ok = h });
+  opened = λ k. reopen_opened (a_row Undoing joined told None tries saved) k Undoing
+      (record { phase = refl; told = refl; members = λ n less. ap (λ (xs : List ℕ). slice_get xs n) (sym (append_none joined)); listed = refl; ok = h });
   restored = λ e. absurd (grind (arith, e));
 }
 proper_reopen_in Committing joined told (Some d) tries saved h = absurd (grind (arith, h.1))
@@ -495,20 +685,24 @@ reopen_ok f r h = record {
 }
 
 -- the row of a proper state is one that the view's test accepts
-pub row_open : (ph : Phase) (st : FullState) (o : Option ℕ) (r : Row) → is_committing ph ≡ false → table.is_open ph ≡ true → (st.state.told ≡ 0) × (length st.state.joined ≤ 1000) → Some (row_by ph st.state o) ≡ Some r → PhaseFits r
+pub row_open : (ph : Phase) (st : FullState) (o : Option ℕ) (r : Row) → is_committing ph ≡ false → table.is_open ph ≡ true →
+    (st.state.told ≡ 0) × (length st.state.joined ≤ 1000) → Some (row_by ph st.state o) ≡ Some r → PhaseFits r
 row_open Preparing st o r x y z is = subst PhaseFits (some_is (row_by Preparing st.state o) r is) z
 row_open Aborting st o r x y z is = subst PhaseFits (some_is (row_by Aborting st.state o) r is) z
 row_open Committing st o r x y z is = absurd (grind (arith, x))
 row_open Undoing st o r x y z is = absurd (grind (arith, y))
 
-pub row_yes : (ph : Phase) (st : FullState) (tell : Due) (r : Row) → WhileTelling ph st → (table_row tell ph st.state ≡ Some r → PhaseFits r) → row_in st.opened tell ph st.state ≡ Some r → PhaseFits r
+pub row_yes : (ph : Phase) (st : FullState) (tell : Due) (r : Row) → WhileTelling ph st → (table_row tell ph st.state ≡ Some r → PhaseFits r) →
+    row_in st.opened tell ph st.state ≡ Some r → PhaseFits r
 row_yes ph st tell r t own is = row_cases st.opened tell ph st r (PhaseFits r) refl is own (λ h. (t.opened r h).ok)
 
-pub own_commit : (st : FullState) (b : Bool) (p : ℕ) (r : Row) → length st.state.joined ≤ 1001 → nat_lt st.state.told (length st.state.joined) ≡ b → table_row (if b then Commit p else Done) Committing st.state ≡ Some r → PhaseFits r
+pub own_commit : (st : FullState) (b : Bool) (p : ℕ) (r : Row) → length st.state.joined ≤ 1001 → nat_lt st.state.told (length st.state.joined) ≡ b →
+    table_row (if b then Commit p else Done) Committing st.state ≡ Some r → PhaseFits r
 own_commit st true p r few e is = subst PhaseFits (some_is (row_by Committing st.state None) r is) (grind (arith, nat_tests, e), refl, few)
 own_commit st false p r few e is = absurd (grind (arith, is))
 
-pub own_abort : (st : FullState) (b c : Bool) (p : ℕ) (r : Row) → length st.state.joined ≤ 1001 → nat_lt st.state.told (length st.state.joined) ≡ b → table_row (if b then Abort p else (if c then Shelve else Done)) Undoing st.state ≡ Some r → PhaseFits r
+pub own_abort : (st : FullState) (b c : Bool) (p : ℕ) (r : Row) → length st.state.joined ≤ 1001 → nat_lt st.state.told (length st.state.joined) ≡ b →
+    table_row (if b then Abort p else (if c then Shelve else Done)) Undoing st.state ≡ Some r → PhaseFits r
 own_abort st true c p r few e is = subst PhaseFits (some_is (row_by Undoing st.state None) r is) (grind (arith, nat_tests, e), refl, few)
 own_abort st false true p r few e is = absurd (grind (arith, is))
 own_abort st false false p r few e is = absurd (grind (arith, is))
@@ -517,40 +711,55 @@ pub no_row : (st : FullState) (c : Bool) (ph : Phase) (r : Row) → st.opened �
 no_row st true ph r none is = grind (arith, row_own st.opened Shelve ph st.state none, is)
 no_row st false ph r none is = grind (arith, row_own st.opened Done ph st.state none, is)
 
-pub row_ok_at : (f : Flow) (st : FullState) (ph : Phase) (ms : List Upcoming) (r : Row) → StateFitsIn ph ms st → row_in st.opened (due_at f st.state ph ms) ph st.state ≡ Some r → PhaseFits r
+pub row_ok_at : (f : Flow) (st : FullState) (ph : Phase) (ms : List Upcoming) (r : Row) → StateFitsIn ph ms st →
+    row_in st.opened (due_at f st.state ph ms) ph st.state ≡ Some r → PhaseFits r
 row_ok_at f st Preparing [] r o is = absurd (no_row st false Preparing r o.opened is)
-row_ok_at f st Preparing (table.Prepare e ∷ ms) r o is = row_open Preparing st (Some e.participant) r refl refl (o.none, omega (arith, o.few, o.members)) (sym (row_own st.opened (Prepare (spot_of f e)) Preparing st.state o.opened) ∙ is)
-row_ok_at f st Preparing (table.Select e ∷ ms) r o is = row_open Preparing st None r refl refl (o.none, omega (arith, o.few, o.members)) (sym (row_own st.opened (Select (select_spot f e)) Preparing st.state o.opened) ∙ is)
+row_ok_at f st Preparing (table.Prepare e ∷ ms) r o is = row_open Preparing st (Some e.participant) r refl refl (o.none, omega (arith, o.few, o.members))
+    (sym (row_own st.opened (Prepare (spot_of f e)) Preparing st.state o.opened) ∙ is)
+row_ok_at f st Preparing (table.Select e ∷ ms) r o is = row_open Preparing st None r refl refl (o.none, omega (arith, o.few, o.members))
+    (sym (row_own st.opened (Select (select_spot f e)) Preparing st.state o.opened) ∙ is)
 row_ok_at f st Aborting [] r o is = absurd (no_row st (st.state.retry && nat_lt 0 st.state.tries) Aborting r o.opened is)
-row_ok_at f st Aborting (table.Prepare e ∷ ms) r o is = row_open Aborting st (Some e.participant) r refl refl (o.none, omega (arith, o.few, o.members)) (sym (row_own st.opened (PrepareForAbort (spot_of f e)) Aborting st.state o.opened) ∙ is)
-row_ok_at f st Aborting (table.Select e ∷ ms) r o is = row_open Aborting st None r refl refl (o.none, omega (arith, o.few, o.members)) (sym (row_own st.opened (Select (select_spot f e)) Aborting st.state o.opened) ∙ is)
-row_ok_at f st Committing ms r t is = row_yes Committing st (if nat_lt st.state.told (length st.state.joined) then Commit (slice_index st.state.joined st.state.told) else Done) r t
+row_ok_at f st Aborting (table.Prepare e ∷ ms) r o is = row_open Aborting st (Some e.participant) r refl refl (o.none, omega (arith, o.few, o.members))
+    (sym (row_own st.opened (PrepareForAbort (spot_of f e)) Aborting st.state o.opened) ∙ is)
+row_ok_at f st Aborting (table.Select e ∷ ms) r o is = row_open Aborting st None r refl refl (o.none, omega (arith, o.few, o.members))
+    (sym (row_own st.opened (Select (select_spot f e)) Aborting st.state o.opened) ∙ is)
+row_ok_at f st Committing ms r t is = row_yes Committing st (if nat_lt st.state.told (length st.state.joined) then Commit
+    (slice_index st.state.joined st.state.told) else Done) r t
     (own_commit st (nat_lt st.state.told (length st.state.joined)) (slice_index st.state.joined st.state.told) r t.members refl) is
-row_ok_at f st Undoing ms r t is = row_yes Undoing st (if nat_lt st.state.told (length st.state.joined) then Abort (slice_index st.state.joined st.state.told) else end_by st.state.retry st.state.tries) r t
-    (own_abort st (nat_lt st.state.told (length st.state.joined)) (st.state.retry && nat_lt 0 st.state.tries) (slice_index st.state.joined st.state.told) r t.members refl) is
+row_ok_at f st Undoing ms r t is = row_yes Undoing st (if nat_lt st.state.told (length st.state.joined) then Abort
+    (slice_index st.state.joined st.state.told) else end_by st.state.retry st.state.tries) r t
+    (own_abort st (nat_lt st.state.told (length st.state.joined)) (st.state.retry && nat_lt 0 st.state.tries) (slice_index st.state.joined st.state.told) r
+    t.members refl) is
 
 pub row_ok : (f : Flow) (st : FullState) (r : Row) → StateFits st → (standing f st).row ≡ Some r → PhaseFits r
 row_ok f st r h is = row_ok_at f st st.state.phase st.state.rest r h is
 
 -- what is left when nothing is due
 
-pub opened_answer : (f : Flow) (st : FullState) (b : ℕ) (c : List ℕ) (ph : Phase) (ms : List Upcoming) → StateFitsIn ph ms st → answers (seen f st (due_at f st.state ph ms)) (Answer b c) ≡ true → st.opened ≡ None
+pub opened_answer : (f : Flow) (st : FullState) (b : ℕ) (c : List ℕ) (ph : Phase) (ms : List Upcoming) → StateFitsIn ph ms st →
+    answers (seen f st (due_at f st.state ph ms)) (Answer b c) ≡ true → st.opened ≡ None
 opened_answer f st b c Preparing ms o h = o.opened
 opened_answer f st b c Aborting ms o h = o.opened
-opened_answer f st b c Committing ms t h = absurd (telling_answer f st (nat_lt st.state.told (length st.state.joined)) false (Commit (slice_index st.state.joined st.state.told)) (slice_index st.state.joined st.state.told) b c refl h)
-opened_answer f st b c Undoing ms t h = absurd (telling_answer f st (nat_lt st.state.told (length st.state.joined)) (st.state.retry && nat_lt 0 st.state.tries) (Abort (slice_index st.state.joined st.state.told)) (slice_index st.state.joined st.state.told) b c refl h)
+opened_answer f st b c Committing ms t h = absurd (telling_answer f st (nat_lt st.state.told (length st.state.joined)) false
+    (Commit (slice_index st.state.joined st.state.told)) (slice_index st.state.joined st.state.told) b c refl h)
+opened_answer f st b c Undoing ms t h = absurd (telling_answer f st (nat_lt st.state.told (length st.state.joined))
+    (st.state.retry && nat_lt 0 st.state.tries) (Abort (slice_index st.state.joined st.state.told)) (slice_index st.state.joined st.state.told) b c refl h)
 
-pub opened_choice : (f : Flow) (st : FullState) (w : List ℕ) (ph : Phase) (ms : List Upcoming) → StateFitsIn ph ms st → answers (seen f st (due_at f st.state ph ms)) (Chosen w) ≡ true → st.opened ≡ None
+pub opened_choice : (f : Flow) (st : FullState) (w : List ℕ) (ph : Phase) (ms : List Upcoming) → StateFitsIn ph ms st →
+    answers (seen f st (due_at f st.state ph ms)) (Chosen w) ≡ true → st.opened ≡ None
 opened_choice f st w Preparing ms o h = o.opened
 opened_choice f st w Aborting ms o h = o.opened
-opened_choice f st w Committing ms t h = absurd (telling_choice f st (nat_lt st.state.told (length st.state.joined)) false (Commit (slice_index st.state.joined st.state.told)) (slice_index st.state.joined st.state.told) w refl h)
-opened_choice f st w Undoing ms t h = absurd (telling_choice f st (nat_lt st.state.told (length st.state.joined)) (st.state.retry && nat_lt 0 st.state.tries) (Abort (slice_index st.state.joined st.state.told)) (slice_index st.state.joined st.state.told) w refl h)
+opened_choice f st w Committing ms t h = absurd (telling_choice f st (nat_lt st.state.told (length st.state.joined)) false
+    (Commit (slice_index st.state.joined st.state.told)) (slice_index st.state.joined st.state.told) w refl h)
+opened_choice f st w Undoing ms t h = absurd (telling_choice f st (nat_lt st.state.told (length st.state.joined))
+    (st.state.retry && nat_lt 0 st.state.tries) (Abort (slice_index st.state.joined st.state.told)) (slice_index st.state.joined st.state.told) w refl h)
 
 pub no_length : (xs : List ℕ) → length xs ≤ 0 → xs ≡ []
 no_length [] h = refl
 no_length (x ∷ xs) h = absurd (omega (arith, h))
 
-pub past_row : (q : Phase) (r : Row) (joined : List ℕ) (told : ℕ) → r.phase ≡ q → IsInPhase q r → listed r ≡ joined → r.told ≡ told → length joined ≤ told → joined ≡ []
+pub past_row : (q : Phase) (r : Row) (joined : List ℕ) (told : ℕ) → r.phase ≡ q → IsInPhase q r → listed r ≡ joined → r.told ≡ told → length joined ≤ told →
+    joined ≡ []
 past_row Preparing r joined told is ok same n less = no_length joined (omega (arith, ok.0, n, less))
 past_row Aborting r joined told is ok same n less = no_length joined (omega (arith, ok.0, n, less))
 past_row Committing r joined told is ok same n less = absurd (omega (arith, ok.0, n, less, ap length same, length-append r.joined))
@@ -559,28 +768,38 @@ past_row Undoing r joined told is ok same n less = absurd (omega (arith, ok.0, n
 pub past_all : (told n : ℕ) → nat_lt told n ≡ false → n ≤ told
 past_all told n h = grind (arith, nat_tests, h)
 
-pub stuck_row : (ph : Phase) (st : FullState) (last : Due) (r : Row) → WhileTelling ph st → nat_lt st.state.told (length st.state.joined) ≡ false → table_row last ph st.state ≡ None → row_in st.opened last ph st.state ≡ Some r
+pub stuck_row : (ph : Phase) (st : FullState) (last : Due) (r : Row) → WhileTelling ph st → nat_lt st.state.told (length st.state.joined) ≡ false →
+    table_row last ph st.state ≡ None → row_in st.opened last ph st.state ≡ Some r
     → (k : Row) × (st.opened ≡ Some k) × (st.state.joined ≡ [])
 stuck_row ph st last r t past none is = row_cases st.opened last ph st r ((k : Row) × (st.opened ≡ Some k) × (st.state.joined ≡ [])) refl is
     (λ h. absurd (grind (arith, none, h)))
-    (λ h. let m = t.opened r h in (r, h, past_row r.phase r st.state.joined st.state.told refl m.ok m.listed m.told (past_all st.state.told (length st.state.joined) past)))
+    (λ h. let m = t.opened r h in (
+      r,
+      h,
+      past_row r.phase r st.state.joined st.state.told refl m.ok m.listed m.told
+          (past_all st.state.told (length st.state.joined) past),
+    ))
 
 pub idle_outcome : (q : Bool) (p : ℕ) → is_idle (outcome_due q p) ≡ true → ⊥
 idle_outcome true p h = grind (arith, h)
 idle_outcome false p h = grind (arith, h)
 
-pub stuck_commit : (f : Flow) (st : FullState) (b : Bool) (p : ℕ) (r : Row) → WhileTelling Committing st → nat_lt st.state.told (length st.state.joined) ≡ b → is_idle (seen f st (if b then Commit p else Done)) ≡ true → row_in st.opened (if b then Commit p else Done) Committing st.state ≡ Some r
+pub stuck_commit : (f : Flow) (st : FullState) (b : Bool) (p : ℕ) (r : Row) → WhileTelling Committing st → nat_lt st.state.told (length st.state.joined) ≡ b
+    → is_idle (seen f st (if b then Commit p else Done)) ≡ true → row_in st.opened (if b then Commit p else Done) Committing st.state ≡ Some r
     → (k : Row) × (st.opened ≡ Some k) × (st.state.joined ≡ [])
 stuck_commit f st true p r t e h is = absurd (idle_outcome (restores f st p) p h)
 stuck_commit f st false p r t e h is = stuck_row Committing st Done r t e refl is
 
-pub stuck_abort : (f : Flow) (st : FullState) (b c : Bool) (p : ℕ) (r : Row) → WhileTelling Undoing st → nat_lt st.state.told (length st.state.joined) ≡ b → is_idle (seen f st (if b then Abort p else (if c then Shelve else Done))) ≡ true → row_in st.opened (if b then Abort p else (if c then Shelve else Done)) Undoing st.state ≡ Some r
+pub stuck_abort : (f : Flow) (st : FullState) (b c : Bool) (p : ℕ) (r : Row) → WhileTelling Undoing st → nat_lt st.state.told (length st.state.joined) ≡ b →
+    is_idle (seen f st (if b then Abort p else (if c then Shelve else Done))) ≡ true →
+    row_in st.opened (if b then Abort p else (if c then Shelve else Done)) Undoing st.state ≡ Some r
     → (k : Row) × (st.opened ≡ Some k) × (st.state.joined ≡ [])
 stuck_abort f st true c p r t e h is = absurd (idle_outcome (restores f st p) p h)
 stuck_abort f st false true p r t e h is = stuck_row Undoing st Shelve r t e refl is
 stuck_abort f st false false p r t e h is = stuck_row Undoing st Done r t e refl is
 
-pub row_stuck : (f : Flow) (st : FullState) (ph : Phase) (ms : List Upcoming) (r : Row) → StateFitsIn ph ms st → is_idle (seen f st (due_at f st.state ph ms)) ≡ true → row_in st.opened (due_at f st.state ph ms) ph st.state ≡ Some r
+pub row_stuck : (f : Flow) (st : FullState) (ph : Phase) (ms : List Upcoming) (r : Row) → StateFitsIn ph ms st →
+    is_idle (seen f st (due_at f st.state ph ms)) ≡ true → row_in st.opened (due_at f st.state ph ms) ph st.state ≡ Some r
     → (k : Row) × (st.opened ≡ Some k) × (st.state.joined ≡ [])
 row_stuck f st Preparing [] r o h is = absurd (no_row st false Preparing r o.opened is)
 row_stuck f st Preparing (table.Prepare e ∷ ms) r o h is = absurd (grind (arith, h))
@@ -588,5 +807,7 @@ row_stuck f st Preparing (table.Select e ∷ ms) r o h is = absurd (grind (arith
 row_stuck f st Aborting [] r o h is = absurd (no_row st (st.state.retry && nat_lt 0 st.state.tries) Aborting r o.opened is)
 row_stuck f st Aborting (table.Prepare e ∷ ms) r o h is = absurd (grind (arith, h))
 row_stuck f st Aborting (table.Select e ∷ ms) r o h is = absurd (grind (arith, h))
-row_stuck f st Committing ms r t h is = stuck_commit f st (nat_lt st.state.told (length st.state.joined)) (slice_index st.state.joined st.state.told) r t refl h is
-row_stuck f st Undoing ms r t h is = stuck_abort f st (nat_lt st.state.told (length st.state.joined)) (st.state.retry && nat_lt 0 st.state.tries) (slice_index st.state.joined st.state.told) r t refl h is
+row_stuck f st Committing ms r t h is = stuck_commit f st (nat_lt st.state.told (length st.state.joined)) (slice_index st.state.joined st.state.told) r t
+    refl h is
+row_stuck f st Undoing ms r t h is = stuck_abort f st (nat_lt st.state.told (length st.state.joined)) (st.state.retry && nat_lt 0 st.state.tries)
+    (slice_index st.state.joined st.state.told) r t refl h is

@@ -6,8 +6,12 @@ use Rattle.std.proofs.lemmas.Bool.Decides.{nat_tests}
 use Rattle.tx_machine.specs.declared.values.Phase.{Phase}
 use Rattle.tx_machine.specs.declared.values.Phase.TheVariants.{Preparing, Aborting, Committing, Undoing}
 use Rattle.tx_machine.specs.Row.{Row}
-use Rattle.tx_outcome.specs.Trail.{Deed, Answered, Chose, Told, Recovered, Stopped, has_call, has_open_call, has_commit, has_abort, has_outcome, told_by, joins_of, places_told, last_told, untold_in, may_tell, may_recover, is_unstopped, InOrder, count, is_committing, last_row, IsOutcomeOf, FollowsRows, InRow, IdLaw}
-use Rattle.tx_outcome.specs.One.{Decision, Undecided, ToCommit, ToAbort, DueCall, Preparation, Selection, Telling, Recovery, NoCall, FullReply, Answer, Chosen, Advice, Restored, Standing, commits, IsRowOf, DueFits, IsStanding, Made, Follows, advised, GoesOneWay, IsLive, IsOver, One, standing_row, IdFits, OneFits, Reopened, Reopens, Move, Born, Call, Settle, Close, Ack, Stop, without, Moves, LawOfOne}
+use Rattle.tx_outcome.specs.Trail.{Deed, Answered, Chose, Told, Recovered, Stopped, has_call, has_open_call, has_commit, has_abort, has_outcome, told_by}
+use Rattle.tx_outcome.specs.Trail.{joins_of, places_told, last_told, untold_in, may_tell, may_recover, is_unstopped, InOrder, count, is_committing, last_row}
+use Rattle.tx_outcome.specs.Trail.{IsOutcomeOf, FollowsRows, InRow, IdLaw}
+use Rattle.tx_outcome.specs.One.{Decision, Undecided, ToCommit, ToAbort, DueCall, Preparation, Selection, Telling, Recovery, NoCall, FullReply, Answer, Chosen}
+use Rattle.tx_outcome.specs.One.{Advice, Restored, Standing, commits, IsRowOf, DueFits, IsStanding, Made, Follows, advised, GoesOneWay, IsLive, IsOver, One}
+use Rattle.tx_outcome.specs.One.{standing_row, IdFits, OneFits, Reopened, Reopens, Move, Born, Call, Settle, Close, Ack, Stop, without, Moves, LawOfOne}
 
 -- trails without calls, without outcomes
 
@@ -115,7 +119,8 @@ pub told_places : (p : ℕ) (t : List Deed) (j : ℕ) (ms : List ℕ) → ((n q 
 told_places p t j [] h = omega arith
 told_places p t j (m ∷ ms) h =
     let here : told_by m j t ≡ true = subst (λ (k : ℕ). told_by m k t ≡ true) (omega arith) (h 0 m (omega arith) refl) in
-    let later : count p ms ≤ places_told p t (j + 1) (length ms) = told_places p t (j + 1) ms (λ n q less is. subst (λ (k : ℕ). told_by q k t ≡ true) (omega arith) (h (suc n) q (omega arith) is)) in
+    let later : count p ms ≤ places_told p t (j + 1) (length ms) =
+    told_places p t (j + 1) ms (λ n q less is. subst (λ (k : ℕ). told_by q k t ≡ true) (omega arith) (h (suc n) q (omega arith) is)) in
     grind (arith, nat_tests, here, later)
 
 -- the invariant gives the law
@@ -161,7 +166,8 @@ law_dead t advice d = record {
 pub good_told : (t : List Deed) (st : Standing) (advice : ℕ → Option (List ℕ)) → IsLive t st advice → st.told ≡ length st.members
     → (p : ℕ) → (k : ℕ) × (joins_of p t ≤ places_told p t 0 k)
 good_told t st advice g all p =
-    let told : count p st.members ≤ places_told p t 0 (length st.members) = told_places p t 0 st.members (λ n q less is. subst (λ (k : ℕ). told_by q k t ≡ true) (omega arith) (g.told n q (omega arith) is)) in
+    let told : count p st.members ≤ places_told p t 0 (length st.members) =
+    told_places p t 0 st.members (λ n q less is. subst (λ (k : ℕ). told_by q k t ≡ true) (omega arith) (g.told n q (omega arith) is)) in
     (length st.members, omega (arith, told, g.joined p))
 
 pub in_row_good : (t : List Deed) (st : Standing) (advice : ℕ → Option (List ℕ)) (r : Row) → IsLive t st advice → IsRowOf st r → InRow t r advice
@@ -222,7 +228,8 @@ due_tell (Telling q) p st is fits = grind (arith, fits.0, fits.1)
 due_tell (Recovery q) p st is fits = absurd (grind arith)
 due_tell NoCall p st is fits = absurd (grind arith)
 
-pub due_recovery : (d : DueCall) (p : ℕ) (st : Standing) → d ≡ Recovery p → DueFits d st → (st.decision ≡ Undecided → ⊥) × (slice_get st.members st.told ≡ Some p)
+pub due_recovery : (d : DueCall) (p : ℕ) (st : Standing) → d ≡ Recovery p → DueFits d st →
+    (st.decision ≡ Undecided → ⊥) × (slice_get st.members st.told ≡ Some p)
 due_recovery (Preparation q) p st is fits = absurd (grind arith)
 due_recovery (Selection q) p st is fits = absurd (grind arith)
 due_recovery (Telling q) p st is fits = absurd (grind arith)
@@ -239,7 +246,8 @@ way_restored ToCommit t p n not w = w
 way_restored ToAbort t p n not w = w
 
 -- the law, one preparation beyond what is written
-pub law_preparation : (u : List Deed) (st : Standing) (advice : ℕ → Option (List ℕ)) (p b : ℕ) → st.due ≡ Preparation p → IsLive u st advice → IdLaw (Answered p b ∷ u) true st.row advice
+pub law_preparation : (u : List Deed) (st : Standing) (advice : ℕ → Option (List ℕ)) (p b : ℕ) → st.due ≡ Preparation p → IsLive u st advice →
+    IdLaw (Answered p b ∷ u) true st.row advice
 law_preparation u st advice p b is g =
     let fits = due_preparation st.due p st is g.sound.due in
     let none = way_none st.decision u fits.0 g.way in
@@ -262,7 +270,8 @@ law_preparation u st advice p b is g =
           };
     }
 
-pub law_selection : (u : List Deed) (st : Standing) (advice : ℕ → Option (List ℕ)) (p : ℕ) → st.due ≡ Selection p → IsLive u st advice → IdLaw (Chose p ∷ u) true st.row advice
+pub law_selection : (u : List Deed) (st : Standing) (advice : ℕ → Option (List ℕ)) (p : ℕ) → st.due ≡ Selection p → IsLive u st advice →
+    IdLaw (Chose p ∷ u) true st.row advice
 law_selection u st advice p is g =
     let fits = due_selection st.due p st is g.sound.due in
     let none = way_none st.decision u fits.0 g.way in
@@ -302,7 +311,8 @@ law_tell u st advice p a is g =
           };
     }
 
-pub law_recovery : (u : List Deed) (st : Standing) (advice : ℕ → Option (List ℕ)) (p : ℕ) → st.due ≡ Recovery p → IsLive u st advice → IdLaw (Recovered p st.told ∷ u) true st.row advice
+pub law_recovery : (u : List Deed) (st : Standing) (advice : ℕ → Option (List ℕ)) (p : ℕ) → st.due ≡ Recovery p → IsLive u st advice →
+    IdLaw (Recovered p st.told ∷ u) true st.row advice
 law_recovery u st advice p is g =
     let fits = due_recovery st.due p st is g.sound.due in
     let way : GoesOneWay st.decision (Recovered p st.told ∷ u) = way_restored st.decision u p st.told fits.0 g.way in
@@ -318,19 +328,23 @@ law_recovery u st advice p is g =
           record { no_commit = old.no_commit; no_abort = old.no_abort; told = old.told; joined = old.joined; unadvised = old.unadvised };
     }
 
-pub law_made : (d : DueCall) (x : FullReply) (m : Deed) (u : List Deed) (st : Standing) (advice : ℕ → Option (List ℕ)) → st.due ≡ d → Made d x st m → IsLive u st advice
+pub law_made : (d : DueCall) (x : FullReply) (m : Deed) (u : List Deed) (st : Standing) (advice : ℕ → Option (List ℕ)) → st.due ≡ d → Made d x st m →
+    IsLive u st advice
     → IdLaw (m ∷ u) true st.row advice
-law_made (Preparation p) (Answer b w) m u st advice is made g = subst (λ (m : Deed). IdLaw (m ∷ u) true st.row advice) (sym made) (law_preparation u st advice p b is g)
+law_made (Preparation p) (Answer b w) m u st advice is made g =
+    subst (λ (m : Deed). IdLaw (m ∷ u) true st.row advice) (sym made) (law_preparation u st advice p b is g)
 law_made (Selection p) (Chosen w) m u st advice is made g = subst (λ (m : Deed). IdLaw (m ∷ u) true st.row advice) (sym made) (law_selection u st advice p is g)
 law_made (Telling p) (Advice a) m u st advice is made g = subst (λ (m : Deed). IdLaw (m ∷ u) true st.row advice) (sym made) (law_tell u st advice p a is g)
 law_made (Recovery p) Restored m u st advice is made g = subst (λ (m : Deed). IdLaw (m ∷ u) true st.row advice) (sym made) (law_recovery u st advice p is g)
 law_made _ _ m u st advice is made g = absurd made
 
-pub law_holds : (known : Bool) (s : Option Standing) (x : Option FullReply) (t : List Deed) (advice : ℕ → Option (List ℕ)) → IdFits known s x t advice → IdLaw t known (standing_row s) advice
+pub law_holds : (known : Bool) (s : Option Standing) (x : Option FullReply) (t : List Deed) (advice : ℕ → Option (List ℕ)) → IdFits known s x t advice →
+    IdLaw t known (standing_row s) advice
 law_holds false None None t advice h = law_unborn t advice h.0 h.1
 law_holds true None None t advice h = law_dead t advice h
 law_holds true (Some st) None t advice h = law_good t st advice h
-law_holds true (Some st) (Some x) t advice h = subst (λ (t : List Deed). IdLaw t true st.row advice) (sym h.2) (law_made st.due x h.0 h.1 st advice refl h.3 h.4)
+law_holds true (Some st) (Some x) t advice h = subst (λ (t : List Deed). IdLaw t true st.row advice) (sym h.2)
+    (law_made st.due x h.0 h.1 st advice refl h.3 h.4)
 law_holds false None (Some x) t advice h = absurd h
 law_holds false (Some st) x t advice h = absurd h
 law_holds true None (Some x) t advice h = absurd h
@@ -340,7 +354,8 @@ lawful a h = law_holds a.known a.standing a.ahead a.trail a.advice h
 
 -- moves
 
-pub born : (t : List Deed) (st : Standing) (advice : ℕ → Option (List ℕ)) → has_call t ≡ false → ((n : ℕ) → advice n ≡ None) → last_row t ≡ None → IsStanding st → st.decision ≡ Undecided → st.told ≡ 0 → IsLive t st advice
+pub born : (t : List Deed) (st : Standing) (advice : ℕ → Option (List ℕ)) → has_call t ≡ false → ((n : ℕ) → advice n ≡ None) → last_row t ≡ None →
+    IsStanding st → st.decision ≡ Undecided → st.told ≡ 0 → IsLive t st advice
 born t st advice h none unstopped sound decision told = record {
   sound = sound;
   ordered = none_ordered t h;
@@ -355,7 +370,8 @@ born t st advice h none unstopped sound decision told = record {
   decided = none_decided t h;
 }
 
-pub settle_preparation : (u : List Deed) (st to : Standing) (advice : ℕ → Option (List ℕ)) (p b : ℕ) (w : List ℕ) → st.due ≡ Preparation p → IsLive u st advice → Follows (Preparation p) (Answer b w) st to → IsStanding to → IsLive (Answered p b ∷ u) to advice
+pub settle_preparation : (u : List Deed) (st to : Standing) (advice : ℕ → Option (List ℕ)) (p b : ℕ) (w : List ℕ) → st.due ≡ Preparation p →
+    IsLive u st advice → Follows (Preparation p) (Answer b w) st to → IsStanding to → IsLive (Answered p b ∷ u) to advice
 settle_preparation u st to advice p b w is g f sound =
     let fits = due_preparation st.due p st is g.sound.due in
     let none = way_none st.decision u fits.0 g.way in
@@ -373,7 +389,8 @@ settle_preparation u st to advice p b w is g f sound =
       decided = g.decided;
     }
 
-pub settle_selection : (u : List Deed) (st to : Standing) (advice : ℕ → Option (List ℕ)) (p : ℕ) (w : List ℕ) → st.due ≡ Selection p → IsLive u st advice → Follows (Selection p) (Chosen w) st to → IsStanding to → IsLive (Chose p ∷ u) to advice
+pub settle_selection : (u : List Deed) (st to : Standing) (advice : ℕ → Option (List ℕ)) (p : ℕ) (w : List ℕ) → st.due ≡ Selection p → IsLive u st advice →
+    Follows (Selection p) (Chosen w) st to → IsStanding to → IsLive (Chose p ∷ u) to advice
 settle_selection u st to advice p w is g f sound =
     let fits = due_selection st.due p st is g.sound.due in
     let none = way_none st.decision u fits.0 g.way in
@@ -391,7 +408,8 @@ settle_selection u st to advice p w is g f sound =
       decided = g.decided;
     }
 
-pub told_step : (u : List Deed) (ms : List ℕ) (c : Bool) (p told : ℕ) (a : Option (List ℕ)) (n q : ℕ) → n < told + 1 → slice_get ms told ≡ Some p → slice_get ms n ≡ Some q
+pub told_step : (u : List Deed) (ms : List ℕ) (c : Bool) (p told : ℕ) (a : Option (List ℕ)) (n q : ℕ) → n < told + 1 → slice_get ms told ≡ Some p →
+    slice_get ms n ≡ Some q
     → (n < told → told_by q n u ≡ true) → told_by q n (Told c p told a ∷ u) ≡ true
 told_step u ms c p told a n q less is at old = elim (n == told) as (λ (b : Bool). n == told ≡ b → told_by q n (Told c p told a ∷ u) ≡ true) [
   | true ↦ λ h.
@@ -402,7 +420,8 @@ told_step u ms c p told a n q less is at old = elim (n == told) as (λ (b : Bool
   | false ↦ λ h. grind (arith, nat_tests, h, old)
 ] refl
 
-pub quiet_step : (advice : ℕ → Option (List ℕ)) (p told : ℕ) (a : Option (List ℕ)) (n : ℕ) → told + 1 ≤ n → advice n ≡ None → advised (Telling p) (Advice a) told advice n ≡ None
+pub quiet_step : (advice : ℕ → Option (List ℕ)) (p told : ℕ) (a : Option (List ℕ)) (n : ℕ) → told + 1 ≤ n → advice n ≡ None →
+    advised (Telling p) (Advice a) told advice n ≡ None
 quiet_step advice p told None n less h = h
 quiet_step advice p told (Some a) n less h = grind (arith, nat_tests, h)
 
@@ -412,7 +431,8 @@ pub advised_step : (advice : ℕ → Option (List ℕ)) (u : List Deed) (c : Boo
 advised_step advice u c p told None n x y none old at last = grind (arith, nat_tests, none, old, at, last)
 advised_step advice u c p told (Some a) n x y none old at last = grind (arith, nat_tests, none, old, at, last)
 
-pub settle_tell : (u : List Deed) (st to : Standing) (advice : ℕ → Option (List ℕ)) (p : ℕ) (a : Option (List ℕ)) → st.due ≡ Telling p → IsLive u st advice → Follows (Telling p) (Advice a) st to → IsStanding to
+pub settle_tell : (u : List Deed) (st to : Standing) (advice : ℕ → Option (List ℕ)) (p : ℕ) (a : Option (List ℕ)) → st.due ≡ Telling p →
+    IsLive u st advice → Follows (Telling p) (Advice a) st to → IsStanding to
     → IsLive (Told (commits st.decision) p st.told a ∷ u) to (advised (Telling p) (Advice a) st.told advice)
 settle_tell u st to advice p a is g f sound =
     let fits = due_tell st.due p st is g.sound.due in
@@ -433,7 +453,8 @@ settle_tell u st to advice p a is g f sound =
       decided = (outcome_of (last_row u) (commits st.decision) (λ r at. (g.reopened r at).0), g.decided);
     }
 
-pub settle_recovery : (u : List Deed) (st to : Standing) (advice : ℕ → Option (List ℕ)) (p : ℕ) → st.due ≡ Recovery p → IsLive u st advice → Follows (Recovery p) Restored st to → IsStanding to
+pub settle_recovery : (u : List Deed) (st to : Standing) (advice : ℕ → Option (List ℕ)) (p : ℕ) → st.due ≡ Recovery p → IsLive u st advice →
+    Follows (Recovery p) Restored st to → IsStanding to
     → IsLive (Recovered p st.told ∷ u) to advice
 settle_recovery u st to advice p is g f sound =
     let fits = due_recovery st.due p st is g.sound.due in
@@ -454,13 +475,17 @@ settle_recovery u st to advice p is g f sound =
       decided = g.decided;
     }
 
-pub settle : (d : DueCall) (x : FullReply) (m : Deed) (u : List Deed) (st to : Standing) (advice : ℕ → Option (List ℕ)) → st.due ≡ d → Made d x st m → IsLive u st advice → Follows d x st to → IsStanding to
+pub settle : (d : DueCall) (x : FullReply) (m : Deed) (u : List Deed) (st to : Standing) (advice : ℕ → Option (List ℕ)) → st.due ≡ d → Made d x st m →
+    IsLive u st advice → Follows d x st to → IsStanding to
     → IsLive (m ∷ u) to (advised d x st.told advice)
-settle (Preparation p) (Answer b w) m u st to advice is made g f sound = subst (λ (m : Deed). IsLive (m ∷ u) to advice) (sym made) (settle_preparation u st to advice p b w is g f sound)
-settle (Selection p) (Chosen w) m u st to advice is made g f sound = subst (λ (m : Deed). IsLive (m ∷ u) to advice) (sym made) (settle_selection u st to advice p w is g f sound)
+settle (Preparation p) (Answer b w) m u st to advice is made g f sound =
+    subst (λ (m : Deed). IsLive (m ∷ u) to advice) (sym made) (settle_preparation u st to advice p b w is g f sound)
+settle (Selection p) (Chosen w) m u st to advice is made g f sound =
+    subst (λ (m : Deed). IsLive (m ∷ u) to advice) (sym made) (settle_selection u st to advice p w is g f sound)
 settle (Telling p) (Advice a) m u st to advice is made g f sound =
     subst (λ (m : Deed). IsLive (m ∷ u) to (advised (Telling p) (Advice a) st.told advice)) (sym made) (settle_tell u st to advice p a is g f sound)
-settle (Recovery p) Restored m u st to advice is made g f sound = subst (λ (m : Deed). IsLive (m ∷ u) to advice) (sym made) (settle_recovery u st to advice p is g f sound)
+settle (Recovery p) Restored m u st to advice is made g f sound =
+    subst (λ (m : Deed). IsLive (m ∷ u) to advice) (sym made) (settle_recovery u st to advice p is g f sound)
 settle _ _ m u st to advice is made g f sound = absurd made
 
 pub good_dead : (t : List Deed) (st : Standing) (advice : ℕ → Option (List ℕ)) → IsLive t st advice → st.members ≡ [] → IsOver t advice
@@ -493,7 +518,8 @@ good_acked k t st advice g = record {
   decided = g.decided;
 }
 
-pub acked : (k : ℕ) (known : Bool) (s : Option Standing) (x : Option FullReply) (t : List Deed) (advice : ℕ → Option (List ℕ)) → IdFits known s x t advice → IdFits known s x t (without k advice)
+pub acked : (k : ℕ) (known : Bool) (s : Option Standing) (x : Option FullReply) (t : List Deed) (advice : ℕ → Option (List ℕ)) → IdFits known s x t advice →
+    IdFits known s x t (without k advice)
 acked k false None None t advice h = (h.0, λ n. without_none k n advice (h.1 n), h.2)
 acked k true None None t advice h = record {
   one_way = h.one_way;
@@ -516,7 +542,8 @@ untold_from Aborting told n less = refl
 untold_from Committing told n less = grind (arith, nat_tests)
 untold_from Undoing told n less = grind (arith, nat_tests)
 
-pub reopened_way : (b : Bool) (m : Decision) (t : List Deed) → m ≡ (if b then ToCommit else ToAbort) → (b ≡ false → has_commit t ≡ false) → (b ≡ true → has_abort t ≡ false) → GoesOneWay m t
+pub reopened_way : (b : Bool) (m : Decision) (t : List Deed) → m ≡ (if b then ToCommit else ToAbort) → (b ≡ false → has_commit t ≡ false) →
+    (b ≡ true → has_abort t ≡ false) → GoesOneWay m t
 reopened_way true m t is no_commit no_abort = subst (λ (m : Decision). GoesOneWay m t) (sym is) (no_abort refl)
 reopened_way false m t is no_commit no_abort = subst (λ (m : Decision). GoesOneWay m t) (sym is) (no_commit refl)
 
@@ -527,7 +554,8 @@ reopened_not false m is h = grind (arith, is, h)
 same_row : (r q : Row) → Some r ≡ Some q → r ≡ q
 same_row r q e = grind (arith, e)
 
-pub reopened_good : (t : List Deed) (known : Bool) (r : Row) (st : Standing) (advice : ℕ → Option (List ℕ)) → IdLaw t known (Some r) advice → Reopened r st → IsLive (Stopped (Some r) ∷ t) st advice
+pub reopened_good : (t : List Deed) (known : Bool) (r : Row) (st : Standing) (advice : ℕ → Option (List ℕ)) → IdLaw t known (Some r) advice →
+    Reopened r st → IsLive (Stopped (Some r) ∷ t) st advice
 reopened_good t known r st advice law o =
     let f : IsRowOf st r = o.sound.row r o.row in
     let i : InRow t r advice = law.in_row r refl in
@@ -548,13 +576,19 @@ reopened_good t known r st advice law o =
 -- what is opened on a view for which the law holds
 pub opened : (known : Bool) (row : Option Row) (to : Option Standing) (t : List Deed) (advice : ℕ → Option (List ℕ))
     → (known ≡ false → (row ≡ None) × ((n : ℕ) → advice n ≡ None)) → IdLaw t known row advice → Reopens row to → IdFits known to None (Stopped row ∷ t) advice
-opened false None to t advice ok law re = subst (λ (to : Option Standing). IdFits false to None (Stopped None ∷ t) advice) (sym re) (law.numbered refl, (ok refl).1, refl)
+opened false None to t advice ok law re = subst (λ (to : Option Standing). IdFits false to None (Stopped None ∷ t) advice) (sym re) (
+  law.numbered refl,
+  (ok refl).1,
+  refl,
+)
 opened false (Some r) to t advice ok law re = absurd (grind (arith, (ok refl).0))
 opened true None to t advice ok law re = subst (λ (to : Option Standing). IdFits true to None (Stopped None ∷ t) advice) (sym re)
     (record { one_way = law.one_way; all_told = law.all_told refl refl; ordered = law.ordered; advised = law.advised; decided = law.decided })
-opened true (Some r) to t advice ok law re = subst (λ (to : Option Standing). IdFits true to None (Stopped (Some r) ∷ t) advice) (sym re.1) (reopened_good t true r re.0 advice law re.2)
+opened true (Some r) to t advice ok law re = subst (λ (to : Option Standing). IdFits true to None (Stopped (Some r) ∷ t) advice) (sym re.1)
+    (reopened_good t true r re.0 advice law re.2)
 
-pub unborn_ok : (known : Bool) (s : Option Standing) (x : Option FullReply) (t : List Deed) (advice : ℕ → Option (List ℕ)) → IdFits known s x t advice → known ≡ false → (standing_row s ≡ None) × ((n : ℕ) → advice n ≡ None)
+pub unborn_ok : (known : Bool) (s : Option Standing) (x : Option FullReply) (t : List Deed) (advice : ℕ → Option (List ℕ)) → IdFits known s x t advice →
+    known ≡ false → (standing_row s ≡ None) × ((n : ℕ) → advice n ≡ None)
 unborn_ok false None None t advice h k = (refl, h.1)
 unborn_ok false None (Some x) t advice h k = absurd h
 unborn_ok false (Some st) x t advice h k = absurd h
@@ -562,38 +596,49 @@ unborn_ok true s x t advice h k = absurd (grind arith)
 
 -- each move
 
-pub born_holds : (known : Bool) (s : Option Standing) (x : Option FullReply) (t : List Deed) (advice : ℕ → Option (List ℕ)) (st : Standing) → IdFits known s x t advice → known ≡ false → IsStanding st → st.decision ≡ Undecided → st.told ≡ 0
+pub born_holds : (known : Bool) (s : Option Standing) (x : Option FullReply) (t : List Deed) (advice : ℕ → Option (List ℕ)) (st : Standing) →
+    IdFits known s x t advice → known ≡ false → IsStanding st → st.decision ≡ Undecided → st.told ≡ 0
     → IdFits true (Some st) x t advice
 born_holds false None None t advice st h k sound decision told = born t st advice h.0 h.1 h.2 sound decision told
 born_holds false None (Some x) t advice st h k sound decision told = absurd h
 born_holds false (Some old) x t advice st h k sound decision told = absurd h
 born_holds true s x t advice st h k sound decision told = absurd (grind arith)
 
-pub call_holds : (known : Bool) (t : List Deed) (advice : ℕ → Option (List ℕ)) (st : Standing) (x : FullReply) (m : Deed) → IdFits known (Some st) None t advice → Made st.due x st m → IdFits known (Some st) (Some x) (m ∷ t) advice
+pub call_holds : (known : Bool) (t : List Deed) (advice : ℕ → Option (List ℕ)) (st : Standing) (x : FullReply) (m : Deed) →
+    IdFits known (Some st) None t advice → Made st.due x st m → IdFits known (Some st) (Some x) (m ∷ t) advice
 call_holds false t advice st x m h made = absurd h
 call_holds true t advice st x m h made = (m, t, refl, made, h)
 
-pub settle_holds : (known : Bool) (t : List Deed) (advice : ℕ → Option (List ℕ)) (st to : Standing) (x : FullReply) → IdFits known (Some st) (Some x) t advice → Follows st.due x st to → IsStanding to
+pub settle_holds : (known : Bool) (t : List Deed) (advice : ℕ → Option (List ℕ)) (st to : Standing) (x : FullReply) →
+    IdFits known (Some st) (Some x) t advice → Follows st.due x st to → IsStanding to
     → IdFits known (Some to) None t (advised st.due x st.told advice)
 settle_holds false t advice st to x h f sound = absurd h
-settle_holds true t advice st to x h f sound = subst (λ (t : List Deed). IsLive t to (advised st.due x st.told advice)) (sym h.2) (settle st.due x h.0 h.1 st to advice refl h.3 h.4 f sound)
+settle_holds true t advice st to x h f sound = subst (λ (t : List Deed). IsLive t to (advised st.due x st.told advice)) (sym h.2)
+    (settle st.due x h.0 h.1 st to advice refl h.3 h.4 f sound)
 
-pub close_holds : (known : Bool) (t : List Deed) (advice : ℕ → Option (List ℕ)) (st : Standing) → IdFits known (Some st) None t advice → st.members ≡ [] → IdFits known None None t advice
+pub close_holds : (known : Bool) (t : List Deed) (advice : ℕ → Option (List ℕ)) (st : Standing) → IdFits known (Some st) None t advice → st.members ≡ [] →
+    IdFits known None None t advice
 close_holds false t advice st h none = absurd h
 close_holds true t advice st h none = good_dead t st advice h none
 
 pub moved : (mv : Move) (a b : One) → OneFits a → Moves mv a b → OneFits b
 moved (Born st) a b h m = subst OneFits (sym m.4) (born_holds a.known a.standing a.ahead a.trail a.advice st h m.0 m.1 m.2 m.3)
 moved (Call x k) a b h m =
-    let was : IdFits a.known (Some m.0) None a.trail a.advice = subst (λ (o : Option FullReply). IdFits a.known (Some m.0) o a.trail a.advice) m.2 (subst (λ (s : Option Standing). IdFits a.known s a.ahead a.trail a.advice) m.1 h) in
-    let next : IdFits a.known a.standing (Some x) (k ∷ a.trail) a.advice = subst (λ (s : Option Standing). IdFits a.known s (Some x) (k ∷ a.trail) a.advice) (sym m.1) (call_holds a.known a.trail a.advice m.0 x k was m.3) in
+    let was : IdFits a.known (Some m.0) None a.trail a.advice = subst (λ (o : Option FullReply). IdFits a.known (Some m.0) o a.trail a.advice) m.2
+    (subst (λ (s : Option Standing). IdFits a.known s a.ahead a.trail a.advice) m.1 h) in
+    let next : IdFits a.known a.standing (Some x) (k ∷ a.trail) a.advice = subst (λ (s : Option Standing). IdFits a.known s (Some x) (k ∷ a.trail) a.advice)
+    (sym m.1) (call_holds a.known a.trail a.advice m.0 x k was m.3) in
     subst OneFits (sym m.4) next
 moved (Settle to) a b h m =
-    let was : IdFits a.known (Some m.0) (Some m.1) a.trail a.advice = subst (λ (o : Option FullReply). IdFits a.known (Some m.0) o a.trail a.advice) m.3 (subst (λ (s : Option Standing). IdFits a.known s a.ahead a.trail a.advice) m.2 h) in
+    let was : IdFits a.known (Some m.0) (Some m.1) a.trail a.advice = subst (λ (o : Option FullReply). IdFits a.known (Some m.0) o a.trail a.advice) m.3
+    (subst (λ (s : Option Standing). IdFits a.known s a.ahead a.trail a.advice) m.2 h) in
     subst OneFits (sym m.6) (settle_holds a.known a.trail a.advice m.0 to m.1 was m.4 m.5)
 moved Close a b h m =
-    let was : IdFits a.known (Some m.0) None a.trail a.advice = subst (λ (o : Option FullReply). IdFits a.known (Some m.0) o a.trail a.advice) m.2 (subst (λ (s : Option Standing). IdFits a.known s a.ahead a.trail a.advice) m.1 h) in
-    let next : IdFits a.known None a.ahead a.trail a.advice = subst (λ (o : Option FullReply). IdFits a.known None o a.trail a.advice) (sym m.2) (close_holds a.known a.trail a.advice m.0 was m.3) in
+    let was : IdFits a.known (Some m.0) None a.trail a.advice = subst (λ (o : Option FullReply). IdFits a.known (Some m.0) o a.trail a.advice) m.2
+    (subst (λ (s : Option Standing). IdFits a.known s a.ahead a.trail a.advice) m.1 h) in
+    let next : IdFits a.known None a.ahead a.trail a.advice = subst (λ (o : Option FullReply). IdFits a.known None o a.trail a.advice) (sym m.2)
+    (close_holds a.known a.trail a.advice m.0 was m.3) in
     subst OneFits (sym m.4) next
 moved (Ack k) a b h m = subst OneFits (sym m) (acked k a.known a.standing a.ahead a.trail a.advice h)
-moved (Stop to) a b h m = subst OneFits (sym m.1) (opened a.known (standing_row a.standing) to a.trail a.advice (unborn_ok a.known a.standing a.ahead a.trail a.advice h) (lawful a h) m.0)
+moved (Stop to) a b h m = subst OneFits (sym m.1) (opened a.known (standing_row a.standing) to a.trail a.advice
+    (unborn_ok a.known a.standing a.ahead a.trail a.advice h) (lawful a h) m.0)

@@ -3,7 +3,8 @@
 use Rattle.std.proofs.Common.{◌≡◌, ℕ, Bool, true, false, List, [], ◌∷◌, ◌++◌, Option, Some, refl, ap, subst, arith}
 use Rattle.std.proofs.lemmas.Bool.Decides.{nat_tests}
 use Rattle.tx_machine.specs.Row.{Row}
-use Rattle.tx_outcome.specs.Trail.{Deed, Answered, Chose, Told, Recovered, Stopped, has_open_call, may_tell, may_recover, is_unstopped, InOrder, is_committing, last_row, FollowsRows, IsOutcomeOf}
+use Rattle.tx_outcome.specs.Trail.{Deed, Answered, Chose, Told, Recovered, Stopped, has_open_call, may_tell, may_recover, is_unstopped, InOrder, is_committing}
+use Rattle.tx_outcome.specs.Trail.{last_row, FollowsRows, IsOutcomeOf}
 use Rattle.flow_model.specs.declared.flow.Flow.{Flow}
 use Rattle.tx_outcome.specs.Core.{Called, Halted}
 use Rattle.tx_outcome.specs.Plant.{AbstractPlant, PlantMove, Take, Call, Record, Acking, Quiet, Put, Note, Stop, Cut, PlantMoves, view}
@@ -25,7 +26,8 @@ may_tell_between n p c x (Told e q m y ∷ b) d h = may_tell_between n p c x b d
 may_tell_between n p c x (Recovered q m ∷ b) d h = may_tell_between n p c x b d h
 may_tell_between n p c x (Stopped r ∷ b) d h = grind (arith, h, may_tell_between n p c x b d)
 
-pub told_again : (n p q : ℕ) (c e : Bool) (x y : Option (List ℕ)) (a b d : List Deed) → InOrder (a ++ (Told c p n x ∷ (b ++ (Told e q n y ∷ d)))) → has_untold n b ≡ true
+pub told_again : (n p q : ℕ) (c e : Bool) (x y : Option (List ℕ)) (a b d : List Deed) → InOrder (a ++ (Told c p n x ∷ (b ++ (Told e q n y ∷ d)))) →
+    has_untold n b ≡ true
 told_again n p q c e x y a b d h = may_tell_between n q e y b d (ordered_after a (Told c p n x ∷ (b ++ (Told e q n y ∷ d))) h).0
 
 pub may_recover_between : (n p : ℕ) (b d : List Deed) → may_recover n (b ++ Recovered p n ∷ d) ≡ true → has_untold n b ≡ true
@@ -69,14 +71,22 @@ no_stop_in a b d (Stopped r) k h is o = absurd (grind (arith, h))
 -- calls added to any calls
 pub adds : (f : Flow) (t : PlantMove) (p q : AbstractPlant) → PlantMoves f t p q → Adds f t p q
 adds f (Take s hd) p q h = ([], ap (λ (z : AbstractPlant). z.calls) h.2, λ ms. (h.0, h.1, ap (λ (z : AbstractPlant). with_calls z ms) h.2))
-adds f (Call s x m) p q h = (Called h.0 m ∷ [], ap (λ (z : AbstractPlant). z.calls) h.7, λ ms. (h.0, h.1, h.2, h.3, h.4, h.5, h.6, ap (λ (z : AbstractPlant). with_calls z (Called h.0 m ∷ ms)) h.7))
+adds f (Call s x m) p q h = (
+  Called h.0 m ∷ [],
+  ap (λ (z : AbstractPlant). z.calls) h.7,
+  λ ms. (h.0, h.1, h.2, h.3, h.4, h.5, h.6, ap (λ (z : AbstractPlant). with_calls z (Called h.0 m ∷ ms)) h.7),
+)
 adds f (Record s) p q h = ([], ap (λ (z : AbstractPlant). z.calls) h.2, λ ms. (h.0, h.1, ap (λ (z : AbstractPlant). with_calls z ms) h.2))
 adds f (Acking i n) p q h = ([], ap (λ (z : AbstractPlant). z.calls) h, λ ms. ap (λ (z : AbstractPlant). with_calls z ms) h)
 adds f Quiet p q h = ([], ap (λ (z : AbstractPlant). z.calls) h, λ ms. ap (λ (z : AbstractPlant). with_calls z ms) h)
 adds f Put p q h = ([], ap (λ (z : AbstractPlant). z.calls) h.3, λ ms. (h.0, h.1, h.2, ap (λ (z : AbstractPlant). with_calls z ms) h.3))
 adds f (Note n) p q h = ([], ap (λ (z : AbstractPlant). z.calls) h.2, λ ms. (h.0, h.1, ap (λ (z : AbstractPlant). with_calls z ms) h.2))
 adds f Cut p q h = ([], ap (λ (z : AbstractPlant). z.calls) h.3, λ ms. (h.0, h.1, h.2, ap (λ (z : AbstractPlant). with_calls z ms) h.3))
-adds f (Stop cs) p q h = (Halted (view f p) ∷ [], ap (λ (z : AbstractPlant). z.calls) h.1, λ ms. (h.0, ap (λ (z : AbstractPlant). with_calls z (Halted (view f p) ∷ ms)) h.1))
+adds f (Stop cs) p q h = (
+  Halted (view f p) ∷ [],
+  ap (λ (z : AbstractPlant). z.calls) h.1,
+  λ ms. (h.0, ap (λ (z : AbstractPlant). with_calls z (Halted (view f p) ∷ ms)) h.1),
+)
 
 -- who is notified after a stop is notified of the outcome that the row had
 
@@ -96,5 +106,7 @@ last_since (Chose p ∷ b) d row h = last_since b d row h
 last_since (Recovered p n ∷ b) d row h = last_since b d row h
 last_since (Stopped r ∷ b) d row h = absurd (cc)
 
-pub told_way : (r : Row) (c : Bool) (p n : ℕ) (x : Option (List ℕ)) (a b d : List Deed) → FollowsRows (a ++ (Told c p n x ∷ (b ++ (Stopped (Some r) ∷ d)))) → has_stop b ≡ false → c ≡ is_committing r.phase
-told_way r c p n x a b d h none = subst (λ (o : Option Row). IsOutcomeOf o c) (last_since b d (Some r) none) (follows_later a (Told c p n x ∷ (b ++ (Stopped (Some r) ∷ d))) h).0
+pub told_way : (r : Row) (c : Bool) (p n : ℕ) (x : Option (List ℕ)) (a b d : List Deed) → FollowsRows (a ++ (Told c p n x ∷ (b ++ (Stopped (Some r) ∷ d))))
+    → has_stop b ≡ false → c ≡ is_committing r.phase
+told_way r c p n x a b d h none = subst (λ (o : Option Row). IsOutcomeOf o c) (last_since b d (Some r) none)
+    (follows_later a (Told c p n x ∷ (b ++ (Stopped (Some r) ∷ d))) h).0

@@ -185,7 +185,8 @@ StateFitsAt None = Unit {0}
 StateFitsAt (Some st) = StateFits st
 
 pub record IsCore (f : Flow) (v : IdView) (late gone : List IdEvent) (kept : ℕ → Option FullReply) (calls : List PlantDeed) : Type 0 where
-  pub ones : (id : ℕ) → IdFits (nat_lt id (next_id v gone)) (standing_of f (at f v gone id)) (first (kept id) (given late id)) (trail_of id calls) (advice f v gone id)
+  pub ones : (id : ℕ) → IdFits (nat_lt id (next_id v gone)) (standing_of f (at f v gone id)) (first (kept id) (given late id)) (trail_of id calls)
+      (advice f v gone id)
   pub once : Once late
   pub apart : (id : ℕ) (x : FullReply) → kept id ≡ Some x → given late id ≡ None
   pub alive : (id : ℕ) (x : FullReply) → first (kept id) (given late id) ≡ Some x → IsAwaited f (at f v gone id) x

@@ -2,7 +2,9 @@
 use Rattle.std.specs.Prelude.{◌≡◌, ℕ, ◌+◌, ◌<◌, ◌≤◌, Bool, true, false, List, [], ◌∷◌, ◌++◌, length, Option, Some, None, slice_get, ◌==◌}
 use Rattle.std.specs.Prelude.{if◌then◌else◌}
 use Rattle.tx_machine.specs.Row.{Row}
-use Rattle.tx_outcome.specs.Trail.{Deed, Answered, Chose, Told, Recovered, Stopped, joins, has_call, has_commit, has_abort, has_outcome, told_by, joins_of, places_told, last_told, may_tell, may_recover, is_unstopped, InOrder, count, listed, is_committing, last_row, FollowsRows, IdLaw}
+use Rattle.tx_outcome.specs.Trail.{Deed, Answered, Chose, Told, Recovered, Stopped, joins, has_call, has_commit, has_abort, has_outcome, told_by, joins_of}
+use Rattle.tx_outcome.specs.Trail.{places_told, last_told, may_tell, may_recover, is_unstopped, InOrder, count, listed, is_committing, last_row, FollowsRows}
+use Rattle.tx_outcome.specs.Trail.{IdLaw}
 
 -- Undecided: preparing or aborting, nobody told. A journalled transaction never is.
 pub data Decision : Type 0 where

@@ -6,7 +6,8 @@ use Rattle.tx_outcome.specs.Trail.{Deed}
 use Rattle.tx_outcome.specs.One.{DueCall, NoCall, FullReply, Made}
 use Rattle.flow_model.specs.declared.flow.Flow.{Flow}
 use Rattle.tx_outcome.specs.States.{FullState, Head, due, standing}
-use Rattle.tx_outcome.specs.Core.{IdView, IdEvent, Took, Given, Acked, Closed, Other, PlantDeed, Called, Halted, next_id, at, journal, put, none_kept, Shuts, AbstractCore, CoreFits}
+use Rattle.tx_outcome.specs.Core.{IdView, IdEvent, Took, Given, Acked, Closed, Other, PlantDeed, Called, Halted, next_id, at, journal, put, none_kept, Shuts}
+use Rattle.tx_outcome.specs.Core.{AbstractCore, CoreFits}
 
 -- A session takes, or was given a reply; an advice is acknowledged; a transaction is closed. Plain are the others: offers,
 -- releases, breakpoints set and cleared, sessions let go.
@@ -162,4 +163,5 @@ abbrev pub AreHeld : Flow → IdView → List SessionEvent → Type 0
 AreHeld f v es = (id : ℕ) → v.next_id ≤ id → unfinished f (at f v (by_ids f v es) id) ≡ true → (s : ℕ) × (taken v es s ≡ Some id)
 
 abbrev pub PlantFits : Flow → AbstractPlant → Type 0
-PlantFits f p = (kb : ℕ → Option FullReply) × CoreFits f (lower f p kb) × SeatsAgree f p.start (past p) p.kept kb × (p.mark ≤ length p.gone) × AreHeld f p.start (past p)
+PlantFits f p = (kb : ℕ → Option FullReply) × CoreFits f (lower f p kb) × SeatsAgree f p.start (past p) p.kept kb × (p.mark ≤ length p.gone)
+    × AreHeld f p.start (past p)

@@ -13,7 +13,8 @@ use Rattle.tx_machine.specs.Table.{TxState, Upcoming, next, opening, reopening}
 use Rattle.tx_machine.specs.Due.{due_at, due_of}
 use Rattle.tx_machine.specs.Row.{Row, row_at, IsInPhase}
 use Rattle.tx_outcome.specs.Trail.{listed, is_committing}
-use Rattle.tx_outcome.specs.One.{Decision, Undecided, ToCommit, ToAbort, DueCall, Preparation, Selection, Telling, Recovery, NoCall, FullReply, Answer, Chosen, Advice, Restored, Standing, commits}
+use Rattle.tx_outcome.specs.One.{Decision, Undecided, ToCommit, ToAbort, DueCall, Preparation, Selection, Telling, Recovery, NoCall, FullReply, Answer, Chosen}
+use Rattle.tx_outcome.specs.One.{Advice, Restored, Standing, commits}
 
 pub record FullState : Type 0 where
   pub state : TxState
@@ -40,7 +41,7 @@ after f st (Chosen t) = record st { state = next f st.state (item.Choice t) }
 after f st (Advice a) = record st { state = next f st.state (item.Told a); opened = None; restored = false }
 after f st Restored = record st { restored = true }
 
--- whether the participant has the mark by which it restores its context before it is told
+-- whether the participant has the mark by which it restores its context before it is notified
 abbrev pub is_recovering : Option Part → Bool
 is_recovering None = false
 is_recovering (Some p) = p.kind.recovers
@@ -97,7 +98,7 @@ standing_at f st ph ms = record {
 abbrev pub standing : Flow → FullState → Standing
 standing f st = standing_at f st st.state.phase st.state.rest
 
--- A journalled transaction, before anything is told: it is committed where it was committing and else aborted.
+-- A journalled transaction, before anybody is notified: it is committed where it was committing and else aborted.
 abbrev pub reopen : Row → FullState
 reopen r = record { state = reopening (is_committing r.phase) (listed r) r.told r.tries r.saved; opened = Some r; recovered = true; restored = false }
 

@@ -1,5 +1,6 @@
 -- The trail of one transaction: the calls made for it and the stops, newest first; and the outcome law over it.
-use Rattle.std.specs.Prelude.{◌≡◌, ℕ, ◌+◌, ◌<◌, ◌≤◌, Bool, true, false, suc, zero, List, [], ◌∷◌, ◌++◌, Option, Some, None, slice_get, nat_lt, ◌==◌, not, ◌&&◌, ◌||◌}
+use Rattle.std.specs.Prelude.{◌≡◌, ℕ, ◌+◌, ◌<◌, ◌≤◌, Bool, true, false, suc, zero, List, [], ◌∷◌, ◌++◌, Option, Some, None, slice_get, nat_lt, ◌==◌, not, ◌&&◌}
+use Rattle.std.specs.Prelude.{◌||◌}
 use Rattle.std.specs.Prelude.{if◌then◌else◌}
 use Rattle.sw_participant.specs.Answers.{stays_out}
 use Rattle.tx_machine.specs.Row.{Row}
@@ -141,7 +142,7 @@ abbrev pub IsOutcomeOf : Option Row → Bool → Type 0
 IsOutcomeOf None commit = Unit {0}
 IsOutcomeOf (Some r) commit = commit ≡ is_committing r.phase
 
--- who is notified after a stop at which the journal had the transaction is told that outcome
+-- who is notified after a stop at which the journal had the transaction is notified of that outcome
 abbrev pub FollowsRows : List Deed → Type 0
 FollowsRows [] = Unit {0}
 FollowsRows (Told c p n a ∷ t) = IsOutcomeOf (last_row t) c × FollowsRows t

@@ -105,7 +105,8 @@ pub fn clauses()
         → ((id : ℕ) → (standing_row (standing_of f (at f c.start c.gone id)) ≡ None)
         × (unfinished f (at f c.start c.gone id) ≡ false))
         → CoreFits f (cut_of f c) }
-    ensures adds { (f : Flow) (t : PlantMove) (p q : AbstractPlant) → PlantMoves f t p q → Adds f t p q }
+    ensures adds { (f : Flow) (t : PlantMove) (p q : AbstractPlant) → PlantMoves f t p q
+        → Adds f t p q }
 {}
 
 /// What a state is in the machine's words: of a transaction of this life its table state after its

@@ -75,8 +75,10 @@ fn is_seated(seats: &Seats, s: usize, id: u64) -> bool
 // What becomes of the session's seat; hands back the context that was there.
 fn put_seat(seats: &mut Seats, s: usize, left: Option<Seat>) -> Context
     requires there { s < length seats.old.by_session.items }
-    requires held { (id : ℕ) × (x : Pairs) × (get_or seats.old.by_session.items s None ≡ Some (seat_with id x)) }
-    ensures before { (id : ℕ) (x : Pairs) → get_or seats.old.by_session.items s None ≡ Some (seat_with id x) → result ≡ x }
+    requires held { (id : ℕ) × (x : Pairs)
+        × (get_or seats.old.by_session.items s None ≡ Some (seat_with id x)) }
+    ensures before { (id : ℕ) (x : Pairs) → get_or seats.old.by_session.items s None
+        ≡ Some (seat_with id x) → result ≡ x }
     ensures seats { seats.new.by_session.items ≡ slice_set seats.old.by_session.items s left }
     ensures waiting { seats.new.waiting ≡ seats.old.waiting }
     ensures ended { seats.new.ended ≡ seats.old.ended }

@@ -1,6 +1,7 @@
 -- The last call of all stations, and the stations before it.
 -- for: running::run_in
-use Rattle.std.proofs.Common.{◌≡◌, ◌<◌, ◌+◌, ◌-◌, ◌^◌, ◌==◌, ◌≢◌, min, ℕ, Bool, true, false, List, [], ◌∷◌, ◌++◌, length, filter, get_or, slice_set, refl, sym, ap, subst, arith, ◌∙◌}
+use Rattle.std.proofs.Common.{◌≡◌, ◌<◌, ◌+◌, ◌-◌, ◌^◌, ◌==◌, ◌≢◌, min, ℕ, Bool, true, false, List, [], ◌∷◌, ◌++◌, length, filter, get_or, slice_set, refl, sym}
+use Rattle.std.proofs.Common.{ap, subst, arith, ◌∙◌}
 use Rattle.std.proofs.lemmas.Bool.Decides.{nat_tests}
 use Rattle.std.proofs.lemmas.List.{get_or-set_same, get_or-set_other, set-set, set-get_or}
 use Rattle.std.proofs.lemmas.List.Elements.{filter-append}
@@ -52,7 +53,8 @@ linked_before : (rule : ℕ → Rule) (os : List (List ℕ)) (ms : List MadeCall
     → (i : ℕ) (b : Bool) → (m.call.participant == i) ≡ b → Linked (rule i) (get_or os i []) (calls_at i ms) (get_or (slice_set ps m.call.participant o) i [])
 linked_before rule os ms m ps o all same l i true e =
     let e1 : m.call.participant ≡ i = grind (arith, nat_tests, e) in
-    subst (λ (z : ℕ). Linked (rule z) (get_or os z []) (calls_at z ms) (get_or (slice_set ps m.call.participant o) z [])) e1 (subst (λ (z : List ℕ). Linked (rule m.call.participant) (get_or os m.call.participant []) (calls_at m.call.participant ms) z) (sym same) l)
+    subst (λ (z : ℕ). Linked (rule z) (get_or os z []) (calls_at z ms) (get_or (slice_set ps m.call.participant o) z [])) e1
+    (subst (λ (z : List ℕ). Linked (rule m.call.participant) (get_or os m.call.participant []) (calls_at m.call.participant ms) z) (sym same) l)
 linked_before rule os ms m ps o all same l i false e =
     let e1 : i ≢ m.call.participant = grind (arith, nat_tests, e) in
     let still = subst (λ (z : List MadeCall). Linked (rule i) (get_or os i []) z (get_or ps i [])) (calls_out i ms m e) (all i) in
@@ -72,9 +74,11 @@ counts_before cs ds ms m c all same l i false e =
 
 counted_back : (ds : List ℕ) (k c : ℕ) → get_or (slice_set ds k c) k 0 ≡ c → get_or ds k 0 ≡ min (c + 1) (2 ^ 64 - 1) → ds ≡ counted (slice_set ds k c) k
 counted_back ds k c same e =
-    sym (set-get_or ds k 0) ∙ (ap (slice_set ds k) e ∙ (ap (λ z. slice_set ds k (min (z + 1) (2 ^ 64 - 1))) (sym same) ∙ sym (set-set ds k c (min (get_or (slice_set ds k c) k 0 + 1) (2 ^ 64 - 1)))))
+    sym (set-get_or ds k 0) ∙ (ap (slice_set ds k) e ∙ (ap (λ z. slice_set ds k (min (z + 1) (2 ^ 64 - 1))) (sym same)
+    ∙ sym (set-set ds k c (min (get_or (slice_set ds k c) k 0 + 1) (2 ^ 64 - 1)))))
 
-pub last_call : (rule : ℕ → Rule) (os : List (List ℕ)) (cs : List ℕ) (ms : List MadeCall) (m : MadeCall) (ps : List (List ℕ)) (ds : List ℕ) → AllLinked rule os cs (ms ++ m ∷ []) ps ds → Last rule os cs ms m ps ds
+pub last_call : (rule : ℕ → Rule) (os : List (List ℕ)) (cs : List ℕ) (ms : List MadeCall) (m : MadeCall) (ps : List (List ℕ)) (ds : List ℕ) →
+    AllLinked rule os cs (ms ++ m ∷ []) ps ds → Last rule os cs ms m ps ds
 last_call rule os cs ms m ps ds a =
     let k = m.call.participant in
     let (there, here) = there_less (length os) ms m a.there in
@@ -87,7 +91,8 @@ last_call rule os cs ms m ps ds a =
     let c = count_up (get_or cs k 0) (calls_at k ms) in
     let few : k < length ds = omega (arith, here, a.counted) in
     let same_count : get_or (slice_set ds k c) k 0 ≡ c = get_or-set_same ds k c 0 few in
-    let last_count : get_or ds k 0 ≡ min (c + 1) (2 ^ 64 - 1) = a.counts k ∙ (ap (count_up (get_or cs k 0)) (calls_in k ms m refl) ∙ count_more (get_or cs k 0) (calls_at k ms) m) in
+    let last_count : get_or ds k 0 ≡ min (c + 1) (2 ^ 64 - 1) =
+    a.counts k ∙ (ap (count_up (get_or cs k 0)) (calls_in k ms m refl) ∙ count_more (get_or cs k 0) (calls_at k ms) m) in
     record {
       before = before;
       counts = slice_set ds k c;

@@ -1,6 +1,7 @@
 -- What follows of a run in which all that its threads left agrees.
 -- for: ending::conclude, running::run_in
-use Rattle.std.proofs.Common.{Result, Ok, Err, IfErr, IfOk, ◌≡◌, ◌⊎◌, ◌≤◌, ◌+◌, ℕ, zero, suc, false, Bool, List, [], ◌∷◌, ◌++◌, length, take, drop, refl, sym, ap, subst, arith, ◌∙◌, inl, inr, append_assoc}
+use Rattle.std.proofs.Common.{Result, Ok, Err, IfErr, IfOk, ◌≡◌, ◌⊎◌, ◌≤◌, ◌+◌, ℕ, zero, suc, false, Bool, List, [], ◌∷◌, ◌++◌, length, take, drop, refl, sym}
+use Rattle.std.proofs.Common.{ap, subst, arith, ◌∙◌, inl, inr, append_assoc}
 use Rattle.std.proofs.lemmas.List.{drop-append-le, length-append, length-drop, take_all}
 use Rattle.sw_context.specs.Pairs.{Pairs}
 use Rattle.sw_participant.specs.Chains.{Rule}
@@ -49,13 +50,21 @@ grown_one p w q e g h = record {
 }
 
 grown_mark : (p : World) (w q : Core) (n : ℕ) → Grown p w.world → q ≡ record w { world = record w.world { mark = n } } → Grown p q.world
-grown_mark p w q n g e = subst (λ (z : Core). Grown p z.world) (sym e) (record { flow = g.flow; from = g.from; sessions = g.sessions; new = g.new; past = g.past })
+grown_mark p w q n g e = subst (λ (z : Core). Grown p z.world) (sym e) (record {
+  flow = g.flow;
+  from = g.from;
+  sessions = g.sessions;
+  new = g.new;
+  past =
+      g.past;
+})
 
 pub grown : (ss : List RunStep) (p q : Core) → DoesAll ss p q → Grown p.world q.world
 grown [] p q e = subst (λ (z : Core). Grown p.world z.world) (sym e) (grown_none p.world)
 grown (Offers x n ∷ ss) p q (w, ran, (allowed, recorded, e), engine) = grown_one p.world w.world q.world (event.Offered x) (grown ss p w ran) recorded.history
 grown (Takes s n id x ∷ ss) p q (w, ran, taken, engine) = grown_one p.world w.world q.world (event.Taken s) (grown ss p w ran) taken.recorded.history
-grown (Replies s n m ∷ ss) p q (w, ran, entered, engine) = grown_one p.world w.world q.world (event_of s m.reply m.after) (grown ss p w ran) entered.recorded.history
+grown (Replies s n m ∷ ss) p q (w, ran, entered, engine) = grown_one p.world w.world q.world (event_of s m.reply m.after) (grown ss p w ran)
+    entered.recorded.history
 grown (Writes b ∷ ss) p q (w, ran, marks, engine) = grown_mark p.world w q (w.world.mark + length b) (grown ss p w ran) marks.core
 
 pub longer : (p q : World) → Grown p q → length p.past ≤ length q.past
@@ -79,7 +88,8 @@ run_one p w q e g h =
     let new : Entry = record { number = length w.past + 1; event = e; change = change w.flow w.start (e ∷ w.past) } in
     let long = longer p w g in
     let all = entries_length w.flow w.start w.past in
-    ap (λ (z : World). offered_of (run_entries p z)) h ∙ (ap offered_of (drop-append-le (length p.past) (all_of w) (new ∷ []) (omega (arith, long, all))) ∙ offered_more (run_entries p w) new)
+    ap (λ (z : World). offered_of (run_entries p z)) h ∙ (ap offered_of (drop-append-le (length p.past) (all_of w) (new ∷ []) (omega (arith, long, all)))
+    ∙ offered_more (run_entries p w) new)
 
 no_offer : (s : ℕ) (r : Reply) (y : Pairs) → offered_by (event_of s r y) ≡ []
 no_offer s (reply.Answer b) y = refl
@@ -95,7 +105,8 @@ run_none p = ap offered_of (drop_all (all_of p) (length p.past) (let all = entri
   drop_all (x ∷ xs) zero h = absurd (omega (arith, h))
   drop_all (x ∷ xs) (suc n) h = drop_all xs n (omega (arith, h))
 
-run_mark : (p : World) (w q : Core) (n : ℕ) → q ≡ record w { world = record w.world { mark = n } } → offered_of (run_entries p q.world) ≡ offered_of (run_entries p w.world)
+run_mark : (p : World) (w q : Core) (n : ℕ) → q ≡ record w { world = record w.world { mark = n } } →
+    offered_of (run_entries p q.world) ≡ offered_of (run_entries p w.world)
 run_mark p w q n e = ap (λ (z : Core). offered_of (run_entries p z.world)) e
 
 pub offers_are : (ss : List RunStep) (p q : Core) → DoesAll ss p q → offered_of (run_entries p.world q.world) ≡ offers_of ss
@@ -103,16 +114,21 @@ offers_are [] p q e = ap (λ (z : Core). offered_of (run_entries p.world z.world
 offers_are (Offers x n ∷ ss) p q (w, ran, (allowed, recorded, e), engine) =
     run_one p.world w.world q.world (event.Offered x) (grown ss p w ran) recorded.history ∙ ap (λ l. l ++ x ∷ []) (offers_are ss p w ran)
 offers_are (Takes s n id x ∷ ss) p q (w, ran, taken, engine) =
-    run_one p.world w.world q.world (event.Taken s) (grown ss p w ran) taken.recorded.history ∙ (nil_offers (offered_of (run_entries p.world w.world)) ∙ offers_are ss p w ran)
+    run_one p.world w.world q.world (event.Taken s) (grown ss p w ran) taken.recorded.history
+    ∙ (nil_offers (offered_of (run_entries p.world w.world)) ∙ offers_are ss p w ran)
 offers_are (Replies s n m ∷ ss) p q (w, ran, entered, engine) =
     run_one p.world w.world q.world (event_of s m.reply m.after) (grown ss p w ran) entered.recorded.history
-    ∙ (ap (λ l. offered_of (run_entries p.world w.world) ++ l) (no_offer s m.reply m.after) ∙ (nil_offers (offered_of (run_entries p.world w.world)) ∙ offers_are ss p w ran))
+    ∙ (ap (λ l. offered_of (run_entries p.world w.world) ++ l) (no_offer s m.reply m.after)
+    ∙ (nil_offers (offered_of (run_entries p.world w.world)) ∙ offers_are ss p w ran))
 offers_are (Writes b ∷ ss) p q (w, ran, marks, engine) = run_mark p.world w q (w.world.mark + length b) marks.core ∙ offers_are ss p w ran
 
-pub ended_grown : (rule : ℕ → Rule) (os : List (List ℕ)) (cs : List ℕ) (p q : Core) (got : List (List ℕ)) (es : List Entry) (ps : List (List ℕ)) (ds : List ℕ) → Ended rule os cs p q got es ps ds → Grown p.world q.world
+pub ended_grown : (rule : ℕ → Rule) (os : List (List ℕ)) (cs : List ℕ) (p q : Core) (got : List (List ℕ)) (es : List Entry) (ps : List (List ℕ))
+    (ds : List ℕ) → Ended rule os cs p q got es ps ds → Grown p.world q.world
 ended_grown rule os cs p q got es ps ds e = grown e.since.steps p q e.since.does
 
-pub ended_offered : (rule : ℕ → Rule) (os : List (List ℕ)) (cs : List ℕ) (p q : Core) (got : List (List ℕ)) (es : List Entry) (ps : List (List ℕ)) (ds : List ℕ) (before after : List Pairs) (ended : Bool) → Ended rule os cs p q got es ps ds → HasFed before after ended got → Offered p.world q.world before after ended
+pub ended_offered : (rule : ℕ → Rule) (os : List (List ℕ)) (cs : List ℕ) (p q : Core) (got : List (List ℕ)) (es : List Entry) (ps : List (List ℕ))
+    (ds : List ℕ) (before after : List Pairs) (ended : Bool) → Ended rule os cs p q got es ps ds → HasFed before after ended got →
+    Offered p.world q.world before after ended
 ended_offered rule os cs p q got es ps ds before after ended e f = record {
   given = f.feeds.given;
   all = f.feeds.all;
@@ -131,7 +147,9 @@ seen_wrote j k es w = record { clean = w.clean; fresh = w.fresh; none = w.none; 
 all_taken : (q : World) → q.mark ≡ length q.past → take q.mark (all_of q) ≡ all_of q
 all_taken q e = take_all q.mark (all_of q) (let all = entries_length q.flow q.start q.past in omega (arith, all, e))
 
-pub ended_drove : (rule : ℕ → Rule) (os : List (List ℕ)) (cs : List ℕ) (p q : Core) (got : List (List ℕ)) (es : List Entry) (ps : List (List ℕ)) (ds : List ℕ) (j k : JournalState) → length cs ≡ length os → length p.seats ≡ p.world.sessions → p.world.mark ≤ length p.world.past → Ended rule os cs p q got es ps ds → Wrote j es k
+pub ended_drove : (rule : ℕ → Rule) (os : List (List ℕ)) (cs : List ℕ) (p q : Core) (got : List (List ℕ)) (es : List Entry) (ps : List (List ℕ))
+    (ds : List ℕ) (j k : JournalState) → length cs ≡ length os → length p.seats ≡ p.world.sessions → p.world.mark ≤ length p.world.past →
+    Ended rule os cs p q got es ps ds → Wrote j es k
     → Drove rule os cs (record { core = p; journal = seen j }) ps ds (record { core = q; journal = seen k })
 ended_drove rule os cs p q got es ps ds j k c h m e w =
     let all = entries_length p.world.flow p.world.start p.world.past in
@@ -154,13 +172,18 @@ carry_one p w q e n h c = then p (unmarked w n) (unmarked q n) c (grows_carry (u
 
 pub carries_on : (ss : List RunStep) (p q : Core) → DoesAll ss p q → Carries p.world (unmarked q.world p.world.mark)
 carries_on [] p q e = grows_carry p.world (unmarked q.world p.world.mark) (inl (ap (λ (z : Core). unmarked z.world p.world.mark) e))
-carries_on (Offers x n ∷ ss) p q (w, ran, (allowed, recorded, e), engine) = carry_one p.world w.world q.world (event.Offered x) p.world.mark recorded.history (carries_on ss p w ran)
-carries_on (Takes s n id x ∷ ss) p q (w, ran, taken, engine) = carry_one p.world w.world q.world (event.Taken s) p.world.mark taken.recorded.history (carries_on ss p w ran)
-carries_on (Replies s n m ∷ ss) p q (w, ran, entered, engine) = carry_one p.world w.world q.world (event_of s m.reply m.after) p.world.mark entered.recorded.history (carries_on ss p w ran)
-carries_on (Writes b ∷ ss) p q (w, ran, marks, engine) = subst (λ (z : Core). Carries p.world (unmarked z.world p.world.mark)) (sym marks.core) (carries_on ss p w ran)
+carries_on (Offers x n ∷ ss) p q (w, ran, (allowed, recorded, e), engine) =
+    carry_one p.world w.world q.world (event.Offered x) p.world.mark recorded.history (carries_on ss p w ran)
+carries_on (Takes s n id x ∷ ss) p q (w, ran, taken, engine) = carry_one p.world w.world q.world (event.Taken s) p.world.mark taken.recorded.history
+    (carries_on ss p w ran)
+carries_on (Replies s n m ∷ ss) p q (w, ran, entered, engine) = carry_one p.world w.world q.world (event_of s m.reply m.after) p.world.mark
+    entered.recorded.history (carries_on ss p w ran)
+carries_on (Writes b ∷ ss) p q (w, ran, marks, engine) = subst (λ (z : Core). Carries p.world (unmarked z.world p.world.mark)) (sym marks.core)
+    (carries_on ss p w ran)
 
 -- all that is late was written at once
-all_written : (p q : Core) (es : List Entry) (t u : Tables) → IsEngine q.world → p.world.mark ≤ q.world.mark → q.world.mark ≡ length q.world.past → es ≡ drop p.world.mark (all_of q.world) → u ≡ all_made (changes_of es) t → Written (unmarked q.world p.world.mark) t → Written q.world u
+all_written : (p q : Core) (es : List Entry) (t u : Tables) → IsEngine q.world → p.world.mark ≤ q.world.mark → q.world.mark ≡ length q.world.past →
+    es ≡ drop p.world.mark (all_of q.world) → u ≡ all_made (changes_of es) t → Written (unmarked q.world p.world.mark) t → Written q.world u
 all_written p q es t u engine rises marked copies made v =
     let n = p.world.mark in
     let w = unmarked q.world n in
@@ -168,7 +191,8 @@ all_written p q es t u engine rises marked copies made v =
     let all = entries_length q.world.flow q.world.start q.world.past in
     let few = length-drop n (all_of q.world) in
     let these : take count (late w) ≡ es = take_all count (late w) (omega arith) ∙ sym copies in
-    write_written w t u q.world.mark count engine.flow engine.start engine.lawful (omega arith) (omega (arith, few, all, marked, rises)) (made ∙ ap (λ (l : List Entry). all_made (changes_of l) t) (sym these)) v
+    write_written w t u q.world.mark count engine.flow engine.start engine.lawful (omega arith) (omega (arith, few, all, marked, rises))
+    (made ∙ ap (λ (l : List Entry). all_made (changes_of l) t) (sym these)) v
 
 -- where nothing was late, nothing more is written
 none_late : (n : ℕ) (w : World) → w.mark ≡ length w.past → n ≤ w.mark → drop n (all_of w) ≡ [] → unmarked w n ≡ w
@@ -191,17 +215,22 @@ left_none p w j k c less h = record {
 left_these : (w : World) (k : JournalState) → LeavesThese k → Written w k.tables → Leftovers w k.may_leave
 left_these w k these is = record { more = 0; either = λ t left. inl (subst (Written w) (sym (these t left)) is) }
 
-pub ended_written : (rule : ℕ → Rule) (os : List (List ℕ)) (cs : List ℕ) (p q : Core) (got : List (List ℕ)) (es : List Entry) (ps : List (List ℕ)) (ds : List ℕ) (j k : JournalState) → p.world.mark ≤ length p.world.past → Ended rule os cs p q got es ps ds → Wrote j es k → IsWritten p.world j → IsWritten q.world k
+pub ended_written : (rule : ℕ → Rule) (os : List (List ℕ)) (cs : List ℕ) (p q : Core) (got : List (List ℕ)) (es : List Entry) (ps : List (List ℕ))
+    (ds : List ℕ) (j k : JournalState) → p.world.mark ≤ length p.world.past → Ended rule os cs p q got es ps ds → Wrote j es k → IsWritten p.world j →
+    IsWritten q.world k
 ended_written rule os cs p q got es ps ds j k m e w h =
     let all = entries_length p.world.flow p.world.start p.world.past in
     let b = between e.since.steps p q (omega (arith, m, all)) e.since.does in
     let carries = carries_on e.since.steps p q e.since.does in
     let is : IsCleanJournal k → k.failed ≡ false → Written q.world k.tables =
     λ clean ok. (let before : IsCleanJournal j = omega (arith, w.clean, clean) in
-    all_written p q es j.tables k.tables e.engine b.rises e.settled.written e.copies (w.tables clean ok) (carries.written j.tables (h.tables before (w.fresh ok)))) in
+    all_written p q es j.tables k.tables e.engine b.rises e.settled.written e.copies (w.tables clean ok)
+    (carries.written j.tables (h.tables before (w.fresh ok)))) in
     record { tables = is; left = λ clean. left_by clean b.rises carries is w.left }
   where
-    left_by : IsCleanJournal k → p.world.mark ≤ q.world.mark → Carries p.world (unmarked q.world p.world.mark) → (IsCleanJournal k → k.failed ≡ false → Written q.world k.tables) → ((es ≡ []) × LeavesLess j k) ⊎ ((k.failed ≡ false) × (IsCleanJournal k → LeavesThese k)) → Leftovers q.world k.may_leave
+    left_by : IsCleanJournal k → p.world.mark ≤ q.world.mark → Carries p.world (unmarked q.world p.world.mark) →
+        (IsCleanJournal k → k.failed ≡ false → Written q.world k.tables) →
+        ((es ≡ []) × LeavesLess j k) ⊎ ((k.failed ≡ false) × (IsCleanJournal k → LeavesThese k)) → Leftovers q.world k.may_leave
     left_by clean rises carries is (inl (none, less)) =
         let before : IsCleanJournal j = omega (arith, w.clean, clean) in
         let same = none_late p.world.mark q.world e.settled.written rises (sym e.copies ∙ none) in
@@ -213,7 +242,8 @@ pub since_longer : (p q : Core) (got : List (List ℕ)) (total : ℕ) (made : Li
 since_longer p q got total made s = longer p.world q.world (grown s.steps p q s.does)
 
 -- in entries
-pub since_entries : (p q : Core) (got : List (List ℕ)) (total : ℕ) (made : List MadeCall) → Since p q got total made → length p.world.past ≤ length (all_of q.world)
+pub since_entries : (p q : Core) (got : List (List ℕ)) (total : ℕ) (made : List MadeCall) → Since p q got total made →
+    length p.world.past ≤ length (all_of q.world)
 since_entries p q got total made s =
     let h = since_longer p q got total made s in
     let all = entries_length q.world.flow q.world.start q.world.past in

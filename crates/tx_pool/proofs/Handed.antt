@@ -19,26 +19,34 @@ rule_of_part of own [] k = refl
 rule_of_part of own (x ∷ xs) zero = refl
 rule_of_part of own (x ∷ xs) (suc k) = rule_of_part of own xs k
 
-pub same_rules : {A : Type 0} {B : Type 0} {C : Type 0} (of : A → C) (to : B → C) (own : C → Rule) (xs : List A) (ys : List B) → map of xs ≡ map to ys → rule_at (λ s. own (of s)) xs ≡ rule_at (λ s. own (to s)) ys
+pub same_rules : {A : Type 0} {B : Type 0} {C : Type 0} (of : A → C) (to : B → C) (own : C → Rule) (xs : List A) (ys : List B) → map of xs ≡ map to ys →
+    rule_at (λ s. own (of s)) xs ≡ rule_at (λ s. own (to s)) ys
 same_rules of to own xs ys e = fun_ext (λ k. rule_of_part of own xs k ∙ ap (λ l. rule_at own l k) e ∙ sym (rule_of_part to own ys k))
 
-pub same_shown : {A : Type 0} {B : Type 0} {C : Type 0} {D : Type 0} (of : A → C) (to : B → C) (shown : C → D) (xs : List A) (ys : List B) → map of xs ≡ map to ys → map (λ s. shown (of s)) xs ≡ map (λ s. shown (to s)) ys
+pub same_shown : {A : Type 0} {B : Type 0} {C : Type 0} {D : Type 0} (of : A → C) (to : B → C) (shown : C → D) (xs : List A) (ys : List B) →
+    map of xs ≡ map to ys → map (λ s. shown (of s)) xs ≡ map (λ s. shown (to s)) ys
 same_shown of to shown xs ys e = sym (map-map shown of xs) ∙ ap (map shown) e ∙ map-map shown to ys
 
 pub same_length : {A : Type 0} {B : Type 0} {C : Type 0} (of : A → C) (to : B → C) (xs : List A) (ys : List B) → map of xs ≡ map to ys → length xs ≡ length ys
 same_length of to xs ys e = sym (length-map xs of) ∙ ap length e ∙ length-map ys to
 
 -- a run of the parts is one of the stations that they were taken from, to those that are made of what it left
-pub drove_whole : {A : Type 0} {B : Type 0} {C : Type 0} (of : A → C) (to : B → C) (own : C → Rule) (object : C → List ℕ) (count : A → ℕ) (counted : B → ℕ) (ps : List A) (qs : List A) (ss : List B) (ts : List B) (v : Whole) (w : Whole) → map of ps ≡ map to ss → map count ps ≡ map counted ss → map to ts ≡ map of qs → map counted ts ≡ map count qs → Drove (rule_at (λ s. own (of s)) ps) (map (λ s. object (of s)) ps) (map count ps) v (map (λ s. object (of s)) qs) (map count qs) w → Drove (rule_at (λ s. own (to s)) ss) (map (λ s. object (to s)) ss) (map counted ss) v (map (λ s. object (to s)) ts) (map counted ts) w
+pub drove_whole : {A : Type 0} {B : Type 0} {C : Type 0} (of : A → C) (to : B → C) (own : C → Rule) (object : C → List ℕ) (count : A → ℕ) (counted : B → ℕ)
+    (ps : List A) (qs : List A) (ss : List B) (ts : List B) (v : Whole) (w : Whole) → map of ps ≡ map to ss → map count ps ≡ map counted ss →
+    map to ts ≡ map of qs → map counted ts ≡ map count qs → Drove (rule_at (λ s. own (of s)) ps) (map (λ s. object (of s)) ps) (map count ps) v
+    (map (λ s. object (of s)) qs) (map count qs) w → Drove (rule_at (λ s. own (to s)) ss) (map (λ s. object (to s)) ss) (map counted ss) v
+    (map (λ s. object (to s)) ts) (map counted ts) w
 drove_whole of to own object count counted ps qs ss ts v w a b c d drove =
     subst (λ r. Drove r (map (λ s. object (to s)) ss) (map counted ss) v (map (λ s. object (to s)) ts) (map counted ts) w) (same_rules of to own ps ss a)
     (subst (λ os. Drove (rule_at (λ s. own (of s)) ps) os (map counted ss) v (map (λ s. object (to s)) ts) (map counted ts) w) (same_shown of to object ps ss a)
     (subst (λ cs. Drove (rule_at (λ s. own (of s)) ps) (map (λ s. object (of s)) ps) cs v (map (λ s. object (to s)) ts) (map counted ts) w) b
-    (subst (λ os. Drove (rule_at (λ s. own (of s)) ps) (map (λ s. object (of s)) ps) (map count ps) v os (map counted ts) w) (sym (same_shown to of object ts qs c))
+    (subst (λ os. Drove (rule_at (λ s. own (of s)) ps) (map (λ s. object (of s)) ps) (map count ps) v os (map counted ts) w)
+    (sym (same_shown to of object ts qs c))
     (subst (λ cs. Drove (rule_at (λ s. own (of s)) ps) (map (λ s. object (of s)) ps) (map count ps) v (map (λ s. object (of s)) qs) cs w) (sym d) drove))))
 
 -- the refusal that is due, which is never where memory ran out
-pub early_is : (b : Bool) (c : Bool) (d : Bool) (e : Early) → first_of (refused_if b BreakSet ∷ refused_if c InUse ∷ refused_if d BadCapacity ∷ []) ≡ Some e → IsEarly e (first_of (refused_if b BreakSet ∷ refused_if c InUse ∷ refused_if d BadCapacity ∷ []))
+pub early_is : (b : Bool) (c : Bool) (d : Bool) (e : Early) → first_of (refused_if b BreakSet ∷ refused_if c InUse ∷ refused_if d BadCapacity ∷ []) ≡ Some e
+    → IsEarly e (first_of (refused_if b BreakSet ∷ refused_if c InUse ∷ refused_if d BadCapacity ∷ []))
 early_is b c d BadCapacity h = h
 early_is b c d BreakSet h = h
 early_is b c d InUse h = h
@@ -54,5 +62,7 @@ early_memory BreakSet r h n = absurd (cc)
 early_memory InUse r h n = absurd (cc)
 
 -- a plant is its parts
-pub same_plant : {S : Type 0} {I : Type 0} {D : I → Type 0} (p : Plant S I D) (q : Plant S I D) → p.running ≡ q.running → p.journal ≡ q.journal → p.stations ≡ q.stations → p ≡ q
-same_plant p q a b c = ap (λ x. record p { running = x }) a ∙ (ap (λ x. record p { running = q.running; journal = x }) b ∙ ap (λ x. record q { stations = x }) c)
+pub same_plant : {S : Type 0} {I : Type 0} {D : I → Type 0} (p : Plant S I D) (q : Plant S I D) → p.running ≡ q.running → p.journal ≡ q.journal →
+    p.stations ≡ q.stations → p ≡ q
+same_plant p q a b c = ap (λ x. record p { running = x }) a ∙ (ap (λ x. record p { running = q.running; journal = x }) b
+    ∙ ap (λ x. record q { stations = x }) c)

@@ -36,5 +36,13 @@ wrote_more j k l es b v w h = record {
     last (inr a) = a
 
 -- one write
-pub wrote_one : (j k : JournalState) (b : List Entry) → 0 < length b → doubt j.is_clean ≤ doubt k.is_clean → j.failed ≡ false → k.failed ≡ false → (IsCleanJournal k → k.tables ≡ all_made (changes_of b) j.tables) → (IsCleanJournal k → LeavesThese k) → Wrote j b k
-wrote_one j k b some clean fresh ok tables these = record { clean = clean; fresh = λ f. fresh; none = λ e. absurd (not_empty [] b some e); tables = λ c f. tables c; left = inr (ok, these) }
+pub wrote_one : (j k : JournalState) (b : List Entry) → 0 < length b → doubt j.is_clean ≤ doubt k.is_clean → j.failed ≡ false → k.failed ≡ false →
+    (IsCleanJournal k → k.tables ≡ all_made (changes_of b) j.tables) → (IsCleanJournal k → LeavesThese k) → Wrote j b k
+wrote_one j k b some clean fresh ok tables these = record {
+  clean = clean;
+  fresh = λ f. fresh;
+  none = λ e. absurd (not_empty [] b some e);
+  tables =
+      λ c f. tables c;
+  left = inr (ok, these);
+}

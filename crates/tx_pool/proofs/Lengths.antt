@@ -8,4 +8,5 @@ use Rattle.tx_history.specs.Journal.{change, entries}
 
 pub entries_length : (f : Flow) (v : Start) (past : List Event) → length (entries f v past) ≡ length past
 entries_length f v [] = refl
-entries_length f v (e ∷ past) = let h = entries_length f v past in omega (arith, h, length-append (entries f v past) (record { number = length past + 1; event = e; change = change f v (e ∷ past) } ∷ []))
+entries_length f v (e ∷ past) = let h = entries_length f v past in
+    omega (arith, h, length-append (entries f v past) (record { number = length past + 1; event = e; change = change f v (e ∷ past) } ∷ []))

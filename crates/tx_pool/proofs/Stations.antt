@@ -1,6 +1,7 @@
 -- What the comparisons make of what came out of the locks.
 -- for: comparing::are_there, moving, ending::conclude
-use Rattle.std.proofs.Common.{◌≡◌, ◌⊎◌, ◌<◌, ◌≤◌, ◌==◌, ℕ, zero, suc, false, List, [], ◌∷◌, ◌++◌, length, map, get_or, Option, Some, None, refl, sym, ap, subst, arith, ◌∙◌, inl, inr}
+use Rattle.std.proofs.Common.{◌≡◌, ◌⊎◌, ◌<◌, ◌≤◌, ◌==◌, ℕ, zero, suc, false, List, [], ◌∷◌, ◌++◌, length, map, get_or, Option, Some, None, refl, sym, ap, subst}
+use Rattle.std.proofs.Common.{arith, ◌∙◌, inl, inr}
 use Rattle.std.specs.Prelude.{slice_get}
 use Rattle.std.proofs.lemmas.Bool.Decides.{nat_tests}
 use Rattle.std.proofs.lemmas.List.{get_or_past, length-map}
@@ -31,7 +32,8 @@ get_below [] y k h = absurd (cc)
 get_below (x ∷ xs) y zero h = omega arith
 get_below (x ∷ xs) y (suc k) h = let i = get_below xs y k h in omega (arith, i)
 
-pub both_push : {S L : Type 0} (P : ℕ → S → L → Type 0) (ss ts : List S) (ls ms : List L) (s0 : S) (l0 : L) → length ls ≡ length ss → ((k : ℕ) (s : S) (l : L) → slice_get ss k ≡ Some s → slice_get ls k ≡ Some l → P k s l) → P (length ss) s0 l0 → ts ≡ ss ++ s0 ∷ [] → ms ≡ ls ++ l0 ∷ []
+pub both_push : {S L : Type 0} (P : ℕ → S → L → Type 0) (ss ts : List S) (ls ms : List L) (s0 : S) (l0 : L) → length ls ≡ length ss →
+    ((k : ℕ) (s : S) (l : L) → slice_get ss k ≡ Some s → slice_get ls k ≡ Some l → P k s l) → P (length ss) s0 l0 → ts ≡ ss ++ s0 ∷ [] → ms ≡ ls ++ l0 ∷ []
     → (k : ℕ) (s : S) (l : L) → slice_get ts k ≡ Some s → slice_get ms k ≡ Some l → P k s l
 both_push {S} {L} P ss ts ls ms s0 l0 long before here e f k s l at by =
     each (get_end ss s0 s k (ap (λ z. slice_get z k) (sym e) ∙ at)) (get_end ls l0 l k (ap (λ z. slice_get z k) (sym f) ∙ by))
@@ -60,7 +62,9 @@ none_past [] k h = omega arith
 none_past (x ∷ xs) zero h = absurd (cc)
 none_past (x ∷ xs) (suc k) h = let i = none_past xs k h in omega (arith, i)
 
-pub linked_by : {S L : Type 0} (rule : ℕ → Rule) (os : List (List ℕ)) (cs : List ℕ) (ns : List (List ℕ)) (object : S → List ℕ) (count : S → ℕ) (name : S → List ℕ) (calls : L → List MadeCall) (ss : List S) (ls : List L) (ms : List MadeCall) → length cs ≡ length os → AllBack rule os cs ns object count name calls ss ls → AreCalls calls ms ls → AllLinked rule os cs ms (map object ss) (map count ss)
+pub linked_by : {S L : Type 0} (rule : ℕ → Rule) (os : List (List ℕ)) (cs : List ℕ) (ns : List (List ℕ)) (object : S → List ℕ) (count : S → ℕ) (name : S →
+    List ℕ) (calls : L → List MadeCall) (ss : List S) (ls : List L) (ms : List MadeCall) → length cs ≡ length os →
+    AllBack rule os cs ns object count name calls ss ls → AreCalls calls ms ls → AllLinked rule os cs ms (map object ss) (map count ss)
 linked_by {S} {L} rule os cs ns object count name calls ss ls ms c a b = record {
   long = length-map ss object ∙ a.long;
   counted = length-map ss count ∙ a.long;
@@ -72,16 +76,20 @@ linked_by {S} {L} rule os cs ns object count name calls ss ls ms c a b = record 
     none_at : (k : ℕ) → slice_get ss k ≡ None → calls_at k ms ≡ []
     none_at k at = let h = none_past ss k at in none_there (length ls) k ms (omega (arith, h, a.logged)) b.there
 
-    each : (k : ℕ) (s : Option S) → slice_get ss k ≡ s → (l : Option L) → slice_get ls k ≡ l → Linked (rule k) (get_or os k []) (calls_at k ms) (get_or (map object ss) k [])
-    each k (Some s) at (Some l) by = subst (λ z. Linked (rule k) (get_or os k []) z (get_or (map object ss) k [])) (sym (b.own k l by)) (subst (λ z. Linked (rule k) (get_or os k []) (calls l) z) (sym (get_map object [] ss k s at)) (a.each k s l at by).linked)
+    each : (k : ℕ) (s : Option S) → slice_get ss k ≡ s → (l : Option L) → slice_get ls k ≡ l →
+        Linked (rule k) (get_or os k []) (calls_at k ms) (get_or (map object ss) k [])
+    each k (Some s) at (Some l) by = subst (λ z. Linked (rule k) (get_or os k []) z (get_or (map object ss) k [])) (sym (b.own k l by))
+        (subst (λ z. Linked (rule k) (get_or os k []) (calls l) z) (sym (get_map object [] ss k s at)) (a.each k s l at by).linked)
     each k (Some s) at None by = let h = get_below ss s k at in let i = none_past ls k by in absurd (omega (arith, h, i, a.logged))
     each k None at l by =
         let h = none_past ss k at in
         let j : length os ≤ k = omega (arith, h, a.long) in
         let m : length (map object ss) ≤ k = omega (arith, h, length-map ss object) in
-        subst (λ z. Linked (rule k) (get_or os k []) z (get_or (map object ss) k [])) (sym (none_at k at)) (get_or_past (map object ss) k [] m ∙ sym (get_or_past os k [] j))
+        subst (λ z. Linked (rule k) (get_or os k []) z (get_or (map object ss) k [])) (sym (none_at k at))
+        (get_or_past (map object ss) k [] m ∙ sym (get_or_past os k [] j))
 
-    count_of : (k : ℕ) (s : Option S) → slice_get ss k ≡ s → (l : Option L) → slice_get ls k ≡ l → get_or (map count ss) k 0 ≡ count_up (get_or cs k 0) (calls_at k ms)
+    count_of : (k : ℕ) (s : Option S) → slice_get ss k ≡ s → (l : Option L) → slice_get ls k ≡ l →
+        get_or (map count ss) k 0 ≡ count_up (get_or cs k 0) (calls_at k ms)
     count_of k (Some s) at (Some l) by = get_map count 0 ss k s at ∙ ((a.each k s l at by).counts ∙ ap (count_up (get_or cs k 0)) (sym (b.own k l by)))
     count_of k (Some s) at None by = let h = get_below ss s k at in let i = none_past ls k by in absurd (omega (arith, h, i, a.logged))
     count_of k None at l by =
@@ -94,9 +102,12 @@ same_names : (ns ms : List (List ℕ)) → length ms ≡ length ns → ((k : ℕ
 same_names [] [] h e = refl
 same_names [] (m ∷ ms) h e = absurd (omega (arith, h))
 same_names (n ∷ ns) [] h e = absurd (omega (arith, h))
-same_names (n ∷ ns) (m ∷ ms) h e = let h1 : length ms ≡ length ns = omega (arith, h) in ap (λ z. z ∷ ms) (e 0) ∙ ap (λ z. n ∷ z) (same_names ns ms h1 (λ k. e (suc k)))
+same_names (n ∷ ns) (m ∷ ms) h e = let h1 : length ms ≡ length ns = omega (arith, h) in
+    ap (λ z. z ∷ ms) (e 0) ∙ ap (λ z. n ∷ z) (same_names ns ms h1 (λ k. e (suc k)))
 
-pub names_back : {S L : Type 0} (rule : ℕ → Rule) (os : List (List ℕ)) (cs : List ℕ) (ns : List (List ℕ)) (object : S → List ℕ) (count : S → ℕ) (name : S → List ℕ) (calls : L → List MadeCall) (ss : List S) (ls : List L) → length ns ≡ length os → AllBack rule os cs ns object count name calls ss ls → map name ss ≡ ns
+pub names_back : {S L : Type 0} (rule : ℕ → Rule) (os : List (List ℕ)) (cs : List ℕ) (ns : List (List ℕ)) (object : S → List ℕ) (count : S → ℕ) (name : S →
+    List ℕ) (calls : L → List MadeCall) (ss : List S) (ls : List L) → length ns ≡ length os → AllBack rule os cs ns object count name calls ss ls →
+    map name ss ≡ ns
 names_back {S} {L} rule os cs ns object count name calls ss ls n a =
     same_names ns (map name ss) (length-map ss name ∙ (a.long ∙ sym n)) (λ k. each k (slice_get ss k) refl (slice_get ls k) refl)
   where
@@ -120,8 +131,14 @@ get_more [] x y k h = absurd (cc)
 get_more (z ∷ xs) x y zero h = h
 get_more (z ∷ xs) x y (suc k) h = get_more xs x y k h
 
-pub ready_last : {S : Type 0} (rule : ℕ → Rule) (os : List (List ℕ)) (cs : List ℕ) (ns : List (List ℕ)) (own : S → Rule) (object : S → List ℕ) (count : S → ℕ) (name : S → List ℕ) (ss ts : List S) (s : S) (n : ℕ) → AreReady rule os cs ns own object count name ts → ts ≡ ss ++ s ∷ [] → length ss ≡ n → IsReady (rule n) (own s) (get_or os n []) (object s) (get_or cs n 0) (count s) (get_or ns n []) (name s)
-ready_last {S} rule os cs ns own object count name ss ts s n r e f = subst (λ z. IsReady (rule z) (own s) (get_or os z []) (object s) (get_or cs z 0) (count s) (get_or ns z []) (name s)) f (r (length ss) s (ap (λ z. slice_get z (length ss)) e ∙ get_last ss s))
+pub ready_last : {S : Type 0} (rule : ℕ → Rule) (os : List (List ℕ)) (cs : List ℕ) (ns : List (List ℕ)) (own : S → Rule) (object : S → List ℕ) (count : S →
+    ℕ) (name : S → List ℕ) (ss ts : List S) (s : S) (n : ℕ) → AreReady rule os cs ns own object count name ts → ts ≡ ss ++ s ∷ [] → length ss ≡ n →
+    IsReady (rule n) (own s) (get_or os n []) (object s) (get_or cs n 0) (count s) (get_or ns n []) (name s)
+ready_last {S} rule os cs ns own object count name ss ts s n r e f =
+    subst (λ z. IsReady (rule z) (own s) (get_or os z []) (object s) (get_or cs z 0) (count s) (get_or ns z []) (name s)) f
+    (r (length ss) s (ap (λ z. slice_get z (length ss)) e ∙ get_last ss s))
 
-pub ready_less : {S : Type 0} (rule : ℕ → Rule) (os : List (List ℕ)) (cs : List ℕ) (ns : List (List ℕ)) (own : S → Rule) (object : S → List ℕ) (count : S → ℕ) (name : S → List ℕ) (ss ts : List S) (s : S) → AreReady rule os cs ns own object count name ts → ts ≡ ss ++ s ∷ [] → AreReady rule os cs ns own object count name ss
+pub ready_less : {S : Type 0} (rule : ℕ → Rule) (os : List (List ℕ)) (cs : List ℕ) (ns : List (List ℕ)) (own : S → Rule) (object : S → List ℕ) (count : S →
+    ℕ) (name : S → List ℕ) (ss ts : List S) (s : S) → AreReady rule os cs ns own object count name ts → ts ≡ ss ++ s ∷ [] →
+    AreReady rule os cs ns own object count name ss
 ready_less {S} rule os cs ns own object count name ss ts s r e = λ k x h. r k x (ap (λ z. slice_get z k) e ∙ get_more ss s x k h)

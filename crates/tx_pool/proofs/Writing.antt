@@ -1,6 +1,7 @@
 -- The journal's writes of a run: what was written is what stands between the marks.
 -- for: running::run_in
-use Rattle.std.proofs.Common.{drop_of_length-le, ◌≡◌, ◌⊎◌, ◌≤◌, ◌<◌, ◌+◌, ℕ, zero, suc, false, List, [], ◌∷◌, ◌++◌, length, take, drop, refl, sym, ap, subst, arith, ◌∙◌, inl, inr}
+use Rattle.std.proofs.Common.{drop_of_length-le, ◌≡◌, ◌⊎◌, ◌≤◌, ◌<◌, ◌+◌, ℕ, zero, suc, false, List, [], ◌∷◌, ◌++◌, length, take, drop, refl, sym, ap, subst}
+use Rattle.std.proofs.Common.{arith, ◌∙◌, inl, inr}
 use Rattle.std.proofs.lemmas.List.{take-append-le, drop-append-le, length-take-le, length-drop, length-append}
 use Rattle.sqlite_trees.specs.View.{doubt}
 use Rattle.journal_rows.specs.Tables.{all_made}
@@ -48,7 +49,13 @@ leads_of (Writes b ∷ ss) p q j k (c, ran, marks, engine) w = by (written_of ss
   by [] h leads = (
     j,
     leads j (subst (λ z. WroteSeen j z j) h (none_seen j)),
-    record { clean = w.clean; fresh = w.fresh; ok = ok; tables = λ clean. subst (λ z. k.tables ≡ all_made (changes_of (z ++ b)) j.tables) (sym h) (w.tables clean ok) },
+    record {
+      clean = w.clean;
+      fresh = w.fresh;
+      ok = ok;
+      tables = λ clean. subst (λ z. k.tables ≡ all_made (changes_of (z ++ b)) j.tables) (sym h)
+          (w.tables clean ok);
+    },
   )
   by (e ∷ es) h leads =
       let i : Seen = record { tables = all_made (changes_of (written_of ss)) j.tables; failed = false; is_clean = k.is_clean } in (
@@ -87,7 +94,8 @@ more ss tt2 p w q e same h b =
     record {
       rises = omega (arith, mark, b.rises);
       few = omega (arith, mark, b.few, long, length-append xs (new ∷ []));
-      is = same ∙ (b.is ∙ sym (ap (λ z. drop p.world.mark (take z (all_of q.world))) mark ∙ (ap (λ z. drop p.world.mark (take w.world.mark z)) grown ∙ ap (drop p.world.mark) (take-append-le w.world.mark xs (new ∷ []) b.few))));
+      is = same ∙ (b.is ∙ sym (ap (λ z. drop p.world.mark (take z (all_of q.world))) mark
+          ∙ (ap (λ z. drop p.world.mark (take w.world.mark z)) grown ∙ ap (drop p.world.mark) (take-append-le w.world.mark xs (new ∷ []) b.few))));
     }
 
 -- a write moves the mark
@@ -104,7 +112,9 @@ write_more ss p w q b m t = subst (λ (z : Core). Between (Writes b ∷ ss) p z)
     whole : written_of ss ++ b ≡ drop p.world.mark (take (w.world.mark + length b) xs)
     whole =
         let n : length (take w.world.mark xs) ≡ w.world.mark = length-take-le w.world.mark xs t.few in
-        ap (λ z. z ++ b) t.is ∙ (ap (λ z. drop p.world.mark (take w.world.mark xs) ++ z) m.batch ∙ (sym (drop-append-le p.world.mark (take w.world.mark xs) (take (length b) (drop w.world.mark xs)) (omega (arith, n, t.rises))) ∙ ap (drop p.world.mark) (sym (take_more w.world.mark (length b) xs))))
+        ap (λ z. z ++ b) t.is ∙ (ap (λ z. drop p.world.mark (take w.world.mark xs) ++ z) m.batch
+        ∙ (sym (drop-append-le p.world.mark (take w.world.mark xs) (take (length b) (drop w.world.mark xs)) (omega (arith, n, t.rises)))
+        ∙ ap (drop p.world.mark) (sym (take_more w.world.mark (length b) xs))))
 
 pub between : (ss : List RunStep) (p q : Core) → p.world.mark ≤ length (all_of p.world) → DoesAll ss p q → Between ss p q
 between [] p q h e = subst (λ (z : Core). Between [] p z) (sym e) (record {
@@ -112,7 +122,10 @@ between [] p q h e = subst (λ (z : Core). Between [] p z) (sym e) (record {
   few = h;
   is = sym (drop_of_length-le (take p.world.mark (all_of p.world)) (let n = length-take-le p.world.mark (all_of p.world) h in omega (arith, n)));
 })
-between (Offers x n ∷ ss) p q h (w, ran, (allowed, recorded, e), engine) = more ss (Offers x n ∷ ss) p w q (event.Offered x) refl recorded.history (between ss p w h ran)
-between (Takes s n id x ∷ ss) p q h (w, ran, taken, engine) = more ss (Takes s n id x ∷ ss) p w q (event.Taken s) refl taken.recorded.history (between ss p w h ran)
-between (Replies s n m ∷ ss) p q h (w, ran, entered, engine) = more ss (Replies s n m ∷ ss) p w q (event_of s m.reply m.after) refl entered.recorded.history (between ss p w h ran)
+between (Offers x n ∷ ss) p q h (w, ran, (allowed, recorded, e), engine) = more ss (Offers x n ∷ ss) p w q (event.Offered x) refl recorded.history
+    (between ss p w h ran)
+between (Takes s n id x ∷ ss) p q h (w, ran, taken, engine) = more ss (Takes s n id x ∷ ss) p w q (event.Taken s) refl taken.recorded.history
+    (between ss p w h ran)
+between (Replies s n m ∷ ss) p q h (w, ran, entered, engine) = more ss (Replies s n m ∷ ss) p w q (event_of s m.reply m.after) refl entered.recorded.history
+    (between ss p w h ran)
 between (Writes b ∷ ss) p q h (w, ran, marks, engine) = write_more ss p w q b marks (between ss p w h ran)

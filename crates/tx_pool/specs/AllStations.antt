@@ -32,10 +32,12 @@ pub record IsBack (rule : Rule) (o : List ℕ) (c : ℕ) (n : List ℕ) (log : L
   pub named : name ≡ n
 
 -- stations with the calls that they made, in the order in which they were at the start
-pub record AllBack {S L : Type 0} (rule : ℕ → Rule) (os : List (List ℕ)) (cs : List ℕ) (ns : List (List ℕ)) (object : S → List ℕ) (count : S → ℕ) (name : S → List ℕ) (calls : L → List MadeCall) (stations : List S) (logs : List L) : Type 0 where
+pub record AllBack {S L : Type 0} (rule : ℕ → Rule) (os : List (List ℕ)) (cs : List ℕ) (ns : List (List ℕ)) (object : S → List ℕ) (count : S → ℕ)
+    (name : S → List ℕ) (calls : L → List MadeCall) (stations : List S) (logs : List L) : Type 0 where
   pub long : length stations ≡ length os
   pub logged : length logs ≡ length stations
-  pub each : (k : ℕ) (s : S) (l : L) → slice_get stations k ≡ Some s → slice_get logs k ≡ Some l → IsBack (rule k) (get_or os k []) (get_or cs k 0) (get_or ns k []) (calls l) (object s) (count s) (name s)
+  pub each : (k : ℕ) (s : S) (l : L) → slice_get stations k ≡ Some s → slice_get logs k ≡ Some l →
+      IsBack (rule k) (get_or os k []) (get_or cs k 0) (get_or ns k []) (calls l) (object s) (count s) (name s)
 
 -- these are the calls of all stations
 pub record AreCalls {L : Type 0} (calls : L → List MadeCall) (ms : List MadeCall) (logs : List L) : Type 0 where

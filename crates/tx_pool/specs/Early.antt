@@ -17,7 +17,7 @@ early_refusal w capacity =
     ∷ refused_if (is_in_use w) InUse
     ∷ refused_if (not (nat_le 1 capacity && nat_le capacity 4096)) BadCapacity ∷ [])
 
--- the cause is that refusal; memory is wanting only where there is none
+-- the cause is that refusal; out of memory comes only where there is none
 abbrev pub IsEarly : Early → Option Early → Type 0
 IsEarly OutOfMemory r = r ≡ None
 IsEarly e r = r ≡ Some e

@@ -14,7 +14,8 @@ use Rattle.tx_pool.specs.Since.{Since}
 
 -- The core went on from its start, and offered what was got; the calls of the stations, which lead from these objects and counts
 -- to those, are the ones whose replies are its entries; all its entries are written, and these are the copies that were written.
-pub record Ended (rule : ℕ → Rule) (os : List (List ℕ)) (cs : List ℕ) (start now : Core) (got : List (List ℕ)) (written : List Entry) (ps : List (List ℕ)) (ds : List ℕ) : Type 0 where
+pub record Ended (rule : ℕ → Rule) (os : List (List ℕ)) (cs : List ℕ) (start now : Core) (got : List (List ℕ)) (written : List Entry) (ps : List (List ℕ))
+    (ds : List ℕ) : Type 0 where
   pub total : ℕ
   pub made : List MadeCall
   pub since : Since start now got total made

@@ -22,7 +22,8 @@ pub record HasFed (before after : List Pairs) (ended : Bool) (passed : List (Lis
   pub ends : ended ≡ true
 
 -- what a feeder leaves: the putter is one of the run's intake; and where all was put, it is all that the source has
-pub record IsFed (own : IntakeId) (before : List Pairs) (may_end_with : List Pairs → Type 0) (after : List Pairs) (ended : Bool) (intake : IntakeId) (passed : List (List ℕ)) (all_put : Bool) : Type 0 where
+pub record IsFed (own : IntakeId) (before : List Pairs) (may_end_with : List Pairs → Type 0) (after : List Pairs) (ended : Bool) (intake : IntakeId)
+    (passed : List (List ℕ)) (all_put : Bool) : Type 0 where
   pub of : intake ≡ own
   pub fed : all_put ≡ true → HasFed before after ended passed
   pub whole : all_put ≡ true → may_end_with after

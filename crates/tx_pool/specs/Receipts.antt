@@ -1,5 +1,6 @@
 -- What the entries of a run say.
-use Rattle.std.specs.Prelude.{◌≡◌, ℕ, ◌==◌, ◌&&◌, Bool, true, false, List, [], ◌∷◌, ◌++◌, length, filter, map, drop, slice_get, Option, Some, None, is_none, is_some}
+use Rattle.std.specs.Prelude.{◌≡◌, ℕ, ◌==◌, ◌&&◌, Bool, true, false, List, [], ◌∷◌, ◌++◌, length, filter, map, drop, slice_get, Option, Some, None, is_none}
+use Rattle.std.specs.Prelude.{is_some}
 use Rattle.tx_history.specs.declared.event.Event.{Event}
 use Rattle.tx_history.specs.declared.event.Event.TheVariants as event
 use Rattle.tx_history.specs.declared.journal.Row.{Row}

@@ -34,7 +34,8 @@ pub record Offered (start w : World) (before after : List Pairs) (ended : Bool) 
 
 -- what is compared at the end: the history is at rest; the copies of the entries above the old mark, the calls of the stations and
 -- the receipts of the sessions are those of the history
-pub record Agrees {L V : Type 0} (calls : L → List MadeCall) (items : V → List ℕ) (w : World) (mark from : ℕ) (made : List MadeCall) (logs : List L) (receipts : List V) (written : List Entry) : Type 0 where
+pub record Agrees {L V : Type 0} (calls : L → List MadeCall) (items : V → List ℕ) (w : World) (mark from : ℕ) (made : List MadeCall) (logs : List L)
+    (receipts : List V) (written : List Entry) : Type 0 where
   pub settled : IsSettled w
   pub copies : written ≡ drop mark (all_of w)
   pub calls_are : AreCalls calls made logs

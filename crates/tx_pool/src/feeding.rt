@@ -68,7 +68,8 @@ impl<K: Run, O: Source> Fed<K, O> {
 fn next_offer<O: Source>(source: &mut O) -> Result<Option<Offer>, NoMemory>
     ensures gives { IfOk result (λ next. FeedsOne (O.given source.old) (O.given source.new) next) }
     ensures ends { IfOk result (λ next. IfNone next (O.ended source.new ≡ true)) }
-    ensures whole { IfOk result (λ next. IfNone next (O.ends_with source.old (O.given source.new))) }
+    ensures whole { IfOk result (λ next. IfNone next
+        (O.ends_with source.old (O.given source.new))) }
     ensures plan { (all : List Pairs) → O.ends_with source.new all → O.ends_with source.old all }
 {
     match source.next()? {

@@ -193,7 +193,8 @@ impl Pool {
         requires engine { IsEngine plant.running.engine }
         ensures drove { IfOk result (λ r.
             Drove (rule_at (rule_of Participant-dyn) plant.stations.items)
-            (map (object_of Participant-dyn) plant.stations.items) (map calls_of plant.stations.items)
+            (map (object_of Participant-dyn) plant.stations.items)
+            (map calls_of plant.stations.items)
             (whole_of plant.running.engine plant.running.seats (kept S.Store plant.journal))
             (map (object_of Participant-dyn) r.0.stations.items) (map calls_of r.0.stations.items)
             (whole_of r.0.running.engine r.0.running.seats (kept S.Store r.0.journal))) }

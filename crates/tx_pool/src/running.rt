@@ -114,7 +114,10 @@ fn run_in<
     ensures drove { IfOk result (λ r. Drove K.rule K.objects K.counts
         (record { core = K.start; journal = seen (kept S.Store task.journal) })
         (map (λ s. C.object s.participant) r.stations.items) (map (λ s. s.calls) r.stations.items)
-        (record { core = core r.running.engine r.running.seats; journal = seen (kept S.Store r.journal) })) }
+        (record {
+          core = core r.running.engine r.running.seats;
+          journal = seen (kept S.Store r.journal);
+        })) }
     ensures names { IfOk result (λ r. map (λ s. s.name) r.stations.items ≡ K.names) }
     ensures settled { IfOk result (λ r. IsSettled r.running.engine) }
     ensures grown { IfOk result (λ r. Grown K.start.world r.running.engine) }
@@ -203,12 +206,19 @@ pub(crate) fn run_parts<
 >(rt: &R, alloc: Global, task: Work<S, C, O>, gate: &G) -> Result<Ran<S, C, O>, Lost<S, C>>
     requires putter { (task.putter.intake ≡ task.intake.id) × (task.putter.passed ≡ []) }
     requires getter { (task.getter.intake ≡ task.intake.id) × (task.getter.passed ≡ []) }
-    ensures drove { IfOk result (λ r. Drove (rule_at (λ s. C.rule s.participant) task.stations.items)
+    ensures drove { IfOk result (λ r. Drove
+        (rule_at (λ s. C.rule s.participant) task.stations.items)
         (map (λ s. C.object s.participant) task.stations.items)
         (map (λ s. s.calls) task.stations.items)
-        (record { core = core task.running.engine task.running.seats; journal = seen (kept S.Store task.journal) })
+        (record {
+          core = core task.running.engine task.running.seats;
+          journal = seen (kept S.Store task.journal);
+        })
         (map (λ s. C.object s.participant) r.stations.items) (map (λ s. s.calls) r.stations.items)
-        (record { core = core r.running.engine r.running.seats; journal = seen (kept S.Store r.journal) })) }
+        (record {
+          core = core r.running.engine r.running.seats;
+          journal = seen (kept S.Store r.journal);
+        })) }
     ensures names { IfOk result (λ r.
         map (λ s. s.name) r.stations.items ≡ map (λ s. s.name) task.stations.items) }
     ensures settled { IfOk result (λ r. IsSettled r.running.engine) }

@@ -72,7 +72,8 @@ impl<K: Run, C: Caller> Model for StationLog<K, C> {
     ghost view = { λ s. station_seen s.index s.name s.log.items };
 
     ghost invariant = { λ s. IsStation (K.rule s.index) (get_or K.objects s.index [])
-        (get_or K.counts s.index 0) (C.rule s.participant) (C.object s.participant) s.calls s.log.items
+        (get_or K.counts s.index 0) (C.rule s.participant) (C.object s.participant)
+        s.calls s.log.items
         × (s.name ≡ get_or K.names s.index []) };
 }
 

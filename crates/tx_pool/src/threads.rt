@@ -34,12 +34,12 @@ pub(crate) struct Worked<S: Alter, K: Run, O: Source> {
 /// of its own, and the calling one, which keeps the journal. Where one is not to be had the run is
 /// given up.
 pub(crate) fn work<
+    R: Threads + Wait + Sync,
     S: Alter + Drop,
     K: Run + Send + Sync,
     C: Caller + Send,
     O: Source + Send,
     G: Gate + Sync,
-    R: Threads + Wait + Sync,
 >(
     rt: &R,
     alloc: Global,
@@ -55,7 +55,8 @@ pub(crate) fn work<
     requires given { O.given source ≡ K.given }
     requires plan { (all : List Pairs) → O.ends_with source all → K.ends_with all }
     ensures kept { result.kept.all_done ≡ true
-        → Wrote (kept S.Store journal) result.kept.written.items (kept S.Store result.kept.journal) }
+        → Wrote (kept S.Store journal) result.kept.written.items
+        (kept S.Store result.kept.journal) }
 {
     thread::scope(
         thread::scope_env(),

@@ -12,7 +12,8 @@ use Rattle.std.proofs.lemmas.Map.Lookups.{exact_unsigned}
 use Rattle.std.proofs.lemmas.Cmp.{nat_cmp_total}
 use Rattle.tx_history.specs.Keys.{look}
 
-undone_at : {A : Type 0} (x : ℕ × A) (xs : List (ℕ × A)) (id : ℕ) (v : A) → look id (x ∷ xs) ≡ None → nat_cmp id id ≡ Equal → (look id xs ≡ None → remove_entry (is_at (nat_cmp id)) (insert_entry nat_cmp xs id v) ≡ xs)
+undone_at : {A : Type 0} (x : ℕ × A) (xs : List (ℕ × A)) (id : ℕ) (v : A) → look id (x ∷ xs) ≡ None → nat_cmp id id ≡ Equal →
+    (look id xs ≡ None → remove_entry (is_at (nat_cmp id)) (insert_entry nat_cmp xs id v) ≡ xs)
     → (r : Ordering) → nat_cmp id x.0 ≡ r → remove_entry (is_at (nat_cmp id)) (insert_entry nat_cmp (x ∷ xs) id v) ≡ x ∷ xs
 undone_at x xs id v none same ih Less e = rw (e, same) refl
 undone_at x xs id v none same ih Equal e =

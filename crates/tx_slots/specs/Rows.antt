@@ -54,4 +54,10 @@ IsSlotAfter recovering f rows id m number x = SlotBy (recovering && is_ended f (
 
 -- the change that an item is, of the machine after it
 abbrev pub item_change : Flow → ℕ → Machine → Option ((ℕ × ℕ) × Option (List ℕ)) → Change
-item_change f id m advice = record { next_id = None; row = Some (id, row f (tx_state f m)); shelved = shelved_change id (shelved f (tx_state f m) true); emptied = false; advice = advice }
+item_change f id m advice = record {
+  next_id = None;
+  row = Some (id, row f (tx_state f m));
+  shelved = shelved_change id (shelved f (tx_state f m) true);
+  emptied = false;
+  advice = advice;
+}

@@ -82,7 +82,7 @@ pub fn open_behind(rows: &[(u64, Row)], id: u64) -> usize
     count
 }
 
-/// The machine of a transaction of the journal before its first outcome is told: its members are
+/// The machine of a transaction of the journal before anybody is notified of its outcome: its members are
 /// told on, or, where it was not committing, from its first one. The only refusal is want of
 /// memory.
 pub fn reopened(alloc: Global, code: &Code, row: &Row) -> Result<Machine, AllocError>

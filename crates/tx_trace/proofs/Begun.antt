@@ -51,7 +51,18 @@ pub record IsOpening (f : Flow) (tries : ℕ) (saved : List ℕ) : Type 0 where
 
 pub opens : (f : Flow) (tries : ℕ) (saved : List ℕ) → IsOpening f tries saved
 opens f tries saved =
-    let s : TxState = record { phase = Preparing; rest = map Prepare (entries_named f (codes "main")); retry = false; bound = false; calls = 0; joined = []; told = 0; saved = saved; tries = tries } in
+    let s : TxState = record {
+      phase = Preparing;
+      rest = map Prepare (entries_named f (codes "main"));
+      retry = false;
+      bound = false;
+      calls = 0;
+      joined =
+          [];
+      told = 0;
+      saved = saved;
+      tries = tries;
+    } in
     let w = advanced_opens s refl in
     record { same_tries = w.tries; same_saved = w.saved; retry = w.retry }
 
@@ -89,7 +100,8 @@ no_row_done f tries saved h =
     let st : TxState = opening f tries saved in
     done_at f st st.phase st.rest (opens f tries saved).retry (no_row_ended f st h)
 
-pub row_opening : (f : Flow) (tries : ℕ) (saved : List ℕ) (r : Row) → row f (opening f tries saved) ≡ Some r → opening f r.tries r.context ≡ opening f tries saved
+pub row_opening : (f : Flow) (tries : ℕ) (saved : List ℕ) (r : Row) → row f (opening f tries saved) ≡ Some r →
+    opening f r.tries r.context ≡ opening f tries saved
 row_opening f tries saved r h =
     let w = (row_some f (opening f tries saved) r h).1 in
     let is = opens f tries saved in

@@ -1,6 +1,7 @@
 -- The first events of a history, and the entry and the line that come next.
 -- for: tracer::Tracer
-use Rattle.std.proofs.Common.{◌≡◌, ℕ, ◌+◌, ◌<◌, ◌≤◌, Bool, true, false, List, [], ◌∷◌, ◌++◌, ◌-◌, length, Option, Some, None, refl, sym, ◌∙◌, ap, subst, get_or, arith, length-append}
+use Rattle.std.proofs.Common.{◌≡◌, ℕ, ◌+◌, ◌<◌, ◌≤◌, Bool, true, false, List, [], ◌∷◌, ◌++◌, ◌-◌, length, Option, Some, None, refl, sym, ◌∙◌, ap, subst, get_or}
+use Rattle.std.proofs.Common.{arith, length-append}
 use Rattle.std.specs.Prelude.{if◌then◌else◌, slice_get, ◌==◌, nat_lt}
 use Rattle.std.proofs.lemmas.Bool.Decides.{nat_tests}
 use Rattle.std.proofs.lemmas.Option.{slice_get-get_or}
@@ -31,7 +32,8 @@ pub earlier_none : (past : List Event) → earlier 0 past ≡ []
 earlier_none [] = refl
 earlier_none (e ∷ past) = let yes : nat_lt 0 (length past + 1) ≡ true = grind (arith, nat_tests) in rw yes (earlier_none past)
 
-lawful_if : (f : Flow) (v : Start) (past : List Event) (e : Event) (n : ℕ) (b : Bool) → IsLawful f v (e ∷ past) → IsLawful f v (earlier n past) → IsLawful f v (if b then earlier n past else e ∷ past)
+lawful_if : (f : Flow) (v : Start) (past : List Event) (e : Event) (n : ℕ) (b : Bool) → IsLawful f v (e ∷ past) → IsLawful f v (earlier n past) →
+    IsLawful f v (if b then earlier n past else e ∷ past)
 lawful_if f v past e n true law ih = ih
 lawful_if f v past e n false law ih = law
 
@@ -43,7 +45,8 @@ length_entries : (f : Flow) (v : Start) (past : List Event) → length (entries 
 length_entries f v [] = refl
 length_entries f v (e ∷ past) =
     let ih = length_entries f v past in
-    let sum : length (entries f v past ++ record { number = length past + 1; event = e; change = change f v (e ∷ past) } ∷ []) ≡ length (entries f v past) + 1 = length-append (entries f v past) _ in
+    let sum : length (entries f v past ++ record { number = length past + 1; event = e; change = change f v (e ∷ past) } ∷ []) ≡ length (entries f v past) +
+    1 = length-append (entries f v past) _ in
     omega arith
 
 get_last : {A : Type 0} (xs : List A) (x : A) → slice_get (xs ++ x ∷ []) (length xs) ≡ Some x
@@ -64,11 +67,13 @@ nth_last f v past e n is =
     let no : nat_lt (n + 1) (length past + 1) ≡ false = grind (arith, nat_tests) in
     let same : (length past + 1 == n + 1) ≡ true = grind (arith, nat_tests) in
     let len : length (entries f v past) ≡ n = length_entries f v past ∙ sym is in
-    let last : slice_get (entries f v (e ∷ past)) (length (entries f v past)) ≡ Some (record { number = length past + 1; event = e; change = change f v (e ∷ past) }) = get_last (entries f v past) _ in
+    let last : slice_get (entries f v (e ∷ past)) (length (entries f v past))
+    ≡ Some (record { number = length past + 1; event = e; change = change f v (e ∷ past) }) = get_last (entries f v past) _ in
     record {
       event = e;
       split = rw (no, yes, all) refl;
-      entry = rw (yes, all) (ap (λ (k : ℕ). slice_get (entries f v (e ∷ past)) k) (sym len) ∙ last ∙ ap (λ (k : ℕ). Some (record { number = k + 1; event = e; change = change f v (e ∷ past) })) (sym is));
+      entry = rw (yes, all) (ap (λ (k : ℕ). slice_get (entries f v (e ∷ past)) k) (sym len) ∙ last
+          ∙ ap (λ (k : ℕ). Some (record { number = k + 1; event = e; change = change f v (e ∷ past) })) (sym is));
       line = λ what. rw (same, yes, all) refl;
     }
 
@@ -81,11 +86,13 @@ nth_more f v past e n lt h =
     record {
       event = h.event;
       split = two ∙ (h.split ∙ ap (λ (p : List Event). h.event ∷ p) (sym one));
-      entry = get_append (entries f v past) _ n (omega arith) ∙ (h.entry ∙ ap (λ (p : List Event). Some (record { number = n + 1; event = h.event; change = change f v (h.event ∷ p) })) (sym one));
+      entry = get_append (entries f v past) _ n (omega arith)
+          ∙ (h.entry ∙ ap (λ (p : List Event). Some (record { number = n + 1; event = h.event; change = change f v (h.event ∷ p) })) (sym one));
       line = λ what. rw other (h.line what ∙ ap (λ (p : List Event). Some (what p h.event)) (sym one));
     }
 
-nth_if : (f : Flow) (v : Start) (past : List Event) (e : Event) (n : ℕ) → n < length (e ∷ past) → (n < length past → Nth f v past n) → (b : Bool) → nat_lt n (length past) ≡ b → Nth f v (e ∷ past) n
+nth_if : (f : Flow) (v : Start) (past : List Event) (e : Event) (n : ℕ) → n < length (e ∷ past) → (n < length past → Nth f v past n) → (b : Bool) →
+    nat_lt n (length past) ≡ b → Nth f v (e ∷ past) n
 nth_if f v past e n lt ih true is = let l : n < length past = grind (arith, nat_tests) in nth_more f v past e n l (ih l)
 nth_if f v past e n lt ih false is = nth_last f v past e n (grind (arith, nat_tests))
 
@@ -106,11 +113,13 @@ pub record NextIs (w : World) (t : Tracer) (entry : Entry) : Type 0 where
   pub json : json_in w (t.done + 1) ≡ Some (json_text w.flow w.start (earlier t.done w.past) entry.event)
   pub within : t.done + 1 ≤ length w.past
 
-pub next_is : (w : World) (t : Tracer) (es : List Entry) (entry d : Entry) → es ≡ entries w.flow w.start w.past → t.done < length es → entry ≡ get_or es t.done d → StartFits w.flow w.start → IsLawful w.flow w.start w.past → Follows w t → NextIs w t entry
+pub next_is : (w : World) (t : Tracer) (es : List Entry) (entry d : Entry) → es ≡ entries w.flow w.start w.past → t.done < length es →
+    entry ≡ get_or es t.done d → StartFits w.flow w.start → IsLawful w.flow w.start w.past → Follows w t → NextIs w t entry
 next_is w t es entry d is lt at start law h =
     let len : length es ≡ length w.past = ap (λ (xs : List Entry). length xs) is ∙ length_entries w.flow w.start w.past in
     let n = nth w.flow w.start w.past t.done (omega arith) in
-    let found : Some entry ≡ Some (record { number = t.done + 1; event = n.event; change = change w.flow w.start (n.event ∷ earlier t.done w.past) }) = ap (λ (x : Entry). Some x) at ∙ (sym (slice_get-get_or es t.done d lt) ∙ (ap (λ (xs : List Entry). slice_get xs t.done) is ∙ n.entry)) in
+    let found : Some entry ≡ Some (record { number = t.done + 1; event = n.event; change = change w.flow w.start (n.event ∷ earlier t.done w.past) }) =
+    ap (λ (x : Entry). Some x) at ∙ (sym (slice_get-get_or es t.done d lt) ∙ (ap (λ (xs : List Entry). slice_get xs t.done) is ∙ n.entry)) in
     let same : entry ≡ record { number = t.done + 1; event = n.event; change = change w.flow w.start (n.event ∷ earlier t.done w.past) } = grind (arith) in
     let event : entry.event ≡ n.event = ap (λ (x : Entry). x.event) same in
     let split : earlier (t.done + 1) w.past ≡ entry.event ∷ earlier t.done w.past = n.split ∙ ap (λ (e : Event). e ∷ earlier t.done w.past) (sym event) in
@@ -128,7 +137,8 @@ next_is w t es entry d is lt at start law h =
     }
 
 -- nothing comes next
-pub no_line : (what : List Event → Event → Text) (w : World) (t : Tracer) (es : List Entry) → es ≡ entries w.flow w.start w.past → length es ≤ t.done → at_number what w.past (t.done + 1) ≡ None
+pub no_line : (what : List Event → Event → Text) (w : World) (t : Tracer) (es : List Entry) → es ≡ entries w.flow w.start w.past → length es ≤ t.done →
+    at_number what w.past (t.done + 1) ≡ None
 no_line what w t es is le =
     let len : length es ≡ length w.past = ap (λ (xs : List Entry). length xs) is ∙ length_entries w.flow w.start w.past in
     line_past what w.past (t.done + 1) (omega arith)

@@ -21,8 +21,10 @@ use Rattle.tx_trace.specs.Follow.{Concerns, IsSubject, next_recovered, over_then
 
 -- the journalled transactions that are over after an item
 
-over_if : (f : Flow) (v : Start) (past : List Event) (e : Event) (id over : ℕ) (old ended : Bool) → old ≡ true → recovering f v past ≡ Some id → recovering f v past ≡ next_recovered f v.view.rows over
-    → recovering f v (e ∷ past) ≡ (if ended then next_recovered f v.view.rows id else Some id) → recovering f v (e ∷ past) ≡ next_recovered f v.view.rows (over_then (old && ended) id over)
+over_if : (f : Flow) (v : Start) (past : List Event) (e : Event) (id over : ℕ) (old ended : Bool) → old ≡ true → recovering f v past ≡ Some id →
+    recovering f v past ≡ next_recovered f v.view.rows over
+    → recovering f v (e ∷ past) ≡ (if ended then next_recovered f v.view.rows id else Some id) →
+    recovering f v (e ∷ past) ≡ next_recovered f v.view.rows (over_then (old && ended) id over)
 over_if f v past e id over true true is was h now = now
 over_if f v past e id over true false is was h now = now ∙ (sym was ∙ h)
 over_if f v past e id over false ended is was h now = absurd (cc)
@@ -31,7 +33,8 @@ over_new : (old ended : Bool) (id over : ℕ) → old ≡ false → over_then (o
 over_new false ended id over h = refl
 over_new true ended id over h = absurd (cc)
 
-over_item : (f : Flow) (v : Start) (past : List Event) (e : Event) (s id over : ℕ) (x : Item) → IsOrdered v.view → IsLawful f v past → Gave f v past e id x → serves f v past s ≡ Some id → recovering f v past ≡ next_recovered f v.view.rows over
+over_item : (f : Flow) (v : Start) (past : List Event) (e : Event) (s id over : ℕ) (x : Item) → IsOrdered v.view → IsLawful f v past →
+    Gave f v past e id x → serves f v past s ≡ Some id → recovering f v past ≡ next_recovered f v.view.rows over
     → recovering f v (e ∷ past) ≡ next_recovered f v.view.rows (over_then (is_journalled v id && is_ended f (state_of f v (e ∷ past) id)) id over)
 over_item f v past e s id over x o law g serves h = elim (serves_who f v past s id serves) [
   | inl a ↦ (let l : id < v.view.next_id = recovering_below f v past id o a.0 in
@@ -39,10 +42,12 @@ over_item f v past e s id over x o law g serves h = elim (serves_who f v past s 
       over_if f v past e id over (is_journalled v id) (is_ended f (state_of f v (e ∷ past) id)) old a.0 h (recovering_next f v past e id x o law g a.0))
   | inr a ↦ (let l : v.view.next_id ≤ id = taken_from v past s id a in
       let new : is_journalled v id ≡ false = grind (arith, nat_tests) in
-      recovering_other f v past e id x o g l ∙ (h ∙ ap (next_recovered f v.view.rows) (sym (over_new (is_journalled v id) (is_ended f (state_of f v (e ∷ past) id)) id over new))))
+      recovering_other f v past e id x o g l ∙ (h ∙ ap (next_recovered f v.view.rows)
+      (sym (over_new (is_journalled v id) (is_ended f (state_of f v (e ∷ past) id)) id over new))))
 ]
 
-concerns_item : (f : Flow) (v : Start) (past : List Event) (e : Event) (s id : ℕ) (x : Item) → IsOrdered v.view → IsLawful f v past → Gave f v past e id x → holds f v past s ≡ Some id → item_of e ≡ Some x
+concerns_item : (f : Flow) (v : Start) (past : List Event) (e : Event) (s id : ℕ) (x : Item) → IsOrdered v.view → IsLawful f v past → Gave f v past e id x →
+    holds f v past s ≡ Some id → item_of e ≡ Some x
     → shown_at f v past e ≡ held_shown f v past e (holds f v past s) → Concerns f v past e id
 concerns_item f v past e s id x o law g held item shown =
     let w = holds_serves f v past s id held in
@@ -55,13 +60,16 @@ concerns_item f v past e s id x o law g held item shown =
       recovers = λ over h. over_item f v past e s id over x o law g w.0 h;
     }
 
-row_of : (f : Flow) (v : Start) (past : List Event) (e : Event) (id : ℕ) (n o : Option ℕ) → o ≡ n → n ≡ Some id → Concerns f v past e id → IsSubject f v past e o
+row_of : (f : Flow) (v : Start) (past : List Event) (e : Event) (id : ℕ) (n o : Option ℕ) → o ≡ n → n ≡ Some id → Concerns f v past e id →
+    IsSubject f v past e o
 row_of f v past e id n o is at c = subst (λ (k : Option ℕ). IsSubject f v past e k) (sym (is ∙ at)) c
 
-touched_id : (f : Flow) (v : Start) (past : List Event) (a : Option ((ℕ × ℕ) × Option (List ℕ))) (s : Option ℕ) (id : ℕ) → s ≡ Some id → option_map (λ (row : ℕ × Option Row). row.0) (touched f v past a s).row ≡ Some id
+touched_id : (f : Flow) (v : Start) (past : List Event) (a : Option ((ℕ × ℕ) × Option (List ℕ))) (s : Option ℕ) (id : ℕ) → s ≡ Some id →
+    option_map (λ (row : ℕ × Option Row). row.0) (touched f v past a s).row ≡ Some id
 touched_id f v past a s id h = rw h refl
 
-pub subject_answered : (f : Flow) (v : Start) (past : List Event) (s b : ℕ) (c : List ℕ) (o : Option ℕ) → IsOrdered v.view → IsLawful f v (Answered s b c ∷ past)
+pub subject_answered : (f : Flow) (v : Start) (past : List Event) (s b : ℕ) (c : List ℕ) (o : Option ℕ) → IsOrdered v.view →
+    IsLawful f v (Answered s b c ∷ past)
     → o ≡ option_map (λ (row : ℕ × Option Row). row.0) (change f v (Answered s b c ∷ past)).row → IsSubject f v past (Answered s b c) o
 subject_answered f v past s b c o ord law is =
     let id : ℕ = law.0.0 in
@@ -95,7 +103,8 @@ kept_over : (b : Bool) (id over : ℕ) → over_then (b && false) id over ≡ ov
 kept_over true id over = refl
 kept_over false id over = refl
 
-pub subject_recovered : (f : Flow) (v : Start) (past : List Event) (s : ℕ) (c : List ℕ) (over : ℕ) (o : Option ℕ) → IsOrdered v.view → IsLawful f v (Recovered s c ∷ past)
+pub subject_recovered : (f : Flow) (v : Start) (past : List Event) (s : ℕ) (c : List ℕ) (over : ℕ) (o : Option ℕ) → IsOrdered v.view →
+    IsLawful f v (Recovered s c ∷ past)
     → recovering f v past ≡ next_recovered f v.view.rows over → o ≡ next_recovered f v.view.rows over → IsSubject f v past (Recovered s c) o
 subject_recovered f v past s c over o ord law was is =
     let id : ℕ = law.0.0 in
@@ -113,11 +122,13 @@ subject_recovered f v past s c over o ord law was is =
       after = refl;
       others = λ j d. refl;
       count = refl;
-      recovers = λ over h. h ∙ ap (next_recovered f v.view.rows) (sym (ap (λ (b : Bool). over_then (is_journalled v id && b) id over) w.1 ∙ kept_over (is_journalled v id) id over));
+      recovers = λ over h. h ∙ ap (next_recovered f v.view.rows)
+          (sym (ap (λ (b : Bool). over_then (is_journalled v id && b) id over) w.1 ∙ kept_over (is_journalled v id) id over));
     })
 
 -- an item's entry has the row of the transaction that it is given for
-pub subject_item : (f : Flow) (v : Start) (past : List Event) (e : Event) (o : Option ℕ) → is_some (item_of e) ≡ true → IsOrdered v.view → IsLawful f v (e ∷ past) → o ≡ option_map (λ (row : ℕ × Option Row). row.0) (change f v (e ∷ past)).row → IsSubject f v past e o
+pub subject_item : (f : Flow) (v : Start) (past : List Event) (e : Event) (o : Option ℕ) → is_some (item_of e) ≡ true → IsOrdered v.view →
+    IsLawful f v (e ∷ past) → o ≡ option_map (λ (row : ℕ × Option Row). row.0) (change f v (e ∷ past)).row → IsSubject f v past e o
 subject_item f v past (Answered s b c) o h ord law is = subject_answered f v past s b c o ord law is
 subject_item f v past (Chose s t) o h ord law is = subject_chose f v past s t o ord law is
 subject_item f v past (Told s a) o h ord law is = subject_told f v past s a o ord law is
@@ -131,7 +142,9 @@ subject_item f v past (Cleared p) o h ord law is = absurd (cc)
 subject_item f v past (LetGo s) o h ord law is = absurd (cc)
 subject_item f v past (Closed id) o h ord law is = absurd (cc)
 
-pub subject_restored : (f : Flow) (v : Start) (past : List Event) (e : Event) (s : ℕ) (c : List ℕ) (over : ℕ) (o : Option ℕ) → e ≡ Recovered s c → IsOrdered v.view → IsLawful f v (e ∷ past)
+pub subject_restored : (f : Flow) (v : Start) (past : List Event) (e : Event) (s : ℕ) (c : List ℕ) (over : ℕ) (o : Option ℕ) → e ≡ Recovered s c →
+    IsOrdered v.view → IsLawful f v (e ∷ past)
     → recovering f v past ≡ next_recovered f v.view.rows over → o ≡ next_recovered f v.view.rows over → IsSubject f v past e o
 subject_restored f v past e s c over o is ord law was at =
-    subst (λ (x : Event). IsSubject f v past x o) (sym is) (subject_recovered f v past s c over o ord (subst (λ (x : Event). IsLawful f v (x ∷ past)) is law) was at)
+    subst (λ (x : Event). IsSubject f v past x o) (sym is) (subject_recovered f v past s c over o ord
+    (subst (λ (x : Event). IsLawful f v (x ∷ past)) is law) was at)

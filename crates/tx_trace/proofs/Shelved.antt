@@ -1,6 +1,7 @@
 -- How many contexts are on the shelf after an entry.
 -- for: tracer::Tracer::follow
-use Rattle.std.proofs.Common.{◌≡◌, ℕ, ◌+◌, ◌<◌, ◌≤◌, Bool, true, false, List, [], ◌∷◌, ◌++◌, length, filter, Option, Some, None, refl, sym, ◌∙◌, ap, subst, arith, suc, zero, length-append}
+use Rattle.std.proofs.Common.{◌≡◌, ℕ, ◌+◌, ◌<◌, ◌≤◌, Bool, true, false, List, [], ◌∷◌, ◌++◌, length, filter, Option, Some, None, refl, sym, ◌∙◌, ap, subst}
+use Rattle.std.proofs.Common.{arith, suc, zero, length-append}
 use Rattle.std.specs.Prelude.{if◌then◌else◌, ◌==◌, nat_lt, is_some}
 use Rattle.std.proofs.lemmas.Bool.Decides.{nat_tests}
 use Rattle.flow_model.specs.declared.flow.Flow.{Flow}
@@ -22,25 +23,32 @@ use Rattle.tx_trace.specs.Follow.{shelved_after}
 
 -- one more under a key that the list does not have
 
-apart_count : {A : Type 0} (id : ℕ) (x : ℕ × A) (xs : List (ℕ × A)) → (x.0 == id) ≡ false → length (filter (λ (p : ℕ × A). nat_lt p.0 id) xs) + length (filter (λ (p : ℕ × A). nat_lt id p.0) xs) ≡ length xs
-    → (b : Bool) → nat_lt x.0 id ≡ b → (c : Bool) → nat_lt id x.0 ≡ c → length (filter (λ (p : ℕ × A). nat_lt p.0 id) (x ∷ xs)) + length (filter (λ (p : ℕ × A). nat_lt id p.0) (x ∷ xs)) ≡ length xs + 1
-apart_count id x xs differ ih true low true high = absurd (let a : x.0 < id = grind (arith, nat_tests) in let b : id < x.0 = grind (arith, nat_tests) in omega arith)
+apart_count : {A : Type 0} (id : ℕ) (x : ℕ × A) (xs : List (ℕ × A)) → (x.0 == id) ≡ false →
+    length (filter (λ (p : ℕ × A). nat_lt p.0 id) xs) + length (filter (λ (p : ℕ × A). nat_lt id p.0) xs) ≡ length xs
+    → (b : Bool) → nat_lt x.0 id ≡ b → (c : Bool) → nat_lt id x.0 ≡ c →
+    length (filter (λ (p : ℕ × A). nat_lt p.0 id) (x ∷ xs)) + length (filter (λ (p : ℕ × A). nat_lt id p.0) (x ∷ xs)) ≡ length xs + 1
+apart_count id x xs differ ih true low true high = absurd (let a : x.0 < id = grind (arith, nat_tests) in let b : id < x.0 = grind (arith, nat_tests) in
+    omega arith)
 apart_count id x xs differ ih true low false high = rw (low, high) (omega arith)
 apart_count id x xs differ ih false low true high = rw (low, high) (omega arith)
-apart_count id x xs differ ih false low false high = absurd (let a : id ≤ x.0 = grind (arith, nat_tests) in let b : x.0 ≤ id = grind (arith, nat_tests) in let same : (x.0 == id) ≡ true = grind (arith, nat_tests) in cc)
+apart_count id x xs differ ih false low false high = absurd (let a : id ≤ x.0 = grind (arith, nat_tests) in let b : x.0 ≤ id = grind (arith, nat_tests) in
+    let same : (x.0 == id) ≡ true = grind (arith, nat_tests) in cc)
 
-lacks_head : {A : Type 0} (id : ℕ) (x : ℕ × A) (xs : List (ℕ × A)) (b : Bool) → (x.0 == id) ≡ b → (if b then Some x.1 else look id xs) ≡ None → ((x.0 == id) ≡ false) × (look id xs ≡ None)
+lacks_head : {A : Type 0} (id : ℕ) (x : ℕ × A) (xs : List (ℕ × A)) (b : Bool) → (x.0 == id) ≡ b → (if b then Some x.1 else look id xs) ≡ None →
+    ((x.0 == id) ≡ false) × (look id xs ≡ None)
 lacks_head id x xs true e h = absurd (cc)
 lacks_head id x xs false e h = (e, h)
 
-sides_count : {A : Type 0} (id : ℕ) (xs : List (ℕ × A)) → look id xs ≡ None → length (filter (λ (p : ℕ × A). nat_lt p.0 id) xs) + length (filter (λ (p : ℕ × A). nat_lt id p.0) xs) ≡ length xs
+sides_count : {A : Type 0} (id : ℕ) (xs : List (ℕ × A)) → look id xs ≡ None →
+    length (filter (λ (p : ℕ × A). nat_lt p.0 id) xs) + length (filter (λ (p : ℕ × A). nat_lt id p.0) xs) ≡ length xs
 sides_count id [] h = refl
 sides_count id (x ∷ xs) h =
     let w = lacks_head id x xs (x.0 == id) refl h in
     let both = apart_count id x xs w.0 (sides_count id xs w.1) (nat_lt x.0 id) refl (nat_lt id x.0) refl in
     omega arith
 
-pub put_count : (id : ℕ) (o : Option Waiting) (xs : List (ℕ × Waiting)) → look id xs ≡ None → length (put_new (shelved_change id o) xs) ≡ (if is_some (shelved_change id o) then length xs + 1 else length xs)
+pub put_count : (id : ℕ) (o : Option Waiting) (xs : List (ℕ × Waiting)) → look id xs ≡ None →
+    length (put_new (shelved_change id o) xs) ≡ (if is_some (shelved_change id o) then length xs + 1 else length xs)
 put_count id None xs h = refl
 put_count id (Some w) xs h =
     let low : List (ℕ × Waiting) = filter (λ (p : ℕ × Waiting). nat_lt p.0 id) xs in
@@ -53,33 +61,45 @@ put_count id (Some w) xs h =
 
 -- the shelf after an entry is what its change makes of it
 
-shelf_led : (f : Flow) (v : Start) (past : List Event) (e : Event) → IsOrdered v.view → IsLawful f v (e ∷ past) → put_new (change f v (e ∷ past)).shelved (if (change f v (e ∷ past)).emptied then [] else shelf f v past) ≡ shelf f v (e ∷ past)
+shelf_led : (f : Flow) (v : Start) (past : List Event) (e : Event) → IsOrdered v.view → IsLawful f v (e ∷ past) →
+    put_new (change f v (e ∷ past)).shelved (if (change f v (e ∷ past)).emptied then [] else shelf f v past) ≡ shelf f v (e ∷ past)
 shelf_led f v past e o law = ap (λ (j : JournalView). j.shelf) (leads f v past e o law)
 
-plain_count : (f : Flow) (v : Start) (past : List Event) (e : Event) → IsOrdered v.view → IsLawful f v (e ∷ past) → (change f v (e ∷ past)).shelved ≡ None → (change f v (e ∷ past)).emptied ≡ false
+plain_count : (f : Flow) (v : Start) (past : List Event) (e : Event) → IsOrdered v.view → IsLawful f v (e ∷ past) → (change f v (e ∷ past)).shelved ≡ None →
+    (change f v (e ∷ past)).emptied ≡ false
     → shelved_after (length (shelf f v past)) (change f v (e ∷ past)) ≡ length (shelf f v (e ∷ past))
 plain_count f v past e o law none kept =
-    let same : shelf f v past ≡ shelf f v (e ∷ past) = subst (λ (c : Option (ℕ × Waiting)). put_new c (shelf f v past) ≡ shelf f v (e ∷ past)) none (subst (λ (b : Bool). put_new (change f v (e ∷ past)).shelved (if b then [] else shelf f v past) ≡ shelf f v (e ∷ past)) kept (shelf_led f v past e o law)) in
+    let same : shelf f v past ≡ shelf f v (e ∷ past) = subst (λ (c : Option (ℕ × Waiting)). put_new c (shelf f v past) ≡ shelf f v (e ∷ past)) none
+    (subst (λ (b : Bool). put_new (change f v (e ∷ past)).shelved (if b then [] else shelf f v past) ≡ shelf f v (e ∷ past)) kept
+    (shelf_led f v past e o law)) in
     rw (none, kept) (ap (λ (xs : List (ℕ × Waiting)). length xs) same)
 
-given_count : (f : Flow) (v : Start) (past : List Event) (e : Event) (id : ℕ) → IsOrdered v.view → IsLawful f v (e ∷ past) → look id (shelf f v past) ≡ None → (change f v (e ∷ past)).shelved ≡ shelved_change id (shelved f (state_of f v (e ∷ past) id) true) → (change f v (e ∷ past)).emptied ≡ false
+given_count : (f : Flow) (v : Start) (past : List Event) (e : Event) (id : ℕ) → IsOrdered v.view → IsLawful f v (e ∷ past) →
+    look id (shelf f v past) ≡ None → (change f v (e ∷ past)).shelved ≡ shelved_change id (shelved f (state_of f v (e ∷ past) id) true) →
+    (change f v (e ∷ past)).emptied ≡ false
     → shelved_after (length (shelf f v past)) (change f v (e ∷ past)) ≡ length (shelf f v (e ∷ past))
 given_count f v past e id o law lacks is kept =
     let o2 : Option Waiting = shelved f (state_of f v (e ∷ past) id) true in
-    let led : put_new (shelved_change id o2) (shelf f v past) ≡ shelf f v (e ∷ past) = subst (λ (c : Option (ℕ × Waiting)). put_new c (shelf f v past) ≡ shelf f v (e ∷ past)) is (subst (λ (b : Bool). put_new (change f v (e ∷ past)).shelved (if b then [] else shelf f v past) ≡ shelf f v (e ∷ past)) kept (shelf_led f v past e o law)) in
+    let led : put_new (shelved_change id o2) (shelf f v past) ≡ shelf f v (e ∷ past) =
+    subst (λ (c : Option (ℕ × Waiting)). put_new c (shelf f v past) ≡ shelf f v (e ∷ past)) is
+    (subst (λ (b : Bool). put_new (change f v (e ∷ past)).shelved (if b then [] else shelf f v past) ≡ shelf f v (e ∷ past)) kept
+    (shelf_led f v past e o law)) in
     rw (is, kept) (sym (put_count id o2 (shelf f v past) lacks) ∙ ap (λ (xs : List (ℕ × Waiting)). length xs) led)
 
-touched_shelved : (f : Flow) (v : Start) (past : List Event) (a : Option ((ℕ × ℕ) × Option (List ℕ))) (s : Option ℕ) (id : ℕ) → s ≡ Some id → ((touched f v past a s).shelved ≡ shelved_change id (shelved f (state_of f v past id) true)) × ((touched f v past a s).emptied ≡ false)
+touched_shelved : (f : Flow) (v : Start) (past : List Event) (a : Option ((ℕ × ℕ) × Option (List ℕ))) (s : Option ℕ) (id : ℕ) → s ≡ Some id →
+    ((touched f v past a s).shelved ≡ shelved_change id (shelved f (state_of f v past id) true)) × ((touched f v past a s).emptied ≡ false)
 touched_shelved f v past a s id h = (rw h refl, rw h refl)
 
-pub shelf_count : (f : Flow) (v : Start) (past : List Event) (e : Event) → IsOrdered v.view → IsLawful f v (e ∷ past) → shelved_after (length (shelf f v past)) (change f v (e ∷ past)) ≡ length (shelf f v (e ∷ past))
+pub shelf_count : (f : Flow) (v : Start) (past : List Event) (e : Event) → IsOrdered v.view → IsLawful f v (e ∷ past) →
+    shelved_after (length (shelf f v past)) (change f v (e ∷ past)) ≡ length (shelf f v (e ∷ past))
 shelf_count f v past (Offered c) o law = plain_count f v past (Offered c) o law refl refl
 shelf_count f v past (Taken s) o law = plain_count f v past (Taken s) o law refl refl
 shelf_count f v past (Answered s b c) o law =
     let id : ℕ = law.0.0 in
     let w = holds_serves f v past s id law.0.1 in
     let t = touched_shelved f v (Answered s b c ∷ past) None (serves f v past s) id w.0 in
-    given_count f v past (Answered s b c) id o law (shelf_lacks f v past (Answered s b c) s id (Answer b c) o (gave_answered f v past s b c id w.0) w.0 w.1) t.0 t.1
+    given_count f v past (Answered s b c) id o law (shelf_lacks f v past (Answered s b c) s id (Answer b c) o (gave_answered f v past s b c id w.0) w.0 w.1)
+    t.0 t.1
 shelf_count f v past (Chose s x) o law =
     let id : ℕ = law.0.0 in
     let w = holds_serves f v past s id law.0.1 in
@@ -112,7 +132,8 @@ gather_count h n (suc k) =
     let sum = length-append (gather h n k) (keyed (n + k) (h (n + k))) in
     omega arith
 
-pub shelf_few : (f : Flow) (v : Start) (past : List Event) → v.view.next_id ≤ 9223372036854775807 → IsLawful f v past → length (shelf f v past) < 9223372036854775808
+pub shelf_few : (f : Flow) (v : Start) (past : List Event) → v.view.next_id ≤ 9223372036854775807 → IsLawful f v past →
+    length (shelf f v past) < 9223372036854775808
 shelf_few f v past h law =
     let last = ids_last f v past h law in
     let few : length (shelf f v past) ≤ ids v past = gather_count (shelved_at f v (arrivals f v past) past) 1 (ids v past) in

@@ -1,5 +1,6 @@
 -- What a tracer keeps of the entries that it has gone through.
-use Rattle.std.specs.Prelude.{◌≡◌, ℕ, ◌+◌, ◌<◌, ◌≤◌, Bool, true, false, List, [], ◌∷◌, length, filter, nat_lt, Option, Some, None, is_some, if◌then◌else◌, ◌&&◌}
+use Rattle.std.specs.Prelude.{◌≡◌, ℕ, ◌+◌, ◌<◌, ◌≤◌, Bool, true, false, List, [], ◌∷◌, length, filter, nat_lt, Option, Some, None, Result, Ok, is_some, if◌then◌else◌, ◌&&◌}
+use Rattle.std.specs.declared.alloc.AllocError.{AllocError}
 use Rattle.std.specs.Option.{option_map_or}
 use Rattle.std.specs.Ordering.{nat_cmp}
 use Rattle.std.specs.BTreeMap.{BTreeMap, get}
@@ -16,7 +17,8 @@ use Rattle.tx_history.specs.declared.event.Change.{Change}
 use Rattle.tx_history.specs.declared.event.Entry.{Entry}
 use Rattle.tx_history.specs.declared.journal.Row.{Row}
 use Rattle.tx_history.specs.Keys.{look}
-use Rattle.tx_history.specs.History.{Start, first_unfinished, is_ended, is_restored, item_of, next_id, number_of, recovering, reopened_at, shelf, state_of, to_tell}
+use Rattle.tx_history.specs.History.{Start, first_unfinished, is_ended, is_restored, item_of, next_id, number_of, recovering, reopened_at, shelf, state_of}
+use Rattle.tx_history.specs.History.{to_tell}
 use Rattle.tx_history.specs.Journal.{IsLawful, change}
 use Rattle.tx_history.specs.Views.{StartFits}
 use Rattle.tx_engine.specs.World.{World}
@@ -34,7 +36,7 @@ earlier n (e ∷ past) = if nat_lt n (length past + 1) then earlier n past else 
 abbrev pub machine_at : BTreeMap ℕ Machine → ℕ → Option Machine
 machine_at machines id = get nat_cmp machines id
 
--- of the transactions of the journal after an id the first with somebody to notify, before an outcome is told
+-- of the transactions of the journal after an id the first with somebody to notify, before anybody is notified of an outcome
 abbrev pub next_recovered : Flow → List (ℕ × Row) → ℕ → Option ℕ
 next_recovered f rows over = first_unfinished f (filter (λ (r : ℕ × Row). nat_lt over r.0) rows) (λ id. [])
 
@@ -61,6 +63,11 @@ pub record Follows (w : World) (t : Tracer) : Type 0 where
 
 abbrev pub count_of : Tracer → ℕ
 count_of t = t.done
+
+-- how many lines a call gave: one, or none where there is none or memory is refused
+abbrev pub lines_given : {L : Type 0} → Result (Option L) AllocError → ℕ
+lines_given (Ok (Some line)) = 1
+lines_given _ = 0
 
 -- the entry that comes next
 pub record IsNext (w : World) (t : Tracer) (entry : Entry) : Type 0 where

@@ -11,6 +11,7 @@
 //!   transaction to the next.
 #![tactic(auto)]
 
+mod acts;
 mod entries;
 mod json;
 mod known;
@@ -23,6 +24,7 @@ mod shown;
 mod text;
 mod tracer;
 
+pub use acts::act_word;
 pub use entries::{line, rest};
 pub use laws::tracers_go_on;
 pub use moves::step_line;

@@ -2,7 +2,7 @@
 
 ghost use Rattle.std.specs.Prelude.{◌≡◌, ◌<◌, ◌+◌, ◌∷◌, ℕ, false, List, Some, None};
 ghost use Rattle.std.specs.Prelude.{IfOk, OnErr, OnOk, if◌then◌else◌};
-ghost use Rattle.std.specs.Prelude.{is_some, not, ◌&&◌, option_map, string_bytes};
+ghost use Rattle.std.specs.Prelude.{not, ◌&&◌, option_map, string_bytes};
 ghost use Rattle.tx_machine.specs.Contract.{IsSound, tx_state};
 ghost use Rattle.tx_machine.specs.Due.{due_of};
 ghost use Rattle.tx_machine.specs.Table.{next, opening};
@@ -19,7 +19,7 @@ ghost use Rattle.tx_trace.specs.Follow.{AreFound, Concerns, Follows, IsBegun};
 ghost use Rattle.tx_trace.specs.Follow.{IsLeft, IsNext, IsSubject};
 ghost use Rattle.tx_trace.specs.Follow.{IsTraced, IsUnderWay, PutsMove};
 ghost use Rattle.tx_trace.specs.Follow.{StandsFor, Tracks, is_given};
-ghost use Rattle.tx_trace.specs.Follow.{count_of, earlier, led_by};
+ghost use Rattle.tx_trace.specs.Follow.{count_of, earlier, led_by, lines_given};
 ghost use Rattle.tx_trace.specs.Follow.{next_recovered, over_after, shelved_after};
 ghost use Rattle.tx_trace.specs.declared.shown.Shown.TheVariants.{Plain};
 
@@ -241,10 +241,7 @@ impl Tracer {
         requires { Follows engine.now self.old }
         ensures line { IfOk result (λ line.
             option_map string_bytes line ≡ line_in engine.now (count_of self.old + 1)) }
-        ensures on { IfOk result (λ line.
-            count_of self.new
-            ≡ (if is_some line then count_of self.old + 1 else count_of self.old)) }
-        ensures kept { OnErr result (count_of self.new ≡ count_of self.old) }
+        ensures on { count_of self.new ≡ count_of self.old + lines_given result }
         ensures follows { Follows engine.now self.new }
     {
         let Some(entry) = engine.history().get(self.done) else {
@@ -268,10 +265,7 @@ impl Tracer {
         requires { Follows engine.now self.old }
         ensures line { IfOk result (λ line.
             option_map (λ l. l.items) line ≡ json_in engine.now (count_of self.old + 1)) }
-        ensures on { IfOk result (λ line.
-            count_of self.new
-            ≡ (if is_some line then count_of self.old + 1 else count_of self.old)) }
-        ensures kept { OnErr result (count_of self.new ≡ count_of self.old) }
+        ensures on { count_of self.new ≡ count_of self.old + lines_given result }
         ensures follows { Follows engine.now self.new }
     {
         let Some(entry) = engine.history().get(self.done) else {

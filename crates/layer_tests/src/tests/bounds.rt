@@ -1,8 +1,7 @@
 //! The last id, a history that is full, and replies that are not due.
 
 use crate::tests::flows::opened;
-use crate::tests::script::played;
-use std::alloc::Global;
+use crate::tests::script::answers_as_written;
 use std::test::Fail;
 
 const LAST: &str = "\
@@ -19,12 +18,6 @@ answer 0 65 = NotDue
 take 0 = IdsSpent
 ";
 
-// What comes of a script's calls of an engine whose next transaction has this id.
-fn played_from(alloc: Global, next_id: u64, script: &str) -> Result<String, Fail> {
-    let mut engine = opened(alloc, next_id)?;
-    played(alloc, &mut engine, script)
-}
-
 const SPENT: &str = "\
 offer = 1
 take 0 = IdsSpent
@@ -33,34 +26,28 @@ counts = 1 0 0 1 9223372036854775807 0
 
 #[test]
 fn no_id_is_left(rt: HostRuntime) -> Result<(), Fail> {
-    let came = played_from(rt.alloc(), 9_223_372_036_854_775_807, SPENT)?;
-    assert_eq!(rt; came.as_str(), SPENT);
-    Ok(())
+    let mut engine = opened(rt.alloc(), 9_223_372_036_854_775_807)?;
+    answers_as_written(&rt, &mut engine, SPENT)
 }
 
 #[test]
 fn the_last_id(rt: HostRuntime) -> Result<(), Fail> {
-    let came = played_from(rt.alloc(), 9_223_372_036_854_775_806, LAST)?;
-    assert_eq!(rt; came.as_str(), LAST);
-    Ok(())
+    let mut engine = opened(rt.alloc(), 9_223_372_036_854_775_806)?;
+    answers_as_written(&rt, &mut engine, LAST)
 }
 
 const OF_BREAKPOINTS: &str = "\
 offer = 1
 often 1048575 p = 1048576
-take 0 = HistoryFull
-release = HistoryFull
-go 0 = NotHeld
-break x = NoParticipant
-ack 1 0 = NoAdvice
-write 1048576 = 0
+break p = HistoryFull
+clear p = HistoryFull
+offer = HistoryFull
 ";
 
 #[test]
 fn a_full_history_takes_no_entry(rt: HostRuntime) -> Result<(), Fail> {
-    let came = played_from(rt.alloc(), 1, OF_BREAKPOINTS)?;
-    assert_eq!(rt; came.as_str(), OF_BREAKPOINTS);
-    Ok(())
+    let mut engine = opened(rt.alloc(), 1)?;
+    answers_as_written(&rt, &mut engine, OF_BREAKPOINTS)
 }
 
 const FULL: &str = "\
@@ -92,7 +79,6 @@ next 0 = held 1 0 Prepare
 
 #[test]
 fn a_full_history_is_cut(rt: HostRuntime) -> Result<(), Fail> {
-    let came = played_from(rt.alloc(), 1, FULL)?;
-    assert_eq!(rt; came.as_str(), FULL);
-    Ok(())
+    let mut engine = opened(rt.alloc(), 1)?;
+    answers_as_written(&rt, &mut engine, FULL)
 }

@@ -1,7 +1,7 @@
 //! Breakpoints of an engine with two sessions, call by call, and what it refuses to be opened with.
 
 use crate::tests::flows::plain;
-use crate::tests::script::played;
+use crate::tests::script::answers_as_written;
 use std::alloc::{AllocError, Global};
 use std::test::Fail;
 use sw_participant::{Bytes, Sequence, Text};
@@ -48,9 +48,7 @@ fn a_held_call_waits_and_may_be_answered(rt: HostRuntime) -> Result<(), Fail> {
         return Err(Fail::new("a blank journal is refused"));
     }
     let mut engine = Engine::open(rt.alloc(), &code, &view, 2)?;
-    let came = played(rt.alloc(), &mut engine, HELD)?;
-    assert_eq!(rt; came.as_str(), HELD);
-    Ok(())
+    answers_as_written(&rt, &mut engine, HELD)
 }
 
 // The row of a transaction whose only participant, which is being prepared, has this name.

@@ -7,7 +7,8 @@
 //! `release`, `write MARK`, `cut`. An event answers its entry's number, `reserve`, `write` and `cut` answer 0,
 //! and a refusal its name. Contexts are empty.
 
-use std::alloc::Global;
+use std::alloc::{AllocGlobal, Global};
+use std::process::Abort;
 use std::test::Fail;
 use sw_context::Context;
 use tx_engine::{Engine, EngineError, Next, Offer};
@@ -168,8 +169,8 @@ fn play(alloc: Global, engine: &mut Engine, line: &str) -> Result<String, Fail> 
     }
 }
 
-/// Makes the calls of a script, and gives the script with what they answered.
-pub fn played(alloc: Global, engine: &mut Engine, script: &str) -> Result<String, Fail> {
+// Makes the calls of a script, and gives the script with what they answered.
+fn played(alloc: Global, engine: &mut Engine, script: &str) -> Result<String, Fail> {
     let mut text = String::new(alloc);
     for line in script.lines() {
         let Some((call, _)) = line.split_once(" = ") else {
@@ -182,4 +183,15 @@ pub fn played(alloc: Global, engine: &mut Engine, script: &str) -> Result<String
         text.push('\n')?;
     }
     Ok(text)
+}
+
+/// Makes the calls of a script, which have to answer what it says.
+pub fn answers_as_written<R: AllocGlobal + Abort>(
+    rt: &R,
+    engine: &mut Engine,
+    script: &str,
+) -> Result<(), Fail> {
+    let answered = played(rt.alloc(), engine, script)?;
+    assert_eq!(rt; answered.as_str(), script);
+    Ok(())
 }

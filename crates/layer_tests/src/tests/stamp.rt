@@ -18,7 +18,8 @@ impl Participant for Stamp {
 
     // PREPARED with the stamp put; ABORTED with NO_JOIN and READONLY where the context does not take it.
     ghost prepares = { λ id o x byte p y. (p ≡ o)
-        × (((refusal x (codes "stamp") o ≡ None) × (byte ≡ 0x01) × (y ≡ with_value x (codes "stamp") o))
+        × (((refusal x (codes "stamp") o ≡ None) × (byte ≡ 0x01)
+        × (y ≡ with_value x (codes "stamp") o))
         ⊎ ((refusal x (codes "stamp") o ≢ None) × (byte ≡ 0xc0) × (y ≡ x))) };
 
     // An abort needs no stamp.
@@ -29,7 +30,8 @@ impl Participant for Stamp {
 
     ghost commits = { λ id recovering o x advice p y. (p ≡ o) × (advice ≡ None) × (y ≡ x) };
 
-    ghost aborts = { λ id recovering o x advice p y. (p ≡ o) × (advice ≡ None) × (y ≡ without (codes "stamp") x) };
+    ghost aborts = { λ id recovering o x advice p y.
+        (p ≡ o) × (advice ≡ None) × (y ≡ without (codes "stamp") x) };
 
     // It asks for no recovery.
     ghost recovers = { λ id commit o x p y. (p ≡ o) × (y ≡ x) };

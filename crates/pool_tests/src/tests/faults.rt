@@ -9,29 +9,30 @@ use crate::tests::sources::Broken;
 use flow_asm::Code;
 use sqlite::{Alter, MemStore};
 use std::test::*;
-use sw_participant::Station;
 use tx_engine::EngineError;
 use tx_journal::Journal;
 use tx_plant::Plant;
 use tx_pool::{Fault, Late, Open};
 
-// What a run left that was given up makes a new plant, which recovers, and then runs 5 offers.
+// A run was given up for memory. What it left makes a new plant, which recovers, and then runs 5 offers.
 fn goes_on<S: Alter + Drop, R: Runtime>(
     rt: &R,
     code: &Code,
-    journal: Journal<S>,
-    stations: Vec<Station>,
+    late: Late<S>,
 ) -> Result<Plant<S>, Fail> {
     let alloc = rt.alloc();
+    let Late {
+        cause,
+        journal,
+        stations,
+    } = late;
+    assert!(rt; matches!(cause, Fault::OutOfMemory));
+    assert!(rt; stations.len() == code.participants().len());
     let mut plant = plant_on(alloc, code, journal, stations, 2)?;
     assert!(rt; plant.recover(alloc).is_ok());
     let (plant, _, report) = run(rt, plant, listed(alloc, 5)?, 4, &Open)?;
     assert!(rt; report.finished == 5 && report.shelved == 0);
     Ok(plant)
-}
-
-fn is_out_of_memory<S: Alter + Drop>(late: &Late<S>) -> bool {
-    matches!(&late.cause, Fault::OutOfMemory)
 }
 
 // A participant is refused memory in its third preparation.
@@ -42,13 +43,7 @@ fn run_short<R: Runtime>(rt: &R) -> Result<(), Fail> {
     stations.push(station_of(alloc, "p", Deed::Fail { calls: 2 })?)?;
     let plant = plant_of(alloc, &code, stations, 2)?;
     let late = run_late(rt, plant, listed(alloc, 10)?)?;
-    assert!(rt; is_out_of_memory(&late) && late.stations.len() == 1);
-    let Late {
-        cause: _,
-        journal,
-        stations,
-    } = late;
-    let _ = goes_on(rt, &code, journal, stations)?;
+    let _ = goes_on(rt, &code, late)?;
     Ok(())
 }
 
@@ -61,13 +56,7 @@ fn read_short<R: Runtime>(rt: &R) -> Result<(), Fail> {
         listed: listed(alloc, 3)?,
     };
     let late = run_late(rt, plant, source)?;
-    assert!(rt; is_out_of_memory(&late) && late.stations.len() == 2);
-    let Late {
-        cause: _,
-        journal,
-        stations,
-    } = late;
-    let _ = goes_on(rt, &code, journal, stations)?;
+    let _ = goes_on(rt, &code, late)?;
     Ok(())
 }
 

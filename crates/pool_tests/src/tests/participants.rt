@@ -6,7 +6,7 @@ use std::sync::Arc;
 use std::sync::atomic::{AtomicBool, Ordering};
 use std::test::*;
 use sw_context::Context;
-use sw_participant::{AdviceResult, NoMemory, Participant, Station, Text};
+use sw_participant::{Bystander, NoMemory, Station, Text, Unjoined};
 
 /// What a participant does in a preparation.
 #[derive(Drop)]
@@ -25,17 +25,17 @@ pub enum Deed {
     },
 }
 
-/// A participant. As a selector it selects the groups that the context's entry `go` names; told an
-/// outcome it gives no advice.
+/// A participant. As a selector it selects the groups that the context's entry `go` names. It may join, and an outcome
+/// has no effect on it ([`Bystander`]).
 #[derive(Drop)]
-pub struct Actor {
+struct Actor {
     alloc: Global,
     deed: Deed,
 }
 
 /// A station of such a participant.
 pub fn station_of(alloc: Global, name: &str, deed: Deed) -> Result<Station, Fail> {
-    let actor = Box::new(alloc, Actor { alloc, deed })?;
+    let actor = Box::new(alloc, Bystander::new(Actor { alloc, deed }))?;
     Ok(Station::new(alloc, name, actor)?)
 }
 
@@ -60,30 +60,16 @@ impl Deed {
 }
 
 // Contracts see nothing of it, and it promises nothing.
-impl Participant for Actor {
+impl Unjoined for Actor {
     ghost use Rattle.std.specs.Prelude.{⊤, []};
 
     ghost object = { λ actor. [] };
 
-    ghost prepares = { λ id o x byte p y. ⊤ };
+    ghost selects = { λ id o x text p. ⊤ };
 
     ghost prepares_for_abort = { λ id o x byte p y. ⊤ };
 
-    ghost selects = { λ id o x text p. ⊤ };
-
-    ghost commits = { λ id recovering o x advice p y. ⊤ };
-
-    ghost aborts = { λ id recovering o x advice p y. ⊤ };
-
-    ghost recovers = { λ id commit o x p y. ⊤ };
-
-    fn prepare(&mut self, _id: u64, _context: &mut Context) -> Result<u8, NoMemory> {
-        self.deed.answer()
-    }
-
-    fn prepare_for_abort(&mut self, _id: u64, _context: &mut Context) -> Result<u8, NoMemory> {
-        self.deed.answer()
-    }
+    ghost prepares = { λ id o x byte p y. ⊤ };
 
     fn select(&mut self, _id: u64, context: &Context) -> Result<Text, NoMemory> {
         match context.get("go").map(|go| str::from_utf8(go)) {
@@ -92,15 +78,11 @@ impl Participant for Actor {
         }
     }
 
-    fn commit(&mut self, _id: u64, _context: &mut Context, _recovering: bool) -> AdviceResult {
-        Ok(None)
+    fn prepare_for_abort(&mut self, _id: u64, _context: &mut Context) -> Result<u8, NoMemory> {
+        self.deed.answer()
     }
 
-    fn abort(&mut self, _id: u64, _context: &mut Context, _recovering: bool) -> AdviceResult {
-        Ok(None)
-    }
-
-    fn recover(&mut self, _id: u64, _context: &mut Context, _commit: bool) -> Result<(), NoMemory> {
-        Ok(())
+    fn prepare(&mut self, _id: u64, _context: &mut Context) -> Result<u8, NoMemory> {
+        self.deed.answer()
     }
 }

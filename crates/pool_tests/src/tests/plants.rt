@@ -109,7 +109,7 @@ pub fn listed(alloc: Global, count: usize) -> Result<Listed, Fail> {
     Ok(Listed::new(contexts))
 }
 
-// What a run that did not end well is told as.
+// The failure of a test whose run did not end well.
 fn failed<S: Alter + Drop>(error: &PoolError<S>) -> Fail {
     match error {
         PoolError::Early(_, _) => Fail::new("early"),

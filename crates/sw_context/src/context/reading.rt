@@ -97,7 +97,8 @@ fn are_entries(count: u8, bytes: &[u8]) -> bool
 fn put_entries(context: &mut Context, count: u8, bytes: &[u8]) -> Result<(), ContextError>
     ensures { (es : Pairs)
         → IsContext (context.old ++ es) → length es ≡ count → bytes.now ≡ flat_map entry_bytes es
-        → MatchResult result (λ _. context.new ≡ context.old ++ es) (λ e. e ≡ ContextError.OutOfMemory) }
+        → MatchResult result (λ _. context.new ≡ context.old ++ es)
+        (λ e. e ≡ ContextError.OutOfMemory) }
 {
     if count == 0 {
         return Ok(());

@@ -1,8 +1,8 @@
 //! Hosts that do not answer.
 
-use crate::HostTimes;
 use crate::direction::DirectionState;
 use crate::tests::wires::{NEXT_REQUEST, REQUEST, Wired, seconds, wire_up};
+use crate::{HostLink, HostTimes};
 use std::io::{Read, Write};
 use std::test::Fail;
 use std::thread;
@@ -39,7 +39,9 @@ fn an_unanswered_echo_test_closes(rt: HostRuntime) -> Result<(), Fail> {
     assert!(rt; reads_echo(&mut wired, b"000002")?);
     thread::sleep(&rt, Duration::from_millis(2_500));
     let counts = wired.host.counts();
-    assert!(rt; counts.echoes == 1 && counts.late == 0 && counts.unreadable == 0);
+    assert!(rt;
+        counts.tests == 2 && counts.unanswered == 1 && counts.late == 0 && counts.unreadable == 0
+    );
     assert!(rt; wired.host.shared.to.state() == DirectionState::Closed);
     Ok(())
 }
@@ -60,5 +62,75 @@ fn a_silent_host_is_not_asked(rt: HostRuntime) -> Result<(), Fail> {
     link.send(NEXT_REQUEST)?;
     assert!(rt; link.receive()?.is_none());
     assert!(rt; start.elapsed(&rt)? < Duration::from_secs(2));
+    Ok(())
+}
+
+// Echo tests of a silent host, each second, and an answer to a message within so many seconds.
+fn tested(timeout: u64, echo: u64) -> HostTimes {
+    HostTimes {
+        retry: Duration::from_secs(1),
+        echo: Duration::from_secs(echo),
+        ..seconds(timeout)
+    }
+}
+
+// Whether no answer is waited for: nothing is received, long before the deadline.
+fn is_not_asked(rt: HostRuntime, link: &mut HostLink) -> Result<bool, Fail> {
+    let start = Instant::now(&rt)?;
+    link.send(NEXT_REQUEST)?;
+    let heard = link.receive()?;
+    Ok(heard.is_none() && start.elapsed(&rt)? < Duration::from_secs(3))
+}
+
+// Whether the next message that the host reads is this one, echo tests aside.
+fn is_asked(wired: &mut Wired, message: &[u8]) -> Result<bool, Fail> {
+    for _ in 0..10 {
+        let (mut length, mut echo) = ([0; 4], [0; 55]);
+        wired.requests.read_exact(&mut length)?;
+        if length.as_slice() == b"0034".as_slice() {
+            let mut bytes = [0; 34];
+            wired.requests.read_exact(&mut bytes)?;
+            return Ok(bytes.as_slice() == message);
+        }
+        wired.requests.read_exact(&mut echo)?;
+    }
+    Ok(false)
+}
+
+// A silent host gets one echo test after the other, and no message before it has answered.
+#[test]
+fn a_silent_host_is_tested(rt: HostRuntime) -> Result<(), Fail> {
+    let mut wired = wire_up(rt, rt, tested(5, 60))?;
+    let mut link = wired.host.link(rt)?;
+    link.send(REQUEST)?;
+    assert!(rt; wired.reads(REQUEST)?);
+    assert!(rt; link.receive()?.is_none());
+    assert!(rt; is_not_asked(rt, &mut link)?);
+    assert!(rt; reads_echo(&mut wired, b"000001")?);
+    assert!(rt; is_not_asked(rt, &mut link)?);
+    assert!(rt; reads_echo(&mut wired, b"000002")?);
+    assert!(rt; is_not_asked(rt, &mut link)?);
+    assert!(rt; wired.host.counts().unasked == 3);
+    wired.responses.write_all(ECHO_ANSWER)?;
+    thread::sleep(&rt, Duration::from_millis(500));
+    link.send(NEXT_REQUEST)?;
+    assert!(rt; is_asked(&mut wired, NEXT_REQUEST)?);
+    assert!(rt; wired.host.counts().unanswered == 0);
+    Ok(())
+}
+
+// A host that gets nothing, and does not answer its echo test either, is opened again without a message. Until it
+// answers it is not asked.
+#[test]
+fn a_silent_host_is_opened_again(rt: HostRuntime) -> Result<(), Fail> {
+    let mut wired = wire_up(rt, rt, tested(5, 1))?;
+    let mut link = wired.host.link(rt)?;
+    assert!(rt; reads_echo(&mut wired, b"000001")?);
+    thread::sleep(&rt, Duration::from_millis(6_500));
+    assert!(rt; wired.host.counts().unanswered == 1);
+    assert!(rt; reads_echo(&mut wired, b"000002")?);
+    assert!(rt; wired.host.shared.to.state() == DirectionState::Open);
+    assert!(rt; is_not_asked(rt, &mut link)?);
+    assert!(rt; wired.host.counts().unasked == 1);
     Ok(())
 }

@@ -1,5 +1,5 @@
 //! Opening an engine on a journal's view: the closing entries of those with nobody to notify, and the
-//! first transaction that is told on.
+//! first transaction that is finished.
 
 ghost use Rattle.std.specs.Prelude.{◌≡◌, ◌≤◌, ◌∷◌, [], IfErr, IfOk, None, OnOk, false, replicate, slice_set};
 ghost use Rattle.flow_model.specs.declared.flow.Flow.{Flow};

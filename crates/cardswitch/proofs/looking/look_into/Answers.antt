@@ -14,4 +14,5 @@ returns-in_err-print-clause-failed g c =
 
 pub returns-clause-failed : goal.returns-clause-failed
 returns-clause-failed g c =
-    rw c.bad_row.ensures (beside c.args.options.now _ _ c.in_ok-sight.sight c.in-Beside.bad c.in-Beside.rest c.in-Beside.is c.in_ok-sight.ensures.sight c.in_ok-print.ensures.written)
+    rw c.bad_row.ensures (beside c.args.options.now _ _ c.in_ok-sight.sight c.in-Beside.bad c.in-Beside.rest c.in-Beside.is c.in_ok-sight.ensures.sight
+    c.in_ok-print.ensures.written)

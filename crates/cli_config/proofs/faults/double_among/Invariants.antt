@@ -6,4 +6,5 @@ use Rattle.cli_config.proofs.faults.double_among.Given as goal
 
 abbrev pub invariant-loop-number : goal.invariant-loop-number
 invariant-loop-number l =
-    first_at (double l.section l.key (views l.tables)) l.number (views (drop l.number l.tables)) ≡ first_at (double l.section l.key (views l.tables)) 0 (views l.tables)
+    first_at (double l.section l.key (views l.tables)) l.number (views (drop l.number l.tables)) ≡ first_at (double l.section l.key (views l.tables)) 0
+    (views l.tables)

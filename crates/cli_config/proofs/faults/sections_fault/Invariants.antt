@@ -6,4 +6,5 @@ use Rattle.cli_config.specs.Faults.{section_fault}
 use Rattle.cli_config.proofs.faults.sections_fault.Given as goal
 
 abbrev pub invariant-loop-section : goal.invariant-loop-section
-invariant-loop-section l = first_of (map (section_fault (table_view l.top)) (drop l.section-index sections)) ≡ first_of (map (section_fault (table_view l.top)) sections)
+invariant-loop-section l = first_of (map (section_fault (table_view l.top)) (drop l.section-index sections))
+    ≡ first_of (map (section_fault (table_view l.top)) sections)

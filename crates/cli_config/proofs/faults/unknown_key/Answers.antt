@@ -11,26 +11,34 @@ use Rattle.cli_config.proofs.faults.unknown_key.Goals as goal
 
 pub loop-name-init : goal.loop-name-init
 loop-name-init c =
-    let all : c.into_iter-name-iterator.result ≡ c.args.table.now.entries = grind (arith, common_steps) in
-    (tt, tt, ap (λ (es : List Entry). unknown_key c.args.section (members_view es)) all, subst (λ (es : List Entry). IsStrictlySortedBy (string_cmp {Z = Global}) (keys_of es)) (sym all) c.iter-name-items.ensures.ordered)
+    let all : c.into_iter-name-iterator.result ≡ c.args.table.now.entries = grind (arith, common_steps) in (
+      tt,
+      tt,
+      ap (λ (es : List Entry). unknown_key c.args.section (members_view es)) all,
+      subst (λ (es : List Entry). IsStrictlySortedBy (string_cmp {Z = Global}) (keys_of es)) (sym all) c.iter-name-items.ensures.ordered,
+    )
 
 pub returns-then-not-is_known : goal.returns-then-not-is_known
 returns-then-not-is_known c =
     let (can, finite, same, sorted) = c.loop-name.invariant in
     let e : Entry = (c.in-Some.name.now, c.in-Some._value.now) in
     let left : c.loop-name.name-iterator ≡ e ∷ c.next.new.self = grind (arith, common_steps) in
-    let unknown : is_known c.args.section (string_bytes e.0) ≡ false = sym (c.is_known.ensures ∙ ap (is_known c.args.section) c.as_str.ensures.value) ∙ c.if-not-is_known.true in
+    let unknown : is_known c.args.section (string_bytes e.0) ≡ false = sym (c.is_known.ensures ∙ ap (is_known c.args.section) c.as_str.ensures.value)
+    ∙ c.if-not-is_known.true in
     let ordered = subst (λ (es : List Entry). IsStrictlySortedBy (string_cmp {Z = Global}) (keys_of es)) left sorted in
-    sym (least_first (λ name. not (is_known c.args.section name)) e c.next.new.self ordered (ap not unknown)) ∙ ap (λ (es : List Entry). unknown_key c.args.section (members_view es)) (sym left) ∙ same
+    sym (least_first (λ name. not (is_known c.args.section name)) e c.next.new.self ordered (ap not unknown))
+    ∙ ap (λ (es : List Entry). unknown_key c.args.section (members_view es)) (sym left) ∙ same
 
 pub loop-name-preserved : goal.loop-name-preserved
 loop-name-preserved c =
     let (can, finite, same, sorted) = c.loop-name.invariant in
     let e : Entry = (c.in-Some.name.now, c.in-Some._value.now) in
     let left : c.loop-name.name-iterator ≡ e ∷ c.next.new.self = grind (arith, common_steps) in
-    let known : is_known c.args.section (string_bytes e.0) ≡ true = sym (c.is_known.ensures ∙ ap (is_known c.args.section) c.as_str.ensures.value) ∙ c.if-not-is_known.false in
+    let known : is_known c.args.section (string_bytes e.0) ≡ true = sym (c.is_known.ensures ∙ ap (is_known c.args.section) c.as_str.ensures.value)
+    ∙ c.if-not-is_known.false in
     let ordered = subst (λ (es : List Entry). IsStrictlySortedBy (string_cmp {Z = Global}) (keys_of es)) left sorted in
-    let on : unknown_key c.args.section (members_view (e ∷ c.next.new.self)) ≡ unknown_key c.args.section (members_view c.next.new.self) = least_later (λ name. not (is_known c.args.section name)) e c.next.new.self (ap not known) in
+    let on : unknown_key c.args.section (members_view (e ∷ c.next.new.self)) ≡ unknown_key c.args.section (members_view c.next.new.self) =
+    least_later (λ name. not (is_known c.args.section name)) e c.next.new.self (ap not known) in
     (tt, tt, sym on ∙ ap (λ (es : List Entry). unknown_key c.args.section (members_view es)) (sym left) ∙ same, sorted_rest e c.next.new.self ordered)
 
 pub returns : goal.returns

@@ -8,6 +8,7 @@ use Rattle.cli_decode.proofs.decoder.push_frames.Given as goal
 abbrev pub invariant-loop-message : goal.invariant-loop-message
 invariant-loop-message l = record {
   number : l.first + length l.messages < 2 ^ 64 → l.number ≡ l.first + l.message-index;
-  text : l.first + length l.messages < 2 ^ 64 → l.text.items ++ frames_text l.masking l.number (messages_of (drop l.message-index l.messages)) ≡ l.fn.text.items ++ frames_text l.masking l.first (messages_of l.messages);
+  text : l.first + length l.messages < 2 ^ 64 → l.text.items ++ frames_text l.masking l.number (messages_of (drop l.message-index l.messages))
+      ≡ l.fn.text.items ++ frames_text l.masking l.first (messages_of l.messages);
   refused : (l.refused || list_any is_refused (messages_of (drop l.message-index l.messages))) ≡ list_any is_refused (messages_of l.messages);
 }

@@ -13,4 +13,5 @@ returns-then-number-gt255 c = too_big c.args.word.now c.in_ok-number.number (sym
 
 pub returns-else-eq : goal.returns-else-eq
 returns-else-eq c = spelled_otherwise c.args.word.now c.in_ok-number.number (sym c.in_ok-number.ensures.value)
-    (λ e. not_same c.as_bytes.result.now c.format.result.now c.args.word.now c.eq.result c.if-eq.false c.eq.ensures c.as_bytes.ensures.value (c.format.ensures.text ∙ e))
+    (λ e. not_same c.as_bytes.result.now c.format.result.now c.args.word.now c.eq.result c.if-eq.false c.eq.ensures c.as_bytes.ensures.value
+    (c.format.ensures.text ∙ e))

@@ -9,7 +9,8 @@ pub returns-then-has_lower : goal.returns-then-has_lower
 returns-then-has_lower c = lower_case c.args.text.now (sym c.has_lower.ensures ∙ c.if-has_lower.true)
 
 pub returns-in-Ok : goal.returns-in-Ok
-returns-in-Ok c = octets_read c.args.number c.args.text.now c.in-Ok.parts.0 c.in-Ok.parts.1.now c.if-text-ne16.false (sym c.has_lower.ensures ∙ c.if-has_lower.false) c.in-Ok.ensures
+returns-in-Ok c = octets_read c.args.number c.args.text.now c.in-Ok.parts.0 c.in-Ok.parts.1.now c.if-text-ne16.false
+    (sym c.has_lower.ensures ∙ c.if-has_lower.false) c.in-Ok.ensures
 
 pub returns-in-Err : goal.returns-in-Err
 returns-in-Err c = no_octets c.args.number c.args.text.now c.in-Err.field-0 c.if-text-ne16.false c.in-Err.ensures

@@ -24,17 +24,21 @@ returns-then-not-branch c = (
   refl,
   up_to_line c.args.text.now c.loop-rest.rest.now c.in-Some.line.now c.in-Some.after.now c.loop-rest.lines c.loop-rest.encoder c.take_bytes.new.encoder
       c.loop-rest.invariant.so_far c.in-Some.ensures.0 c.in-Some.ensures.1 c.requires.small
-      (subst (λ (b : Bool). TakesBytes c.loop-rest.encoder c.in-Some.line.now c.take_bytes.new.encoder b) c.if-not-branch.true c.in_ok-take_bytes.ensures.taken),
+      (subst (λ (b : Bool). TakesBytes c.loop-rest.encoder c.in-Some.line.now c.take_bytes.new.encoder b) c.if-not-branch.true
+      c.in_ok-take_bytes.ensures.taken),
 )
 
 pub loop-rest-preserved : goal.loop-rest-preserved
 loop-rest-preserved c =
-    let parts : length (c.in-Some.line.now ++ 10 ∷ c.in-Some.after.now) ≡ length c.in-Some.line.now + length (10 ∷ c.in-Some.after.now) = length-append c.in-Some.line.now (10 ∷ c.in-Some.after.now) in
+    let parts : length (c.in-Some.line.now ++ 10 ∷ c.in-Some.after.now) ≡ length c.in-Some.line.now + length (10 ∷ c.in-Some.after.now) =
+    length-append c.in-Some.line.now (10 ∷ c.in-Some.after.now) in
     let all : length (c.in-Some.line.now ++ 10 ∷ c.in-Some.after.now) ≡ length c.loop-rest.rest.now = ap length c.in-Some.ensures.0 in
     record {
-      so_far = goes_on c.args.text.now c.loop-rest.rest.now c.in-Some.line.now c.in-Some.after.now c.loop-rest.lines c.loop-rest.encoder c.take_bytes.new.encoder
+      so_far = goes_on c.args.text.now c.loop-rest.rest.now c.in-Some.line.now c.in-Some.after.now c.loop-rest.lines c.loop-rest.encoder
+          c.take_bytes.new.encoder
           c.loop-rest.invariant.so_far c.in-Some.ensures.0
-          (subst (λ (b : Bool). TakesBytes c.loop-rest.encoder c.in-Some.line.now c.take_bytes.new.encoder b) c.if-not-branch.false c.in_ok-take_bytes.ensures.taken);
+          (subst (λ (b : Bool). TakesBytes c.loop-rest.encoder c.in-Some.line.now c.take_bytes.new.encoder b) c.if-not-branch.false
+          c.in_ok-take_bytes.ensures.taken);
       count = omega (arith, c.in_ok-take_bytes.ensures.counted, c.loop-rest.invariant.count);
       room = omega (arith, parts, all, c.loop-rest.invariant.room);
     }

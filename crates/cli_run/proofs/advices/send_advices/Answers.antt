@@ -7,4 +7,5 @@ use Rattle.cli_run.proofs.advices.send_advices.Goals as goal
 
 pub returns-clause-sends : goal.returns-clause-sends
 returns-clause-sends g c =
-    sends_these c.send_each.result _ _ _ _ _ _ _ (ap (map plain) c.deref.ensures.value ∙ (c.in_ok-list.ensures ∙ ap (λ (w : World). advices w.flow w.start w.past) c.engine.ensures)) c.send_each.ensures.sends
+    sends_these c.send_each.result _ _ _ _ _ _ _ (ap (map plain) c.deref.ensures.value
+    ∙ (c.in_ok-list.ensures ∙ ap (λ (w : World). advices w.flow w.start w.past) c.engine.ensures)) c.send_each.ensures.sends

@@ -7,10 +7,13 @@ pub loop-stored-preserved : goal.loop-stored-preserved
 loop-stored-preserved g c =
     let next = plain_next c.args.list.now c.loop-stored.stored-index c.stored-item.result c.loop-stored-test.true c.stored-item.is in
     record {
-      sends = rw next (sends_more _ (map plain (take c.loop-stored.stored-index c.args.list.now)) (plain c.stored-item.result) _ _ _ _ _ _ c.loop-stored.invariant.sends c.in_ok-send_advice.ensures.sends);
-      rest = c.in_ok-send_advice.ensures.rest;
+      sends = rw next (sends_more _ (map plain (take c.loop-stored.stored-index c.args.list.now)) (plain c.stored-item.result) _ _ _ _ _ _
+          c.loop-stored.invariant.sends c.in_ok-send_advice.ensures.sends);
+      rests = record {
+        rest = c.in_ok-send_advice.ensures.rests.rest;
+        emptied = λ e. c.in_ok-send_advice.ensures.rests.emptied (c.loop-stored.invariant.rests.emptied e);
+      };
       queue = c.in_ok-send_advice.ensures.queue ∙ c.loop-stored.invariant.queue;
-      emptied = λ e. c.in_ok-send_advice.ensures.emptied (c.loop-stored.invariant.emptied e);
     }
 
 pub returns-clause-sends : goal.returns-clause-sends

@@ -2,16 +2,18 @@ use Rattle.std.proofs.Common.{◌≡◌, map, take}
 use Rattle.tx_engine.specs.Calls.{waits}
 use Rattle.sw_issuers.specs.Sending.{SendsAdvice}
 use Rattle.tx_journal.specs.Kept.{kept}
-use Rattle.cli_run.specs.Advices.{SendsAll}
-use Rattle.cli_run.specs.Points.{IsAtRest, point}
-use Rattle.cli_run.specs.Rounds.{IsEmptied}
+use Rattle.cli_run.specs.Advices.{SendsAll, StaysAtRest}
+use Rattle.cli_run.specs.Points.{point}
 use Rattle.cli_run.specs.Stored.{plain}
 use Rattle.cli_run.proofs.advices.send_each.Given as goal
 
 abbrev pub invariant-loop-stored : goal.invariant-loop-stored
 invariant-loop-stored g l = record {
-  sends : SendsAll (SendsAdvice g.L.Link.sends g.L.Link.receives g.L.Link.starves (Unit {0})) (map plain (take l.stored-index l.list)) l.fn.advisor (point l.fn.switch.plant.running.engine l.fn.switch.plant.running.seats (kept g.S.Store l.fn.switch.plant.journal) l.fn.switch.answered) l.advisor (point l.switch.plant.running.engine l.switch.plant.running.seats (kept g.S.Store l.switch.plant.journal) l.switch.answered);
-  rest : IsAtRest (point l.switch.plant.running.engine l.switch.plant.running.seats (kept g.S.Store l.switch.plant.journal) l.switch.answered);
+  sends : SendsAll (SendsAdvice g.L.Link.sends g.L.Link.receives g.L.Link.starves (Unit {0})) (map plain (take l.stored-index l.list)) l.fn.advisor
+      (point l.fn.switch.plant.running.engine l.fn.switch.plant.running.seats (kept g.S.Store l.fn.switch.plant.journal) l.fn.switch.answered) l.advisor
+      (point l.switch.plant.running.engine l.switch.plant.running.seats (kept g.S.Store l.switch.plant.journal) l.switch.answered);
+  rests : StaysAtRest
+      (point l.fn.switch.plant.running.engine l.fn.switch.plant.running.seats (kept g.S.Store l.fn.switch.plant.journal) l.fn.switch.answered)
+      (point l.switch.plant.running.engine l.switch.plant.running.seats (kept g.S.Store l.switch.plant.journal) l.switch.answered);
   queue : waits l.switch.plant.running.engine ≡ waits l.fn.switch.plant.running.engine;
-  emptied : IsEmptied l.fn.switch.plant.running.engine → IsEmptied l.switch.plant.running.engine;
 }

@@ -23,7 +23,8 @@ loop-preserved g c =
       first = i.first ++ messages front;
       split = split_more c.args.list.now c.loop.rest.now front back i.first c.min.result i.split c.split_at.ensures.front c.split_at.ensures.back;
       few = omega (arith, i.few, c.min.ensures, c.split_at.ensures.front_len, c.split_at.ensures.back_len, c.loop-test.true);
-      serves = frames_then i.first (messages front) c.in_ok-requests.requests.items _ _ _ _ _ _ _ _ _ _ c.in_ok-requests.ensures.all i.serves c.in_ok-requests.ensures.tells (batch_shown _ _ _ _ _ _ _ _ c.in_ok-switch.ensures.serves c.show_since.ensures.tells);
+      serves = frames_then i.first (messages front) c.in_ok-requests.requests.items _ _ _ _ _ _ _ _ _ _ c.in_ok-requests.ensures.all i.serves
+          c.in_ok-requests.ensures.tells (batch_shown _ _ _ _ _ _ _ _ c.in_ok-switch.ensures.serves c.show_since.ensures.tells);
       ready = c.in_ok-switch.ensures.ready;
     }
 
@@ -34,16 +35,21 @@ returns-in_err-requests-clause-halts g c =
     let back = c.split_at.result.1.now in
     let q = point_of g.S.Store c.loop.switch in
     let out = g.O.Write.contents c.loop.out in
-    on_err_of c.from_residual.result (frames_halt c.args.list.now i.first (messages front) (messages back) (requests (messages front)) (point_of g.S.Store c.args.switch) q (g.O.Write.contents c.args.out.now) out out
-    (split_more c.args.list.now c.loop.rest.now front back i.first c.min.result i.split c.split_at.ensures.front c.split_at.ensures.back) refl (for_serves true i.first _ _ _ _ _ _ i.serves) (toward_none true (requests (messages front)) q out))
+    on_err_of c.from_residual.result (frames_halt c.args.list.now i.first (messages front) (messages back) (requests (messages front))
+    (point_of g.S.Store c.args.switch) q (g.O.Write.contents c.args.out.now) out out
+    (split_more c.args.list.now c.loop.rest.now front back i.first c.min.result i.split c.split_at.ensures.front c.split_at.ensures.back) refl
+    (for_serves true i.first _ _ _ _ _ _ i.serves) (toward_none true (requests (messages front)) q out))
 
 pub returns-in_err-switch-clause-halts : goal.returns-in_err-switch-clause-halts
 returns-in_err-switch-clause-halts g c =
     let i = c.loop.invariant in
     let front = c.split_at.result.0.now in
     let back = c.split_at.result.1.now in
-    on_err_of c.from_residual-in_err-switch.result (frames_halt c.args.list.now i.first (messages front) (messages back) c.in_ok-requests.requests.items (point_of g.S.Store c.args.switch) (point_of g.S.Store c.loop.switch) (g.O.Write.contents c.args.out.now) (g.O.Write.contents c.loop.out) (g.O.Write.contents c.answer_batch.new.out)
-    (split_more c.args.list.now c.loop.rest.now front back i.first c.min.result i.split c.split_at.ensures.front c.split_at.ensures.back) c.in_ok-requests.ensures.all (for_serves true i.first _ _ _ _ _ _ i.serves) c.in_err-switch.ensures.halts)
+    on_err_of c.from_residual-in_err-switch.result (frames_halt c.args.list.now i.first (messages front) (messages back) c.in_ok-requests.requests.items
+    (point_of g.S.Store c.args.switch) (point_of g.S.Store c.loop.switch) (g.O.Write.contents c.args.out.now) (g.O.Write.contents c.loop.out)
+    (g.O.Write.contents c.answer_batch.new.out)
+    (split_more c.args.list.now c.loop.rest.now front back i.first c.min.result i.split c.split_at.ensures.front c.split_at.ensures.back)
+    c.in_ok-requests.ensures.all (for_serves true i.first _ _ _ _ _ _ i.serves) c.in_err-switch.ensures.halts)
 
 pub returns-clause-serves : goal.returns-clause-serves
 returns-clause-serves g c =

@@ -9,7 +9,8 @@ returns g c = record {
         drives = path.drives;
         moves = path.moved;
         driven = path.driven;
-        holds = c.plants_keep_the_law.ensures.kept f n ran.begins.view j calls path.drives path.moved ran.begins.made ran.serves.end.plant ran.begins.is_made law path.driven clean;
+        holds = c.plants_keep_the_law.ensures.kept f n ran.begins.view j calls path.drives path.moved ran.begins.made ran.serves.end.plant
+            ran.begins.is_made law path.driven clean;
       });
   recovered = λ f n j p calls begins clean law. (let path = begins_path f n j p begins in
       record {

@@ -21,7 +21,8 @@ returns-in_default g c =
     let w = c.args.engine.now in
     let all = c.loop-number.invariant.all in
     let lt : c.loop-number.number < length w.past = omega (arith, all, c.loop-number-test.true) in
-    absurd (none_missing (λ (l : Vec ℕ). l.items) c.args.form w.flow w.start w.past c.loop-number.number _ c.in_ok-line.field-0 lt c.loop-number.invariant.counted c.in_default.is c.in_ok-line.ensures.line)
+    absurd (none_missing (λ (l : Vec ℕ). l.items) c.args.form w.flow w.start w.past c.loop-number.number _ c.in_ok-line.field-0 lt
+    c.loop-number.invariant.counted c.in_default.is c.in_ok-line.ensures.line)
 
 pub loop-number-preserved : goal.loop-number-preserved
 loop-number-preserved g c =
@@ -30,9 +31,12 @@ loop-number-preserved g c =
     let lt : c.loop-number.number < length w.past = omega (arith, all, c.loop-number-test.true) in
     record {
       follows = c.in_ok-line.ensures.follows;
-      counted = counted_next c.in_ok-line.field-0 c.in-Some.line _ _ c.loop-number.number c.in-Some.is c.in_ok-line.ensures.on c.loop-number.invariant.counted;
+      counted = counted_next c.next_line.result c.in_ok-line.field-0 c.in-Some.line _ _ c.loop-number.number c.in_ok-line.was c.in-Some.is
+          c.next_line.ensures.on c.loop-number.invariant.counted;
       all = all;
-      written = more_lines (λ (l : Vec ℕ). l.items) c.args.form w.flow w.start w.past c.loop-number.number _ c.in_ok-line.field-0 c.in-Some.line c.as_slice.result.now _ _ _ lt c.loop-number.invariant.counted c.in-Some.is c.in_ok-line.ensures.line c.as_slice.ensures.value c.loop-number.invariant.written c.in_ok-write_line.ensures.written;
+      written = more_lines (λ (l : Vec ℕ). l.items) c.args.form w.flow w.start w.past c.loop-number.number _ c.in_ok-line.field-0 c.in-Some.line
+          c.as_slice.result.now _ _ _ lt c.loop-number.invariant.counted c.in-Some.is c.in_ok-line.ensures.line c.as_slice.ensures.value
+          c.loop-number.invariant.written c.in_ok-write_line.ensures.written;
     }
 
 pub returns : goal.returns
@@ -53,4 +57,6 @@ returns-in_err-write_line-clause-beginning g c =
     let w = c.args.engine.now in
     let all = c.loop-number.invariant.all in
     let lt : c.loop-number.number < length w.past = omega (arith, all, c.loop-number-test.true) in
-    part_line (λ (l : Vec ℕ). l.items) c.args.form w.flow w.start w.past c.loop-number.number _ c.in_ok-line.field-0 c.in-Some.line c.as_slice.result.now _ _ _ lt c.loop-number.invariant.counted c.in-Some.is c.in_ok-line.ensures.line c.as_slice.ensures.value c.loop-number.invariant.written c.in_err-write_line.ensures.beginning
+    part_line (λ (l : Vec ℕ). l.items) c.args.form w.flow w.start w.past c.loop-number.number _ c.in_ok-line.field-0 c.in-Some.line c.as_slice.result.now _
+    _ _ lt c.loop-number.invariant.counted c.in-Some.is c.in_ok-line.ensures.line c.as_slice.ensures.value c.loop-number.invariant.written
+    c.in_err-write_line.ensures.beginning

@@ -9,5 +9,6 @@ invariant-loop-number g l = record {
   follows : Follows l.engine l.tracer;
   counted : count_of l.tracer ≡ l.number;
   all : l.count ≡ length l.engine.past;
-  written : Appends (g.W.Write.contents l.fn.out) (g.W.Write.contents l.out) (written_as l.form (lines_of l.engine.flow l.engine.start (earlier l.number l.engine.past)));
+  written : Appends (g.W.Write.contents l.fn.out) (g.W.Write.contents l.out)
+      (written_as l.form (lines_of l.engine.flow l.engine.start (earlier l.number l.engine.past)));
 }

@@ -10,7 +10,8 @@ use Rattle.cli_run.proofs.Stops.{halts_none, on_err_of}
 use Rattle.cli_run.proofs.stream.serve.Goals as goal
 
 -- a message that is read, or passed over
-served_message : (xs ys : List Pairs) (n : ℕ) (p q : Point) (a b : Option (List ℕ)) (k l o : Log) → ys ≡ xs → Tells [] n k l → Reports (answering ys) 0 p a l q b o → Reports (answering xs) n p a k q b o
+served_message : (xs ys : List Pairs) (n : ℕ) (p q : Point) (a b : Option (List ℕ)) (k l o : Log) → ys ≡ xs → Tells [] n k l →
+    Reports (answering ys) 0 p a l q b o → Reports (answering xs) n p a k q b o
 served_message xs ys n p q a b k l o is passed s =
     subst (λ (zs : List Pairs). Reports (answering zs) n p a k q b o) is (reports_passed (answering ys) n p q a b k l o passed s)
 
@@ -34,4 +35,5 @@ returns-in_default-clause-serves g c =
 pub returns-clause-serves : goal.returns-clause-serves
 returns-clause-serves g c =
     let one = rw c.in-Some.is at c.in_ok-request.ensures.request in
-    reports_shown _ _ _ _ _ _ _ _ _ (served_message _ (c.in-Some.request ∷ []) _ _ _ _ _ _ _ _ one c.in_ok-request.ensures.tells c.in_ok-answer.ensures.serves) c.show_since.ensures.tells
+    reports_shown _ _ _ _ _ _ _ _ _ (served_message _ (c.in-Some.request ∷ []) _ _ _ _ _ _ _ _ one c.in_ok-request.ensures.tells
+    c.in_ok-answer.ensures.serves) c.show_since.ensures.tells

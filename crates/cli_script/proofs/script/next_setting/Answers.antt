@@ -15,8 +15,13 @@ returns-in-Err c =
 pub returns-then-is_misplaced : goal.returns-then-is_misplaced
 returns-then-is_misplaced c =
     let answers = rw c.in-Some.ensures.1 at c.in-Ok.ensures in
-    let means = meant (meaning_of (line_of c.args.rest.now)) c.in-Ok.meaning answers ∙ ap Ok c.in-Setting.is in
-    (c.in-Some.ensures.0, ((refl, rw (c.of-found.ensures, c.in-Some.ensures.1) refl), (c.in-Setting.setting, means, sym c.is_misplaced.ensures ∙ c.if-is_misplaced.true)))
+    let means = meant (meaning_of (line_of c.args.rest.now)) c.in-Ok.meaning answers ∙ ap Ok c.in-Setting.is in (
+      c.in-Some.ensures.0,
+      (
+        (refl, rw (c.of-found.ensures, c.in-Some.ensures.1) refl),
+        (c.in-Setting.setting, means, sym c.is_misplaced.ensures ∙ c.if-is_misplaced.true),
+      ),
+    )
 
 pub returns-in-Setting : goal.returns-in-Setting
 returns-in-Setting c =

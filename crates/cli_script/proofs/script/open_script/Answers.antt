@@ -6,7 +6,8 @@ pub returns-in-Err-clause-refused : goal.returns-in-Err-clause-refused
 returns-in-Err-clause-refused c =
     let head = rw c.is_some.ensures at c.in_ok-settings.ensures.head in
     let begins = acts c.in_ok-settings.field-0.rest.now c.in_ok-settings.ensures.all (search rules) in
-    flow_refused c.args.file c.args.script.now c.in_ok-settings.field-0.rest.now c.in_ok-settings.field-0.settings c.in_ok-settings.field-0.lines _ c.in-Err.cause head begins c.into_parts-flow.ensures.flow (search rules)
+    flow_refused c.args.file c.args.script.now c.in_ok-settings.field-0.rest.now c.in_ok-settings.field-0.settings c.in_ok-settings.field-0.lines _
+    c.in-Err.cause head begins c.into_parts-flow.ensures.flow (search rules)
 
 pub returns-clause-opened : goal.returns-clause-opened
 returns-clause-opened c =

@@ -19,4 +19,5 @@ returns-in_err-add-clause-refused c =
     let loop = c.loop-settings in
     let next = rw c.in-Some.is at c.in_ok-setting.ensures in
     let error = err_from_is_err_and c.from_residual-in_err-add.result c.from_residual-in_err-add.ensures.1 in
-    rw (error.1, error.2) (setting_refused c.args.has_file c.args.script.now loop.rest.now loop.settings loop.lines c.in-Some.setting loop.invariant.read next.0)
+    rw (error.1, error.2) (setting_refused c.args.has_file c.args.script.now loop.rest.now loop.settings loop.lines c.in-Some.setting loop.invariant.read
+    next.0)

@@ -13,8 +13,12 @@ returns-then-is_idle-clause-round g c =
     let q = point_of g.S.Store c.do_turn.new.plant in
     let o = c.in_ok-outcome.outcome in
     let idle = sym c.is_idle.ensures ∙ c.if-is_idle.true in
-    let text = string_bytes c.quiet_turn.new.text in
-    (o, idle_ends o idle, adds_then (Quietly (turn.Write None)) (Steps o) p w q (string_bytes c.args.text.now) text text c.in_ok-quiet_turn.ensures.quietly ([], (c.in_ok-outcome.ensures.does, idle_text c.do_turn.new.plant.running.engine o idle), sym (append-nil text)))
+    let text = string_bytes c.quiet_turn.new.text in (
+      o,
+      idle_ends o idle,
+      adds_then (Quietly (turn.Write None)) (Steps o) p w q (string_bytes c.args.text.now) text text c.in_ok-quiet_turn.ensures.quietly
+          ([], (c.in_ok-outcome.ensures.does, idle_text c.do_turn.new.plant.running.engine o idle), sym (append-nil text)),
+    )
 
 pub returns-clause-round : goal.returns-clause-round
 returns-clause-round g c =
@@ -24,5 +28,13 @@ returns-clause-round g c =
     let o = c.in_ok-outcome.outcome in
     let idle = sym c.is_idle.ensures ∙ c.if-is_idle.false in
     let world = c.do_turn.new.plant.running.engine in
-    let line = rw c.engine.ensures at c.in_ok-say.ensures.line in
-    (o, sym c.is_accepted.ensures, adds_then (Quietly (turn.Write None)) (Steps o) p w q (string_bytes c.args.text.now) (string_bytes c.quiet_turn.new.text) (string_bytes c.say.new.text) c.in_ok-quiet_turn.ensures.quietly (whole_line (said world 0 o), (c.in_ok-outcome.ensures.does, told_text world o idle), line))
+    let line = rw c.engine.ensures at c.in_ok-say.ensures.line in (
+      o,
+      sym c.is_accepted.ensures,
+      adds_then (Quietly (turn.Write None)) (Steps o) p w q (string_bytes c.args.text.now) (string_bytes c.quiet_turn.new.text)
+          (string_bytes c.say.new.text) c.in_ok-quiet_turn.ensures.quietly (
+            whole_line (said world 0 o),
+            (c.in_ok-outcome.ensures.does, told_text world o idle),
+            line,
+          ),
+    )

@@ -1,8 +1,10 @@
-use Rattle.std.proofs.Common.{◌∙◌, refl, sym}
-use Rattle.cli_step.proofs.Prompting.{head_by, if_ok}
+use Rattle.std.proofs.Common.{◌∙◌, sym}
+use Rattle.cli_step.proofs.HeadLines.{refused_head}
+use Rattle.cli_step.proofs.Prompting.{head_by}
 use Rattle.cli_step.proofs.opening.head_line.Goals as goal
 
-pub returns-in-None-clause-is : goal.returns-in-None-clause-is
-returns-in-None-clause-is c =
-    if_ok c.script_head_line.result (λ kind is. head_by _ c.args.has_file c.args.line.now kind (sym c.in-None.is ∙ c.prompt_word_at.ensures) is)
-    c.script_head_line.ensures.is
+pub returns-clause-is : goal.returns-clause-is
+returns-clause-is c =
+    head_by _ c.args.has_file c.args.line.now _ (sym c.in-None.is ∙ c.prompt_word_at.ensures)
+    (refused_head c.args.has_file c.args.before c.args.line.now _ c.in-Err.error c.in_ok-refusal-in-Err.ensures.same c.in_ok-refusal-in-Err.ensures.refused
+    (rw c.in-Err.is at c.next_setting.ensures))

@@ -1,5 +1,4 @@
-use Rattle.std.specs.Bool.{⊤}
-use Rattle.std.proofs.Common.{[], refl}
+use Rattle.std.proofs.Common.{[]}
 use Rattle.std.proofs.lemmas.Result.{err_from_is_err_and}
 use Rattle.cli_lines.specs.Lines.{to_come}
 use Rattle.cli_step.proofs.Joining.{grows_none, grows_then}
@@ -44,13 +43,33 @@ pub returns-in_err-answer-clause-fault : goal.returns-in_err-answer-clause-fault
 returns-in_err-answer-clause-fault g c =
     let opened = c.in-Ok-new.ensures.opened in
     let error = err_from_is_err_and c.from_residual-in_err-answer.result c.from_residual-in_err-answer.ensures.1 in
-    rw (error.1, error.2) (fault_more (λ _. (record { plant = _; names = _; calls = [] }, record { journal = _; fresh = c.in-Ok.ensures.whole; view = opened.0; opened = opened.1; seated = c.in-Ok-new.ensures.seated })) c.in_err-answer.field-0.0 c.in_err-answer.ensures.fault)
+    rw (error.1, error.2) (fault_more (λ _. (
+      record { plant = _; names = _; calls = [] },
+      record {
+        journal = _;
+        fresh = c.in-Ok.ensures.whole;
+        view =
+            opened.0;
+        opened = opened.1;
+        seated = c.in-Ok-new.ensures.seated;
+      },
+    )) c.in_err-answer.field-0.0 c.in_err-answer.ensures.fault)
 
 pub returns-in_err-talk-clause-fault : goal.returns-in_err-talk-clause-fault
 returns-in_err-talk-clause-fault g c =
     let opened = c.in-Ok-new.ensures.opened in
     let error = err_from_is_err_and c.from_residual-in_err-talk.result c.from_residual-in_err-talk.ensures.1 in
-    rw (error.1, error.2) (fault_more (λ _. (record { plant = _; names = _; calls = [] }, record { journal = _; fresh = c.in-Ok.ensures.whole; view = opened.0; opened = opened.1; seated = c.in-Ok-new.ensures.seated })) c.in_err-talk.field-0.0 c.in_err-talk.ensures.fault)
+    rw (error.1, error.2) (fault_more (λ _. (
+      record { plant = _; names = _; calls = [] },
+      record {
+        journal = _;
+        fresh = c.in-Ok.ensures.whole;
+        view =
+            opened.0;
+        opened = opened.1;
+        seated = c.in-Ok-new.ensures.seated;
+      },
+    )) c.in_err-talk.field-0.0 c.in_err-talk.ensures.fault)
 
 pub returns-in_err-talk-clause-grows_out : goal.returns-in_err-talk-clause-grows_out
 returns-in_err-talk-clause-grows_out g c = grows_then _ _ _ c.answer.ensures.grows_out c.talk.ensures.grows_out

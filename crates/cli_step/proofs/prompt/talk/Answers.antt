@@ -1,5 +1,4 @@
 use Rattle.std.proofs.Common.{refl}
-use Rattle.std.proofs.lemmas.Result.{err_from_is_err_and}
 use Rattle.cli_lines.specs.Lines.{to_come}
 use Rattle.cli_step.proofs.Adding.{on_ok}
 use Rattle.cli_step.proofs.Joining.{grows_none, grows_then}
@@ -27,8 +26,10 @@ loop-line-preserved g c =
     let answers = rw c.as_slice.ensures.value at c.in_ok-answer.ensures.answers in
     record {
       follows = c.in_ok-answer.ensures.follows;
-      talked = talks_on (to_come g.R.Read.remaining c.args.lines.now) (to_come g.R.Read.remaining old.lines) (to_come g.R.Read.remaining c.ask.new.lines) c.in-Some.line.items a b asked after old.invariant.talked next (record { at = refl; out = c.in_ok-line.ensures.asked; err = refl }) answers;
-      grows_out = grows_then a.out asked.out after.out (grows_then a.out b.out asked.out old.invariant.grows_out c.ask.ensures.grows) c.answer.ensures.grows_out;
+      talked = talks_on (to_come g.R.Read.remaining c.args.lines.now) (to_come g.R.Read.remaining old.lines) (to_come g.R.Read.remaining c.ask.new.lines)
+          c.in-Some.line.items a b asked after old.invariant.talked next (record { at = refl; out = c.in_ok-line.ensures.asked; err = refl }) answers;
+      grows_out = grows_then a.out asked.out after.out (grows_then a.out b.out asked.out old.invariant.grows_out c.ask.ensures.grows)
+          c.answer.ensures.grows_out;
       grows_err = grows_then a.err b.err after.err old.invariant.grows_err c.answer.ensures.grows_err;
     }
 
@@ -39,7 +40,9 @@ returns-clause-talked g c =
     let b = scene (point_of g.S.Store old.plant) (g.W.Write.contents old.out) (g.E.Write.contents old.err) in
     let end = scene (point_of g.S.Store old.plant) (g.W.Write.contents c.leave.new.out) (g.E.Write.contents old.err) in
     let next = rw c.in_default.is at c.in_ok-line.ensures.next in
-    on_ok c.leave.result (λ left. talked (to_come g.R.Read.remaining c.args.lines.now) (to_come g.R.Read.remaining old.lines) (to_come g.R.Read.remaining c.ask.new.lines) a b end old.invariant.talked next (g.W.Write.contents c.ask.new.out, c.in_ok-line.ensures.asked, left) refl refl)
+    on_ok c.leave.result (λ left. talked (to_come g.R.Read.remaining c.args.lines.now) (to_come g.R.Read.remaining old.lines)
+    (to_come g.R.Read.remaining c.ask.new.lines) a b end old.invariant.talked next (g.W.Write.contents c.ask.new.out, c.in_ok-line.ensures.asked, left)
+    refl refl)
     c.leave.ensures.left
 
 pub returns-in_err-line-clause-grows_out : goal.returns-in_err-line-clause-grows_out

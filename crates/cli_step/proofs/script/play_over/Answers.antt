@@ -1,7 +1,6 @@
 use Rattle.cli_step.proofs.Adding.{on_ok}
 use Rattle.cli_step.proofs.Joining.{grows_then, if_some, on_err, ran_grows, ran_whole}
 use Rattle.cli_lines.specs.Lines.{to_come}
-use Rattle.cli_step.specs.Doing.{point_of}
 use Rattle.cli_step.proofs.script.play_over.Goals as goal
 
 pub returns-clause-played : goal.returns-clause-played
@@ -20,4 +19,6 @@ returns-clause-played g c =
 
 pub returns-clause-grown : goal.returns-clause-grown
 returns-clause-grown g c =
-    on_err c.run_rest.result (λ grown. grows_then (g.W.Write.contents c.args.out.now) (g.W.Write.contents c.run_actions.new.out) (g.W.Write.contents c.run_rest.new.out) (ran_grows c.args.actions.now c.run_actions.new.actions _ _ _ _ c.in_ok-run_actions.ensures.ran) grown) c.run_rest.ensures.grown
+    on_err c.run_rest.result (λ grown. grows_then (g.W.Write.contents c.args.out.now) (g.W.Write.contents c.run_actions.new.out)
+    (g.W.Write.contents c.run_rest.new.out) (ran_grows c.args.actions.now c.run_actions.new.actions _ _ _ _ c.in_ok-run_actions.ensures.ran) grown)
+    c.run_rest.ensures.grown

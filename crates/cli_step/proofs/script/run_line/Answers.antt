@@ -11,5 +11,6 @@ returns-clause-failed g c =
     let after = g.W.Write.contents c.put_out.new.out in
     let done = c.run_action-ran in
     if_err c.put_out.result (λ e h.
-    line_unwritten c.args.action p q before after (string_bytes c.new-text.result) (string_bytes done.new.text) done.result c.args.line e c.new-text.ensures.bytes done.ensures.acts done.ensures.failed h)
+    line_unwritten c.args.action p q before after (string_bytes c.new-text.result) (string_bytes done.new.text) done.result c.args.line e
+    c.new-text.ensures.bytes done.ensures.acts done.ensures.failed h)
     (rw c.as_str.ensures.value at c.put_out.ensures.refused)

@@ -1,15 +1,14 @@
-use Rattle.std.proofs.Common.{◌∙◌}
 use Rattle.std.proofs.lemmas.Result.{err_from_is_err_and}
 use Rattle.cli_lines.specs.Lines.{room, to_come}
-use Rattle.cli_step.proofs.Joining.{few_last, grows_none, grows_then, ran_first, ran_grows, ran_last, ran_on, ran_whole, stopped_grows}
+use Rattle.cli_step.proofs.Joining.{grows_none, grows_then, ran_first, ran_grows, ran_on, ran_whole, stopped_grows}
 use Rattle.cli_step.specs.Doing.{point_of}
-use Rattle.cli_step.specs.Runs.{Grows, RanAll}
 use Rattle.cli_step.proofs.script.run_rest.Goals as goal
 
 pub loop-line-init : goal.loop-line-init
 loop-line-init g c = record {
   follows = c.requires;
-  ran = ran_first (to_come g.R.Read.remaining c.args.lines.now) (point_of g.S.Store c.args.plant.now) (g.W.Write.contents c.args.out.now) (room c.args.lines.now);
+  ran = ran_first (to_come g.R.Read.remaining c.args.lines.now) (point_of g.S.Store c.args.plant.now) (g.W.Write.contents c.args.out.now)
+      (room c.args.lines.now);
   grown = grows_none (g.W.Write.contents c.args.out.now);
 }
 
@@ -30,8 +29,10 @@ loop-line-preserved g c =
     let line = rw (c.new-actions.ensures.rest, c.as_slice.ensures.value) at here in
     record {
       follows = c.in_ok-run_actions.ensures.follows;
-      ran = ran_on (to_come g.R.Read.remaining c.args.lines.now) (to_come g.R.Read.remaining old.lines) (to_come g.R.Read.remaining c.next.new.self) p w q before between after c.in-Some.line.items (room old.lines) (room c.next.new.self) (room c.args.lines.now) old.invariant.ran next some line fewer;
-      grown = grows_then before between after old.invariant.grown (ran_grows script c.run_actions.new.actions w q between after c.in_ok-run_actions.ensures.ran);
+      ran = ran_on (to_come g.R.Read.remaining c.args.lines.now) (to_come g.R.Read.remaining old.lines) (to_come g.R.Read.remaining c.next.new.self) p w q
+          before between after c.in-Some.line.items (room old.lines) (room c.next.new.self) (room c.args.lines.now) old.invariant.ran next some line fewer;
+      grown = grows_then before between after old.invariant.grown
+          (ran_grows script c.run_actions.new.actions w q between after c.in_ok-run_actions.ensures.ran);
     }
 
 pub returns-in_err-run_actions-clause-grown : goal.returns-in_err-run_actions-clause-grown

@@ -6,4 +6,5 @@ use Rattle.flow_asm.proofs.listing.add_entry.Goals as goal
 
 pub returns-in_default-clause-ok : goal.returns-in_default-clause-ok
 returns-in_default-clause-ok c =
-    sym (ap (λ o. c.args.entries.now.items ++ entry_of o) (slice_get_past c.args.parts.now c.args.number c.in_default.ensures.lookup.3) ∙ append-nil c.args.entries.now.items)
+    sym (ap (λ o. c.args.entries.now.items ++ entry_of o) (slice_get_past c.args.parts.now c.args.number c.in_default.ensures.lookup.3)
+    ∙ append-nil c.args.entries.now.items)

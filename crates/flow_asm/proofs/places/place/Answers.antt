@@ -9,8 +9,13 @@ use Rattle.flow_asm.proofs.places.place.Goals.{in-Call+else-number-step, in-Pick
 
 pub loop-number-init : goal.loop-number-init
 loop-number-init c = record {
-  counted = subst (λ n. Counted c.args.code.now n c.last_before-before.result.group 0 (drop n (stages c.args.code.now))) (sym c.last_before-before.ensures.first) (counted_at c.args.code.now c.last_before-before.result.group c.last_before-before.ensures.within);
-  group = omega (arith, group_past_first c.args.code.now c.last_before-before.result.group c.last_before-before.ensures.within, c.last_before-before.ensures.first);
+  counted = subst (λ n. Counted c.args.code.now n c.last_before-before.result.group 0 (drop n (stages c.args.code.now)))
+      (sym c.last_before-before.ensures.first) (counted_at c.args.code.now c.last_before-before.result.group c.last_before-before.ensures.within);
+  group = omega (
+    arith,
+    group_past_first c.args.code.now c.last_before-before.result.group c.last_before-before.ensures.within,
+    c.last_before-before.ensures.first,
+  );
   next = omega arith;
   step = c.last_before-before.ensures.before;
 }
@@ -46,19 +51,22 @@ returns-then-number-step-3-clause-value c =
 pub loop-number-preserved : goal.loop-number-preserved
 loop-number-preserved c = elim c.match-all-number.branch [
   | in-Call+else-number-step w ↦ record {
-    counted = moved c.args.code.now (c.loop-number.number + 1) _ _ _ _ (drop (c.loop-number.number + 1) (stages c.args.code.now)) w.group-is w.next-is (call_read c.args.code.now _ _ _ _ _ _ c.steps-all.ensures c.loop-number-test.true c.loop-number.invariant.counted w.in-Call.is).next;
+    counted = moved c.args.code.now (c.loop-number.number + 1) _ _ _ _ (drop (c.loop-number.number + 1) (stages c.args.code.now)) w.group-is w.next-is
+        (call_read c.args.code.now _ _ _ _ _ _ c.steps-all.ensures c.loop-number-test.true c.loop-number.invariant.counted w.in-Call.is).next;
     group = omega (arith, w.group-is, c.loop-number.invariant.group);
     next = omega (arith, w.next-is, c.loop-number.invariant.next);
     step = goes_on _ _ c.loop-number.invariant.step w.if-number-step.false;
   }
   | in-Pick+else-number-step-2 w ↦ record {
-    counted = moved c.args.code.now (c.loop-number.number + 1) _ _ _ _ (drop (c.loop-number.number + 1) (stages c.args.code.now)) w.group-is w.next-is (pick_read c.args.code.now _ _ _ _ _ _ c.steps-all.ensures c.loop-number-test.true c.loop-number.invariant.counted w.in-Pick.is).next;
+    counted = moved c.args.code.now (c.loop-number.number + 1) _ _ _ _ (drop (c.loop-number.number + 1) (stages c.args.code.now)) w.group-is w.next-is
+        (pick_read c.args.code.now _ _ _ _ _ _ c.steps-all.ensures c.loop-number-test.true c.loop-number.invariant.counted w.in-Pick.is).next;
     group = omega (arith, w.group-is, c.loop-number.invariant.group);
     next = omega (arith, w.next-is, c.loop-number.invariant.next);
     step = goes_on _ _ c.loop-number.invariant.step w.if-number-step-2.false;
   }
   | in-Return+else-number-step-3 w ↦ record {
-    counted = moved c.args.code.now (c.loop-number.number + 1) _ _ _ _ (drop (c.loop-number.number + 1) (stages c.args.code.now)) w.group-is w.next-is (return_read c.args.code.now _ _ _ _ _ c.steps-all.ensures c.loop-number-test.true c.loop-number.invariant.counted w.in-Return.is).next;
+    counted = moved c.args.code.now (c.loop-number.number + 1) _ _ _ _ (drop (c.loop-number.number + 1) (stages c.args.code.now)) w.group-is w.next-is
+        (return_read c.args.code.now _ _ _ _ _ c.steps-all.ensures c.loop-number-test.true c.loop-number.invariant.counted w.in-Return.is).next;
     group = omega (arith, w.group-is, c.loop-number.invariant.group);
     next = omega (arith, w.next-is);
     step = goes_on _ _ c.loop-number.invariant.step w.if-number-step-3.false;
@@ -66,4 +74,5 @@ loop-number-preserved c = elim c.match-all-number.branch [
 ]
 
 pub returns-clause-value : goal.returns-clause-value
-returns-clause-value c = sym (ap place_at (slice_get_past (stages c.args.code.now) c.args.step (omega (arith, length-steps c.args.code.now, ap length c.steps-all.ensures, c.loop-number-test.false, c.loop-number.invariant.step))))
+returns-clause-value c = sym (ap place_at (slice_get_past (stages c.args.code.now) c.args.step
+    (omega (arith, length-steps c.args.code.now, ap length c.steps-all.ensures, c.loop-number-test.false, c.loop-number.invariant.step))))

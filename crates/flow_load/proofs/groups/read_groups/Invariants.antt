@@ -6,5 +6,6 @@ use Rattle.flow_load.proofs.groups.read_groups.Given as goal
 abbrev pub invariant-loop-number : goal.invariant-loop-number
 invariant-loop-number l = record {
   within : l.at + length l.rest ≤ length l.steps;
-  read : (walks l.parts l.line l.number l.at l.seen l.rest (drop l.number l.starts) >>= λ w. Ok (with_groups l.groups.items w)) ≡ walks l.parts l.line 0 0 0 l.steps l.starts;
+  read : (walks l.parts l.line l.number l.at l.seen l.rest (drop l.number l.starts) >>= λ w. Ok (with_groups l.groups.items w)) ≡ walks l.parts l.line 0 0 0
+      l.steps l.starts;
 }

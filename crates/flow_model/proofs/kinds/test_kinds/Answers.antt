@@ -6,4 +6,5 @@ use Rattle.flow_model.proofs.FirstKinds.{clash_in_same}
 use Rattle.flow_model.proofs.kinds.test_kinds.Goals as goal
 
 pub returns : goal.returns
-returns c = c.test_kinds_by.ensures ∙ ap refused (clash_in_same (kind_at c.args.kinds.now) (λ name. first_kind name c.args.groups.now) c.requires 0 c.args.groups.now)
+returns c = c.test_kinds_by.ensures ∙ ap refused (clash_in_same (kind_at c.args.kinds.now) (λ name. first_kind name c.args.groups.now) c.requires 0
+    c.args.groups.now)

@@ -6,4 +6,5 @@ use Rattle.flow_toml.proofs.print.put.Goals as goal
 
 pub returns : goal.returns
 returns c =
-    rw c.in_ok-insert.ensures.entries (members_view-insert c.args.table.now.entries c.in_ok-name.name c.args.value ∙ ap (λ k. insert_member k (view c.args.value) (table_view c.args.table.now)) (c.in_ok-name.ensures.ok ∙ c.as_str.ensures))
+    rw c.in_ok-insert.ensures.entries (members_view-insert c.args.table.now.entries c.in_ok-name.name c.args.value
+    ∙ ap (λ k. insert_member k (view c.args.value) (table_view c.args.table.now)) (c.in_ok-name.ensures.ok ∙ c.as_str.ensures))

@@ -7,4 +7,5 @@ use Rattle.flow_toml.proofs.read.read_entries.Given as goal
 
 abbrev pub invariant-loop-value : goal.invariant-loop-value
 invariant-loop-value l =
-    with_front l.entries.items (each (entry_of l.group) (length l.entries.items) (tables_in (items_view (drop l.value-index l.value-items)))) ≡ each (entry_of l.group) 0 (tables_in (items_view l.value-items))
+    with_front l.entries.items (each (entry_of l.group) (length l.entries.items) (tables_in (items_view (drop l.value-index l.value-items))))
+    ≡ each (entry_of l.group) 0 (tables_in (items_view l.value-items))

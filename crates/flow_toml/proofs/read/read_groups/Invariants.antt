@@ -7,4 +7,5 @@ use Rattle.flow_toml.proofs.read.read_groups.Given as goal
 
 abbrev pub invariant-loop-value : goal.invariant-loop-value
 invariant-loop-value l =
-    with_front l.groups.items (each group_of (length l.groups.items) (tables_in (items_view (drop l.value-index l.value-items)))) ≡ each group_of 0 (tables_in (items_view l.value-items))
+    with_front l.groups.items (each group_of (length l.groups.items) (tables_in (items_view (drop l.value-index l.value-items))))
+    ≡ each group_of 0 (tables_in (items_view l.value-items))

@@ -13,11 +13,13 @@ returns-in_ok-push c =
     let out = c.args.out.now.items in
     let e = wide_bitmaps ns after d (sym c.is_wide.ensures ∙ c.if-is_wide.true) c.take_digit_1-one.ensures.digit in
     let f = c.in_ok-push.ensures.items ∙ ap (λ (x : ℕ). out ++ x ∷ []) c.upper_digit.ensures in
-    on_ok_weaker c.push_bits.result (λ h. h ∙ ap (λ (x : List ℕ). x ++ bits_of 5 31 after) f ∙ append_assoc out (upper d ∷ []) (bits_of 5 31 after) ∙ ap (λ (x : List ℕ). out ++ x) e ∙ ap (λ (x : List ℕ). out ++ bitmaps_of x) c.as_slice-numbers.ensures) c.push_bits.ensures
+    on_ok_weaker c.push_bits.result (λ h. h ∙ ap (λ (x : List ℕ). x ++ bits_of 5 31 after) f ∙ append_assoc out (upper d ∷ []) (bits_of 5 31 after)
+    ∙ ap (λ (x : List ℕ). out ++ x) e ∙ ap (λ (x : List ℕ). out ++ bitmaps_of x) c.as_slice-numbers.ensures) c.push_bits.ensures
 
 pub returns-else-is_wide : goal.returns-else-is_wide
 returns-else-is_wide c =
     let ns = c.as_slice-numbers.result.now in
     let out = c.args.out.now.items in
     let e = narrow_bitmaps ns (sym c.is_wide.ensures ∙ c.if-is_wide.false) in
-    on_ok_weaker c.push_bits-else-is_wide.result (λ h. h ∙ ap (λ (x : List ℕ). out ++ x) e ∙ ap (λ (x : List ℕ). out ++ bitmaps_of x) c.as_slice-numbers.ensures) c.push_bits-else-is_wide.ensures
+    on_ok_weaker c.push_bits-else-is_wide.result (λ h. h ∙ ap (λ (x : List ℕ). out ++ x) e ∙ ap (λ (x : List ℕ). out ++ bitmaps_of x)
+    c.as_slice-numbers.ensures) c.push_bits-else-is_wide.ensures

@@ -8,7 +8,8 @@ returns-in-Some-clause-form c = form_by c.args.number (Some c.in-Some.definition
 
 pub returns-in-Some-clause-known : goal.returns-in-Some-clause-known
 returns-in-Some-clause-known c =
-    let e : Some c.in-Some.definition.form ≡ form_of c.args.number = form_by c.args.number (Some c.in-Some.definition) (sym c.in-Some.is ∙ c.definition_at.ensures) in
+    let e : Some c.in-Some.definition.form ≡ form_of c.args.number =
+    form_by c.args.number (Some c.in-Some.definition) (sym c.in-Some.is ∙ c.definition_at.ensures) in
     subst (λ o. IsKnown c.args.number o) (sym e) (is_known c.args.number)
 
 pub returns-in-None-clause-form : goal.returns-in-None-clause-form

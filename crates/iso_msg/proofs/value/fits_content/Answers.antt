@@ -5,4 +5,5 @@ use Rattle.iso_msg.proofs.FieldTable.{all_bytes}
 use Rattle.iso_msg.proofs.value.fits_content.Goals as goal
 
 pub returns-in-Binary : goal.returns-in-Binary
-returns-in-Binary c = sym (all_bytes c.args.value.now (λ i. omega (arith, c.type_inv.value i))) ∙ ap (λ (f : Form). has_content f c.args.value.now) (sym c.in-Binary.is)
+returns-in-Binary c = sym (all_bytes c.args.value.now (λ i. omega (arith, c.type_inv.value i))) ∙ ap (λ (f : Form). has_content f c.args.value.now)
+    (sym c.in-Binary.is)

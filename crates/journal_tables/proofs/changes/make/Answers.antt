@@ -32,7 +32,8 @@ returns-clause-steps g c clean ready live known are =
     let parts_empty = still_named _ (emptied_leaves change.emptied) parts row emptied three two.parts_are in
     let parts_shelf = still_named _ (shelf_leaves change.shelved) parts emptied shelved four parts_empty in
     record {
-      steps = steps_then _ _ old shelved new (steps_then _ _ old emptied shelved (steps_then _ _ old row emptied (steps_then _ _ old next row one two.steps) three) four) five;
+      steps = steps_then _ _ old shelved new (steps_then _ _ old emptied shelved (steps_then _ _ old row emptied (steps_then _ _ old next row one two.steps)
+          three) four) five;
       known = still_known _ (advice_leaves change.advice) last_put shelved new five after_shelf;
       parts_are = still_named _ (advice_leaves change.advice) parts shelved new five parts_shelf;
     }

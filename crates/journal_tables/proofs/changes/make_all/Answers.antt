@@ -18,7 +18,8 @@ loop-entry-preserved g c =
           let one = before.2 early ready live known are in
           let two = c.in_ok-last_put.ensures.steps clean one.steps.ready one.steps.is_open one.known one.parts_are in
           record {
-            steps = subst (λ f. Steps f old new) (sym (all_made_more c.args.entries.now c.loop-entry.entry-index c.entry-item.result c.loop-entry-test.true c.entry-item.is)) (steps_then _ _ old mid new one.steps two.steps);
+            steps = subst (λ f. Steps f old new) (sym (all_made_more c.args.entries.now c.loop-entry.entry-index c.entry-item.result c.loop-entry-test.true
+                c.entry-item.is)) (steps_then _ _ old mid new one.steps two.steps);
             known = two.known;
             parts_are = two.parts_are;
           },

@@ -13,4 +13,5 @@ invariant-loop-entry g l =
     let old = state g.S.Store l.fn.tx.conn.now in
     let now = state g.S.Store l.tx.conn.now in
     (l.tx.conn.ghost_name ≡ l.fn.tx.conn.ghost_name) × Survives old now (λ _. ⊥)
-    × (HasCleanDisk now → IsReady old → IsTrue old.is_open → IsKnown l.fn.known (tables_of old.now.trees) → AreParts l.fn.parts (tables_of old.now.trees).part → Learnt l.parts (all_made (changes_of (take l.entry-index l.entries))) old now l.last_put)
+    × (HasCleanDisk now → IsReady old → IsTrue old.is_open → IsKnown l.fn.known (tables_of old.now.trees) →
+    AreParts l.fn.parts (tables_of old.now.trees).part → Learnt l.parts (all_made (changes_of (take l.entry-index l.entries))) old now l.last_put)

@@ -15,4 +15,5 @@ returns-clause-steps g c clean ready live are =
     let place : 0 + length before ≡ length before = omega arith in
     let same = λ (t : Tables).
     ap (λ names. with_last id 0 names t) c.in-Some.ensures.cases.0 ∙ last_of id 0 before name t ∙ ap (λ k. with_member (pos id) (pos k) name t) place in
-    subst (λ (f : Tables → Tables). OnOk c.put_name.result (Named c.put_name.new.parts f old new)) (sym (λ i t. same t i)) (c.put_name.ensures.steps clean ready live are)
+    subst (λ (f : Tables → Tables). OnOk c.put_name.result (Named c.put_name.new.parts f old new)) (sym (λ i t. same t i))
+    (c.put_name.ensures.steps clean ready live are)

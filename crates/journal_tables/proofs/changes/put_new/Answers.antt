@@ -1,11 +1,8 @@
-use Rattle.std.proofs.Common.{◌≡◌, ◌++◌, ◌∷◌, [], arith, pos, length, ℕ, List, sym, subst, ap, ◌∙◌, to_z-of_z}
+use Rattle.std.proofs.Common.{◌≡◌, arith, pos, length, sym, subst}
 use Rattle.sqlite.specs.Held.{state}
 use Rattle.sqlite.specs.State.{HasCleanDisk}
-use Rattle.sqlite_value.specs.Order.{Row}
-use Rattle.journal_rows.specs.Tables.{Tables, part_row, tables_of, with_joined, with_member, with_part}
-use Rattle.journal_tables.specs.Parts.{Anew, AreParts, Named}
-use Rattle.journal_tables.specs.Steps.{Steps}
-use Rattle.journal_tables.proofs.ChainLemmas.{steps_then}
+use Rattle.journal_rows.specs.Tables.{tables_of, with_member}
+use Rattle.journal_tables.specs.Parts.{Named}
 use Rattle.journal_tables.proofs.KnownParts.{named_after, named_if, new_all_above}
 use Rattle.journal_tables.proofs.changes.put_new.Goals as goal
 

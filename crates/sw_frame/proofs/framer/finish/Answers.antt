@@ -22,11 +22,14 @@ returns c =
     let framed : AreFramed (text ++ take walk.taken (drop k piece)) (messages walk.messages.items) =
     subst (λ (z : List ℕ). AreFramed (text ++ take walk.taken z) (messages walk.messages.items)) rest
     (c.in_ok-walk.ensures.framed text (subst (λ (z : List (List ℕ)). AreFramed text z) (sym first) one)) in
-    let follows : IsRest walk.bad (drop walk.taken (drop k piece)) = subst (λ (z : List ℕ). IsRest walk.bad (drop walk.taken z)) rest c.in_ok-walk.ensures.rest in
+    let follows : IsRest walk.bad (drop walk.taken (drop k piece)) =
+    subst (λ (z : List ℕ). IsRest walk.bad (drop walk.taken z)) rest c.in_ok-walk.ensures.rest in
     let kept : c.if-walk.held.items ≡ cond walk.bad [] (drop walk.taken (drop k piece)) =
     elim c.if-walk.branch [
-      | then-walk w ↦ ap (λ (v : Vec ℕ). v.items) w.held-is ∙ w.new-held.ensures.items ∙ sym (ap (λ b. cond b [] (drop walk.taken (drop k piece))) w.if-walk.true)
+      | then-walk w ↦ ap (λ (v : Vec ℕ). v.items) w.held-is ∙ w.new-held.ensures.items
+          ∙ sym (ap (λ b. cond b [] (drop walk.taken (drop k piece))) w.if-walk.true)
       | else-walk+in_ok-held w ↦
-          ap (λ (v : Vec ℕ). v.items) w.held-is ∙ w.in_ok-held.ensures.items ∙ c.split_at-2.ensures.back ∙ ap (drop walk.taken) rest ∙ sym (ap (λ b. cond b [] (drop walk.taken (drop k piece))) w.if-walk.false)
+          ap (λ (v : Vec ℕ). v.items) w.held-is ∙ w.in_ok-held.ensures.items ∙ c.split_at-2.ensures.back ∙ ap (drop walk.taken) rest
+          ∙ sym (ap (λ b. cond b [] (drop walk.taken (drop k piece))) w.if-walk.false)
     ] in
     finished held piece k walk.taken walk.bad (messages walk.messages.items) c.if-walk.held.items framed follows kept

@@ -34,5 +34,6 @@ loop-piece-preserved c =
 
 pub returns : goal.returns
 returns c =
-    let whole = subst (λ (z : List (Vec ℕ)). Stream (joined z) (messages c.loop-piece.reading.messages.items) c.loop-piece.reading.framer) (take_all c.loop-piece.piece-index c.args.pieces.now c.loop-piece-test.false) c.loop-piece.invariant in
+    let whole = subst (λ (z : List (Vec ℕ)). Stream (joined z) (messages c.loop-piece.reading.messages.items) c.loop-piece.reading.framer)
+    (take_all c.loop-piece.piece-index c.args.pieces.now c.loop-piece-test.false) c.loop-piece.invariant in
     (whole, λ fs s p. same-stream (joined c.args.pieces.now) fs _ s _ p whole)

@@ -19,10 +19,12 @@ loop-rest-preserved c =
     let fits : len ≤ length (drop 4 rest) = subst (λ (x : List ℕ). len ≤ length x) c.split_at.ensures.back c.if-after-length.false in
     let number : number_of (take 4 rest) ≡ Some len = c.in-Length.ensures.1 in
     let message = c.in_ok-from_slice.ensures.items ∙ c.split_at-in-loop-rest.ensures.front ∙ ap (take len) c.split_at.ensures.back in
-    let pushed = ap (λ (x : List (Vec ℕ)). messages x) c.in_ok-push.ensures.items ∙ map_push (λ (v : Vec ℕ). v.items) old c.in_ok-from_slice.field-0 ∙ ap (λ (x : List ℕ). messages old ++ x ∷ []) message in
+    let pushed = ap (λ (x : List (Vec ℕ)). messages x) c.in_ok-push.ensures.items ∙ map_push (λ (v : Vec ℕ). v.items) old c.in_ok-from_slice.field-0
+    ∙ ap (λ (x : List ℕ). messages old ++ x ∷ []) message in
     record {
       within = omega (arith, long, fits, inv.within, c.loop-rest-test.true, length-drop 4 rest);
-      rest = c.split_at-in-loop-rest.ensures.back ∙ ap (drop len) (c.split_at.ensures.back ∙ ap (drop 4) inv.rest) ∙ ap (drop len) (drop-drop 4 t bytes) ∙ drop-drop len (t + 4) bytes ∙ ap (λ k. drop k bytes) (omega arith);
+      rest = c.split_at-in-loop-rest.ensures.back ∙ ap (drop len) (c.split_at.ensures.back ∙ ap (drop 4) inv.rest) ∙ ap (drop len) (drop-drop 4 t bytes)
+          ∙ drop-drop len (t + 4) bytes ∙ ap (λ k. drop k bytes) (omega arith);
       good = inv.good;
       framed = λ text a.
           subst (λ (x : List (List ℕ)). AreFramed (text ++ take (t + (4 + len)) bytes) x) (sym pushed)

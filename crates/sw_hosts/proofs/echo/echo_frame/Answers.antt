@@ -8,5 +8,11 @@ pub returns-in-Ok-frame : goal.returns-in-Ok-frame
 returns-in-Ok-frame c =
     let stamp : List ℕ = c.stamp_of-stamp.result in
     let digits : List ℕ = c.stan_digits.result in
-    let same : c.deref.result.now ≡ spelling (echo_message stamp digits) = c.deref.ensures.value ∙ c.in_ok-text.ensures.spelled ∙ ap spelling c.in-Ok.ensures in
-    (stamp, digits, (c.date_of.result, c.date_of.ensures, c.stamp_of-stamp.ensures), c.stan_digits.ensures, subst (λ (text : List ℕ). Framed c.in-Ok-frame.bytes.items text) same c.in-Ok-frame.ensures.1)
+    let same : c.deref.result.now ≡ spelling (echo_message stamp digits) = c.deref.ensures.value ∙ c.in_ok-text.ensures.spelled
+    ∙ ap spelling c.in-Ok.ensures in (
+      stamp,
+      digits,
+      (c.date_of.result, c.date_of.ensures, c.stamp_of-stamp.ensures),
+      c.stan_digits.ensures,
+      subst (λ (text : List ℕ). Framed c.in-Ok-frame.bytes.items text) same c.in-Ok-frame.ensures.1,
+    )

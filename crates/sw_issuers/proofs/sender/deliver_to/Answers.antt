@@ -16,9 +16,11 @@ returns-then-eq-clause-delivered g c =
     let below : c.loop-index.index < length gs = omega (arith, c.loop-index-test.true, c.len.ensures) in
     let same = same_at c.loop-index.index gs c.index.result.now x below c.index.ensures c.index_mut.ensures.value in
     if_ok c.deliver.result _ _
-    (λ accepted m. subst (λ os. DeliversTo (Delivers L.sends L.receives L.starves M.refused c.args.bytes.now (key c.args.advice.now)) c.args.group.now (link_states L.state os) accepted (link_states L.state (slice_set gs c.loop-index.index record { group = x.group; link = c.deliver.new.link })))
+    (λ accepted m. subst (λ os. DeliversTo (Delivers L.sends L.receives L.starves M.refused c.args.bytes.now (key c.args.advice.now)) c.args.group.now
+    (link_states L.state os) accepted (link_states L.state (slice_set gs c.loop-index.index record { group = x.group; link = c.deliver.new.link })))
     (ap (λ v. v.items) c.loop-index.invariant.same)
-    (sent_at L.state (Delivers L.sends L.receives L.starves M.refused c.args.bytes.now (key c.args.advice.now)) c.args.group.now c.loop-index.index gs x record { group = x.group; link = c.deliver.new.link } accepted
+    (sent_at L.state (Delivers L.sends L.receives L.starves M.refused c.args.bytes.now (key c.args.advice.now)) c.args.group.now c.loop-index.index gs x
+    record { group = x.group; link = c.deliver.new.link } accepted
     below c.index_mut.ensures.value refl c.loop-index.invariant.none
     (ap (λ z. bytes_eq z.group c.args.group.now) (sym same) ∙ ap (λ z. bytes_eq z c.args.group.now) (sym c.as_str.ensures) ∙ sym c.if-eq.ensures) m))
     c.deliver.ensures.delivered
@@ -30,7 +32,8 @@ returns-then-eq-clause-kept g c =
     let gs = c.loop-index.links.items in
     let x = c.index_mut.result.now in
     on_err c.deliver.result _ _
-    (λ e. kept_at L.state c.loop-index.index gs x record { group = x.group; link = c.deliver.new.link } c.index_mut.ensures.value refl e ∙ ap (λ v. link_states L.state v.items) c.loop-index.invariant.same)
+    (λ e. kept_at L.state c.loop-index.index gs x record { group = x.group; link = c.deliver.new.link } c.index_mut.ensures.value refl e
+    ∙ ap (λ v. link_states L.state v.items) c.loop-index.invariant.same)
     c.deliver.ensures.kept
 
 pub loop-index-preserved : goal.loop-index-preserved
@@ -46,6 +49,8 @@ returns-clause-delivered g c =
     let L = g.L.Link in
     let M = g.M.Memory in
     let gs = c.loop-index.links.items in
-    subst (λ os. DeliversTo (Delivers L.sends L.receives L.starves M.refused c.args.bytes.now (key c.args.advice.now)) c.args.group.now (link_states L.state os) false (link_states L.state gs))
+    subst (λ os. DeliversTo (Delivers L.sends L.receives L.starves M.refused c.args.bytes.now (key c.args.advice.now)) c.args.group.now
+    (link_states L.state os) false (link_states L.state gs))
     (ap (λ v. v.items) c.loop-index.invariant.same)
-    (none_sent L.state (Delivers L.sends L.receives L.starves M.refused c.args.bytes.now (key c.args.advice.now)) c.args.group.now c.loop-index.index gs (omega (arith, c.loop-index-test.false, c.len.ensures)) c.loop-index.invariant.none)
+    (none_sent L.state (Delivers L.sends L.receives L.starves M.refused c.args.bytes.now (key c.args.advice.now)) c.args.group.now c.loop-index.index gs
+    (omega (arith, c.loop-index-test.false, c.len.ensures)) c.loop-index.invariant.none)

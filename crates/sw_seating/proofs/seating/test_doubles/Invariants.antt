@@ -5,4 +5,5 @@ use Rattle.sw_seating.specs.Seating.{HaveStations, names_of, part_names, double_
 use Rattle.sw_seating.proofs.seating.test_doubles.Given as goal
 
 abbrev pub invariant-loop-place : goal.invariant-loop-place
-invariant-loop-place g l = first_at (double_station (names_of l.stations)) l.place (drop l.place (names_of l.stations)) ≡ first_at (double_station (names_of l.stations)) 0 (names_of l.stations)
+invariant-loop-place g l = first_at (double_station (names_of l.stations)) l.place (drop l.place (names_of l.stations))
+    ≡ first_at (double_station (names_of l.stations)) 0 (names_of l.stations)

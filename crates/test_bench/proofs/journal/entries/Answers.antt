@@ -11,4 +11,5 @@ one_more true xs x all one = All-push IsEntrySmall xs x all one
 one_more false xs x all one = all
 
 pub loop-n-preserved : goal.loop-n-preserved
-loop-n-preserved c = subst (All IsEntrySmall) (sym c.push.ensures.items) (one_more (is_ok c.push.result) c.loop-n.list.items c.in_ok-entry.field-0 c.loop-n.invariant c.in_ok-entry.ensures)
+loop-n-preserved c = subst (All IsEntrySmall) (sym c.push.ensures.items) (one_more (is_ok c.push.result) c.loop-n.list.items c.in_ok-entry.field-0
+    c.loop-n.invariant c.in_ok-entry.ensures)

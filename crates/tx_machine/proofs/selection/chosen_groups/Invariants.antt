@@ -11,6 +11,7 @@ abbrev pub invariant-loop-name : goal.invariant-loop-name
 invariant-loop-name l = record {
   can : (goal.iterator-loop-name).can_next l.name-iterator;
   finite : (goal.iterator-loop-name).is_finite l.name-iterator;
-  placed_entries : entries_in l.code l.groups.items ++ flat_map (entries_named l.code) (take l.name-iterator.left (names_of l.name-iterator.rest.now)) ≡ chosen l.code l.text;
+  placed_entries : entries_in l.code l.groups.items ++ flat_map (entries_named l.code) (take l.name-iterator.left (names_of l.name-iterator.rest.now))
+      ≡ chosen l.code l.text;
   within : All (λ g. g < length (layout l.code)) l.groups.items;
 }

@@ -8,4 +8,5 @@ use Rattle.tx_machine.proofs.selection.end_step.Goals as goal
 pub returns-clause-last : goal.returns-clause-last
 returns-clause-last c =
     let long : length c.steps.result.now ≡ length (stages c.args.code.now) = ap length c.steps.ensures ∙ length-steps c.args.code.now in
-    is_return c.args.code.now (length c.steps.result.now - 1) (last_return (layout c.args.code.now) (length c.steps.result.now - 1) (omega (arith, c.main_step-first.ensures.within)) (omega arith))
+    is_return c.args.code.now (length c.steps.result.now - 1) (last_return (layout c.args.code.now) (length c.steps.result.now - 1)
+    (omega (arith, c.main_step-first.ensures.within)) (omega arith))

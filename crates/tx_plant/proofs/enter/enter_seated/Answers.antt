@@ -7,4 +7,6 @@ use Rattle.tx_plant.proofs.Serving.{accepted_by}
 use Rattle.tx_plant.proofs.enter.enter_seated.Goals as goal
 
 pub returns-in-Ok-record-clause-recorded : goal.returns-in-Ok-record-clause-recorded
-returns-in-Ok-record-clause-recorded c = (accepted_by (reply_refusal (kind_of c.args.reply.now) c.args.engine.now c.args.s) c.in-Ok-record.number (λ n. Recorded c.args.engine.now (event_of c.args.s c.args.reply.now c.args.after) n c.record.new.engine) (c.record.new.engine ≡ c.args.engine.now) c.in-Ok-record.ensures).1
+returns-in-Ok-record-clause-recorded c = (accepted_by (reply_refusal (kind_of c.args.reply.now) c.args.engine.now c.args.s) c.in-Ok-record.number
+    (λ n. Recorded c.args.engine.now (event_of c.args.s c.args.reply.now c.args.after) n c.record.new.engine) (c.record.new.engine ≡ c.args.engine.now)
+    c.in-Ok-record.ensures).1

@@ -10,4 +10,5 @@ pub loop-call-preserved : goal.loop-call-preserved
 loop-call-preserved c =
     let there = slice_get_read c.args.made.now _ c.loop-call.call-index c.call-item.result refl c.loop-call-test.true c.call-item.is in
     let h : c.call-item.result.call.participant < c.args.stations = grind (arith, nat_tests, c.if-from-stations.false, c.from.ensures) in
-    subst (AllThere c.args.stations) (sym (take_next c.args.made.now c.loop-call.call-index c.call-item.result there)) (there_more c.args.stations _ c.call-item.result c.loop-call.invariant h)
+    subst (AllThere c.args.stations) (sym (take_next c.args.made.now c.loop-call.call-index c.call-item.result there))
+    (there_more c.args.stations _ c.call-item.result c.loop-call.invariant h)

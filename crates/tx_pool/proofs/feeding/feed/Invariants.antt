@@ -4,4 +4,5 @@ use Rattle.tx_pool.specs.Feeding.{Feeds}
 use Rattle.tx_pool.proofs.feeding.feed.Given as goal
 
 abbrev pub invariant-loop : goal.invariant-loop
-invariant-loop g l = (l.putter.intake ≡ g.K.Run.intake) × Feeds g.K.Run.given (g.O.Source.given l.source) l.putter.passed × ((all : List Pairs) → g.O.Source.ends_with l.source all → g.K.Run.ends_with all)
+invariant-loop g l = (l.putter.intake ≡ g.K.Run.intake) × Feeds g.K.Run.given (g.O.Source.given l.source) l.putter.passed × ((all : List Pairs) →
+    g.O.Source.ends_with l.source all → g.K.Run.ends_with all)

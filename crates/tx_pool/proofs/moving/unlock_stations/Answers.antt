@@ -15,9 +15,15 @@ loop-lock-preserved g c =
       λ good.
           let before = c.both-in_order.ensures.one good in
           let here : p.result.0 ≡ length l.stations.items = grind (arith, nat_tests, c.both-in_order.ensures.other good, c.len.ensures) in
-          let back : IsBack (g.K.Run.rule p.result.0) (get_or g.K.Run.objects p.result.0 []) (get_or g.K.Run.counts p.result.0 0) (get_or g.K.Run.names p.result.0 []) p.result.2.items (g.C.Caller.object p.result.1.participant) p.result.1.calls p.result.1.name = record { linked = p.ensures.station.linked; counts = p.ensures.station.counts; named = p.ensures.name } in
-          let moved = subst (λ z. IsBack (g.K.Run.rule z) (get_or g.K.Run.objects z []) (get_or g.K.Run.counts z 0) (get_or g.K.Run.names z []) p.result.2.items (g.C.Caller.object p.result.1.participant) p.result.1.calls p.result.1.name) here back in
-          both_push (λ k s v. IsBack (g.K.Run.rule k) (get_or g.K.Run.objects k []) (get_or g.K.Run.counts k 0) (get_or g.K.Run.names k []) v.items (g.C.Caller.object s.participant) s.calls s.name) l.stations.items c.push_reserved.new.self.items l.logs.items c.push_reserved-in-Some.new.self.items p.result.1 p.result.2 (search rules) (l.invariant.4 before) moved c.push_reserved.ensures.items c.push_reserved-in-Some.ensures.items,
+          let back : IsBack (g.K.Run.rule p.result.0) (get_or g.K.Run.objects p.result.0 []) (get_or g.K.Run.counts p.result.0 0)
+          (get_or g.K.Run.names p.result.0 []) p.result.2.items (g.C.Caller.object p.result.1.participant) p.result.1.calls p.result.1.name =
+          record { linked = p.ensures.station.linked; counts = p.ensures.station.counts; named = p.ensures.name } in
+          let moved = subst (λ z. IsBack (g.K.Run.rule z) (get_or g.K.Run.objects z []) (get_or g.K.Run.counts z 0) (get_or g.K.Run.names z [])
+          p.result.2.items (g.C.Caller.object p.result.1.participant) p.result.1.calls p.result.1.name) here back in
+          both_push (λ k s v. IsBack (g.K.Run.rule k) (get_or g.K.Run.objects k []) (get_or g.K.Run.counts k 0) (get_or g.K.Run.names k []) v.items
+          (g.C.Caller.object s.participant) s.calls s.name) l.stations.items c.push_reserved.new.self.items l.logs.items
+          c.push_reserved-in-Some.new.self.items p.result.1 p.result.2 (search rules) (l.invariant.4 before) moved c.push_reserved.ensures.items
+          c.push_reserved-in-Some.ensures.items,
     )
 
 pub returns-clause-back : goal.returns-clause-back

@@ -6,7 +6,8 @@ use Rattle.tx_slots.proofs.reserved.move_all.Given as goal
 
 abbrev pub invariant-loop-waiting : goal.invariant-loop-waiting
 invariant-loop-waiting l = record {
-  all : l.queue.items ++ map (λ (item : ℕ × Waiting). item.1) l.shelf.entries ≡ l.initial.queue.items ++ map (λ (item : ℕ × Waiting). item.1) l.initial.shelf.entries;
+  all : l.queue.items ++ map (λ (item : ℕ × Waiting). item.1) l.shelf.entries ≡ l.initial.queue.items ++ map (λ (item : ℕ × Waiting). item.1)
+      l.initial.shelf.entries;
   room : deque_len l.queue + btree_map_len l.shelf ≤ deque_capacity l.queue;
   len : deque_len l.queue + btree_map_len l.shelf ≡ deque_len l.initial.queue + btree_map_len l.initial.shelf;
   capacity : deque_capacity l.queue ≡ deque_capacity l.initial.queue;

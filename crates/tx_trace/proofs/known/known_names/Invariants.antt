@@ -8,5 +8,6 @@ abbrev pub invariant-loop-name : goal.invariant-loop-name
 invariant-loop-name l = record {
   can : (goal.iterator-loop-name).can_next l.name-iterator;
   finite : (goal.iterator-loop-name).is_finite l.name-iterator;
-  known : texts_of l.names.items ++ filter (λ n. is_named n l.code.groups) (take l.name-iterator.left (names_of l.name-iterator.rest.now)) ≡ known l.code.groups l.text;
+  known : texts_of l.names.items ++ filter (λ n. is_named n l.code.groups) (take l.name-iterator.left (names_of l.name-iterator.rest.now))
+      ≡ known l.code.groups l.text;
 }

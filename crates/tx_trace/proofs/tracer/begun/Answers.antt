@@ -21,7 +21,8 @@ returns c = λ tries saved is.
     let some : row c.args.code.now (opening c.args.code.now tries saved) ≡ Some c.in-Some.row = sym is ∙ c.in-Some.is in
     let context : c.into_vec.result.items ≡ c.in-Some.row.context = c.into_vec.ensures ∙ c.in_ok-saved.ensures in
     let state : tx_state c.args.code.now c.start-machine.result ≡ opening c.args.code.now tries saved =
-    c.start-machine.ensures.state ∙ (ap (λ (x : List ℕ). opening c.args.code.now c.in-Some.row.tries x) context ∙ row_opening c.args.code.now tries saved c.in-Some.row some) in
+    c.start-machine.ensures.state ∙ (ap (λ (x : List ℕ). opening c.args.code.now c.in-Some.row.tries x) context ∙ row_opening c.args.code.now tries saved
+    c.in-Some.row some) in
     let due : c.due-due.result ≡ due_of c.args.code.now (opening c.args.code.now tries saved) = c.due-due.ensures.due ∙ ap (due_of c.args.code.now) state in
     record {
       shown = ap (λ (d : Due). Begun c.args.id c.args.session d) due;

@@ -5,4 +5,6 @@ use Rattle.cli_graph.proofs.paths.PlainStepsDisplay.fmt.Goals as goal
 
 pub loop-index-preserved : goal.loop-index-preserved
 loop-index-preserved g c = λ plain. let before = c.loop-index.invariant plain in
-    written_more g.W.Write.write_str_gives (plain_entry c.args.self.now.form c.args.self.now.group) c.args.f.now c.loop-index.f c.write.new.self c.loop-index.index c.args.self.now.entries.now c._entry-item.result c._entry-item.result c.loop-index-test.true c._entry-item.is before (c.write.ensures.writes before.plain (search rules))
+    written_more g.W.Write.write_str_gives (plain_entry c.args.self.now.form c.args.self.now.group) c.args.f.now c.loop-index.f c.write.new.self
+    c.loop-index.index c.args.self.now.entries.now c._entry-item.result c._entry-item.result c.loop-index-test.true c._entry-item.is before
+    (c.write.ensures.writes before.plain (search rules))

@@ -4,4 +4,5 @@ use Rattle.cli_graph.specs.Picture.{texts, plain_entry}
 use Rattle.cli_graph.proofs.paths.PlainStepsDisplay.fmt.Given as goal
 
 abbrev pub invariant-loop-index : goal.invariant-loop-index
-invariant-loop-index g l = IsPlainFormatter l.initial.f → HasWritten g.W.Write.write_str_gives l.initial.f (texts (plain_entry l.initial.self.form l.initial.self.group) 0 (take l.index l._entry-items)) l.f
+invariant-loop-index g l = IsPlainFormatter l.initial.f → HasWritten g.W.Write.write_str_gives l.initial.f
+    (texts (plain_entry l.initial.self.form l.initial.self.group) 0 (take l.index l._entry-items)) l.f

@@ -5,4 +5,6 @@ use Rattle.cli_graph.proofs.paths.TargetsDisplay.fmt.Goals as goal
 
 pub loop-number-preserved : goal.loop-number-preserved
 loop-number-preserved g c = λ plain. let before = c.loop-number.invariant plain in
-    written_more g.W.Write.write_str_gives (target_group c.args.self.now.form) c.args.f.now c.loop-number.f c.write.new.self c.loop-number.number c.args.self.now.groups.now c._group-item.result c._group-item.result c.loop-number-test.true c._group-item.is before (c.write.ensures.writes before.plain (search rules))
+    written_more g.W.Write.write_str_gives (target_group c.args.self.now.form) c.args.f.now c.loop-number.f c.write.new.self c.loop-number.number
+    c.args.self.now.groups.now c._group-item.result c._group-item.result c.loop-number-test.true c._group-item.is before
+    (c.write.ensures.writes before.plain (search rules))

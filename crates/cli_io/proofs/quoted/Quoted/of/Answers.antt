@@ -17,7 +17,9 @@ loop-index-preserved c =
 
 pub invariant_of-result : goal.invariant_of-result
 invariant_of-result c =
-    let kept : take c.min-len.result c.loop-index.kept ≡ map shown (take 40 c.args.bytes.now) = kept_all c.loop-index.kept c.args.bytes.now c.loop-index.index c.min-len.result c.min-len.ensures c.loop-index-test.false c.loop-index.auto.index-end c.loop-index.invariant.kept in
+    let kept : take c.min-len.result c.loop-index.kept ≡ map shown (take 40 c.args.bytes.now) =
+    kept_all c.loop-index.kept c.args.bytes.now c.loop-index.index c.min-len.result c.min-len.ensures c.loop-index-test.false
+    c.loop-index.auto.index-end c.loop-index.invariant.kept in
     record {
       few = omega (arith, c.min-len.ensures);
       printable = subst (All IsPrintable) (sym kept) (all_shown (take 40 c.args.bytes.now));
@@ -25,4 +27,6 @@ invariant_of-result c =
 
 pub returns : goal.returns
 returns c =
-    ap (λ (text : List ℕ). between_marks text (nat_lt 40 (length c.args.bytes.now))) (kept_all c.loop-index.kept c.args.bytes.now c.loop-index.index c.min-len.result c.min-len.ensures c.loop-index-test.false c.loop-index.auto.index-end c.loop-index.invariant.kept)
+    ap (λ (text : List ℕ). between_marks text (nat_lt 40 (length c.args.bytes.now)))
+    (kept_all c.loop-index.kept c.args.bytes.now c.loop-index.index c.min-len.result c.min-len.ensures c.loop-index-test.false
+    c.loop-index.auto.index-end c.loop-index.invariant.kept)

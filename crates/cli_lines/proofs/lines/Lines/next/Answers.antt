@@ -13,7 +13,9 @@ loop-line-preserved g c =
     let gives = c.in_ok-give.ensures.gives in
     let leaves = c.in_ok-give.ensures.leaves in
     let none : has_line_feed (left old.self.piece) ≡ false = sym c.in_ok-give.ensures.ends ∙ c.if-not-branch.true in
-    let taken = taken_more (to_come g.R.Read.remaining c.args.self.now) (unread g.R.Read.remaining old.self.input) (to_come g.R.Read.remaining c.read_more.new.self) old.line.items (left old.self.piece) (left c.give.new.self) old.invariant.taken leaves c.in_ok-read_more.ensures.same in
+    let taken = taken_more (to_come g.R.Read.remaining c.args.self.now) (unread g.R.Read.remaining old.self.input)
+    (to_come g.R.Read.remaining c.read_more.new.self) old.line.items (left old.self.piece) (left c.give.new.self) old.invariant.taken leaves
+    c.in_ok-read_more.ensures.same in
     record {
       taken = rw gives taken;
       plain = rw gives (plain_more old.line.items (left old.self.piece) old.invariant.plain none);
@@ -43,10 +45,13 @@ returns-then-not-branch-2-clause-next g c =
     let gives = c.in_ok-give.ensures.gives in
     let leaves = c.in_ok-give.ensures.leaves in
     let none : has_line_feed (left old.self.piece) ≡ false = sym c.in_ok-give.ensures.ends ∙ c.if-not-branch.true in
-    let taken = taken_more (to_come g.R.Read.remaining c.args.self.now) (unread g.R.Read.remaining old.self.input) (to_come g.R.Read.remaining c.read_more.new.self) old.line.items (left old.self.piece) (left c.give.new.self) old.invariant.taken leaves c.in_ok-read_more.ensures.same in
+    let taken = taken_more (to_come g.R.Read.remaining c.args.self.now) (unread g.R.Read.remaining old.self.input)
+    (to_come g.R.Read.remaining c.read_more.new.self) old.line.items (left old.self.piece) (left c.give.new.self) old.invariant.taken leaves
+    c.in_ok-read_more.ensures.same in
     let plain = plain_more old.line.items (left old.self.piece) old.invariant.plain none in
     rw (c.counted.ensures.piece, c.counted.ensures.input)
-    (at_end (λ line. line.items) c.counted.result (to_come g.R.Read.remaining c.args.self.now) (to_come g.R.Read.remaining c.read_more.new.self) c.give.new.line.items c.counted.ensures.line
+    (at_end (λ line. line.items) c.counted.result (to_come g.R.Read.remaining c.args.self.now) (to_come g.R.Read.remaining c.read_more.new.self)
+    c.give.new.line.items c.counted.ensures.line
     (rw gives taken) (c.in_ok-read_more.ensures.end c.if-not-branch-2.true) (rw gives plain))
 
 pub returns-clause-next : goal.returns-clause-next
@@ -54,7 +59,8 @@ returns-clause-next g c =
     let old = c.loop-line in
     let has : has_line_feed (left old.self.piece) ≡ true = sym c.in_ok-give.ensures.ends ∙ c.if-not-branch.false in
     rw (c.counted-2.ensures.piece, c.counted-2.ensures.input)
-    (found (λ line. line.items) c.counted-2.result (to_come g.R.Read.remaining c.args.self.now) (unread g.R.Read.remaining old.self.input) old.line.items (left old.self.piece) c.give.new.line.items (left c.give.new.self) c.counted-2.ensures.line
+    (found (λ line. line.items) c.counted-2.result (to_come g.R.Read.remaining c.args.self.now) (unread g.R.Read.remaining old.self.input) old.line.items
+    (left old.self.piece) c.give.new.line.items (left c.give.new.self) c.counted-2.ensures.line
     c.in_ok-give.ensures.gives c.in_ok-give.ensures.leaves old.invariant.taken old.invariant.plain has)
 
 pub returns-then-not-branch-2-clause-room : goal.returns-then-not-branch-2-clause-room
@@ -76,4 +82,5 @@ returns-clause-room g c =
     let given = ap length c.in_ok-give.ensures.gives in
     let spare = old.invariant.spare in
     rw (c.counted-2.ensures.piece, c.counted-2.ensures.pieces)
-    (within (λ line. line.items) c.counted-2.result c.give.new.line.items (4096 * (1048576 - old.self.pieces) + length (left c.give.new.self)) (room c.args.self.now) c.counted-2.ensures.line (omega arith))
+    (within (λ line. line.items) c.counted-2.result c.give.new.line.items (4096 * (1048576 - old.self.pieces) + length (left c.give.new.self))
+    (room c.args.self.now) c.counted-2.ensures.line (omega arith))

@@ -10,4 +10,5 @@ pub returns-in-Ok-clause-tells : goal.returns-in-Ok-clause-tells
 returns-in-Ok-clause-tells g c = lines_told (lines_in c.args.engine.now) c.in-Some.form _ _ _ _ _ _ c.in-Some.is c.in-Ok.ensures.lines
 
 pub returns-in-Err-Write-clause-tells : goal.returns-in-Err-Write-clause-tells
-returns-in-Err-Write-clause-tells g c = lines_lost (lines_in c.args.engine.now) c.in-Some.form _ _ _ _ _ _ _ c.in-Some.is refl c.write_lines_as.ensures.beginning
+returns-in-Err-Write-clause-tells g c = lines_lost (lines_in c.args.engine.now) c.in-Some.form _ _ _ _ _ _ _ c.in-Some.is refl
+    c.write_lines_as.ensures.beginning

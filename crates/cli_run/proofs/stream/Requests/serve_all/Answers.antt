@@ -27,7 +27,8 @@ returns-in-Some g c =
           left = g.R.Read.remaining c.serve_read.new.input;
           state = c.serve_read.new.self.framer;
           reads = adds (g.R.Read.remaining c.args.input.now) c.loop.invariant.frames c.loop.invariant.reads;
-          ends = if_some (λ e. EndsAs e c.serve_read.new.self.framer (g.R.Read.remaining c.serve_read.new.input)) c.in_ok-end.end c.in-Some.end c.in-Some.is ends;
+          ends = if_some (λ e. EndsAs e c.serve_read.new.self.framer (g.R.Read.remaining c.serve_read.new.input)) c.in_ok-end.end c.in-Some.end c.in-Some.is
+              ends;
         },
         advanced_then _ false c.loop.invariant.frames more _ _ _ _ _ _ _ c.loop.invariant.serves serves,
       );
@@ -47,20 +48,25 @@ loop-preserved g c =
       sound = if_none _ c.in_ok-end.end c.in_default.is c.in_ok-end.ensures.goes_on;
       frames = c.loop.invariant.frames ++ more;
       reads = adds (g.R.Read.remaining c.args.input.now) c.loop.invariant.frames c.loop.invariant.reads;
-      serves = advanced_sends _ false (c.loop.invariant.frames ++ more) _ _ _ _ _ _ _ (advanced_then _ false c.loop.invariant.frames more _ _ _ _ _ _ _ c.loop.invariant.serves serves) c.in_ok-send_between.ensures.sends;
+      serves = advanced_sends _ false (c.loop.invariant.frames ++ more) _ _ _ _ _ _ _
+          (advanced_then _ false c.loop.invariant.frames more _ _ _ _ _ _ _ c.loop.invariant.serves serves) c.in_ok-send_between.ensures.sends;
       ready = c.in_ok-send_between.ensures.ready;
     }
 
 pub returns-in_err-buf-clause-stops : goal.returns-in_err-buf-clause-stops
-returns-in_err-buf-clause-stops g c = on_err_of c.from_residual.result (stops_fresh _ false (g.R.Read.remaining c.args.input.now) c.args.self.now.framer _ c.requires.fresh)
+returns-in_err-buf-clause-stops g c = on_err_of c.from_residual.result (stops_fresh _ false (g.R.Read.remaining c.args.input.now) c.args.self.now.framer _
+    c.requires.fresh)
 
 pub returns-in_err-end-clause-stops : goal.returns-in_err-end-clause-stops
 returns-in_err-end-clause-stops g c =
-    on_err_of c.from_residual-in_err-end.result (stops_on _ false (g.R.Read.remaining c.args.input.now) _ c.loop.invariant.frames _ _ _ _ _ _ c.loop.invariant.reads c.loop.invariant.serves c.in_err-end.ensures.halts)
+    on_err_of c.from_residual-in_err-end.result (stops_on _ false (g.R.Read.remaining c.args.input.now) _ c.loop.invariant.frames _ _ _ _ _ _
+    c.loop.invariant.reads c.loop.invariant.serves c.in_err-end.ensures.halts)
 
 pub returns-in_err-send_between-clause-stops : goal.returns-in_err-send_between-clause-stops
 returns-in_err-send_between-clause-stops g c =
     let (more, adds, serves, ends) = c.in_ok-end.ensures.serves in
     let left = g.R.Read.remaining c.serve_read.new.input in
     let all = advanced_then _ false c.loop.invariant.frames more _ _ _ _ _ _ _ c.loop.invariant.serves serves in
-    on_err_of c.from_residual-in_err-send_between.result (stops_on _ false (g.R.Read.remaining c.args.input.now) left (c.loop.invariant.frames ++ more) c.serve_read.new.self.framer _ _ _ _ _ (adds (g.R.Read.remaining c.args.input.now) c.loop.invariant.frames c.loop.invariant.reads) all (halts_unread false left c.serve_read.new.self.framer _ _))
+    on_err_of c.from_residual-in_err-send_between.result (stops_on _ false (g.R.Read.remaining c.args.input.now) left (c.loop.invariant.frames ++ more)
+    c.serve_read.new.self.framer _ _ _ _ _ (adds (g.R.Read.remaining c.args.input.now) c.loop.invariant.frames c.loop.invariant.reads) all
+    (halts_unread false left c.serve_read.new.self.framer _ _))

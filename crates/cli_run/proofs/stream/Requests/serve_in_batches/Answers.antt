@@ -28,7 +28,8 @@ returns-in-Some-clause-serves g c =
         left = g.R.Read.remaining c.read.new.input;
         state = c.read.new.self.framer;
         reads = c.in_ok-messages.ensures.reads (g.R.Read.remaining c.args.input.now) i.frames i.reads;
-        ends = if_some (λ e. EndsAs e c.read.new.self.framer (g.R.Read.remaining c.read.new.input)) c.in_ok-messages.field-0.end c.in-Some.end c.in-Some.is c.in_ok-messages.ensures.ends;
+        ends = if_some (λ e. EndsAs e c.read.new.self.framer (g.R.Read.remaining c.read.new.input)) c.in_ok-messages.field-0.end c.in-Some.end c.in-Some.is
+            c.in_ok-messages.ensures.ends;
       },
       advanced_then _ true i.frames more _ _ _ _ _ _ _ i.serves (rw c.deref.ensures.value at c.in_ok-switch.ensures.serves),
     )
@@ -46,17 +47,21 @@ loop-preserved g c =
       sound = if_none _ c.in_ok-messages.field-0.end c.in_default.is c.in_ok-messages.ensures.goes_on;
       frames = i.frames ++ more;
       reads = c.in_ok-messages.ensures.reads (g.R.Read.remaining c.args.input.now) i.frames i.reads;
-      serves = advanced_sends _ true (i.frames ++ more) _ _ _ _ _ _ _ (advanced_then _ true i.frames more _ _ _ _ _ _ _ i.serves (rw c.deref.ensures.value at c.in_ok-switch.ensures.serves)) c.in_ok-send_between.ensures.sends;
+      serves = advanced_sends _ true (i.frames ++ more) _ _ _ _ _ _ _
+          (advanced_then _ true i.frames more _ _ _ _ _ _ _ i.serves (rw c.deref.ensures.value at c.in_ok-switch.ensures.serves))
+          c.in_ok-send_between.ensures.sends;
       ready = c.in_ok-send_between.ensures.ready;
     }
 
 pub returns-in_err-buf-clause-stops : goal.returns-in_err-buf-clause-stops
-returns-in_err-buf-clause-stops g c = on_err_of c.from_residual.result (stops_fresh _ true (g.R.Read.remaining c.args.input.now) c.args.self.now.framer _ c.requires.fresh)
+returns-in_err-buf-clause-stops g c = on_err_of c.from_residual.result (stops_fresh _ true (g.R.Read.remaining c.args.input.now) c.args.self.now.framer _
+    c.requires.fresh)
 
 pub returns-in_err-messages-clause-stops : goal.returns-in_err-messages-clause-stops
 returns-in_err-messages-clause-stops g c =
     let i = c.loop.invariant in
-    on_err_of c.from_residual-in_err-messages.result (stops_on _ true (g.R.Read.remaining c.args.input.now) (g.R.Read.remaining c.loop.input) i.frames c.loop.self.framer _ _ _ _ _ i.reads i.serves (halts_unread true (g.R.Read.remaining c.loop.input) c.loop.self.framer _ _))
+    on_err_of c.from_residual-in_err-messages.result (stops_on _ true (g.R.Read.remaining c.args.input.now) (g.R.Read.remaining c.loop.input) i.frames
+    c.loop.self.framer _ _ _ _ _ i.reads i.serves (halts_unread true (g.R.Read.remaining c.loop.input) c.loop.self.framer _ _))
 
 pub returns-in_err-switch-clause-stops : goal.returns-in_err-switch-clause-stops
 returns-in_err-switch-clause-stops g c =
@@ -64,8 +69,10 @@ returns-in_err-switch-clause-stops g c =
     let q = point_of g.S.Store c.loop.switch in
     let out = g.O.Write.contents c.loop.out in
     let end = g.O.Write.contents c.answer_batches.new.out in
-    on_err_of c.from_residual-in_err-switch.result (stops_on _ true (g.R.Read.remaining c.args.input.now) (g.R.Read.remaining c.loop.input) i.frames c.loop.self.framer _ _ _ _ _ i.reads i.serves
-    (halts_reads true (g.R.Read.remaining c.loop.input) (g.R.Read.remaining c.read.new.input) (messages c.in_ok-messages.field-0.messages.items) c.loop.self.framer c.read.new.self.framer q out end c.in_ok-messages.ensures.reads (rw c.deref.ensures.value at c.in_err-switch.ensures.halts)))
+    on_err_of c.from_residual-in_err-switch.result (stops_on _ true (g.R.Read.remaining c.args.input.now) (g.R.Read.remaining c.loop.input) i.frames
+    c.loop.self.framer _ _ _ _ _ i.reads i.serves
+    (halts_reads true (g.R.Read.remaining c.loop.input) (g.R.Read.remaining c.read.new.input) (messages c.in_ok-messages.field-0.messages.items)
+    c.loop.self.framer c.read.new.self.framer q out end c.in_ok-messages.ensures.reads (rw c.deref.ensures.value at c.in_err-switch.ensures.halts)))
 
 pub returns-in_err-send_between-clause-stops : goal.returns-in_err-send_between-clause-stops
 returns-in_err-send_between-clause-stops g c =
@@ -73,4 +80,6 @@ returns-in_err-send_between-clause-stops g c =
     let more = messages c.in_ok-messages.field-0.messages.items in
     let left = g.R.Read.remaining c.read.new.input in
     let all = advanced_then _ true i.frames more _ _ _ _ _ _ _ i.serves (rw c.deref.ensures.value at c.in_ok-switch.ensures.serves) in
-    on_err_of c.from_residual-in_err-send_between.result (stops_on _ true (g.R.Read.remaining c.args.input.now) left (i.frames ++ more) c.read.new.self.framer _ _ _ _ _ (c.in_ok-messages.ensures.reads (g.R.Read.remaining c.args.input.now) i.frames i.reads) all (halts_unread true left c.read.new.self.framer _ _))
+    on_err_of c.from_residual-in_err-send_between.result (stops_on _ true (g.R.Read.remaining c.args.input.now) left (i.frames ++ more)
+    c.read.new.self.framer _ _ _ _ _ (c.in_ok-messages.ensures.reads (g.R.Read.remaining c.args.input.now) i.frames i.reads) all
+    (halts_unread true left c.read.new.self.framer _ _))

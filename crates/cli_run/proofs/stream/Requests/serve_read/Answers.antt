@@ -7,10 +7,12 @@ use Rattle.cli_run.proofs.Stops.{halts_reads, halts_unread, on_err_of, toward_tr
 use Rattle.cli_run.proofs.stream.Requests.serve_read.Goals as goal
 
 pub returns-in_err-cut_traced-clause-halts : goal.returns-in_err-cut_traced-clause-halts
-returns-in_err-cut_traced-clause-halts g c = on_err_of c.from_residual.result (halts_unread false (g.R.Read.remaining c.args.input.now) c.args.self.now.framer (point_of g.S.Store c.args.switch.now) (g.O.Write.contents c.args.out.now))
+returns-in_err-cut_traced-clause-halts g c = on_err_of c.from_residual.result
+    (halts_unread false (g.R.Read.remaining c.args.input.now) c.args.self.now.framer (point_of g.S.Store c.args.switch.now) (g.O.Write.contents c.args.out.now))
 
 pub returns-in_err-messages-clause-halts : goal.returns-in_err-messages-clause-halts
-returns-in_err-messages-clause-halts g c = on_err_of c.from_residual-in_err-messages.result (halts_unread false (g.R.Read.remaining c.args.input.now) c.args.self.now.framer (point_of g.S.Store c.args.switch.now) (g.O.Write.contents c.args.out.now))
+returns-in_err-messages-clause-halts g c = on_err_of c.from_residual-in_err-messages.result
+    (halts_unread false (g.R.Read.remaining c.args.input.now) c.args.self.now.framer (point_of g.S.Store c.args.switch.now) (g.O.Write.contents c.args.out.now))
 
 pub returns-in_err-serve_messages-clause-halts : goal.returns-in_err-serve_messages-clause-halts
 returns-in_err-serve_messages-clause-halts g c =
@@ -20,7 +22,8 @@ returns-in_err-serve_messages-clause-halts g c =
     let cuts = c.in_ok-cut_traced.ensures.cuts in
     let before = g.O.Write.contents c.args.out.now in
     let after = g.O.Write.contents c.serve_messages.new.out in
-    on_err_of c.from_residual-in_err-serve_messages.result (halts_reads false (g.R.Read.remaining c.args.input.now) (g.R.Read.remaining c.read.new.input) more c.args.self.now.framer c.read.new.self.framer p before after c.in_ok-messages.ensures.reads
+    on_err_of c.from_residual-in_err-serve_messages.result (halts_reads false (g.R.Read.remaining c.args.input.now) (g.R.Read.remaining c.read.new.input)
+    more c.args.self.now.framer c.read.new.self.framer p before after c.in_ok-messages.ensures.reads
     (toward_trimmed (requests more) p w cuts.lines before after cuts.cuts (rw c.deref.ensures.value at c.in_err-serve_messages.ensures.halts)))
 
 pub returns-clause-serves : goal.returns-clause-serves

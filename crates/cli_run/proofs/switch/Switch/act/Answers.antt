@@ -16,5 +16,6 @@ returns g c =
     let turn = does_turn c.args.turn c.in-Ok.outcomes.items _ m p q c.args.self.now.answered c.in-Some.outcome driven first in
     record {
       does = if_ok c.unless_refused.result (λ o done. rw done.0 (turn done.1)) c.unless_refused.ensures;
-      seated = on_if c.unless_refused.result (λ o done. (let t = turn done.1 in all_seated (doing c.args.turn (c.in-Some.outcome, t.wrote) ∷ []) t.acts.moved p q c.requires.seated t.acts.driven)) c.unless_refused.ensures;
+      seated = on_if c.unless_refused.result (λ o done. (let t = turn done.1 in
+          all_seated (doing c.args.turn (c.in-Some.outcome, t.wrote) ∷ []) t.acts.moved p q c.requires.seated t.acts.driven)) c.unless_refused.ensures;
     }

@@ -10,9 +10,12 @@ answer_next-requires g c = record { rest = offered_rest _ _ _ _ c.requires.ready
 
 pub returns : goal.returns
 returns g c = record {
-  serves = on_ok c.answer_next.result (λ s. reports_offer c.args.request _ _ _ _ (Completed ∷ []) 0 _ _ _ _ c.requires.ready c.in_ok-act.ensures.does s) c.answer_next.ensures.serves;
-  halts = on_err c.answer_next.result (λ h. halts_offer c.args.request _ _ _ (Completed ∷ []) _ _ c.requires.ready c.in_ok-act.ensures.does h) c.answer_next.ensures.halts;
-  ready = on_ok c.answer_next.result (λ s. (let (bytes, lines, done) = the_completed _ _ _ _ s.serves in ready_again c.args.request _ _ _ _ bytes lines c.requires.ready c.in_ok-act.ensures.does done)) c.answer_next.ensures.serves;
+  serves = on_ok c.answer_next.result (λ s. reports_offer c.args.request _ _ _ _ (Completed ∷ []) 0 _ _ _ _ c.requires.ready c.in_ok-act.ensures.does s)
+      c.answer_next.ensures.serves;
+  halts = on_err c.answer_next.result (λ h. halts_offer c.args.request _ _ _ (Completed ∷ []) _ _ c.requires.ready c.in_ok-act.ensures.does h)
+      c.answer_next.ensures.halts;
+  ready = on_ok c.answer_next.result (λ s. (let (bytes, lines, done) = the_completed _ _ _ _ s.serves in
+      ready_again c.args.request _ _ _ _ bytes lines c.requires.ready c.in_ok-act.ensures.does done)) c.answer_next.ensures.serves;
   live = c.answer_next.ensures.live;
 }
 

@@ -6,7 +6,8 @@ use Rattle.cli_run.proofs.Stops.{on_err, on_err_of, toward_none}
 use Rattle.cli_run.proofs.switch.Switch.answer_alone.Goals as goal
 
 pub returns-in_err-run_alone-clause-halts : goal.returns-in_err-run_alone-clause-halts
-returns-in_err-run_alone-clause-halts g c = on_err_of c.from_residual.result (toward_none true (c.args.request ∷ []) (point_of g.S.Store c.args.self.now) (g.O.Write.contents c.args.out.now))
+returns-in_err-run_alone-clause-halts g c = on_err_of c.from_residual.result (toward_none true (c.args.request ∷ []) (point_of g.S.Store c.args.self.now)
+    (g.O.Write.contents c.args.out.now))
 
 pub returns-clause-serves : goal.returns-clause-serves
 returns-clause-serves g c =

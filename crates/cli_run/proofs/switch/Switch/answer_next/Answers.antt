@@ -9,7 +9,8 @@ returns g c =
     let (own, transacts) = c.in_ok-serve_next.ensures.transacts in
     let (text, framed, appends) = c.in_ok-give.ensures.gives in
     record {
-      serves = on_both c.cut_between.result (λ cuts rest. completed own text _ _ _ _ _ _ _ _ c.requires.rest transacts framed c.in_ok-give.ensures.answered cuts rest appends) c.cut_between.ensures.cuts c.cut_between.ensures.rest;
+      serves = on_both c.cut_between.result (λ cuts rest. completed own text _ _ _ _ _ _ _ _ c.requires.rest transacts framed c.in_ok-give.ensures.answered
+          cuts rest appends) c.cut_between.ensures.cuts c.cut_between.ensures.rest;
       halts = on_err_of c.cut_between.result (halts_given own text _ _ _ _ c.requires.rest transacts framed appends);
       rest = c.cut_between.ensures.rest;
       live = c.cut_between.ensures.live;

@@ -4,4 +4,5 @@ use Rattle.std.proofs.Common.{◌∙◌}
 use Rattle.cli_run.proofs.switch.Switch.cut_traced.Goals as goal
 
 pub returns-clause-ready : goal.returns-clause-ready
-returns-clause-ready g c = on_three c.cut_between.result (λ cuts rest queue. ready_cut _ _ _ cuts.cuts rest (queue ∙ c.requires.empty)) c.cut_between.ensures.cuts c.cut_between.ensures.rest c.cut_between.ensures.queue
+returns-clause-ready g c = on_three c.cut_between.result (λ cuts rest queue. ready_cut _ _ _ cuts.cuts rest (queue ∙ c.requires.empty))
+    c.cut_between.ensures.cuts c.cut_between.ensures.rest c.cut_between.ensures.queue

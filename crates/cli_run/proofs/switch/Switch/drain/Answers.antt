@@ -10,10 +10,12 @@ pub loop-init : goal.loop-init
 loop-init g c = empties_none _ _ _ c.requires.rest
 
 pub loop-preserved-then-queued-gt0 : goal.loop-preserved-then-queued-gt0
-loop-preserved-then-queued-gt0 g c = empties_then _ _ _ _ _ _ _ _ _ (Completed ∷ []) c.loop.invariant (tt, tt) c.in_ok-answer_next.ensures.serves c.in_ok-answer_next.ensures.rest
+loop-preserved-then-queued-gt0 g c = empties_then _ _ _ _ _ _ _ _ _ (Completed ∷ []) c.loop.invariant (tt, tt) c.in_ok-answer_next.ensures.serves
+    c.in_ok-answer_next.ensures.rest
 
 pub loop-preserved : goal.loop-preserved
-loop-preserved g c = empties_then _ _ _ _ _ _ _ _ _ (Released ∷ []) c.loop.invariant (tt, tt) (reports_release _ _ _ _ _ c.in_ok-act.ensures.does) (released_rest _ _ _ c.loop.invariant.rest c.in_ok-act.ensures.does c.in_ok-act.ensures.seated)
+loop-preserved g c = empties_then _ _ _ _ _ _ _ _ _ (Released ∷ []) c.loop.invariant (tt, tt) (reports_release _ _ _ _ _ c.in_ok-act.ensures.does)
+    (released_rest _ _ _ c.loop.invariant.rest c.in_ok-act.ensures.does c.in_ok-act.ensures.seated)
 
 pub returns-in_err-answer_next-clause-stops : goal.returns-in_err-answer_next-clause-stops
 returns-in_err-answer_next-clause-stops g c = on_err_of c.from_residual.result (drains_next _ _ _ _ _ _ _ c.loop.invariant c.in_err-answer_next.ensures.halts)

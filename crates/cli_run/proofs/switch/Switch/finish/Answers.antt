@@ -8,7 +8,8 @@ use Rattle.cli_run.proofs.switch.Switch.finish.Goals as goal
 pub returns-clause-finishes : goal.returns-clause-finishes
 returns-clause-finishes g c =
     let (text, framed, gives) = c.in_ok-give.ensures.gives in
-    on_ok c.cut_traced.result (λ cuts. finished text _ _ _ _ _ _ _ _ _ _ framed gives c.in_ok-give.ensures.answered c.in_ok-drain.ensures.drains cuts) c.cut_traced.ensures.cuts
+    on_ok c.cut_traced.result (λ cuts. finished text _ _ _ _ _ _ _ _ _ _ framed gives c.in_ok-give.ensures.answered c.in_ok-drain.ensures.drains cuts)
+    c.cut_traced.ensures.cuts
 
 pub returns-clause-unfinished : goal.returns-clause-unfinished
 returns-clause-unfinished g c =

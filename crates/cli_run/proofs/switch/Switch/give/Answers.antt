@@ -13,7 +13,9 @@ returns-clause-gives g c = (c.deref.result.now, rw (c.deref.ensures.value, sym c
 
 pub returns-clause-answered : goal.returns-clause-answered
 returns-clause-answered g c =
-    given_all (core c.args.self.now.plant.running.engine c.args.self.now.plant.running.seats) _ _ _ c.args.self.now.answered _ _ c.take_ended-given.ensures.left (ap (λ j. seen (kept g.S.Store j)) c.take_ended-given.ensures.journal) (rw (sym c.ended-3.ensures) c.last_above-self.ensures)
+    given_all (core c.args.self.now.plant.running.engine c.args.self.now.plant.running.seats) _ _ _ c.args.self.now.answered _ _
+    c.take_ended-given.ensures.left (ap (λ j. seen (kept g.S.Store j)) c.take_ended-given.ensures.journal)
+    (rw (sym c.ended-3.ensures) c.last_above-self.ensures)
     (rw (sym c.ended-2.ensures) c.in_ok-count_above.ensures)
 
 pub returns-clause-rest : goal.returns-clause-rest
@@ -24,8 +26,16 @@ returns-in_err-text-clause-stopped g c = on_err_of c.from_residual.result ([], i
 
 pub returns-in_err-count_above-clause-stopped : goal.returns-in_err-count_above-clause-stopped
 returns-in_err-count_above-clause-stopped g c =
-    on_err_of c.from_residual-in_err-count_above.result (c.deref.result.now, inr (rw (c.deref.ensures.value, sym c.ended.ensures) c.in_ok-text.ensures), beginning_all _ _ c.deref.result.now c.in_ok-write_out.ensures.written)
+    on_err_of c.from_residual-in_err-count_above.result (
+      c.deref.result.now,
+      inr (rw (c.deref.ensures.value, sym c.ended.ensures) c.in_ok-text.ensures),
+      beginning_all _ _ c.deref.result.now c.in_ok-write_out.ensures.written,
+    )
 
 pub returns-in_err-write_out-clause-stopped : goal.returns-in_err-write_out-clause-stopped
 returns-in_err-write_out-clause-stopped g c =
-    on_err_of c.from_residual-in_err-write_out.result (c.deref.result.now, inr (rw (c.deref.ensures.value, sym c.ended.ensures) c.in_ok-text.ensures), c.in_err-write_out.ensures.beginning)
+    on_err_of c.from_residual-in_err-write_out.result (
+      c.deref.result.now,
+      inr (rw (c.deref.ensures.value, sym c.ended.ensures) c.in_ok-text.ensures),
+      c.in_err-write_out.ensures.beginning,
+    )

@@ -7,7 +7,8 @@ use Rattle.cli_run.proofs.switch.Switch.serve_to_end.Goals as goal
 pub returns : goal.returns
 returns g c =
     let (frames, read, serves) = c.in_ok-end.ensures.serves in
-    let (all, end, tells) = all_served _ false frames _ _ _ _ _ _ _ _ _ _ _ _ _ _ c.in_ok-cut_traced.ensures.cuts c.in_ok-cut_traced.ensures.ready serves c.in_ok-close.ensures.closes in
+    let (all, end, tells) = all_served _ false frames _ _ _ _ _ _ _ _ _ _ _ _ _ _ c.in_ok-cut_traced.ensures.cuts c.in_ok-cut_traced.ensures.ready serves
+    c.in_ok-close.ensures.closes in
     record { stops = tt; serves = (frames, read, serves.rounds, serves.answers, all, end, tells) }
 
 pub returns-in_err-cut_traced-clause-stops : goal.returns-in_err-cut_traced-clause-stops
@@ -30,5 +31,15 @@ returns-in_err-close-clause-stops g c =
       cut = _;
       cuts = c.in_ok-cut_traced.ensures.cuts.cuts;
       ready = c.in_ok-cut_traced.ensures.ready;
-      serves = inr (record { end = _; frames = frames; read = read; rounds = serves.rounds; answers = serves.answers; served = _; advances = serves.advances; drains = c.in_err-close.ensures.stops });
+      serves = inr (record {
+        end = _;
+        frames = frames;
+        read = read;
+        rounds = serves.rounds;
+        answers = serves.answers;
+        served = _;
+        advances =
+            serves.advances;
+        drains = c.in_err-close.ensures.stops;
+      });
     }))

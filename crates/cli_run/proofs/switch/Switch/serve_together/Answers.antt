@@ -9,7 +9,8 @@ serve_in_batches-requires-clause-ready g c = λ κs within. c.in_ok-cut_traced.e
 pub returns-clause-serves : goal.returns-clause-serves
 returns-clause-serves g c =
     let (frames, read, serves) = c.in_ok-served.ensures.serves in
-    let (all, end, tells) = all_served _ true frames _ _ _ _ _ _ _ _ _ _ _ _ _ _ c.in_ok-cut_traced.ensures.cuts c.in_ok-cut_traced.ensures.ready serves c.in_ok-closed.ensures.closes in
+    let (all, end, tells) = all_served _ true frames _ _ _ _ _ _ _ _ _ _ _ _ _ _ c.in_ok-cut_traced.ensures.cuts c.in_ok-cut_traced.ensures.ready serves
+    c.in_ok-closed.ensures.closes in
     let (whole, last) = told_last _ _ _ _ _ _ _ _ _ _ _ _ _ all end c.engine.ensures tells c.in_ok-traced.ensures.tells c.show.ensures in
     (frames, read, serves.rounds, serves.answers, whole, last)
 
@@ -30,7 +31,17 @@ returns-in_err-closed-clause-stops g c =
       cut = _;
       cuts = c.in_ok-cut_traced.ensures.cuts.cuts;
       ready = c.in_ok-cut_traced.ensures.ready;
-      serves = inr (record { end = _; frames = frames; read = read; rounds = serves.rounds; answers = serves.answers; served = _; advances = serves.advances; drains = c.in_err-closed.ensures.stops });
+      serves = inr (record {
+        end = _;
+        frames = frames;
+        read = read;
+        rounds = serves.rounds;
+        answers = serves.answers;
+        served = _;
+        advances =
+            serves.advances;
+        drains = c.in_err-closed.ensures.stops;
+      });
     }))
 
 pub returns-in_err-traced-clause-stops : goal.returns-in_err-traced-clause-stops
@@ -41,5 +52,15 @@ returns-in_err-traced-clause-stops g c =
       cut = _;
       cuts = c.in_ok-cut_traced.ensures.cuts.cuts;
       ready = c.in_ok-cut_traced.ensures.ready;
-      serves = inr (record { end = _; frames = frames; read = read; rounds = serves.rounds; answers = serves.answers; served = _; advances = serves.advances; drains = drains_all _ _ _ _ c.in_ok-closed.ensures.closes.0.drains });
+      serves = inr (record {
+        end = _;
+        frames = frames;
+        read = read;
+        rounds = serves.rounds;
+        answers = serves.answers;
+        served = _;
+        advances =
+            serves.advances;
+        drains = drains_all _ _ _ _ c.in_ok-closed.ensures.closes.0.drains;
+      });
     }))

@@ -25,8 +25,14 @@ returns-in_default-action_of-clause-next c =
 pub returns-then-branch-clause-next : goal.returns-then-branch-clause-next
 returns-then-branch-clause-next c =
     let answers = rw c.in-Some.ensures.1 at c.in-Ok.ensures in
-    let means = meant (meaning_of (line_of c.args.self.now.rest.now)) c.in-Ok.meaning answers in
-    (c.in-Some.ensures.0, ((refl, rw (c.of-found-then-branch.ensures, c.in-Some.ensures.1) refl), (c.in-Some-action_of.action, means ∙ ap Ok c.in-Some-action_of.ensures, search rules)), refl)
+    let means = meant (meaning_of (line_of c.args.self.now.rest.now)) c.in-Ok.meaning answers in (
+      c.in-Some.ensures.0,
+      (
+        (refl, rw (c.of-found-then-branch.ensures, c.in-Some.ensures.1) refl),
+        (c.in-Some-action_of.action, means ∙ ap Ok c.in-Some-action_of.ensures, search rules),
+      ),
+      refl,
+    )
 
 pub returns-clause-next : goal.returns-clause-next
 returns-clause-next c =

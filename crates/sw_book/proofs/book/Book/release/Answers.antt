@@ -8,7 +8,12 @@ use Rattle.sw_book.proofs.book.Book.release.Goals as goal
 
 pub overflow_sub-freed : goal.overflow_sub-freed
 overflow_sub-freed c =
-    omega (arith, held_there _ _ _ _ _ c.self.invariant _ (sym c.in-Some.ensures.value), open_held c.in-Some.found.now c.in-Open.is, ap (λ (z : Totals). z.reserved) c.totals_of-totals.ensures)
+    omega (
+      arith,
+      held_there _ _ _ _ _ c.self.invariant _ (sym c.in-Some.ensures.value),
+      open_held c.in-Some.found.now c.in-Open.is,
+      ap (λ (z : Totals). z.reserved) c.totals_of-totals.ensures,
+    )
 
 pub replace_totals-requires : goal.replace_totals-requires
 replace_totals-requires c = some_from _ (has_totals _ _ _ _ _ c.self.invariant _ (sym c.in-Some.ensures.value))
@@ -27,5 +32,7 @@ invariant_of-self c =
     let enough = held_there inside.limit c.args.id inside.items.entries (get key_eq inside.ids) t c.self.invariant u is in
     let s : Totals = record { used = T.used; reserved = T.reserved - u.amount } in
     subst (λ (z : Items). IsBook inside.limit z (get key_eq c.remove-2.new.self) (get card_eq c.replace_totals.new.totals)) (sym c.remove.ensures.entries)
-    (keeps_out inside.limit c.args.id inside.items.entries (get key_eq inside.ids) t c.self.invariant u is s (get card_eq c.replace_totals.new.totals) c.replace_totals.ensures
-    (omega (arith, used, reserved)) (get key_eq c.remove-2.new.self) c.remove-2.ensures.updates.0 (omega (arith, used, spent)) (omega (arith, reserved, held, enough)))
+    (keeps_out inside.limit c.args.id inside.items.entries (get key_eq inside.ids) t c.self.invariant u is s (get card_eq c.replace_totals.new.totals)
+    c.replace_totals.ensures
+    (omega (arith, used, reserved)) (get key_eq c.remove-2.new.self) c.remove-2.ensures.updates.0 (omega (arith, used, spent))
+    (omega (arith, reserved, held, enough)))

@@ -20,8 +20,10 @@ invariant_of-self-2 c =
     let reserved : T.reserved ≡ (totals_in (t c.args.card)).reserved = ap (λ (z : Totals). z.reserved) c.totals_of-totals.ensures in
     subst (λ (z : Items). IsBook inside.limit z (get key_eq c.insert-2.new.self) (get card_eq c.insert-3.new.self))
     (sym c.in-Ok.ensures.entries)
-    (keeps_new inside.limit c.args.id inside.items.entries (get key_eq inside.ids) t c.self.invariant v (get key_eq c.insert-2.new.self) (get card_eq c.insert-3.new.self)
+    (keeps_new inside.limit c.args.id inside.items.entries (get key_eq inside.ids) t c.self.invariant v (get key_eq c.insert-2.new.self)
+    (get card_eq c.insert-3.new.self)
     none new refl (omega (arith, used, reserved, c.if-totals-amount.false))
     (λ q. c.in-Ok-insert.ensures.updates.0 q ∙ ap (cond (key_eq c.args.key q) (Some c.args.id)) (c.room.ensures.ids q))
     (λ q. c.in-Ok-insert-2.ensures.updates.0 q
-    ∙ (λ i. cond (card_eq c.args.card q) (let s : Totals = record { used = used i; reserved = reserved i + c.args.amount } in Some s) (c.room.ensures.totals q i))))
+    ∙ (λ i. cond (card_eq c.args.card q) (let s : Totals = record { used = used i; reserved = reserved i + c.args.amount } in Some s)
+    (c.room.ensures.totals q i))))

@@ -9,7 +9,12 @@ use Rattle.sw_book.proofs.book.Book.reverse.Goals as goal
 
 pub overflow_sub-given_back : goal.overflow_sub-given_back
 overflow_sub-given_back c =
-    omega (arith, spent_there _ _ _ _ _ c.self.invariant _ (sym c.in-Some-get.ensures.value), used_spent c.in-Some-get.found.now c.in-Used.is, ap (λ (z : Totals). z.used) c.totals_of-totals.ensures)
+    omega (
+      arith,
+      spent_there _ _ _ _ _ c.self.invariant _ (sym c.in-Some-get.ensures.value),
+      used_spent c.in-Some-get.found.now c.in-Used.is,
+      ap (λ (z : Totals). z.used) c.totals_of-totals.ensures,
+    )
 
 pub replace_totals-requires : goal.replace_totals-requires
 replace_totals-requires c = some_from _ (has_totals _ _ _ _ _ c.self.invariant _ (sym c.in-Some-get.ensures.value))
@@ -28,5 +33,7 @@ invariant_of-self c =
     let enough = spent_there inside.limit c.in-Some.id.now inside.items.entries (get key_eq inside.ids) t c.self.invariant u is in
     let s : Totals = record { used = T.used - u.amount; reserved = T.reserved } in
     subst (λ (z : Items). IsBook inside.limit z (get key_eq inside.ids) (get card_eq c.replace_totals.new.totals)) (sym c.replace_item.ensures)
-    (keeps_set inside.limit c.in-Some.id.now inside.items.entries (get key_eq inside.ids) t c.self.invariant u is s (get card_eq c.replace_totals.new.totals) c.replace_totals.ensures
-    (omega (arith, used, reserved, enough, held, spent)) (in_state Reversed u) refl refl (omega (arith, used, spent, enough, held)) (omega (arith, reserved, held, enough, spent)))
+    (keeps_set inside.limit c.in-Some.id.now inside.items.entries (get key_eq inside.ids) t c.self.invariant u is s
+    (get card_eq c.replace_totals.new.totals) c.replace_totals.ensures
+    (omega (arith, used, reserved, enough, held, spent)) (in_state Reversed u) refl refl (omega (arith, used, spent, enough, held))
+    (omega (arith, reserved, held, enough, spent)))

@@ -9,10 +9,18 @@ use Rattle.sw_book.proofs.book.Book.settle.Goals as goal
 
 pub overflow_sub-spent : goal.overflow_sub-spent
 overflow_sub-spent c =
-    omega (arith, held_there _ _ _ _ _ c.self.invariant _ (sym c.in-Some.ensures.value), open_held c.in-Some.found.now c.in-Open.is, ap (λ (z : Totals). z.reserved) c.totals_of-totals.ensures)
+    omega (
+      arith,
+      held_there _ _ _ _ _ c.self.invariant _ (sym c.in-Some.ensures.value),
+      open_held c.in-Some.found.now c.in-Open.is,
+      ap (λ (z : Totals). z.reserved) c.totals_of-totals.ensures,
+    )
 
 pub overflow_add-spent : goal.overflow_add-spent
-overflow_add-spent c = let within = sums_small _ _ _ _ _ c.self.invariant _ (sym c.in-Some.ensures.value) in let held = held_there _ _ _ _ _ c.self.invariant _ (sym c.in-Some.ensures.value) in let is = open_held c.in-Some.found.now c.in-Open.is in let used = ap (λ (z : Totals). z.used) c.totals_of-totals.ensures in let reserved = ap (λ (z : Totals). z.reserved) c.totals_of-totals.ensures in omega (arith, within, held, is, used, reserved, c.self.invariant.small)
+overflow_add-spent c = let within = sums_small _ _ _ _ _ c.self.invariant _ (sym c.in-Some.ensures.value) in let held =
+    held_there _ _ _ _ _ c.self.invariant _ (sym c.in-Some.ensures.value) in let is = open_held c.in-Some.found.now c.in-Open.is in let used =
+    ap (λ (z : Totals). z.used) c.totals_of-totals.ensures in let reserved = ap (λ (z : Totals). z.reserved) c.totals_of-totals.ensures in
+    omega (arith, within, held, is, used, reserved, c.self.invariant.small)
 
 pub replace_totals-requires : goal.replace_totals-requires
 replace_totals-requires c = some_from _ (has_totals _ _ _ _ _ c.self.invariant _ (sym c.in-Some.ensures.value))
@@ -31,5 +39,7 @@ invariant_of-self c =
     let enough = held_there inside.limit c.args.id inside.items.entries (get key_eq inside.ids) t c.self.invariant u is in
     let s : Totals = record { used = T.used + u.amount; reserved = T.reserved - u.amount } in
     subst (λ (z : Items). IsBook inside.limit z (get key_eq inside.ids) (get card_eq c.replace_totals.new.totals)) (sym c.replace_item.ensures)
-    (keeps_set inside.limit c.args.id inside.items.entries (get key_eq inside.ids) t c.self.invariant u is s (get card_eq c.replace_totals.new.totals) c.replace_totals.ensures
-    (omega (arith, used, reserved, enough, held, spent)) (in_state Used u) refl refl (omega (arith, used, spent, enough, held)) (omega (arith, reserved, held, enough, spent)))
+    (keeps_set inside.limit c.args.id inside.items.entries (get key_eq inside.ids) t c.self.invariant u is s (get card_eq c.replace_totals.new.totals)
+    c.replace_totals.ensures
+    (omega (arith, used, reserved, enough, held, spent)) (in_state Used u) refl refl (omega (arith, used, spent, enough, held))
+    (omega (arith, reserved, held, enough, spent)))

@@ -19,4 +19,5 @@ returns-else-eq t c = λ es are l h.
     c.has_name.ensures first.0 (subst (λ (z : Pairs). AreEntries z) first.1 are).2 (omega (arith, first.2)) first.3 ∙ sym later
 
 pub returns-in-None : goal.returns-in-None
-returns-in-None t c = λ es are l h. let some : 0 < c.args.count = omega arith in absurd (spells-none c.args.bytes.now c.args.count some c.in-None.ensures.none es are l h)
+returns-in-None t c = λ es are l h. let some : 0 < c.args.count = omega arith in
+    absurd (spells-none c.args.bytes.now c.args.count some c.in-None.ensures.none es are l h)

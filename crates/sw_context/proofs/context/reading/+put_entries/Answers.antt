@@ -16,7 +16,8 @@ returns-in_ok-put-in-Some t c = λ es is l h.
     let put = c.in_ok-put-in-Some.ensures.put ∙ (put-next old e first.0 whole).1 in
     let joined : c.put.new.self ++ first.0 ≡ old ++ es =
     ap (λ (z : Pairs). z ++ first.0) put ∙ append_assoc old (e ∷ []) first.0 ∙ ap (λ (z : Pairs). old ++ z) (sym first.1) in
-    MatchResult-weaker c.put_entries.result {P = λ _. c.put_entries.new.context ≡ c.put.new.self ++ first.0} {P' = λ _. c.put_entries.new.context ≡ old ++ es} {Q = λ e. e ≡ OutOfMemory} {Q' = λ e. e ≡ OutOfMemory}
+    MatchResult-weaker c.put_entries.result {P = λ _. c.put_entries.new.context ≡ c.put.new.self ++ first.0} {P' =
+    λ _. c.put_entries.new.context ≡ old ++ es} {Q = λ e. e ≡ OutOfMemory} {Q' = λ e. e ≡ OutOfMemory}
     (c.put_entries.ensures first.0 (subst (λ (z : Pairs). IsContext z) (sym joined) is) (omega (arith, first.2)) first.3)
     (λ _ done. done ∙ joined) (λ _ failed. failed)
 

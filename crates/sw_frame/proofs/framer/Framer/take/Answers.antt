@@ -12,12 +12,14 @@ returns-in_err-found c =
 
 pub invariant_of-self : goal.invariant_of-self
 invariant_of-self c =
-    IsHeld-after (c.deref.result.now ++ c.args.piece.now) (messages c.in_ok-found.found.messages.items) c.in_ok-found.found.held.items c.in_ok-found.found.failed c.in_ok-found.ensures
+    IsHeld-after (c.deref.result.now ++ c.args.piece.now) (messages c.in_ok-found.found.messages.items) c.in_ok-found.found.held.items
+    c.in_ok-found.found.failed c.in_ok-found.ensures
 
 pub returns : goal.returns
 returns c =
     let same : c.deref.result.now ≡ c.args.self.now.pending = c.deref.ensures.value ∙ ap (λ (s : State). s.pending) c.self.view_is in (
       c.requires.open,
-      subst (λ (z : List ℕ). Stream (z ++ c.args.piece.now) (messages c.in_ok-found.found.messages.items) (record { pending = c.in_ok-found.found.held.items; failed = c.in_ok-found.found.failed })) same c.in_ok-found.ensures,
+      subst (λ (z : List ℕ). Stream (z ++ c.args.piece.now) (messages c.in_ok-found.found.messages.items)
+          (record { pending = c.in_ok-found.found.held.items; failed = c.in_ok-found.found.failed })) same c.in_ok-found.ensures,
       framed-not-bad c.args.self.now.pending c.args.piece.now c.args.missing _ c.requires.whole,
     )

@@ -64,7 +64,8 @@ invariant_of-self-2 c =
     let next : c.in-Some-checked_add.next ≡ n + 1 = c.in-Some-checked_add.ensures.1 in
     let after : c.insert-2.new.self.entries ≡ es ++ (n, v) ∷ [] = c.in-Ok-insert.ensures.entries ∙ put_last 0 n v es c.self.invariant.rising in
     record {
-      rising = subst (λ (z : Numbered). Rise 0 z c.in-Some-checked_add.next) (sym after) (subst (λ z. Rise 0 (es ++ (n, v) ∷ []) z) (sym next) (rise_last 0 n v es c.self.invariant.rising));
+      rising = subst (λ (z : Numbered). Rise 0 z c.in-Some-checked_add.next) (sym after)
+          (subst (λ z. Rise 0 (es ++ (n, v) ∷ []) z) (sym next) (rise_last 0 n v es c.self.invariant.rising));
       own = subst (λ (z : Numbered). HaveOwnKeys z) (sym after) (own_last n v es none c.self.invariant.own);
       found = λ q. c.in-Ok-insert-2.ensures.updates.0 q
           ∙ ap (λ z. cond (key_eq k q) (Some n) z) (c.room.ensures.same q ∙ c.self.invariant.found q)
@@ -99,7 +100,8 @@ invariant_of-self-in_default-insert-2 c =
     let d = c.args.deadline in
     let es = c.self.inside.requests.entries in
     let none : Option Key = None in
-    subst (λ (z : Numbered). IsNumbered z (get key_eq c.room.new.numbers) (key_at pair_cmp c.remove.new.self) c.self.inside.next) (sym c.in_default-insert-2.ensures.err)
+    subst (λ (z : Numbered). IsNumbered z (get key_eq c.room.new.numbers) (key_at pair_cmp c.remove.new.self) c.self.inside.next)
+    (sym c.in_default-insert-2.ensures.err)
     (record {
       rising = c.self.invariant.rising;
       own = c.self.invariant.own;

@@ -7,5 +7,6 @@ use Rattle.tx_engine.proofs.engine.Engine.allow_ack.Goals as goal
 
 pub returns : goal.returns
 returns c =
-    let is = ack_tested (the_view c.self.inside) _ _ _ c.args.place true c.self.invariant c.self.view_is (sym c.contains_key.ensures ∙ c.if-not-contains_key.false) in
+    let is = ack_tested (the_view c.self.inside) _ _ _ c.args.place true c.self.invariant c.self.view_is
+    (sym c.contains_key.ensures ∙ c.if-not-contains_key.false) in
     subst (λ (o : Option EngineError). MatchResult c.allow_entry.result (λ _. o ≡ None) (λ e. o ≡ Some e)) (sym is) c.allow_entry.ensures

@@ -9,6 +9,8 @@ use Rattle.tx_engine.proofs.engine.Engine.answered.Goals as goal
 pub give-requires : goal.give-requires
 give-requires c =
     let went = c.in_ok-machine.ensures.after
-    ∙ ap (λ (x : List ℕ). next c.self.inside.code (tx_state c.self.inside.code c.in_ok-hold.hold.now.machine) (Answer c.args.byte x)) c.in_ok-spelled.ensures.bytes in
+    ∙ ap (λ (x : List ℕ). next c.self.inside.code (tx_state c.self.inside.code c.in_ok-hold.hold.now.machine) (Answer c.args.byte x))
+    c.in_ok-spelled.ensures.bytes in
     rw c.in_ok-spelled-2.ensures.bytes
-    (gives_answer (the_view c.self.inside) _ c.args.s c.args.byte _ c.in_ok-hold.hold.now c.in_ok-machine.machine c.self.inside.restored c.self.view_is c.in_ok-hold.ensures c.spelled.ensures.spelled c.self.invariant.renewed c.in_ok-machine.ensures.sound went)
+    (gives_answer (the_view c.self.inside) _ c.args.s c.args.byte _ c.in_ok-hold.hold.now c.in_ok-machine.machine c.self.inside.restored c.self.view_is
+    c.in_ok-hold.ensures c.spelled.ensures.spelled c.self.invariant.renewed c.in_ok-machine.ensures.sound went)

@@ -9,7 +9,8 @@ pub at_slot-requires : goal.at_slot-requires
 at_slot-requires c =
     let lt : c.args.s < length c.self.inside.slots.items = omega arith in
     let u : World = the_view c.self.inside in
-    slot_sound u.flow u.start u.past c.args.s _ (slot_there u.flow u.start u.past c.self.inside.slots.items c.args.s _ c.self.invariant.sessions lt c.index.ensures)
+    slot_sound u.flow u.start u.past c.args.s _ (slot_there u.flow u.start u.past c.self.inside.slots.items c.args.s _ c.self.invariant.sessions lt
+    c.index.ensures)
 
 pub returns : goal.returns
 returns c =

@@ -5,4 +5,5 @@ use Rattle.tx_engine.proofs.engine.Engine.chose.Goals as goal
 pub give-requires : goal.give-requires
 give-requires c =
     rw c.in_ok-from_str.ensures
-    (gives_choice (the_view c.self.inside) _ c.args.s c.args.text.now c.in_ok-hold.hold.now c.in_ok-machine.machine c.self.inside.restored c.self.view_is c.in_ok-hold.ensures c.self.invariant.renewed c.in_ok-machine.ensures.sound c.in_ok-machine.ensures.after)
+    (gives_choice (the_view c.self.inside) _ c.args.s c.args.text.now c.in_ok-hold.hold.now c.in_ok-machine.machine c.self.inside.restored c.self.view_is
+    c.in_ok-hold.ensures c.self.invariant.renewed c.in_ok-machine.ensures.sound c.in_ok-machine.ensures.after)

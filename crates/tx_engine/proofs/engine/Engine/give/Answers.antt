@@ -18,7 +18,13 @@ put_both-requires c =
 
 pub invariant_of-self-in_err-put_both : goal.invariant_of-self-in_err-put_both
 invariant_of-self-in_err-put_both c =
-    rw (c.in_err-put_both.ensures.shelf_kept, c.in_err-put_both.ensures.advices_kept, c.in_ok-reserve_entry.ensures.entries, c.in_ok-reserve_entry.ensures.queue, c.in_ok-reserve_entry.ensures.reserved) c.self.invariant
+    rw (
+      c.in_err-put_both.ensures.shelf_kept,
+      c.in_err-put_both.ensures.advices_kept,
+      c.in_ok-reserve_entry.ensures.entries,
+      c.in_ok-reserve_entry.ensures.queue,
+      c.in_ok-reserve_entry.ensures.reserved,
+    ) c.self.invariant
 
 pub index_mut-requires : goal.index_mut-requires
 index_mut-requires c =
@@ -35,8 +41,17 @@ invariant_of-self-2 c =
     let slot = rw c.as_slice-rows.ensures at c.in_ok-ready.ensures.slot in
     let shelves = rw c.in_ok-ready.ensures.shelved at c.in_ok-put_both.ensures.shelf in
     let stores = rw c.in_ok-ready.ensures.advice at c.in_ok-put_both.ensures.advices in
-    rw (c.push_reserved.ensures.entries, c.push_reserved.ensures.queue, c.push_reserved.ensures.reserved, c.in_ok-reserve_entry.ensures.entries, c.in_ok-reserve_entry.ensures.queue, c.in_ok-reserve_entry.ensures.reserved)
-    (kept_given c.self.inside.code _ _ v _ _ _ _ c.args.given.session c.args.given.id _ c.args.given.machine _ _ _ _ _ _ _ _ c.self.invariant g n (length_set c.self.inside.slots.items c.args.given.session _) slot entry shelves stores c.goes_on-self-inside.ensures)
+    rw (
+      c.push_reserved.ensures.entries,
+      c.push_reserved.ensures.queue,
+      c.push_reserved.ensures.reserved,
+      c.in_ok-reserve_entry.ensures.entries,
+      c.in_ok-reserve_entry.ensures.queue,
+      c.in_ok-reserve_entry.ensures.reserved,
+    )
+    (kept_given c.self.inside.code _ _ v _ _ _ _ c.args.given.session c.args.given.id _ c.args.given.machine _ _ _ _ _ _ _ _ c.self.invariant g n
+    (length_set c.self.inside.slots.items c.args.given.session _) slot entry shelves stores c.goes_on-self-inside.ensures)
 
 pub invariant_of-self : goal.invariant_of-self
-invariant_of-self c = rw (c.in_err-reserve_entry.ensures.entries, c.in_err-reserve_entry.ensures.queue, c.in_err-reserve_entry.ensures.reserved) c.self.invariant
+invariant_of-self c = rw (c.in_err-reserve_entry.ensures.entries, c.in_err-reserve_entry.ensures.queue, c.in_err-reserve_entry.ensures.reserved)
+    c.self.invariant

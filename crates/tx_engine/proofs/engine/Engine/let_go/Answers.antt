@@ -14,4 +14,5 @@ invariant_of-self-2 c =
     let x = slot_there w.flow w.start w.past c.self.inside.slots.items c.args.s _ c.self.invariant.sessions lt c.index_mut.ensures.value in
     let n : c.len-number.result + 1 ≡ length c.self.inside.lists.entries.items + 1 = omega arith in
     rw (c.let_slot_go.ensures, c.in_ok-push.ensures.entries, c.in_ok-push.ensures.queue, c.in_ok-push.ensures.reserved, c.no_change.ensures)
-    (kept_step _ _ _ _ _ _ _ _ _ _ _ _ c.self.invariant can.few n (length_set c.self.inside.slots.items c.args.s _) (steps_let_go _ _ _ _ _ _ _ c.args.s _ can.held x c.self.invariant))
+    (kept_step _ _ _ _ _ _ _ _ _ _ _ _ c.self.invariant can.few n (length_set c.self.inside.slots.items c.args.s _)
+    (steps_let_go _ _ _ _ _ _ _ c.args.s _ can.held x c.self.invariant))

@@ -9,5 +9,12 @@ invariant_of-self c =
     let few : length c.self.inside.lists.entries.items < 1048576 = spare_entry (the_view c.self.inside) _ _ c.self.view_is refl c.requires in
     let n : c.len-number.result + 1 ≡ length c.self.inside.lists.entries.items + 1 = omega arith in
     let k = kept_reserved _ _ _ _ _ _ c.push_offer.new.self.reserved _ c.self.invariant in
-    rw (c.push_offer.ensures.entries, c.push_offer.ensures.queue, c.into_parts-event.ensures.event, c.into_parts-event.ensures.waiting, c.retries.ensures.retries, c.no_change.ensures)
+    rw (
+      c.push_offer.ensures.entries,
+      c.push_offer.ensures.queue,
+      c.into_parts-event.ensures.event,
+      c.into_parts-event.ensures.waiting,
+      c.retries.ensures.retries,
+      c.no_change.ensures,
+    )
     (kept_step _ _ _ _ _ _ _ _ _ _ _ _ k few n refl (steps_offered _ _ _ _ _ _ _ _ c.into_parts-event.ensures.spelled k))

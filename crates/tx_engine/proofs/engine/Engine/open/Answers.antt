@@ -19,13 +19,27 @@ invariant_of-result c =
     let few : c.args.sessions ≤ 16 = omega arith in
     let is = rw c.as_slice-rows.ensures at (c.in_ok-closings.ensures c.args.code.now (first_start c.args.view.now)) in
     let next = rw c.as_slice-rows.ensures at (c.in_ok-first_slot.ensures) in
-    let many : length c.in_ok-slots.slots.items ≡ c.args.sessions = ap (λ (l : List Slot). length l) (c.in_ok-slots.ensures) ∙ sessions_are c.args.sessions c.in_ok-first_slot.first_slot in
-    rw c.new-lists.ensures.reserved (kept_made c.args.code.now _ c.args.view.now _ c.args.sessions _ _ c.in_ok-first_slot.first_slot _ _ _ _ _ _ _ _ fits st some few (c.new-lists.ensures.entries ∙ is) next
-    (c.in_ok-code.ensures) (c.in_ok-first.ensures) many (c.new-2.ensures ∙ c.new.ensures.items) (c.new-4.ensures ∙ c.new-3.ensures.items) (c.in_ok-slots.ensures) c.new-lists.ensures.queue
-    (c.in_ok-shelf.ensures ∙ c.as_slice.ensures) (c.in_ok-advices.ensures ∙ c.as_slice-2.ensures) (c.in_ok-breaks.ensures ∙ ap (λ (ps : List Part). replicate (length ps) false) c.participants.ensures.participants) c.is_holding-recovering.ensures)
+    let many : length c.in_ok-slots.slots.items ≡ c.args.sessions = ap (λ (l : List Slot). length l) (c.in_ok-slots.ensures) ∙ sessions_are c.args.sessions
+    c.in_ok-first_slot.first_slot in
+    rw c.new-lists.ensures.reserved (kept_made c.args.code.now _ c.args.view.now _ c.args.sessions _ _ c.in_ok-first_slot.first_slot _ _ _ _ _ _ _ _ fits st
+    some few (c.new-lists.ensures.entries ∙ is) next
+    (c.in_ok-code.ensures) (c.in_ok-first.ensures) many (c.new-2.ensures ∙ c.new.ensures.items) (c.new-4.ensures ∙ c.new-3.ensures.items)
+    (c.in_ok-slots.ensures) c.new-lists.ensures.queue
+    (c.in_ok-shelf.ensures ∙ c.as_slice.ensures) (c.in_ok-advices.ensures ∙ c.as_slice-2.ensures)
+    (c.in_ok-breaks.ensures ∙ ap (λ (ps : List Part). replicate (length ps) false) c.participants.ensures.participants) c.is_holding-recovering.ensures)
 
 pub returns-clause-opened : goal.returns-clause-opened
 returns-clause-opened c =
     let is = rw c.as_slice-rows.ensures at (c.in_ok-closings.ensures c.args.code.now (first_start c.args.view.now)) in
-    rw (c.in_ok-code.ensures, c.in_ok-first.ensures, c.new-2.ensures, c.new.ensures.items, c.new-4.ensures, c.new-3.ensures.items, c.in_ok-slots.ensures, c.new-lists.ensures.reserved)
-    (world_opened c.args.code.now c.args.view.now c.args.sessions _ _ (sessions_are c.args.sessions c.in_ok-first_slot.first_slot) (c.new-lists.ensures.entries ∙ is))
+    rw (
+      c.in_ok-code.ensures,
+      c.in_ok-first.ensures,
+      c.new-2.ensures,
+      c.new.ensures.items,
+      c.new-4.ensures,
+      c.new-3.ensures.items,
+      c.in_ok-slots.ensures,
+      c.new-lists.ensures.reserved,
+    )
+    (world_opened c.args.code.now c.args.view.now c.args.sessions _ _ (sessions_are c.args.sessions c.in_ok-first_slot.first_slot)
+    (c.new-lists.ensures.entries ∙ is))

@@ -8,5 +8,11 @@ pub invariant_of-self-2 : goal.invariant_of-self-2
 invariant_of-self-2 c =
     let few : length c.self.inside.lists.entries.items < 1048576 = entry_room (the_view c.self.inside) _ _ c.self.view_is refl c.in_ok-allow_entry.ensures in
     let n : c.len-number.result + 1 ≡ length c.self.inside.lists.entries.items + 1 = omega arith in
-    rw (c.in_ok-release.ensures.entries, c.in_ok-release.ensures.queue, c.in_ok-release.ensures.shelf, c.in_ok-release.ensures.reserved, c.emptied_shelf.ensures)
+    rw (
+      c.in_ok-release.ensures.entries,
+      c.in_ok-release.ensures.queue,
+      c.in_ok-release.ensures.shelf,
+      c.in_ok-release.ensures.reserved,
+      c.emptied_shelf.ensures,
+    )
     (kept_step _ _ _ _ _ _ _ _ _ _ _ _ c.self.invariant few n refl (steps_released _ _ _ _ _ _ _ c.self.invariant))

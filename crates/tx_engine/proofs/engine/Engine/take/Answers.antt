@@ -31,9 +31,19 @@ invariant_of-self-2 c =
     let context : c.into_vec.result.items ≡ c.in_ok-first.first.now.context = c.into_vec.ensures ∙ c.in_ok-saved.ensures in
     let began : tx_state c.self.inside.code c.start-machine.result ≡ opening c.self.inside.code c.in_ok-first.first.now.tries c.in_ok-first.first.now.context =
     c.start-machine.ensures.state ∙ ap (λ (x : List ℕ). opening c.self.inside.code c.in_ok-first.first.now.tries x) context in
-    rw (c.pop_first.ensures.entries, c.pop_first.ensures.queue, c.pop_first.ensures.reserved, c.in_ok-push.ensures.entries, c.in_ok-push.ensures.queue, c.in_ok-push.ensures.reserved, c.taken_change.ensures, c.in_ok-row.ensures)
+    rw (
+      c.pop_first.ensures.entries,
+      c.pop_first.ensures.queue,
+      c.pop_first.ensures.reserved,
+      c.in_ok-push.ensures.entries,
+      c.in_ok-push.ensures.queue,
+      c.in_ok-push.ensures.reserved,
+      c.taken_change.ensures,
+      c.in_ok-row.ensures,
+    )
     (kept_step _ _ _ _ _ _ _ _ _ _ _ _ c.self.invariant can.few n (length_set c.self.inside.slots.items c.args.s _)
-    (steps_taken _ _ _ _ _ _ _ c.args.s _ c.in_ok-first.first.now c.start-machine.result _ c.self.invariant can n c.start-machine.ensures.sound began c.slot_for.ensures))
+    (steps_taken _ _ _ _ _ _ _ c.args.s _ c.in_ok-first.first.now c.start-machine.result _ c.self.invariant can n c.start-machine.ensures.sound began
+    c.slot_for.ensures))
 
 pub returns : goal.returns
 returns c =
@@ -43,11 +53,13 @@ returns c =
     let reserved = c.pop_first.ensures.reserved ∙ c.in_ok-push.ensures.reserved in
     let long = length_set c.self.inside.slots.items c.args.s c.slot_for.result in
     let counted : c.len-number.result + 1 ≡ length c.self.inside.lists.entries.items + 1 = omega arith in
-    let number : c.len-number.result + 1 ≡ length (past_of c.self.inside.lists.entries.items) + 1 = counted ∙ ap (λ (n : ℕ). n + 1) (sym (length_past c.self.inside.lists.entries.items)) in
+    let number : c.len-number.result + 1 ≡ length (past_of c.self.inside.lists.entries.items) + 1 =
+    counted ∙ ap (λ (n : ℕ). n + 1) (sym (length_past c.self.inside.lists.entries.items)) in
     accepted _ _ _ _ _ c.in_ok-first.ensures.allowed (record {
       recorded = record {
         number_is = number ∙ ap (λ (w : World). length w.past + 1) view;
-        history = (λ i. record (the_view c.self.inside) { sessions = long i; past = past i; reserved = reserved i }) ∙ ap (λ w. happened w (Taken c.args.s)) view;
+        history = (λ i. record (the_view c.self.inside) { sessions = long i; past = past i; reserved = reserved i }) ∙ ap (λ w. happened w (Taken c.args.s))
+            view;
       };
       id_is = c.self.invariant.numbered ∙ ap (λ (w : World). next_id w.start w.past) view;
       context_is = ap (option_map (λ (w : Waiting). w.context)) c.in_ok-first.ensures.first_is ∙ ap Some (sym c.as_slice.ensures ∙ c.in-Ok.ensures.1);

@@ -9,4 +9,5 @@ returns-in_err-test_names c =
 
 pub returns-in-Some : goal.returns-in-Some
 returns-in-Some c =
-    rw c.in-Some.is (rw (doing_told c.args.code.now c.args.id c.args.row.now c.in-Some.name (rw c.as_slice.ensures at (c.in_ok-test_names.ensures))) c.test_name.ensures)
+    rw c.in-Some.is (rw (doing_told c.args.code.now c.args.id c.args.row.now c.in-Some.name (rw c.as_slice.ensures at (c.in_ok-test_names.ensures)))
+    c.test_name.ensures)

@@ -16,4 +16,8 @@ pub returns : goal.returns
 returns c = c.in_ok-spelled.ensures.bytes
 
 pub invariant_of-result : goal.invariant_of-result
-invariant_of-result c = (c.in_ok-spelled-2.ensures.bytes ∙ sym c.in_ok-spelled.ensures.bytes, subst IsSpelled (sym c.in_ok-spelled.ensures.bytes) c.spelled.ensures.spelled)
+invariant_of-result c = (
+  c.in_ok-spelled-2.ensures.bytes ∙ sym c.in_ok-spelled.ensures.bytes,
+  subst IsSpelled (sym c.in_ok-spelled.ensures.bytes)
+      c.spelled.ensures.spelled,
+)

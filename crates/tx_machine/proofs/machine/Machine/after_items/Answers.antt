@@ -14,15 +14,18 @@ at_item xs i x within is =
     let one : suc i ≡ i + 1 = omega arith in
     drop-cons xs i x within ∙ (ap (λ (y : Item). y ∷ drop (suc i) xs) (sym is) ∙ ap (λ (n : ℕ). x ∷ drop n xs) one)
 
-after_next : (f : Flow) (s t all : TxState) (xs : List Item) (i : ℕ) (x : Item) → drop i xs ≡ x ∷ drop (i + 1) xs → t ≡ next f s x → after f s (drop i xs) ≡ all → after f t (drop (i + 1) xs) ≡ all
+after_next : (f : Flow) (s t all : TxState) (xs : List Item) (i : ℕ) (x : Item) → drop i xs ≡ x ∷ drop (i + 1) xs → t ≡ next f s x →
+    after f s (drop i xs) ≡ all → after f t (drop (i + 1) xs) ≡ all
 after_next f s t all xs i x there taken before = ap (λ (u : TxState). after f u (drop (i + 1) xs)) taken ∙ (sym (ap (after f s) there) ∙ before)
 
-lawful_next : (f : Flow) (s t : TxState) (all : Bool) (xs : List Item) (i : ℕ) (x : Item) → drop i xs ≡ x ∷ drop (i + 1) xs → t ≡ next f s x → is_due s x ≡ true → is_lawful f s (drop i xs) ≡ all → is_lawful f t (drop (i + 1) xs) ≡ all
+lawful_next : (f : Flow) (s t : TxState) (all : Bool) (xs : List Item) (i : ℕ) (x : Item) → drop i xs ≡ x ∷ drop (i + 1) xs → t ≡ next f s x →
+    is_due s x ≡ true → is_lawful f s (drop i xs) ≡ all → is_lawful f t (drop (i + 1) xs) ≡ all
 lawful_next f s t all xs i x there taken due before =
     ap (λ (u : TxState). is_lawful f u (drop (i + 1) xs)) taken
     ∙ (sym (ap (λ (b : Bool). b && is_lawful f (next f s x) (drop (i + 1) xs)) due) ∙ (sym (ap (is_lawful f s) there) ∙ before))
 
-lawful_never : (f : Flow) (s : TxState) (all : Bool) (xs : List Item) (i : ℕ) (x : Item) → drop i xs ≡ x ∷ drop (i + 1) xs → is_due s x ≡ false → is_lawful f s (drop i xs) ≡ all → all ≡ false
+lawful_never : (f : Flow) (s : TxState) (all : Bool) (xs : List Item) (i : ℕ) (x : Item) → drop i xs ≡ x ∷ drop (i + 1) xs → is_due s x ≡ false →
+    is_lawful f s (drop i xs) ≡ all → all ≡ false
 lawful_never f s all xs i x there due before =
     sym before ∙ (ap (is_lawful f s) there ∙ ap (λ (b : Bool). b && is_lawful f (next f s x) (drop (i + 1) xs)) due)
 
@@ -42,21 +45,26 @@ loop-item-preserved c =
     let took = c.in_ok-apply.ensures in
     record {
       sound = took.sound;
-      stands = after_next c.args.code.now (tx_state c.args.code.now c.loop-item.machine) (tx_state c.args.code.now c.apply.new.self) _ c.args.items.now c.loop-item.item-index c.item-item.result there took.taken c.loop-item.invariant.stands;
-      laws = lawful_next c.args.code.now (tx_state c.args.code.now c.loop-item.machine) (tx_state c.args.code.now c.apply.new.self) _ c.args.items.now c.loop-item.item-index c.item-item.result there took.taken took.due c.loop-item.invariant.laws;
+      stands = after_next c.args.code.now (tx_state c.args.code.now c.loop-item.machine) (tx_state c.args.code.now c.apply.new.self) _ c.args.items.now
+          c.loop-item.item-index c.item-item.result there took.taken c.loop-item.invariant.stands;
+      laws = lawful_next c.args.code.now (tx_state c.args.code.now c.loop-item.machine) (tx_state c.args.code.now c.apply.new.self) _ c.args.items.now
+          c.loop-item.item-index c.item-item.result there took.taken took.due c.loop-item.invariant.laws;
     }
 
 pub returns-clause-sound : goal.returns-clause-sound
 returns-clause-sound c = c.loop-item.invariant.sound
 
 pub returns-clause-state : goal.returns-clause-state
-returns-clause-state c = sym (ap (after c.args.code.now (tx_state c.args.code.now c.loop-item.machine)) (drop_of_length-le c.args.items.now c.loop-item-test.false)) ∙ c.loop-item.invariant.stands
+returns-clause-state c = sym (ap (after c.args.code.now (tx_state c.args.code.now c.loop-item.machine))
+    (drop_of_length-le c.args.items.now c.loop-item-test.false)) ∙ c.loop-item.invariant.stands
 
 pub returns-clause-lawful : goal.returns-clause-lawful
-returns-clause-lawful c = sym c.loop-item.invariant.laws ∙ ap (is_lawful c.args.code.now (tx_state c.args.code.now c.loop-item.machine)) (drop_of_length-le c.args.items.now c.loop-item-test.false)
+returns-clause-lawful c = sym c.loop-item.invariant.laws ∙ ap (is_lawful c.args.code.now (tx_state c.args.code.now c.loop-item.machine))
+    (drop_of_length-le c.args.items.now c.loop-item-test.false)
 
 pub returns-in_err-apply-clause-not_due : goal.returns-in_err-apply-clause-not_due
 returns-in_err-apply-clause-not_due c =
     let p = err_from_is_err_and c.from_residual.result c.from_residual.ensures.1 in
     let there = at_item c.args.items.now c.loop-item.item-index c.item-item.result c.loop-item-test.true c.item-item.is in
-    rw p.1 (λ told. lawful_never c.args.code.now (tx_state c.args.code.now c.loop-item.machine) _ c.args.items.now c.loop-item.item-index c.item-item.result there (c.in_err-apply.ensures.not_due (sym p.2 ∙ told)) c.loop-item.invariant.laws)
+    rw p.1 (λ told. lawful_never c.args.code.now (tx_state c.args.code.now c.loop-item.machine) _ c.args.items.now c.loop-item.item-index c.item-item.result
+    there (c.in_err-apply.ensures.not_due (sym p.2 ∙ told)) c.loop-item.invariant.laws)

@@ -9,7 +9,18 @@ use Rattle.tx_machine.proofs.machine.Machine.copy.Goals.{In_ok-saved}
 abbrev made : In_ok-saved → Machine
 made c =
     let m = c.args.self.now in
-    record { phase = m.phase; step = m.step; stack = c.in_ok-stack.stack; retry = m.retry; bound = m.bound; calls = m.calls; joined = c.in_ok-joined.joined; told = m.told; tries = m.tries; saved = c.in_ok-saved.saved }
+    record {
+      phase = m.phase;
+      step = m.step;
+      stack = c.in_ok-stack.stack;
+      retry = m.retry;
+      bound = m.bound;
+      calls = m.calls;
+      joined = c.in_ok-joined.joined;
+      told = m.told;
+      tries = m.tries;
+      saved = c.in_ok-saved.saved;
+    }
 
 same : (c : In_ok-saved) → IsSame c.args.self.now (made c)
 same c = record {

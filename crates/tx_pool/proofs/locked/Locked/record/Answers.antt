@@ -12,5 +12,10 @@ invariant_of-self-in-Ok-enter g c =
     let p = core i.running.engine i.running.seats in
     let q = core j.engine j.seats in
     let m = made c.args.call.now c.args.reply c.in-Ok-enter.before c.in-Ok.left in
-    let e = subst (λ y. Entered p c.args.session.now.index c.args.call.now c.args.reply c.in-Ok-enter.before y c.in-Ok-enter.number q) (sym c.in-Ok.ensures) c.in-Ok-enter.ensures.entered in
-    (since_reply g.K.Run.start p q i.getter.passed i.book.total c.add.new.self.total i.made.items c.push_reserved.new.self.items c.args.session.now.index c.in-Ok-enter.number m c.self.invariant.0 e c.is_engine.ensures.engine c.add.ensures.total (c.push_reserved.ensures.items ∙ ap (λ l. l ++ m ∷ []) c.reserve-2.ensures.items), c.self.invariant.1)
+    let e = subst (λ y. Entered p c.args.session.now.index c.args.call.now c.args.reply c.in-Ok-enter.before y c.in-Ok-enter.number q) (sym c.in-Ok.ensures)
+    c.in-Ok-enter.ensures.entered in (
+      since_reply g.K.Run.start p q i.getter.passed i.book.total c.add.new.self.total i.made.items c.push_reserved.new.self.items c.args.session.now.index
+          c.in-Ok-enter.number m c.self.invariant.0 e c.is_engine.ensures.engine c.add.ensures.total
+          (c.push_reserved.ensures.items ∙ ap (λ l. l ++ m ∷ []) c.reserve-2.ensures.items),
+      c.self.invariant.1,
+    )

@@ -5,8 +5,11 @@ use Rattle.tx_pool.proofs.Handed.{drove_whole, early_is, early_memory, same_leng
 use Rattle.tx_pool.proofs.pool.Pool.run.Goals as goal
 
 pub returns-in-Err-clause-refused : goal.returns-in-Err-clause-refused
-returns-in-Err-clause-refused g c =
-    (refl, early_is (is_broken c.args.plant.running.engine) (is_in_use c.args.plant.running.engine) (not (nat_le 1 c.args.capacity && nat_le c.args.capacity 4096)) c.in-Err.cause (rw c.engine.ensures at c.in-Err.ensures))
+returns-in-Err-clause-refused g c = (
+  refl,
+  early_is (is_broken c.args.plant.running.engine) (is_in_use c.args.plant.running.engine)
+      (not (nat_le 1 c.args.capacity && nat_le c.args.capacity 4096)) c.in-Err.cause (rw c.engine.ensures at c.in-Err.ensures),
+)
 
 pub returns-in-Err-make_needs-clause-refused : goal.returns-in-Err-make_needs-clause-refused
 returns-in-Err-make_needs-clause-refused g c =

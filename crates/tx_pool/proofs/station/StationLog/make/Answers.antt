@@ -15,10 +15,22 @@ invariant_of-self-2 g c =
     let reply = c.in_ok-reply.reply in
     let x = made call reply c.in_ok-before.before c.make.new.context in
     let log = c.push_reserved.ensures.items ∙ ap (λ l. l ++ x ∷ []) c.in_ok-reserve.ensures.items in
-    let performed = subst (λ z. g.C.Caller.rule old call.id call.act (g.C.Caller.object old) z reply (g.C.Caller.object new) c.make.new.context) (sym c.in_ok-before.ensures) c.in_ok-reply.ensures.performed in
-    (subst (λ l. IsStation first o n (g.C.Caller.rule new) (g.C.Caller.object new) c.saturating_add-self-inside.result l) (sym log) (station_more first o (g.C.Caller.object old) (g.C.Caller.object new) n i.calls c.saturating_add-self-inside.result (g.C.Caller.rule old) (g.C.Caller.rule new) i.log.items x c.self.invariant.0 c.in_ok-reply.ensures.within performed c.saturating_add-self-inside.ensures), c.self.invariant.1)
+    let performed = subst (λ z. g.C.Caller.rule old call.id call.act (g.C.Caller.object old) z reply (g.C.Caller.object new) c.make.new.context)
+    (sym c.in_ok-before.ensures) c.in_ok-reply.ensures.performed in (
+      subst (λ l. IsStation first o n (g.C.Caller.rule new) (g.C.Caller.object new) c.saturating_add-self-inside.result l) (sym log)
+          (station_more first o (g.C.Caller.object old) (g.C.Caller.object new) n i.calls c.saturating_add-self-inside.result (g.C.Caller.rule old)
+          (g.C.Caller.rule new) i.log.items x c.self.invariant.0 c.in_ok-reply.ensures.within performed c.saturating_add-self-inside.ensures),
+      c.self.invariant.1,
+    )
 
 pub returns : goal.returns
 returns g c =
     let x = made c.args.call.now c.in_ok-reply.reply c.in_ok-before.before c.make.new.context in
-    record { made = (x, c.push_reserved.ensures.items ∙ ap (λ l. l ++ x ∷ []) (c.in_ok-reserve.ensures.items ∙ ap (λ z. z.log) c.self.view_is), refl, c.in_ok-before.ensures) }
+    record {
+      made = (
+        x,
+        c.push_reserved.ensures.items ∙ ap (λ l. l ++ x ∷ []) (c.in_ok-reserve.ensures.items ∙ ap (λ z. z.log) c.self.view_is),
+        refl,
+        c.in_ok-before.ensures,
+      );
+    }

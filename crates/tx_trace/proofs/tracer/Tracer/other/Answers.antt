@@ -13,11 +13,15 @@ returns-in-Some c =
     let f : Flow = c.args.engine.now.flow in
     let past : List Event = earlier c.args.self.now.done c.args.engine.now.past in
     answered_so _ (IsTraced f c.args.engine.now.start past c.args.entry.now.event) c.begun.result
-    (λ t begun. taken_traced f c.args.engine.now.start past c.args.entry.now.event c.args.entry.now.change c.in-Taken.session c.in-Some.id c.in-Some.row t c.in-Taken.is c.requires.next.start.view.ordered c.requires.next.lawful c.requires.next.change c.in-Some.is
-    (subst (λ (f : Flow). (tries : ℕ) (saved : List ℕ) → c.in-Some.row ≡ row f (opening f tries saved) → IsBegun f c.in-Some.id c.in-Taken.session (opening f tries saved) t) c.code-code.ensures begun))
+    (λ t begun. taken_traced f c.args.engine.now.start past c.args.entry.now.event c.args.entry.now.change c.in-Taken.session c.in-Some.id c.in-Some.row t
+    c.in-Taken.is c.requires.next.start.view.ordered c.requires.next.lawful c.requires.next.change c.in-Some.is
+    (subst (λ (f : Flow). (tries : ℕ) (saved : List ℕ) → c.in-Some.row ≡ row f (opening f tries saved) →
+    IsBegun f c.in-Some.id c.in-Taken.session (opening f tries saved) t) c.code-code.ensures begun))
     c.begun.ensures
 
 pub returns-in_default : goal.returns-in_default
 returns-in_default c =
-    other_traced c.args.engine.now.flow c.args.engine.now.start (earlier c.args.self.now.done c.args.engine.now.past) c.args.entry.now.event c.plain-in_default.result c.args.self.now.shelved c.requires.next.start.view.ordered c.requires.next.lawful c.requires.other c.in_default.not-Taken c.requires.next.tracks.shelved
+    other_traced c.args.engine.now.flow c.args.engine.now.start (earlier c.args.self.now.done c.args.engine.now.past) c.args.entry.now.event
+    c.plain-in_default.result c.args.self.now.shelved c.requires.next.start.view.ordered c.requires.next.lawful c.requires.other c.in_default.not-Taken
+    c.requires.next.tracks.shelved
     c.plain-in_default.ensures.shown c.plain-in_default.ensures.moved

@@ -1,7 +1,0 @@
-use Rattle.std.proofs.Common.{◌≡◌, ◌++◌, drop}
-use Rattle.std.specs.List.{flat_map}
-use Rattle.cli_journal.specs.Json.{advice_json}
-use Rattle.cli_journal.proofs.json_items.push_advices.Given as goal
-
-abbrev pub invariant-loop-advice : goal.invariant-loop-advice
-invariant-loop-advice l = l.text.items ++ flat_map (advice_json l.masking l.next_id) (drop l.advice-index l.advices) ≡ l.fn.text.items ++ flat_map (advice_json l.masking l.next_id) l.advices

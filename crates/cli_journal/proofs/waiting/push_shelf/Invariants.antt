@@ -1,7 +1,0 @@
-use Rattle.std.proofs.Common.{◌≡◌, ◌++◌, drop}
-use Rattle.std.specs.List.{flat_map}
-use Rattle.cli_journal.specs.Shown.{shelf_text}
-use Rattle.cli_journal.proofs.waiting.push_shelf.Given as goal
-
-abbrev pub invariant-loop-waiting : goal.invariant-loop-waiting
-invariant-loop-waiting l = l.text.items ++ flat_map (shelf_text l.masking) (drop l.waiting-index l.shelf) ≡ l.fn.text.items ++ flat_map (shelf_text l.masking) l.shelf
