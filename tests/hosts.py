@@ -30,8 +30,8 @@ from model import messages  # noqa: E402
 TOP = os.path.dirname(os.path.dirname(os.path.abspath(__file__)))
 EXAMPLES = os.path.join(TOP, "examples")
 HOST = os.path.join(EXAMPLES, "hosts", "host.py")
-# How long a query waits, in seconds, how long anything here may take, and what is at once on a busy machine.
-TIMEOUT, SECONDS, AT_ONCE = 1.5, 20, 1.1
+# How long a query waits, in seconds, how long anything here may take, how long a case, and what is at once on a busy machine.
+TIMEOUT, SECONDS, CASE, AT_ONCE = 1.5, 20, 120, 1.1
 CONFIG = """
 [[host]]
 name = "alpha"
@@ -76,7 +76,10 @@ class Wire:
 
     def read(self, seconds):
         ready, _, _ = select.select([self.reads], [], [], seconds)
-        return os.read(self.reads, 65_536) if ready else b""
+        # (an end that is closed is ready, and the switch may open it again before the read)
+        with contextlib.suppress(BlockingIOError):
+            return os.read(self.reads, 65_536) if ready else b""
+        return b""
 
     def come(self, seconds):
         """The next message from the switch, if one comes within so long."""
@@ -377,8 +380,11 @@ def echo(message):
 
 def asked(wire):
     """The next message that is no echo test; each of those is answered."""
+    until = time.monotonic() + SECONDS
     while (message := wire.get())[:4] == b"0800":
         wire.put(reply(message))
+        if time.monotonic() > until:
+            raise Wrong("nothing but echo tests came to the host")
     return message
 
 
@@ -445,20 +451,25 @@ class Player(threading.Thread):
 
     def __init__(self, wire):
         super().__init__(daemon=True)
-        self.wire, self.answered, self.came, self.over = wire, (), [], False
+        self.wire, self.answered, self.came, self.over, self.fault = wire, (), [], False, None
 
     def run(self):
-        while not self.over:
-            message = self.wire.come(0.05)
-            if message is not None:
-                self.came.append(message[:4])
-                if message[:4] in self.answered:
-                    self.wire.put(reply(message))
+        try:
+            while not self.over:
+                message = self.wire.come(0.05)
+                if message is not None:
+                    self.came.append(message[:4])
+                    if message[:4] in self.answered:
+                        # (an answer is lost where the switch has closed its end)
+                        with contextlib.suppress(BrokenPipeError):
+                            self.wire.put(reply(message))
+        except Exception as fault:  # pylint: disable=broad-except
+            self.fault = fault
 
 
 @contextlib.contextmanager
 def played(wire):
-    """A host that answers nothing yet."""
+    """A host that answers nothing yet. What goes wrong at the host is told after what goes wrong in the case."""
     player = Player(wire)
     player.start()
     try:
@@ -466,6 +477,8 @@ def played(wire):
     finally:
         player.over = True
         player.join()
+    if player.fault is not None:
+        raise Wrong(f"at the host: {player.fault!r}")
 
 
 def asked_for(run, stans, seconds):
@@ -487,14 +500,13 @@ def at_once(took):
 def back(run, player, stans, seconds):
     """The host answers all that comes: after so long at most it is asked again, and no request waits meanwhile."""
     began, player.answered = time.monotonic(), ANSWERED
-    while True:
+    while time.monotonic() - began < seconds:
         response = run.ask(request(next(stans), 400))
         at_once([response[2]])
         if response[1].get(38) == b"HOST42":
-            break
+            return
         time.sleep(0.05)
-    if time.monotonic() - began > seconds:
-        raise Wrong(f"the host was asked again after {time.monotonic() - began:.2f} seconds, wanted {seconds:.1f}")
+    raise Wrong(f"the host was not asked again within {seconds:.1f} seconds; it got {player.came[-5:]}, its fault: {player.fault!r}")
 
 
 def silent_and_tested(program, room):
@@ -601,8 +613,16 @@ def behind_socat(program, room):
     if shutil.which("socat") is None:
         print("skipped: no socat carries frames")
     script = os.path.join(EXAMPLES, "hosts", "try.sh")
-    came = subprocess.run([script, program], cwd=room, stdout=subprocess.PIPE, stderr=subprocess.PIPE, timeout=SECONDS * 2, check=False)
-    wanted(f"what it prints ({came.stderr.decode(errors='replace')})", came.stdout, b"the same responses\n")
+    streams = {"stdout": subprocess.PIPE, "stderr": subprocess.PIPE}
+    process = subprocess.Popen([script, program], cwd=room, start_new_session=True, **streams)
+    try:
+        out, err = process.communicate(timeout=SECONDS * 2)
+    finally:
+        # Its hosts have its streams too, and would keep them open.
+        with contextlib.suppress(ProcessLookupError):
+            os.killpg(process.pid, signal.SIGKILL)
+        process.wait()
+    wanted(f"what it prints ({err.decode(errors='replace')})", out, b"the same responses\n")
 
 
 CASES = [
@@ -629,24 +649,31 @@ CASES = [
 ]
 
 
+def overdue(*_):
+    raise Wrong(f"the case had not ended after {CASE} seconds")
+
+
 def main():
     parser = argparse.ArgumentParser(description="Runs the switch with hosts over named pipes.")
     parser.add_argument("word", nargs="?", default="")
     parser.add_argument("--program", default=kills.BUILT)
     given = parser.parse_args()
     began, passed, failed = time.monotonic(), 0, 0
+    signal.signal(signal.SIGALRM, overdue)
     for case in CASES:
         if given.word not in case.__name__:
             continue
         room = tempfile.mkdtemp()
+        signal.alarm(CASE)
         try:
             case(os.path.abspath(given.program), room)
             passed += 1
-        except (Wrong, OSError, subprocess.TimeoutExpired) as fault:
-            print(f"FAILED hosts: {case.__name__}: {fault}")
+        except (Wrong, OSError, ValueError, subprocess.TimeoutExpired) as fault:
+            print(f"FAILED hosts: {case.__name__}: {fault}", flush=True)
             failed += 1
         finally:
-            shutil.rmtree(room)
+            signal.alarm(0)
+            shutil.rmtree(room, ignore_errors=True)
     print(f"{time.monotonic() - began:.1f} seconds")
     print(f"{passed} passed, {failed} failed")
     return 1 if failed else 0
