@@ -4,7 +4,7 @@
     bench/gate.py [--cores 0,1] [COMMAND ..]        the command is ./test where none is given
 
 The prover's processes are looked at four times a second while the gate runs. Ctrl-C, or a SIGTERM, ends it, and what was
-seen until then is told. The last lines are a table in Markdown, the sum, the minutes by the clock, what share of the cores'
+seen until then is printed. The last lines are a table in Markdown, the sum, the minutes by the clock, what share of the cores'
 time the host took for others meanwhile (on a shared machine, else none), and the longest chain of crates that stand on one
 another, whose proofs no number of cores can run side by side.
 """

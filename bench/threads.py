@@ -6,7 +6,7 @@
 It prints one table: beside 1, 2, 4, 8 and 16 sessions as threads stand the same program without threads, and SQLite's C library
 (through Python's sqlite3), which makes for each entry of the authorizations a commit of its own, as bench/run.py says. Each figure
 is the middle one of the rounds, in which all take turns; a run without requests is taken away from the throughput. A file is
-synced as the machine does it, and once more with syncs that take 2 ms more, as those of a plain disk do (bench/slow_sync.c, over
+synced as the machine does it, and again with syncs that take 2 ms more, as those of a plain disk do (bench/slow_sync.c, over
 the C library's fsync and fdatasync, which counts them too). Latencies are of so many requests in flight over a pipe: the median,
 and what 99 of 100 stay below. In brackets stands how many times the figure without threads each is.
 """

@@ -469,7 +469,7 @@ class Player(threading.Thread):
 
 @contextlib.contextmanager
 def played(wire):
-    """A host that answers nothing yet. What goes wrong at the host is told after what goes wrong in the case."""
+    """A host that answers nothing yet. What goes wrong at the host is reported after what goes wrong in the case."""
     player = Player(wire)
     player.start()
     try:

@@ -6,7 +6,7 @@
 Random scripts come over a pipe, one line after the other, and after each line has to come, within a few seconds, what the plain model
 prints of it, and nothing more. A line that the model refuses has to end the run with status 1, before another line is sent.
 
-With `--prompt` each line is asked for by a prompt, a line that the model refuses is told and changes nothing, and the run goes on. Lines
+With `--prompt` each line is asked for by a prompt, a line that the model refuses is reported and changes nothing, and the run goes on. Lines
 `help`, `list` and `info` and refused ones come among the others. The sessions that docs/DEBUGGER.md shows are typed on a pseudo-terminal,
 and what is on the screen has to be what the page shows.
 """

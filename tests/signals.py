@@ -4,7 +4,7 @@
     tests/signals.py [--program PATH]
 
 A run answers some requests over a pipe, and then gets SIGTERM or SIGINT, or its output is closed before the next request. It has to
-end at once: by that signal, or with status 1 where its output is closed (SIGPIPE is ignored, so that the failed write is told). The journal that it leaves has to recover, as after a
+end at once: by that signal, or with status 1 where its output is closed (SIGPIPE is ignored, so that the failed write is reported). The journal that it leaves has to recover, as after a
 kill (kills.py): no answered transaction is unfinished, and what is recovered is what the plain model makes of the rows. A run
 whose standard error is closed has to answer all and end with status 0, also with --trace. Each with threads and without.
 """

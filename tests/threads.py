@@ -171,7 +171,7 @@ def followed(run, count):
 
 
 def tail_of(chosen):
-    """The end of a stream that is refused, and what is told of it."""
+    """The end of a stream that is refused, and what is reported of it."""
     frame = messages.framed(messages.encode(b"0800", {11: b"000001", 70: b"301"}))
     if chosen.random() < 0.5:
         tail = frame[: chosen.randrange(1, len(frame))]
@@ -186,7 +186,7 @@ def ends(run):
     out = Switch(run.flow, run.limit).run(made)
     give, _ = run.input_of(made, tail)
     plain = run.ran(give)
-    need(plain.stderr.decode().splitlines()[-1:] == [text], f"wanted that {text!r} is told, came {plain.stderr!r}")
+    need(plain.stderr.decode().splitlines()[-1:] == [text], f"wanted that {text!r} is reported, came {plain.stderr!r}")
     compare(plain, out, Exactly(plain.stderr), 1)
     compare(run.ran(give, *run.threads), out, Exactly(plain.stderr), 1)
     return 0
@@ -200,7 +200,7 @@ def refusing(run):
     limited = ["sh", "-c", f"trap '' XFSZ; ulimit -f {run.chosen.randrange(540, 1000)}; exec \"$@\"", "sh"]
     came = run.ran(lambda words: inputs.run_in_packets([*limited, *words], pieces, SECONDS, {}), *run.threads, "--trace")
     *lines, last = came.stderr.decode().split("\n")[:-1]
-    need(last == texts.REFUSED, f"wanted that {texts.REFUSED!r} is told, came {last!r}")
+    need(last == texts.REFUSED, f"wanted that {texts.REFUSED!r} is reported, came {last!r}")
     answered = len(messages.frames(came.stdout))
     need(answered % FEW == 0, f"{answered} responses are not those of whole batches")
     its = threads.Run(Switch(run.flow, run.limit, run.sessions), made[:answered], threads.begins(made[:answered], map(len, pieces)))

@@ -166,7 +166,7 @@ def cut_at(case, place):
 
 
 def cases_in(path, name):
-    """The cases of one file; where it is none, a case that fails and says why."""
+    """The cases of one file; where it is not one, a case that fails and says why."""
     with open(path, encoding="utf-8") as file:
         lines = file.read().split("\n")
     heads = [number for number, line in enumerate(lines) if line.startswith("== ")]

@@ -2,7 +2,7 @@
 
 An indented block that begins with `$ ` is an example: after each `$ ` line comes what the command prints on both
 streams, as on a terminal. A block right behind a line that ends in `NAME`: is the file NAME, for the examples of
-the page below it. A line of two dots stands for lines that the page leaves out, two dots at the end of a line for its
+the page below it. A line of two dots represents lines that the page leaves out, two dots at the end of a line for its
 rest.
 
 A page with a sentence that is too long fails too, and docs/ARCHITECTURE.md where it shows other crates than crates.txt.

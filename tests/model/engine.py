@@ -83,7 +83,7 @@ class Running:
         return Row(self.phase, joined, self.table.told, doing, self.tries, dict(self.saved))
 
     def place(self):
-        """The number of the member that is told."""
+        """The number of the member that is notified."""
         return self.table.told
 
     def rest(self):

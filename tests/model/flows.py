@@ -122,7 +122,7 @@ def image(flow):
 
 
 def number_of(word, most=MAX_NUMBER):
-    """The number that a word spells in decimal without leading zeros; None where it is none or too large."""
+    """The number that a word spells in decimal without leading zeros; None where it is not one or too large."""
     if not re.fullmatch(r"0|[1-9][0-9]*", word) or len(word) > 6 or int(word) > most:
         return None
     return int(word)

@@ -25,19 +25,19 @@ class Told:
     def tell(self, stops, call, name):
         """What is wrong with an outcome call."""
         if (self.outcome or call) != call:
-            return "is told to commit and to abort"
+            return "is notified to commit and to abort"
         is_again = self.told_at not in (None, stops) and self.told[-1] == name
         self.told += [] if is_again else [name]
         self.outcome, self.told_at = call, stops
         return None
 
     def end(self):
-        """What is wrong with it where it is over: each one who joined is told in order, and who was being prepared."""
+        """What is wrong with it where it is over: each one who joined is notified in order, and who was being prepared."""
         if len(set(self.joined)) < len(self.joined):
             # (one that stands twice may be told again or for its second place)
             return None
         if self.told[: len(self.joined)] != self.joined or len(self.told) > len(self.joined) + 1:
-            return f"is told to {' '.join(self.told)}, and {' '.join(self.joined)} joined"
+            return f"is notified to {' '.join(self.told)}, and {' '.join(self.joined)} joined"
         return None
 
 
@@ -80,7 +80,7 @@ def undecided(lines):
             committing = {number for word, number, phase in rows if word == "row" and phase == "C"}
         for _, number, _, call, _, _ in calls_of([line]) if committing is not None else ():
             if call == "abort" and number in committing or call == "commit" and number not in committing:
-                return f"transaction {number} is told to {call}, whatever the journal has"
+                return f"transaction {number} is notified to {call}, whatever the journal has"
     return None
 
 

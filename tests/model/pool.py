@@ -174,14 +174,14 @@ def check_runs(engine, output, offers):
 
 def check_law(engine, output):
     """The outcome law of the lines, and the stations' counts. As no stop comes between, each member
-    is told just once, in order."""
+    is notified just once, in order."""
     names = [line.split(" ")[1] for line in output.calls]
     need(names == list(engine.numbers), f"the stations that count their calls are {names}")
     transactions = {}
     wrong = law.broken(output.trace, transactions) or law.uncounted(output.trace + output.calls)
     need(not wrong, wrong)
     for number, its in transactions.items():
-        told = f"transaction {number} is told to {its.told}, and {its.joined} joined"
+        told = f"transaction {number} is notified to {its.told}, and {its.joined} joined"
         need(its.told == its.joined, told)
 
 

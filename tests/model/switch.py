@@ -242,7 +242,7 @@ class Switch:
         return b"".join(messages.framed(it["response"]) for it in contexts if "response" in it)
 
     def told(self, requests):
-        """Answers these messages one after the other. What is told of it: lines with their codes, and numbers of messages passed over."""
+        """Answers these messages one after the other. What is shown of it: lines with their codes, and numbers of messages passed over."""
         for number, message in enumerate(requests, 1):
             if messages.is_message(message):
                 yield from self.answer(message)

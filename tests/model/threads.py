@@ -60,14 +60,14 @@ class Run:
         return bisect.bisect_right(self.begins, number)
 
     def pass_over(self, number):
-        """A message is told as one that cannot be read: its batch has not begun, and those before have ended."""
+        """A message is reported that cannot be read: its batch has not begun, and those before have ended."""
         need(self.passed[self.told : self.told + 1] == [number], "it is not the next one that cannot be read")
-        need(self.is_at_rest(), "it is told within a batch")
+        need(self.is_at_rest(), "it is reported within a batch")
         self.told += 1
         need(self.offered <= bisect.bisect_left(self.numbers, number), "a later one is offered before")
         if self.begins is not None:
             ahead = sum(self.batch_of(it) < self.batch_of(number) for it in self.numbers)
-            need(self.offered == ahead, "it is told with another batch than its own")
+            need(self.offered == ahead, "it is reported with another batch than its own")
 
     def offer(self):
         need(self.offered < len(self.numbers), "more is offered than came")
