@@ -2,7 +2,7 @@ use Rattle.std.proofs.Common.{rules, arith, subst, sym}
 use Rattle.sqlite.specs.State.{HasCleanDisk}
 use Rattle.sqlite.specs.Held.{state}
 use Rattle.journal_tables.specs.Steps.{Steps}
-use Rattle.journal_tables.proofs.ChainLemmas.{steps_then, survives_nothing, all_made_more}
+use Rattle.journal_tables.proofs.ChainLemmas.{steps_then, all_made_more}
 use Rattle.journal_tables.proofs.changes.make_all.Goals as goal
 
 pub loop-entry-preserved : goal.loop-entry-preserved
@@ -12,10 +12,9 @@ loop-entry-preserved g c =
     let new = state g.S.Store c.make.new.tx.conn.now in
     let before = c.loop-entry.invariant in (
       search rules,
-      survives_nothing old mid new before.1 c.make.ensures.survives,
       λ clean ready live known are.
-          let early : HasCleanDisk mid = omega (arith, c.make.ensures.survives.clean) in
-          let one = before.2 early ready live known are in
+          let early : HasCleanDisk mid = omega (arith, c.make.ensures.keeps.survives.clean) in
+          let one = before.1 early ready live known are in
           let two = c.in_ok-last_put.ensures.steps clean one.steps.ready one.steps.is_open one.known one.parts_are in
           record {
             steps = subst (λ f. Steps f old new) (sym (all_made_more c.args.entries.now c.loop-entry.entry-index c.entry-item.result c.loop-entry-test.true

@@ -14,7 +14,7 @@ returns-clause-steps g c clean ready live are =
     let parts = c.args.parts.now in
     let name = c.args.name.now in
     let n : c.len-n.result ≡ length parts = c.len-n.ensures.is in
-    let clean_mid : HasCleanDisk mid = omega (arith, c.put_anew.ensures.survives.clean) in
+    let clean_mid : HasCleanDisk mid = omega (arith, c.put_anew.ensures.keeps.survives.clean) in
     let one = c.in_ok-put_next.ensures.steps clean_mid ready (new_all_above name parts (tables_of old.now.trees).part c.len-n.result n are c.requires.new) in
     let two = c.put_anew.ensures.steps clean one.ready in
     named_if c.put_anew.result (λ two. subst (λ after. Named after (with_member (pos c.args.id) (pos c.args.place) name) old new) (sym c.in_ok-push.ensures.ok)

@@ -37,7 +37,7 @@ returns-clause-steps g c clean ready live known are =
     let new = state g.S.Store c.put_last.new.tx.conn.now in
     let id = c.args.known.id in
     let row = c.args.row.now in
-    let clean_mid : HasCleanDisk mid = omega (arith, c.put_last.ensures.survives.clean) in
+    let clean_mid : HasCleanDisk mid = omega (arith, c.put_last.ensures.keeps.survives.clean) in
     let there = subst (λ n. IsTrue (has_tx n (tables_of old.now.trees).tx)) (sym c.cells_of.ensures.id) known.row in
     let one = cells_put id row c.cells_of.result old mid c.cells_of.ensures.cells (c.in_ok-change_row.ensures.steps clean_mid ready there) in
     then_last id row c.as_slice-2.result.now c.args.parts.now c.put_last.new.parts old mid new c.put_last.result c.as_slice-2.ensures one are
