@@ -1,5 +1,5 @@
 -- A link to an issuer that is simulated, or has a host.
-use Rattle.std.specs.Prelude.{◌≡◌, ℕ, zero, List, [], ◌∷◌}
+use Rattle.std.specs.Prelude.{◌≡◌, ℕ, zero, Bool, true, false, List, [], ◌∷◌}
 use Rattle.sw_parts.specs.Queries.{Sending, Receiving}
 use Rattle.sw_issuers.specs.declared.issuer.Issuer.{Issuer}
 use Rattle.sw_hosts.specs.declared.issuer_link.IssuerLink.{IssuerLink}
@@ -8,6 +8,11 @@ use Rattle.sw_hosts.specs.declared.issuer_link.IssuerLink.TheVariants.{Simulated
 -- the tag of an issuer's host, of which nothing is known
 abbrev pub host_state : List ℕ
 host_state = 1 ∷ []
+
+-- whether the issuer has a host
+abbrev pub has_host : {C : Type 0} → IssuerLink C → Bool
+has_host (Simulated issuer) = false
+has_host (Host link) = true
 
 -- a tag, and after it the state of an issuer that is simulated
 abbrev pub state_of : {C : Type 0} → (Issuer → List ℕ) → IssuerLink C → List ℕ

@@ -5,7 +5,7 @@ use crate::host_way::HostWay;
 use crate::link::HostLink;
 use crate::opener::{OpenReader, OpenWriter};
 use crate::shared::Shared;
-use crate::threads::{keep_reading, keep_writing};
+use crate::threads::HostThread;
 use crate::times::HostTimes;
 use std::alloc::{AllocError, Global};
 use std::sync::{Arc, Wait};
@@ -42,12 +42,23 @@ impl Host {
     >(rt: &R, alloc: Global, to: W, from: I, times: HostTimes) -> Result<Host, AllocError> {
         let shared = Arc::new(alloc, Shared::new(alloc, times)?)?;
         let (rt_to, shared_to) = (rt.clone()?, Arc::try_clone(&shared)?);
-        thread::spawn(rt, move || keep_writing(&rt_to, alloc, &shared_to, to))?;
+        thread::spawn(rt, move || {
+            let thread = HostThread {
+                rt: &rt_to,
+                alloc,
+                shared: &shared_to,
+            };
+            thread.keep_writing(to);
+        })?;
         let (rt_from, shared_from) = (rt.clone()?, Arc::try_clone(&shared)?);
-        thread::spawn(
-            rt,
-            move || keep_reading(&rt_from, alloc, &shared_from, from),
-        )?;
+        thread::spawn(rt, move || {
+            let thread = HostThread {
+                rt: &rt_from,
+                alloc,
+                shared: &shared_from,
+            };
+            thread.keep_reading(from);
+        })?;
         Ok(Host { alloc, shared })
     }
 

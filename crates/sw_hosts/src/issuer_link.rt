@@ -1,7 +1,7 @@
 //! A link to an issuer, which is simulated or has a host.
 
-ghost use Rattle.std.specs.Prelude.{◌≡◌};
-ghost use Rattle.sw_hosts.specs.Issuers.{state_of, SendsBy, ReceivesBy};
+ghost use Rattle.std.specs.Prelude.{◌≡◌, is_some, IfOk};
+ghost use Rattle.sw_hosts.specs.Issuers.{has_host, state_of, SendsBy, ReceivesBy};
 
 use crate::host_counts::HostCounts;
 use crate::link::HostLink;
@@ -32,7 +32,9 @@ impl<C: Clock + Drop> Drop for IssuerLink<C> {
 
 impl<C: Clock + Drop> IssuerLink<C> {
     /// The counts of the issuer's host; none where it is simulated.
-    pub fn host_counts(&self) -> Result<Option<HostCounts>, AllocError> {
+    pub fn host_counts(&self) -> Result<Option<HostCounts>, AllocError>
+        ensures { IfOk result (λ counts. is_some counts ≡ has_host self.now) }
+    {
         match self {
             IssuerLink::Simulated(_) => Ok(None),
             IssuerLink::Host(link) => Ok(Some(link.host_counts()?)),

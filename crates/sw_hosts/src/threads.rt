@@ -18,115 +18,107 @@ use sw_frame::Framer;
 /// How many bytes one read takes at most.
 const PIECE: usize = 4_096;
 
-/// Writes frames to a host, each time that this direction is opened, until it is closed.
-pub fn keep_writing<R: Wait + Clock, W: OpenWriter>(
-    rt: &R,
-    alloc: Global,
-    shared: &Shared,
-    opener: W,
-) {
-    let mut opener = opener;
-    let mut watch = Watch::new();
-    for _ in rt.forever() {
-        await_opening(rt, shared);
-        if let Ok(writer) = opener.open() {
-            watch.opened(Moment::now(rt));
-            shared.to.set(DirectionState::Open);
-            write_frames(rt, alloc, shared, &mut watch, writer);
-        }
-        shared.to.set(DirectionState::Closed);
-        shared.drop_frames(rt);
-    }
+/// A thread of a host.
+#[derive(Drop)]
+pub struct HostThread<'a, R: Wait> {
+    pub rt: &'a R,
+    /// Where it takes its memory.
+    pub alloc: Global,
+    /// What it shares with the other thread and with the host's links.
+    pub shared: &'a Shared,
 }
 
-// Waits until the direction to a host is ordered to be opened. While the host is tested, both directions are ordered
-// here, so that no message waits for that.
-fn await_opening<R: Wait + Clock>(rt: &R, shared: &Shared) {
-    for _ in rt.forever() {
-        let rings = shared.to.rings();
-        if shared.to.state() == DirectionState::Opening {
-            return;
-        }
-        let now = Moment::now(rt);
-        match shared.to.opened_from(shared.tested_from(shared.heard())) {
-            Some(from) if now.is_past(from) => {
-                let _ = shared.order(now);
+impl<R: Wait + Clock> HostThread<'_, R> {
+    /// Writes frames to the host, each time that this direction is opened, until it is closed.
+    pub fn keep_writing<W: OpenWriter>(&self, opener: W) {
+        let mut opener = opener;
+        let mut watch = Watch::new();
+        for _ in self.rt.forever() {
+            self.await_opening();
+            if let Ok(writer) = opener.open() {
+                watch.opened(Moment::now(self.rt));
+                self.shared.to.set(DirectionState::Open);
+                self.write_frames(&mut watch, writer);
             }
-            Some(from) => shared.to.sleep_for(rt, rings, now.until(from)),
-            None => shared.to.sleep(rt, rings),
+            self.shared.to.set(DirectionState::Closed);
+            self.shared.drop_frames(self.rt);
         }
     }
-}
 
-// Writes frames until one is not written whole, or an echo test is not answered in time.
-fn write_frames<R: Wait + Clock, W: Write + Drop>(
-    rt: &R,
-    alloc: Global,
-    shared: &Shared,
-    watch: &mut Watch,
-    writer: W,
-) {
-    let mut writer = writer;
-    for _ in rt.forever() {
-        if !take_turn(rt, alloc, shared, watch, &mut writer) {
-            return;
-        }
-    }
-}
-
-// Writes the next frame, or else does what is due; whether the direction stays open. The bell is read
-// first, so that a frame that is put while the outbox is looked into ends the sleep at once.
-fn take_turn<R: Wait + Clock, W: Write>(
-    rt: &R,
-    alloc: Global,
-    shared: &Shared,
-    watch: &mut Watch,
-    writer: &mut W,
-) -> bool {
-    let (rings, heard) = (shared.to.rings(), shared.heard());
-    let now = Moment::now(rt);
-    let duty = watch.duty(now, heard, shared.tested_from(heard), &shared.times);
-    if let Duty::GivesUp(tests) = duty {
-        shared.give_up(tests, now, heard);
-        return false;
-    }
-    if let Some(frame) = shared.next_frame(rt, now) {
-        watch.wrote(now);
-        return write_counted(shared, writer, &frame.bytes);
-    }
-    match duty {
-        Duty::Rests(until) => shared.to.sleep_for(rt, rings, now.until(until)),
-        Duty::Tests => return write_test(rt, alloc, shared, watch, writer),
-        Duty::GivesUp(_) => {}
-    }
-    true
-}
-
-// Writes an echo test, where there is memory for one; whether the direction stays open. The answer of a silent host
-// needs the other direction, which no message orders.
-fn write_test<R: Clock, W: Write>(
-    rt: &R,
-    alloc: Global,
-    shared: &Shared,
-    watch: &mut Watch,
-    writer: &mut W,
-) -> bool {
-    let (now, heard) = (Moment::now(rt), shared.heard());
-    watch.tested(now, heard, shared.times.timeout);
-    if shared.tested_from(heard).is_some() {
-        let _ = shared.from.order(now);
-    }
-    match echo_frame(alloc, seconds(rt), watch.next_stan()) {
-        Ok(frame) => {
-            let is_written = write_whole(writer, &frame).is_ok();
-            if is_written {
-                shared.counters.add_test();
+    // Waits until the direction to the host is ordered to be opened. While the host is tested, both directions are
+    // ordered here, so that no message waits for that.
+    fn await_opening(&self) {
+        let shared = self.shared;
+        for _ in self.rt.forever() {
+            let rings = shared.to.rings();
+            if shared.to.state() == DirectionState::Opening {
+                return;
             }
-            is_written
+            let now = Moment::now(self.rt);
+            match shared.to.opened_from(shared.tested_from(shared.heard())) {
+                Some(from) if now.is_past(from) => {
+                    let _ = shared.order(now);
+                }
+                Some(from) => shared.to.sleep_for(self.rt, rings, now.until(from)),
+                None => shared.to.sleep(self.rt, rings),
+            }
         }
-        Err(_) => {
-            watch.opened(now);
-            true
+    }
+
+    // Writes frames until one is not written whole, or an echo test is not answered in time.
+    fn write_frames<W: Write + Drop>(&self, watch: &mut Watch, writer: W) {
+        let mut writer = writer;
+        for _ in self.rt.forever() {
+            if !self.take_turn(watch, &mut writer) {
+                return;
+            }
+        }
+    }
+
+    // Writes the next frame, or else does what is due; whether the direction stays open. The bell is read
+    // first, so that a frame that is put while the outbox is looked into ends the sleep at once.
+    fn take_turn<W: Write>(&self, watch: &mut Watch, writer: &mut W) -> bool {
+        let shared = self.shared;
+        let (rings, heard) = (shared.to.rings(), shared.heard());
+        let now = Moment::now(self.rt);
+        let duty = watch.duty(now, heard, shared.tested_from(heard), &shared.times);
+        if let Duty::GivesUp(tests) = duty {
+            shared.give_up(tests, now, heard);
+            return false;
+        }
+        if let Some(frame) = shared.next_frame(self.rt, now) {
+            watch.wrote(now);
+            return write_counted(shared, writer, &frame.bytes);
+        }
+        match duty {
+            Duty::Rests(until) => shared.to.sleep_for(self.rt, rings, now.until(until)),
+            Duty::Tests => return self.write_test(watch, writer),
+            Duty::GivesUp(_) => {}
+        }
+        true
+    }
+
+    // Writes an echo test, where there is memory for one; whether the direction stays open. The answer of a silent host
+    // needs the other direction, which no message orders.
+    fn write_test<W: Write>(&self, watch: &mut Watch, writer: &mut W) -> bool {
+        let shared = self.shared;
+        let (now, heard) = (Moment::now(self.rt), shared.heard());
+        watch.tested(now, heard, shared.times.timeout);
+        if shared.tested_from(heard).is_some() {
+            let _ = shared.from.order(now);
+        }
+        match echo_frame(self.alloc, seconds(self.rt), watch.next_stan()) {
+            Ok(frame) => {
+                let is_written = write_whole(writer, &frame).is_ok();
+                if is_written {
+                    shared.counters.add_test();
+                }
+                is_written
+            }
+            Err(_) => {
+                watch.opened(now);
+                true
+            }
         }
     }
 }
@@ -159,49 +151,51 @@ fn write_whole<W: Write>(writer: &mut W, bytes: &[u8]) -> io::Result<()>
     writer.flush()
 }
 
-/// Reads messages from a host, each time that this direction is opened, until it is closed.
-pub fn keep_reading<R: Wait, I: OpenReader>(rt: &R, alloc: Global, shared: &Shared, opener: I) {
-    let mut opener = opener;
-    for _ in rt.forever() {
-        shared.from.await_order(rt);
-        if let Ok(reader) = opener.open() {
-            shared.from.set(DirectionState::Open);
-            read_messages(rt, alloc, shared, reader);
+impl<R: Wait> HostThread<'_, R> {
+    /// Reads messages from the host, each time that this direction is opened, until it is closed.
+    pub fn keep_reading<I: OpenReader>(&self, opener: I) {
+        let mut opener = opener;
+        for _ in self.rt.forever() {
+            self.shared.from.await_order(self.rt);
+            if let Ok(reader) = opener.open() {
+                self.shared.from.set(DirectionState::Open);
+                self.read_messages(reader);
+            }
+            self.shared.from.set(DirectionState::Closed);
         }
-        shared.from.set(DirectionState::Closed);
     }
-}
 
-// Reads messages until the end, a read that fails, or bytes that are no frames.
-fn read_messages<R: Wait, I: Read + Drop>(rt: &R, alloc: Global, shared: &Shared, reader: I) {
-    let mut reader = reader;
-    let mut framer = Framer::new(alloc);
-    let mut piece = [0; PIECE];
-    for _ in rt.forever() {
-        let count = match reader.read(&mut piece) {
-            Ok(0) => return,
-            Ok(count) => count,
-            Err(error) => {
-                if error.kind() == ErrorKind::Interrupted {
-                    continue;
+    // Reads messages until the end, a read that fails, or bytes that are no frames.
+    fn read_messages<I: Read + Drop>(&self, reader: I) {
+        let mut reader = reader;
+        let mut framer = Framer::new(self.alloc);
+        let mut piece = [0; PIECE];
+        for _ in self.rt.forever() {
+            let count = match reader.read(&mut piece) {
+                Ok(0) => return,
+                Ok(count) => count,
+                Err(error) => {
+                    if error.kind() == ErrorKind::Interrupted {
+                        continue;
+                    }
+                    return;
                 }
+            };
+            self.shared.hear();
+            let Ok(messages) = framer.feed(&piece[..count]) else {
+                return;
+            };
+            self.deliver_all(messages);
+            // Frames that came before a bad length are given all the same.
+            if framer.failed() {
                 return;
             }
-        };
-        shared.hear();
-        let Ok(messages) = framer.feed(&piece[..count]) else {
-            return;
-        };
-        deliver_all(rt, alloc, shared, messages);
-        // Frames that came before a bad length are given all the same.
-        if framer.failed() {
-            return;
         }
     }
-}
 
-fn deliver_all<R: Wait>(rt: &R, alloc: Global, shared: &Shared, messages: Vec<Vec<u8>>) {
-    for message in messages {
-        shared.deliver(rt, alloc, message);
+    fn deliver_all(&self, messages: Vec<Vec<u8>>) {
+        for message in messages {
+            self.shared.deliver(self.rt, self.alloc, message);
+        }
     }
 }
