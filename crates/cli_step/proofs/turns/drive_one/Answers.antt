@@ -21,7 +21,7 @@ returns-in-Some-clause-does g c =
     let q = whole new.running.engine new.running.seats (seen (kept g.S.Store new.journal)) in
     let done = rw c.as_slice.ensures at c.in-Ok.ensures.done in
     let turned = last_driven c.args.turn c.in-Ok.outcomes.items c.pop.new.self.items c.in-Some.outcome done.0 p q done.1 c.in-Some.ensures.items in
-    (done.0, turned, c.in-Ok.ensures.names, done.3)
+    (done.0, turned, c.in-Ok.ensures.stations.names, done.3)
 
 pub returns-in-Some-clause-follows : goal.returns-in-Some-clause-follows
 returns-in-Some-clause-follows g c = λ old.
