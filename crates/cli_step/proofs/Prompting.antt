@@ -1,7 +1,7 @@
 -- A session at a prompt, one line after the other.
 -- for: prompt::ask, prompt::leave, prompt::tell, prompt::show_request, prompt::answer, prompt::talk, opening::talk_over, opening::run_prompted
 use Rattle.std.proofs.Common.{◌≡◌, ◌≢◌, ◌∙◌, ◌++◌, ◌∷◌, [], ℕ, ◌+◌, Bool, true, false, List, Option, None, Some, IfSome, Result, Err, Ok}
-use Rattle.std.proofs.Common.{IfErr, IfOk, OnErr, OnOk, inl, inr, refl, sym, subst}
+use Rattle.std.proofs.Common.{IfErr, OnOk, inl, inr, refl, sym, subst}
 use Rattle.std.specs.Bool.{⊤}
 use Rattle.std.specs.Borrow.{Bor}
 use Rattle.std.specs.Io.KnownBytes.{Appends}
@@ -13,25 +13,23 @@ use Rattle.cli_io.specs.declared.error.WriteError.TheVariants as write
 use Rattle.cli_lines.specs.Lines.{IsNextLine}
 use Rattle.cli_script.specs.Grammar.{meaning_of}
 use Rattle.cli_script.specs.Heads.{IsPlacedSetting}
-use Rattle.cli_script.specs.Scripts.{IsActionRefusal, IsNextAction, IsNextSetting, IsStated, IsUnstated, line_of, others_of}
+use Rattle.cli_script.specs.Scripts.{IsActionRefusal, IsNextAction, IsNextSetting, line_of, others_of}
 use Rattle.cli_script.specs.declared.actions.Actions.{Actions}
 use Rattle.cli_script.specs.declared.error.ScriptError.{ScriptError}
 use Rattle.cli_script.specs.declared.error.ScriptError.TheVariants as script
 use Rattle.cli_script.specs.declared.line.Action.{Action}
 use Rattle.cli_script.specs.declared.line.Setting.{Setting}
-use Rattle.cli_script.specs.declared.script.Opening.{Opening}
 use Rattle.flow_model.specs.declared.flow.Flow.{Flow}
 use Rattle.tx_engine.specs.declared.error.EngineError.TheVariants as engine
 use Rattle.tx_plant.specs.Plant.{Seen, Unmade}
 use Rattle.tx_plant.specs.declared.turn.PlantError.{PlantError}
 use Rattle.tx_plant.specs.declared.turn.PlantError.TheVariants as plant
 use Rattle.tx_trace.specs.Trace.{Text}
-use Rattle.cli_step.proofs.Adding.{on_err, on_ok}
 use Rattle.cli_step.proofs.Joining.{Known, if_some}
 use Rattle.cli_step.specs.Doing.{Point}
 use Rattle.cli_step.specs.Errors.{at_line, error_of_read, error_of_write}
 use Rattle.cli_step.specs.Prompts.{Answers, AnswersBy, AreFirst, HasBadSessions, HeadAnswers, HeadPrompted, HeadTalks, Heading, IsFaultOf, IsHeadLine}
-use Rattle.cli_step.specs.Prompts.{IsHeadLineBy, IsLeft, IsPrompted, IsRunOrTold, IsTold, IsUnopened, OpenedAt, OpenedOver, Prompted, Scene, Talked, TalkedOver}
+use Rattle.cli_step.specs.Prompts.{IsHeadLineBy, IsLeft, IsPrompted, IsRunOrTold, IsTold, OpenedAt, Prompted, Scene, Talked, TalkedOver}
 use Rattle.cli_step.specs.Prompts.{Talks, heading, is_of_sessions, scene}
 use Rattle.cli_step.specs.PromptWords.{prompt_word_of}
 use Rattle.cli_step.specs.Runs.{Begun, Grows, IsLineFailed, IsOfJournal, IsWriting, Means, RunsLine}
@@ -335,28 +333,3 @@ head_by o has_file line kind same is = subst (λ (x : Option PromptWord). IsHead
 pub placed : (has_file : Bool) (n : ℕ) (text : List ℕ) (p : Setting × Bor (List ℕ)) → IsNextSetting has_file n text (Ok (Some p))
     → IsPlacedSetting has_file text
 placed has_file n text p next = (p.0, next.0, next.1)
-
-pub if_ok : {A E : Type 0} {First Second : A → Type 0} (r : Result A E) → ((x : A) → First x → Second x) → IfOk r First → IfOk r Second
-if_ok (Ok x) f holds = f x holds
-if_ok (Err e) f holds = tt
-
--- a flow that is opened over the settings, or not
-
-pub opened_over : (file flow : Option Flow) (settings line : List ℕ) (o : Opening) (z out err out_after err_after : Known)
-    (r : Result (Result Unit StepError) StepError) → flow ≡ file → IsStated flow settings o
-    → IfOk r (λ s. OnOk s (IfSome z (λ others. TalkedOver o.flow o.sessions line others out err out_after err_after)))
-    → IfOk r (λ s. OnOk s (IfSome z (λ others. OpenedOver file settings line others out err out_after err_after)))
-opened_over file flow settings line o z out err out_after err_after r same stated talked =
-    let is : IsStated file settings o = subst (λ (f : Option Flow). IsStated f settings o) same stated in
-    if_ok r (λ s. on_ok s (if_some z (λ others over. record { opening = o; stated = is; over = over }))) talked
-
-pub not_for_sessions : (file flow : Option Flow) (settings : List ℕ) (o : Opening) (r : Result (Result Unit StepError) StepError) → flow ≡ file
-    → IsStated flow settings o → IfOk r (λ s. OnErr s (HasBadSessions o.flow o.sessions)) → IfOk r (λ s. OnErr s (IsUnopened file settings))
-not_for_sessions file flow settings o r same stated bad =
-    let is : IsStated file settings o = subst (λ (f : Option Flow). IsStated f settings o) same stated in
-    if_ok r (λ s. on_err s (λ why. inr (o, is, why))) bad
-
-pub not_for_settings : (file flow : Option Flow) (settings : List ℕ) (n : ℕ) (cause : ScriptError) → flow ≡ file → cause ≢ script.OutOfMemory
-    → IsUnstated flow settings n cause → IsUnopened file settings
-not_for_settings file flow settings n cause same is_refusal unstated =
-    inl (n, cause, is_refusal, subst (λ (f : Option Flow). IsUnstated f settings n cause) same unstated)
