@@ -1,5 +1,9 @@
 //! The lines of the hosts of a run.
 
+ghost use Rattle.std.specs.Prelude.{◌≡◌, ◌++◌, filter_map, map, option_to_list, IfOk, OnOk, string_bytes};
+ghost use Rattle.cli_run.specs.Traces.{log_of};
+ghost use Rattle.cli_setup.specs.HostLines.{host_name, AreHostLines, ShowsHosts};
+
 use cli_io::write_whole;
 use cli_run::{NamedLink, Setup, StandardError, SwitchLink};
 use std::alloc::{AllocError, Global};
@@ -27,41 +31,62 @@ impl Drop for HostLines {
     }
 }
 
-fn counts_of(link: &NamedLink<SwitchLink>) -> Result<Option<NamedCounts>, AllocError> {
+// Adds the host that a link goes to, if it goes to one.
+fn add_host(hosts: &mut Vec<NamedCounts>, link: &NamedLink<SwitchLink>) -> Result<(), AllocError>
+    ensures { OnOk result (map (λ h. h.name) hosts.new.items
+        ≡ map (λ h. h.name) hosts.old.items ++ option_to_list (host_name link.now)) }
+{
     let Some(counts) = link.link.host_counts()? else {
-        return Ok(None);
+        return Ok(());
     };
-    Ok(Some(NamedCounts {
+    hosts.push(NamedCounts {
         name: link.name.copy()?,
         counts,
-    }))
+    })?;
+    Ok(())
 }
 
 impl HostLines {
     /// The hosts that requests of this setup go to.
-    pub fn of(alloc: Global, setup: &Setup<SwitchLink>) -> Result<HostLines, AllocError> {
+    pub fn of(alloc: Global, setup: &Setup<SwitchLink>) -> Result<HostLines, AllocError>
+        ensures { IfOk result (λ lines. map (λ h. h.name) lines.hosts.items
+            ≡ filter_map host_name setup.now.queried.items) }
+    {
         let mut hosts = Vec::new(alloc);
         for link in setup.queried.as_slice() {
-            if let Some(counts) = counts_of(link)? {
-                hosts.push(counts)?;
-            }
+            add_host(&mut hosts, link)?;
         }
         Ok(HostLines { alloc, hosts })
     }
 
+    // A line with the counts of each host so far.
+    fn lines(&self) -> Result<String, AllocError>
+        ensures { IfOk result (λ text.
+            AreHostLines (map (λ h. h.name) self.now.hosts.items) (string_bytes text)) }
+    {
+        let mut lines = String::new(self.alloc);
+        for host in self.hosts.as_slice() {
+            let line = host.counts.counts().line(self.alloc, host.name.as_str())?;
+            lines.push_str(line.as_str())?;
+        }
+        Ok(lines)
+    }
+
     /// Writes a line with the counts of each host so far, where the numbers of the run are wanted. Where standard
-    /// error takes nothing, or memory is refused, the line is lost.
-    pub fn show<E: Write>(&self, stderr: &mut StandardError<'_, E>) {
+    /// error does not take all of them, or memory is refused, the lines are lost.
+    pub fn show<E: Write>(&self, stderr: &mut StandardError<'_, E>)
+        ensures { ShowsHosts (map (λ h. h.name) self.now.hosts.items)
+            (log_of E.contents stderr.old) (log_of E.contents stderr.new) }
+    {
         if stderr.stats.is_none() {
             return;
         }
-        for host in self.hosts.as_slice() {
-            let line = host.counts.counts().line(self.alloc, host.name.as_str());
-            let is_written = match line {
-                Ok(line) => write_whole(stderr.err, line.as_bytes()).is_ok(),
-                Err(_) => false,
-            };
-            stderr.lost |= !is_written;
+        let is_written = match self.lines() {
+            Ok(lines) => write_whole(stderr.err, lines.as_bytes()).is_ok(),
+            Err(_) => false,
+        };
+        if !is_written {
+            stderr.lost = true;
         }
     }
 }
