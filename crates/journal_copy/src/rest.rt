@@ -57,7 +57,7 @@ fn leave_out(stored: &mut Stored, bad: BadRow)
 }
 
 /// The journal that the rows without those at fault represent; `None` where `meta` is at
-/// fault, or more than a thousand rows. The only refusal is out of memory.
+/// fault, or a thousand rows or more are. The only refusal is out of memory.
 pub fn rest_of(alloc: Global, layout: Layout, stored: Stored) -> Result<Option<Rest>, LookError>
     ensures { IfOk result (λ rest. IfSome rest (IsRest layout (rows_of stored))) }
 {
