@@ -5,7 +5,7 @@
 
 Each case is a row of `docs/HOSTS.md`: what the host does, and what the switch then answers, stores and sends. The hosts are played here,
 frame by frame; one case runs `examples/hosts/host.py`, and one `examples/hosts/try.sh`, in which socat carries the frames over connections
-on the loopback, where it is installed. WORD picks the cases whose name has these letters. The last line counts; the status is 1 where something is wrong.
+on the loopback, where it is installed. Two cases run commands of the pages as they stand there. WORD picks the cases whose name has these letters. The last line counts; the status is 1 where something is wrong.
 """
 
 import argparse
@@ -16,6 +16,7 @@ import os
 import select
 import shutil
 import signal
+import socket
 import subprocess
 import sys
 import tempfile
@@ -25,6 +26,7 @@ import time
 sys.dont_write_bytecode = True
 
 import kills  # noqa: E402
+from harness import pages  # noqa: E402
 from model import messages  # noqa: E402
 
 TOP = os.path.dirname(os.path.dirname(os.path.abspath(__file__)))
@@ -630,6 +632,75 @@ def behind_socat(program, room):
     wanted(f"what it prints ({err.decode(errors='replace')})", out, b"the same responses\n")
 
 
+def block_of(page, begin):
+    """The block of a page whose first line begins so, as lines."""
+    with open(os.path.join(TOP, "docs", page), encoding="utf-8") as file:
+        blocks = [block for _, block in pages.blocks_of(file.read())]
+    return next(block for block in blocks if block[0].startswith(begin))
+
+
+def furnished(program, room):
+    """The examples, and the program on PATH: what a folder has in which the commands of pages are run."""
+    for folder in EXAMPLES, os.path.dirname(HOST):
+        for entry in filter(os.DirEntry.is_file, os.scandir(folder)):
+            shutil.copy(entry.path, room)
+    os.symlink(program, os.path.join(room, "cardswitch"))
+    return os.environ | {"PATH": f"{room}:{os.environ['PATH']}"}
+
+
+def by_hand(program, room):
+    """The commands of `docs/HOSTS.md` for one host at its pipes. The other host is not there, and is stood in for."""
+    block = "\n".join(block_of("HOSTS.md", "mkfifo "))
+    ran = subprocess.run(["sh", "-c", block], cwd=room, env=furnished(program, room), timeout=SECONDS, check=False)
+    wanted("the status", ran.returncode, 0)
+    with open(os.path.join(room, "responses.frames"), "rb") as file:
+        came = messages.frames(file.read())
+    with open(os.path.join(EXAMPLES, "responses.frames"), "rb") as file:
+        simulated = messages.frames(file.read())
+    wanted("the first response", came[:1], simulated[:1])
+    wanted("the number of responses", len(came), len(simulated))
+
+
+def behind_a_socket(program, room):
+    """The command of `docs/OPERATING.md` that serves connections, on a free port of the loopback."""
+    if shutil.which("socat") is None:
+        print("skipped: no socat listens")
+        return
+    with socket.create_server(("127.0.0.1", 0)) as probe:
+        port = probe.getsockname()[1]
+    (line,) = block_of("OPERATING.md", "socat -t 30 TCP-LISTEN:")
+    command = line.replace(":8583,", f":{port},bind=127.0.0.1,")
+    serving = subprocess.Popen(["sh", "-c", command], cwd=room, env=furnished(program, room), start_new_session=True)
+    try:
+        with open(os.path.join(EXAMPLES, "requests.frames"), "rb") as file:
+            requests = file.read()
+        with open(os.path.join(EXAMPLES, "responses.frames"), "rb") as file:
+            responses = file.read()
+        for connection in range(2):
+            wanted(f"the responses of connection {connection}", served(port, requests), responses)
+    finally:
+        os.killpg(serving.pid, signal.SIGKILL)
+        serving.wait()
+
+
+def served(port, requests):
+    """What a server writes for requests, up to its end."""
+    until = time.monotonic() + SECONDS
+    while True:
+        try:
+            peer = socket.create_connection(("127.0.0.1", port), timeout=SECONDS)
+            break
+        except ConnectionRefusedError:
+            if time.monotonic() > until:
+                raise
+            time.sleep(0.05)
+    with peer:
+        peer.sendall(requests)
+        peer.shutdown(socket.SHUT_WR)
+        with peer.makefile("rb") as file:
+            return file.read()
+
+
 CASES = [
     approved,
     declined,
@@ -651,6 +722,8 @@ CASES = [
     beside_a_silent_host,
     worked_host,
     behind_socat,
+    by_hand,
+    behind_a_socket,
 ]
 
 

@@ -11,9 +11,10 @@ from harness import inputs
 
 # Long enough for recoveries that are cut at each of their calls, on a busy machine.
 SECONDS = 300
-# Prints the tables of a journal's file.
-TABLES = os.path.join(os.path.dirname(os.path.abspath(__file__)), "tables.py")
-CRATES = os.path.join(os.path.dirname(TABLES), "..", "..", "crates")
+HERE = os.path.dirname(os.path.abspath(__file__))
+# Prints the tables of a journal's file. And SQLite's command-line program, for the examples of pages.
+TABLES, SQL_SHELL = os.path.join(HERE, "tables.py"), os.path.join(HERE, "sql_shell.py")
+CRATES = os.path.join(HERE, "..", "..", "crates")
 # The programs for tests that stand on PATH beside cardswitch.
 BESIDE = ("test_switch",)
 
@@ -170,10 +171,11 @@ class Program:
         os.makedirs(f"{self.room}/empty")
         os.symlink(self.path, f"{self.room}/bin/cardswitch")
         os.symlink(TABLES, f"{self.room}/bin/tables")
+        os.symlink(SQL_SHELL, f"{self.room}/bin/sqlite3")
         for name in BESIDE:
             os.symlink(os.path.join(CRATES, name, "out", name), f"{self.room}/bin/{name}")
         path = f"{self.room}/bin:/usr/local/bin:/usr/bin:/bin"
-        self.environment = {"PATH": path, "LANG": "C.UTF-8", "TESTS": os.path.dirname(os.path.dirname(TABLES))}
+        self.environment = {"PATH": path, "LANG": "C.UTF-8", "TESTS": os.path.dirname(HERE)}
         resource.setrlimit(resource.RLIMIT_CORE, (0, 0))
         return self
 

@@ -5,7 +5,8 @@ streams, as on a terminal. A block right behind a line that ends in `NAME`: is t
 the page below it. A line of two dots represents lines that the page leaves out, two dots at the end of a line for its
 rest.
 
-A page with a sentence that is too long fails too, and docs/ARCHITECTURE.md where it shows other crates than crates.txt.
+Other blocks are run too, or compared with what they show, each by its form (`FORMS`), and a block that nothing here knows fails. So does a
+page with a sentence that is too long, and docs/ARCHITECTURE.md where it shows other crates than crates.txt.
 """
 
 import glob
@@ -14,8 +15,10 @@ import re
 
 from harness import crates_map, prose
 from harness.case import Case, Exactly, difference
+from model import config
 
 NAMED = re.compile(r"`([A-Za-z0-9_.-]+)`:$")
+FENCED = re.compile(r"^```.*?^```$", re.DOTALL | re.MULTILINE)
 
 
 class Page:
@@ -39,9 +42,9 @@ def pattern_of(line):
 
 
 def blocks_of(text):
-    """The indented blocks of a page, each with the last line of text before it."""
+    """The indented blocks of a page, each with the last line of text before it. What stands in fences is left out."""
     before, block = "", []
-    for line in [*text.split("\n"), "end"]:
+    for line in [*FENCED.sub("", text).split("\n"), "end"]:
         if line.startswith("    $ ") and block and not block[0].startswith("$ "):
             # An example right behind a file.
             yield before, "\n".join(block).rstrip("\n").split("\n")
@@ -69,6 +72,86 @@ def commands_of(block):
     return commands
 
 
+# What README runs by the toolchain, run by the built program: the words after `--`.
+RT = 'rt() { while [ "$1" != -- ]; do shift; done; shift; cardswitch "$@"; }'
+LAID_OUT = "mkdir -p crates/cardswitch examples && cp switch.toml crates/cardswitch && cp switch.toml requests.frames examples"
+
+
+def built_case(name, block, _page, examples):
+    """A command that builds the program and answers the examples: the program gives their responses."""
+    case = Case(f"{name}: {block[0]}", f"{RT}\n{LAID_OUT} && {block[0]}", files=dict(examples))
+    case.stdout = Exactly(examples["responses.frames"])
+    return case
+
+
+def schema_case(name, block, _page, examples):
+    """The tables of a new journal are those of the page."""
+    select = "SELECT sql FROM sqlite_master WHERE type = 'table' ORDER BY rowid"
+    run = "cardswitch run --flow switch.toml --journal journal.db < /dev/null"
+    case = Case(f"{name}: the journal's tables", f'{run} && sqlite3 journal.db "{select}"', files=dict(examples))
+    case.stdout = Page(block)
+    return case
+
+
+def turned_case(name, block, page, _examples):
+    """A session of sqlite3 on a journal of layout 1 that was turned, with the members that the page shows."""
+    tables = [it for it in lines_of(page, "CREATE TABLE ") if not it.startswith(("CREATE TABLE part", "CREATE TABLE joined"))]
+    rows = "(1, 1), (2, 5)", "(3, 2, 0, '', 0, x'00')", "(3, 1, 'check'), (3, 0, 'send')"
+    tables += [f"INSERT INTO {table} VALUES {row}" for table, row in zip(("meta", "tx", "member"), rows, strict=True)]
+    asked = [it.removeprefix("sqlite> ") for it in block if it.startswith("sqlite> ")]
+    run = 'sqlite3 journal.db < layout_1.sql && test_switch opened journal.db > opened && sqlite3 journal.db "$(cat asked.sql)"'
+    case = Case(f"{name}: a turned journal", run, files={"asked.sql": "\n".join(asked).encode()})
+    case.files["layout_1.sql"] = "".join(f"{it};\n" for it in tables).encode()
+    case.stdout = Page([it for it in block if not it.startswith("sqlite> ")])
+    return case
+
+
+def config_case(name, block, _page, _examples):
+    """A part of a configuration: the plain reader takes it."""
+    read = config.read("".join(f"{line}\n" for line in block))
+    return judged(f"{name}: its configuration", read if isinstance(read, str) else None)
+
+
+def elsewhere(_name, _block, _page, _examples):
+    """What other tests run: the gate, and `hosts.py`."""
+
+
+# How a block begins that is neither an example nor a file of one, and what is made of it.
+FORMS = [
+    ("(cd crates/cardswitch && rt ", built_case),
+    ("CREATE TABLE ", schema_case),
+    ("sqlite> ", turned_case),
+    ("[[host]]", config_case),
+    ("./test", elsewhere),
+    ("examples/hosts/try.sh ", elsewhere),
+    ("mkfifo alpha.to alpha.from", elsewhere),
+    ("socat TCP:", elsewhere),
+    ("socat -t 30 TCP-LISTEN:", elsewhere),
+    ("cardswitch: host alpha: ", elsewhere),
+]
+
+
+def lines_of(page, begin):
+    """The lines of a page's blocks that begin so."""
+    return [line for _, block in blocks_of(page) for line in block if line.startswith(begin)]
+
+
+def other_case(name, block, page, examples):
+    """The case of a block that is neither an example nor a file of one."""
+    for begin, made in FORMS:
+        if block[0].startswith(begin):
+            return made(name, block, page, examples)
+    return judged(f"{name}: {block[0]}", "no test runs this block")
+
+
+def code_cases(name, text, top):
+    """Code that a page shows as a file's, after `This is PATH`: the file ends in just that code."""
+    for path, code in re.findall(r"This is `([a-z_/]+\.rt)`[^`]*```rust\n(.*?)```", text, re.DOTALL):
+        with open(os.path.join(top, path), encoding="utf-8") as file:
+            whole = file.read()
+        yield judged(f"{name}: {path}", None if whole.endswith(f"\n{code}") else "the file has another text")
+
+
 def cases_of_page(name, text, examples):
     files = dict(examples)
     for before, block in blocks_of(text):
@@ -83,6 +166,8 @@ def cases_of_page(name, text, examples):
                 yield case
         elif named:
             files[named[1]] = "".join(f"{line}\n" for line in block).encode()
+        else:
+            yield other_case(name, block, text, examples)
 
 
 def picture_case(name, text, examples):
@@ -110,7 +195,8 @@ def cases_of(top):
             text = file.read()
         name = os.path.relpath(path, top)
         yield judged(f"{name}: no sentence is too long", "\n".join(prose.too_long(text)))
-        yield from cases_of_page(name, text, examples)
+        yield from filter(None, cases_of_page(name, text, examples))
+        yield from code_cases(name, text, top)
         if name == "docs/SWITCH.md":
             yield picture_case(name, text, examples)
     yield judged("docs/ARCHITECTURE.md: its crates are those of crates.txt", crates_map.wrong(top))
