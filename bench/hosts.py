@@ -1,7 +1,8 @@
 #!/usr/bin/env python3
 """Times `cardswitch run --config` with two hosts, of which one is silent: how long the other one's requests wait.
 
-    bench/hosts.py [--program PATH] [--requests N] [--rounds N] [--flying N] [--sessions N] [--timeout MS] [--retry MS] [--echo S] [--dead]
+    bench/hosts.py [--program PATH] [--requests N] [--rounds N] [--flying N] [--sessions N] [--timeout MS] [--retry MS] [--echo S]
+                   [--dead] [--first]
 
 Both hosts are examples/hosts/host.py at named pipes. Alpha answers at once. Beta gives no answer to a request, so that each waits for
 the timeout. With --retry one of them does, and beta is not asked for so long after that. Beta accepts the advices that follow. With
@@ -9,6 +10,9 @@ the timeout. With --retry one of them does, and beta is not asked for so long af
 comes before those that are timed. The requests come over a pipe, so many in flight, and of a hundred of them 0, 1, 10 or 50 are of beta's
 cards, at random places. With threads the responses of a batch leave when all of it has ended, so that a request of alpha waits for those
 of beta in its batch.
+
+With --first the first request of beta is one of those that are timed, with --dead too. Two more rows say what it costs: how long the
+longest of alpha's requests waits, and how many of them wait for over half the timeout.
 
 It prints one table: the requests a second, and of alpha's requests the median time until the response, and what 99 of 100 stay below.
 So many sessions as threads stand beside the same run without threads. Each figure is the middle one of the rounds, in which
@@ -95,7 +99,8 @@ def measured(given, side, share):
     words = [os.path.abspath(given.program), "run", "--flow", run.EXAMPLE, "--config", "config.toml"]
     words += [] if side == "no threads" else ["--threads", "--sessions", str(side)]
     are_beta = kinds(share, given.requests)
-    early = collections.deque(frame(number, given.dead and number == 0) for number in range(EARLY))
+    is_early = given.dead and not given.first
+    early = collections.deque(frame(number, is_early and number == 0) for number in range(EARLY))
     frames = collections.deque(frame(EARLY + number, its) for number, its in enumerate(are_beta))
     streams = {"stdin": subprocess.PIPE, "stdout": subprocess.PIPE, "bufsize": 0}
     with tempfile.TemporaryDirectory() as room, hosts(room, given.dead):
@@ -121,6 +126,12 @@ def rows(given, share):
     for what, part in (("median", 50), ("99 of 100", 99)):
         waits = {side: 1e3 * statistics.median(percentile(took, part) for _, took in its) for side, its in found.items()}
         yield f"{share} of 100 to beta: alpha's {what}, ms", cells(waits, "{:,.2f}")
+    if given.first and share:
+        longest = {side: 1e3 * statistics.median(max(took) for _, took in its) for side, its in found.items()}
+        yield f"{share} of 100 to beta: alpha's longest, ms", cells(longest, "{:,.2f}")
+        least = given.timeout / 2e3
+        held = (statistics.median(sum(it > least for it in took) for _, took in its) for its in found.values())
+        yield f"{share} of 100 to beta: alpha's over half the timeout", [f"{count:,.0f}" for count in held]
 
 
 def main():
@@ -134,6 +145,7 @@ def main():
     parser.add_argument("--retry", type=int, default=0, help="how long beta is not asked after that, in milliseconds")
     parser.add_argument("--echo", type=int, default=0, help="after how many seconds without a frame beta gets an echo test")
     parser.add_argument("--dead", action="store_true", help="beta answers nothing at all")
+    parser.add_argument("--first", action="store_true", help="beta's first request is one of those that are timed")
     given = parser.parse_args()
     print(f"| {given.flying} in flight | no threads | {given.sessions} sessions as threads |")
     print("|---" * 3 + "|")

@@ -32,8 +32,9 @@ from model import messages  # noqa: E402
 TOP = os.path.dirname(os.path.dirname(os.path.abspath(__file__)))
 EXAMPLES = os.path.join(TOP, "examples")
 HOST = os.path.join(EXAMPLES, "hosts", "host.py")
-# How long a query waits, in seconds, how long anything here may take, how long a case, and what is at once on a busy machine.
-TIMEOUT, SECONDS, CASE, AT_ONCE = 1.5, 20, 120, 1.1
+# How long a query waits, in seconds, how long anything here may take, how long a case, and what is at once on a busy machine. And how
+# long a query may wait on a busy machine: shorter than one without a `timeout_ms`.
+TIMEOUT, SECONDS, CASE, AT_ONCE, MOST = 1.5, 20, 120, 1.1, 8
 CONFIG = """
 [[host]]
 name = "alpha"
@@ -52,6 +53,8 @@ stand_in = 500
 # A silent host is not asked for a second, and then gets echo tests until it answers. And the messages that a host answers.
 TESTED, ANSWERED = "retry_ms = 1000\necho_s = 30", (b"0100", b"0120", b"0121", b"0420", b"0421", b"0800")
 PIPES = 'to = "beta.to"\nfrom = "beta.from"\ntimeout_ms = 1500'
+# A card of beta.
+FIVE = b"5000000000000009"
 
 
 class Wrong(Exception):
@@ -127,6 +130,15 @@ class Wire:
                     raise Wrong("the switch does not read from its host") from None
                 time.sleep(0.005)
         os.write(self.writes, data)
+
+    def cut_off(self):
+        """The switch closes the end that it reads; then the host closes its own."""
+        poll = select.poll()
+        poll.register(self.writes, 0)
+        if not poll.poll(1e3 * SECONDS):
+            raise Wrong("the switch did not close the end that it reads")
+        os.close(self.writes)
+        self.writes = None
 
     def hang_up(self):
         for end in self.reads, self.writes:
@@ -217,12 +229,27 @@ def code(response):
     return response[1].get(39)
 
 
+def waited(began):
+    """The switch stood in after the timeout of a request that was sent then, or later."""
+    took = time.monotonic() - began
+    if not TIMEOUT - 0.01 <= took <= MOST:
+        raise Wrong(f"the switch stood in after {took:.2f} seconds, wanted {TIMEOUT}")
+
+
+def advices_in(room):
+    """The types of the advices in the journal, ids and places rising."""
+    left = kills.tables_of(os.path.join(room, "journal.db"))
+    return [body[:4] for _, body in sorted(left.advice.items())]
+
+
 def answers(wire, *codes):
-    """The host answers so many messages; their types."""
-    came = [wire.get() for _ in codes]
-    for message, its in zip(came, codes):
+    """The host answers so many messages, each as it comes; their types."""
+    came = []
+    for its in codes:
+        message = wire.get()
         wire.put(reply(message, its))
-    return [message[:4] for message in came]
+        came.append(message[:4])
+    return came
 
 
 def approved(program, room):
@@ -249,12 +276,12 @@ def declined(program, room):
 def silent(program, room):
     """No answer comes: the switch stands in after the timeout, up to its own amount, and sends reversal and advice at the end."""
     with switch(program, room) as (run, wire):
+        began = time.monotonic()
         run.send(request(1, 400))
         wire.get()
         response = run.receive()
+        waited(began)
         wanted("fields 38 and 39", (response[1].get(38), code(response)), (b"SI0001", b"00"))
-        if response[2] < TIMEOUT - 0.2:
-            raise Wrong(f"the switch stood in after {response[2]:.2f} seconds, wanted {TIMEOUT}")
         run.send(request(2, 600))
         wire.get()
         wanted("field 39 above the stand-in's amount", code(run.receive()), b"91")
@@ -275,8 +302,22 @@ def late(program, room):
         wanted("the second response's code", code(run.receive()), b"05")
 
 
+def late_of_the_same_key(program, room):
+    """A late answer is dropped also where the next request has its key (type, terminal and STAN)."""
+    with switch(program, room) as (run, wire):
+        run.send(request(1, 400))
+        first = wire.get()
+        wanted("the first response's code", code(run.receive()), b"00")
+        # (the answer was taken from the pipe once the bad length behind it was found)
+        wire.put(reply(first, b"51") + b"xxxx")
+        wire.cut_off()
+        run.send(request(1, card=b"4000000000000010"))
+        wire.put(reply(wire.get(), b"05"))
+        wanted("the second response's code", code(run.receive()), b"05")
+
+
 def garbage(program, room):
-    """Bytes that are no message are dropped; a bad length closes the connection, and the switch stands in at once."""
+    """Bytes that are no message are dropped; at a bad length the switch closes its end, and stands in at once."""
     with switch(program, room) as (run, wire):
         run.send(request(1))
         message = wire.get()
@@ -287,20 +328,20 @@ def garbage(program, room):
         wire.put(b"xxxx")
         response = run.receive()
         wanted("field 39 after a bad length", code(response), b"00")
-        if response[2] > AT_ONCE:
-            raise Wrong(f"the switch stood in after {response[2]:.2f} seconds, wanted at once")
+        at_once([response[2]])
+        wire.cut_off()
 
 
 def closed_in_a_frame(program, room):
-    """The host closes in the middle of a frame: the switch stands in at once."""
-    with switch(program, room) as (run, wire):
-        run.send(request(1, 400))
-        wire.put(reply(wire.get())[:20])
-        wire.hang_up()
-        response = run.receive()
-        wanted("field 39", code(response), b"00")
-        if response[2] > AT_ONCE:
-            raise Wrong(f"the switch stood in after {response[2]:.2f} seconds, wanted at once")
+    """The host closes in the middle of a frame, or before its first byte: the switch stands in at once."""
+    for size in 20, 0:
+        with tempfile.TemporaryDirectory(dir=room) as inner, switch(program, inner) as (run, wire):
+            run.send(request(1, 400))
+            wire.put(reply(wire.get())[:size])
+            wire.hang_up()
+            response = run.receive()
+            wanted("field 38", response[1].get(38), b"SI0001")
+            at_once([response[2]])
 
 
 def killed_and_back(program, room):
@@ -314,8 +355,7 @@ def killed_and_back(program, room):
         for stan in 2, 3:
             response = run.ask(request(stan, 400))
             wanted("field 38 of a dead host", response[1].get(38), b"SI%04d" % stan)
-            if response[2] > AT_ONCE:
-                raise Wrong(f"the switch stood in after {response[2]:.2f} seconds, wanted at once")
+            at_once([response[2]])
         wire.listen()
         time.sleep(1.2)
         run.send(request(4))
@@ -330,8 +370,60 @@ def nobody_there(program, room):
         for stan in 1, 2, 3:
             response = run.ask(request(stan, 400))
             wanted("field 38", response[1].get(38), b"SI%04d" % stan)
-            if response[2] > AT_ONCE:
-                raise Wrong(f"the switch stood in after {response[2]:.2f} seconds, wanted at once")
+            at_once([response[2]])
+
+
+def unread(program, room):
+    """The host does not read: the switch stands in after the timeout. A request that was not written in time never is."""
+    with switch(program, room, "--stats") as (run, wire):
+        full = os.open(wire.to, os.O_WRONLY | os.O_NONBLOCK)
+        with contextlib.suppress(BlockingIOError):
+            while True:
+                os.write(full, b"0004junk" * 512)
+        os.close(full)
+        for stan in 1, 2:
+            began = time.monotonic()
+            response = run.ask(request(stan, 400))
+            waited(began)
+            wanted("field 38", response[1].get(38), b"SI%04d" % stan)
+        while (message := wire.get()) == b"junk":
+            pass
+        wanted("what was being written", message, request(1, 400))
+        run.send(request(3))
+        message = wire.get()
+        wanted("the next message", message, request(3))
+        wire.put(reply(message, b"05"))
+        wanted("field 39 of a host that reads again", code(run.receive()), b"05")
+        run.process.stdin.close()
+        wanted("advices", answers(wire, *[b"00"] * 4), [b"0420", b"0120"] * 2)
+        ending = run.end().splitlines()[-1].partition(b" late=")[2]
+        wanted("what was lost", ending, b"0 unreadable=0 dropped=1")
+
+
+def ends(program, room):
+    """At the end each advice is sent once. The one that the host accepts is dropped; the others stay in the journal for the next run."""
+    journal = ["--journal", "journal.db"]
+    with switch(program, room, *journal) as (run, wire):
+        for stan, amount in (1, 400), (2, 600):
+            run.send(request(stan, amount))
+            wire.get()
+            run.receive()
+        run.process.stdin.close()
+        wanted("advices", answers(wire, b"05", b"00"), [b"0420", b"0120"])
+        wanted("the last advice", wire.get()[:4], b"0420")
+        run.end()
+        wanted("at the host", wire.read(0), b"")
+        wanted("advices in the journal", advices_in(room), [b"0420", b"0420"])
+        wire.hang_up()
+        wire.listen()
+        again = Run(program, room, *journal)
+        try:
+            again.process.stdin.close()
+            wanted("advices of the next run", answers(wire, b"00", b"00"), [b"0421", b"0421"])
+            again.end()
+        finally:
+            again.process.kill()
+    wanted("advices that are left", advices_in(room), [])
 
 
 def switch_killed(program, room):
@@ -397,7 +489,7 @@ def asked(wire):
 
 def echo_answered(program, room):
     """A host that gets nothing for a second is sent an echo test. Its answer is dropped, and it is asked as ever."""
-    with switch(program, room, alpha="echo_s = 1") as (run, wire):
+    with switch(program, room, "--stats", alpha="echo_s = 1") as (run, wire):
         began = time.monotonic()
         run.send(request(1))
         wire.put(reply(wire.get()))
@@ -408,15 +500,36 @@ def echo_answered(program, room):
                 raise Wrong(f"echo test {number} came too early")
             wanted("the STAN of an echo test", echo(message), b"%06d" % number)
             wire.put(reply(message))
+        time.sleep(0.5)
+        began = time.monotonic()
         run.send(request(2))
         wire.put(reply(asked(wire), b"05"))
         wanted("field 39 after the echo tests", code(run.receive()), b"05")
-        run.end()
+        message = wire.get()
+        echo(message)
+        if time.monotonic() - began < 1:
+            raise Wrong("an echo test came within a second of a request")
+        wire.put(reply(message))
+        counts = run.end().splitlines()[-1].partition(b" unanswered=")[2]
+        wanted("what is counted", counts, b"0 late=0 unreadable=0 dropped=0")
+
+
+def nothing_opened(program, room):
+    """Before the first request nothing is opened: a host that listens gets no echo test."""
+    with switch(program, room, alpha="retry_ms = 1000\necho_s = 1") as (run, wire):
+        wire.quiet(2.5)
+        began = time.monotonic()
+        run.send(request(1))
+        wire.put(reply(wire.get()))
+        wanted("field 39", code(run.receive()), b"00")
+        echo(wire.get())
+        if time.monotonic() - began < 1:
+            raise Wrong("the echo test came too early")
 
 
 def echo_unanswered(program, room):
     """A host that answers no echo test is closed, and stood in for at once; it is asked again from the first request after a second."""
-    with switch(program, room, alpha="echo_s = 1") as (run, wire):
+    with switch(program, room, "--stats", alpha="echo_s = 1") as (run, wire):
         began = time.monotonic()
         run.send(request(1))
         wire.put(reply(wire.get()))
@@ -427,12 +540,19 @@ def echo_unanswered(program, room):
             raise Wrong("the switch did not wait for the answer to its echo test")
         response = run.ask(request(2, 400))
         wanted("field 38 of a host that is closed", response[1].get(38), b"SI0002")
-        if response[2] > AT_ONCE:
-            raise Wrong(f"the switch stood in after {response[2]:.2f} seconds, wanted at once")
+        at_once([response[2]])
         time.sleep(1.2)
         run.send(request(3))
         wire.put(reply(asked(wire), auth=b"BACK03"))
         wanted("field 38 of a host that is asked again", run.receive()[1].get(38), b"BACK03")
+        run.process.stdin.close()
+        for its in b"0420", b"0120":
+            message = asked(wire)
+            wire.put(reply(message))
+            wanted("an advice", message[:4], its)
+        line = run.end().splitlines()[-1]
+        if b" unanswered=1 " not in line:
+            raise Wrong(f"the last line on standard error: {line!r}")
 
 
 def retried(program, room):
@@ -443,8 +563,7 @@ def retried(program, room):
         wanted("field 38 of a silent host", run.receive()[1].get(38), b"SI0001")
         response = run.ask(request(2, 400))
         wanted("field 38 of a host that is not asked", response[1].get(38), b"SI0002")
-        if response[2] > AT_ONCE:
-            raise Wrong(f"the switch stood in after {response[2]:.2f} seconds, wanted at once")
+        at_once([response[2]])
         time.sleep(2.2)
         run.send(request(3))
         message = wire.get()
@@ -504,9 +623,9 @@ def at_once(took):
         raise Wrong(f"the switch stood in after {max(took):.2f} seconds, wanted at once")
 
 
-def back(run, player, stans, seconds):
-    """The host answers all that comes: after so long at most it is asked again, and no request waits meanwhile."""
-    began, player.answered = time.monotonic(), ANSWERED
+def back(run, player, stans, seconds, answered=ANSWERED):
+    """The host answers messages of these types: after so long at most it is asked again, and no request waits meanwhile."""
+    began, player.answered = time.monotonic(), answered
     while time.monotonic() - began < seconds:
         response = run.ask(small(next(stans)))
         at_once([response[2]])
@@ -546,6 +665,19 @@ def tested_and_never_answered(program, room):
             raise Wrong(f"{len(waited)} requests waited in nine seconds, wanted 2 to 4")
 
 
+def late_ends_silence(program, room):
+    """A host that answers late is not silent: it is asked again after `retry_ms`, and needs to answer no echo test for that."""
+    with switch(program, room, alpha=TESTED) as (run, wire):
+        began = time.monotonic()
+        run.send(small(1))
+        message = wire.get()
+        wanted("field 39", code(run.receive()), b"00")
+        waited(began)
+        wire.put(reply(message))
+        with played(wire) as player:
+            back(run, player, itertools.count(2), SECONDS, (b"0100",))
+
+
 def silent_while_idle(program, room):
     """A host that answers no echo test is not asked before it has answered one: no request waits at all."""
     with switch(program, room, alpha="retry_ms = 1000\necho_s = 1") as (run, wire), played(wire) as player:
@@ -560,7 +692,8 @@ def silent_while_idle(program, room):
 
 def counted(program, room):
     """With `--stats` a line for each host that is reached by pipes follows the numbers of the run: what was not sent, and what was lost."""
-    with switch(program, room, "--stats", alpha="retry_ms = 60000\necho_s = 30") as (run, wire):
+    words = ["--stats", "--journal", "journal.db"]
+    with switch(program, room, *words, alpha="retry_ms = 60000\necho_s = 30", beta=PIPES) as (run, wire):
         run.send(request(1, 400))
         message = wire.get()
         wanted("field 38 of a silent host", run.receive()[1].get(38), b"SI0001")
@@ -568,26 +701,53 @@ def counted(program, room):
         for stan in 2, 3:
             at_once([run.ask(request(stan, 400))[2]])
         # (at the end three reversals and three advices are not sent either)
-        line = run.end().splitlines()[-1]
-        want = b"cardswitch: host alpha: not-asked=8 echo-tests=0 unanswered=0 late=1 unreadable=0 dropped=0"
-        wanted("the last line on standard error", line, want)
+        alpha = b"cardswitch: host alpha: not-asked=8 echo-tests=0 unanswered=0 late=1 unreadable=0 dropped=0"
+        beta = b"cardswitch: host beta: not-asked=0 echo-tests=0 unanswered=0 late=0 unreadable=0 dropped=0"
+        wanted("the last lines on standard error", run.end().splitlines()[-2:], [alpha, beta])
+    wanted("advices in the journal", advices_in(room), [b"0420", b"0120"] * 3)
 
 
-def beside_a_silent_host(program, room):
-    """With threads, a host that is silent holds its own participant alone: the other one answers meanwhile."""
+def asked_at_once(program, room):
+    """With threads two hosts are asked at the same time: one of them answers only once both requests of the other are answered."""
     words = ["--threads", "--sessions", "4"]
-    with switch(program, room, *words, beta=PIPES) as (run, wire):
+    with switch(program, room, *words, beta=PIPES.replace("1500", "15000")) as (run, wire):
         other = Wire(room, "beta")
         other.listen()
-        both = [request(1, 400, b"5000000000000009"), request(2), request(3)]
-        run.process.stdin.write(b"".join(map(messages.framed, both)))
-        began = time.monotonic()
+        batch = [request(1, card=FIVE), request(2), request(3)]
+        run.process.stdin.write(b"".join(map(messages.framed, batch)))
+        message = other.get()
         for _ in range(2):
             wire.put(reply(wire.get()))
-        if time.monotonic() - began > AT_ONCE:
-            raise Wrong("the requests of the other host waited for the silent one")
-        codes = sorted(code(run.receive()) for _ in both)
-        wanted("codes", codes, [b"00", b"00", b"00"])
+        other.put(reply(message))
+        wanted("field 38 of each response", [run.receive()[1].get(38) for _ in batch], [b"HOST42"] * 3)
+
+
+def silent_in_a_batch(program, room):
+    """With threads the responses of a batch wait for a silent host: for each of its requests, and with `retry_ms` for one of them. Its
+    advices go to that host, one after the other like its requests."""
+    words = ["--threads", "--sessions", "4"]
+    for more, waits in ("", 2), ("\nretry_ms = 60000", 1), ("\nretry_ms = 60000\necho_s = 30", 1):
+        with tempfile.TemporaryDirectory(dir=room) as inner, switch(program, inner, *words, beta=PIPES + more) as (run, wire):
+            other = Wire(inner, "beta")
+            other.listen()
+            batch, began = [request(1, 400, FIVE), request(2, 400, FIVE), request(3)], time.monotonic()
+            run.process.stdin.write(b"".join(map(messages.framed, batch)))
+            wire.put(reply(wire.get()))
+            other.get()
+            if waits == 2:
+                other.get()
+                if time.monotonic() - began < TIMEOUT - 0.01:
+                    raise Wrong("the host got a request before the one before it had ended")
+            given = sorted(run.receive()[1].get(38) for _ in batch)
+            wanted("field 38 of each response", given, [b"HOST42", b"SI0001", b"SI0002"])
+            if time.monotonic() - began < waits * TIMEOUT - 0.01:
+                raise Wrong("the responses of the batch did not wait for the silent host")
+            wanted("at the silent host", other.read(0), b"")
+            run.process.stdin.close()
+            if waits == 2:
+                wanted("advices at the silent host", answers(other, *[b"00"] * 4), [b"0420", b"0120"] * 2)
+            run.end()
+            wanted("at the other host", wire.read(0), b"")
 
 
 def worked_host(program, room):
@@ -706,20 +866,26 @@ CASES = [
     declined,
     silent,
     late,
+    late_of_the_same_key,
     garbage,
     closed_in_a_frame,
     killed_and_back,
     nobody_there,
+    unread,
+    ends,
     switch_killed,
     advices_between_reads,
     echo_answered,
     echo_unanswered,
+    nothing_opened,
     retried,
     silent_and_tested,
     tested_and_never_answered,
+    late_ends_silence,
     silent_while_idle,
     counted,
-    beside_a_silent_host,
+    asked_at_once,
+    silent_in_a_batch,
     worked_host,
     behind_socat,
     by_hand,
