@@ -233,7 +233,7 @@ class States:
         try:
             found = flows.read_flow(came)
         except flows.Fault as fault:
-            return f"{name} is no flow file: {texts.told(fault)}"
+            return f"{name} is not a flow file: {texts.told(fault)}"
         return None if found == self.wanted else f"{name} states another flow: {flows.image(found).decode()}"
 
 
@@ -573,7 +573,7 @@ def any_message(random):
 
 
 def stream(random):
-    """Frames, the last of them cut off now and then, or something behind it that is none."""
+    """Frames, the last of them cut off now and then, or something after it that is not a frame."""
     made = []
     for _ in range(random.choice([0, 1, 2, 10, 30])):
         text = message(random)
