@@ -26,7 +26,7 @@ def largest_flow():
 
 
 def far_flow():
-    """A selector that asks for the last of 256 groups, behind 32,000 steps, which asks for itself again."""
+    """A selector that asks for the last of 256 groups, after 32,000 steps, which asks for itself again."""
     lines = ['[[group]]\nname = "main"\n[[group.entry]]\nparticipant = "loop"\nselector = true']
     for group in range(254):
         lines.append(f'[[group]]\nname = "group-{group}"')
@@ -70,7 +70,7 @@ def main():
             out.write(far_flow())
         script = ("choose loop again\n" * 499 + "auto\n").encode()
         took, lines = timed(["step", "--flow", path], script)
-        print(f"one of {lines.count(10)} lines behind 32,000 steps: {took:.3f} s")
+        print(f"one of {lines.count(10)} lines after 32,000 steps: {took:.3f} s")
 
 
 if __name__ == "__main__":

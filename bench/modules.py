@@ -7,7 +7,7 @@ The crate is checked from nothing by one process, over the libraries that earlie
 builds them). The checker leaves a file for each module as the module ends, so the time between two files is that of the
 second one, with what it was the first to load. The dearest are printed, 30 where no COUNT is given.
 
-The names are the checker's own: those of a function begin with its path, and what stands behind it (`Lts`, `Proof`, `Tie`,
+The names are the checker's own: those of a function begin with its path, and what stands after it (`Lts`, `Proof`, `Tie`,
 ..) is a part of its proof. `Lts` was seen to grow with the values that may be dropped at early returns.
 """
 

@@ -96,7 +96,7 @@ def recovery_faults(program, tables, path):
     with open(FLOW, "rb") as file:
         engine = Engine(flows.read_flow(file.read()), 1, Participants(0))
     engine.written = journal.view(journal.turned(tables) if tables.layout == 1 else tables)
-    # (what a recovery finds and leaves stands before and behind them)
+    # (what a recovery finds and leaves stands before and after them)
     wanted = "".join(f"{line}\n" for line in [*stops.recovery_lines(engine)][1:-1]).encode()
     with copied(path) as copy:
         command = [program, "recover", "--flow", FLOW, "--journal", copy]

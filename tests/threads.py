@@ -161,7 +161,7 @@ def followed(run, count):
     made = requests.crowd(run.chosen, run.limit, count)
     give, begins = run.input_of(made)
     came = run.ran(give, *run.threads, "--trace")
-    need(came.status == 0, f"status: wanted 0, came {came.status}, and was told at the end {came.stderr[-300:]!r}")
+    need(came.status == 0, f"status: wanted 0, came {came.status}, and standard error ends with {came.stderr[-300:]!r}")
     switch, most = threads.follow(run.flow, run.limit, run.sessions, made, begins, came.stderr.decode().split("\n")[:-1])
     compare(came, switch.responses(), Exactly(came.stderr))
     if run.has_file:
@@ -196,7 +196,7 @@ def refusing(run):
     made = list(filter(threads.is_answered, requests.crowd(run.chosen, run.limit, 300)))
     text = [messages.framed(it) for it in made]
     pieces = [b"".join(text[at : at + FEW]) for at in range(0, len(text), FEW)]
-    # (units of 512 bytes: a new journal has 528 of them, and the log of changes begins anew behind some 1,000)
+    # (units of 512 bytes: a new journal has 528 of them, and the log of changes begins anew after some 1,000)
     limited = ["sh", "-c", f"trap '' XFSZ; ulimit -f {run.chosen.randrange(540, 1000)}; exec \"$@\"", "sh"]
     came = run.ran(lambda words: inputs.run_in_packets([*limited, *words], pieces, SECONDS, {}), *run.threads, "--trace")
     *lines, last = came.stderr.decode().split("\n")[:-1]

@@ -4,8 +4,8 @@
     tests/wrong_bodies.py [CRATE ..]
 
 The gate tries the edits of each crate's must-fail/ again in every run. Those of wrong-bodies/, of the same form, are tried
-here by `rt must-fail`, on a copy: all of them, or those of the crates named. It is for whoever changes a contract of such a crate,
-and costs a check of each crate and of those below it, and some 30 seconds for each edit.
+here by `rt must-fail`, on a copy: all of them, or those of the crates named. Run it when you change a contract of such a crate.
+It costs a check of each crate and of those below it, and some 30 seconds for each edit.
 
 An edit that falls only because a proof file names what it takes away counts as failed. The last line counts; the status is
 1 where a wrong body is not refused.

@@ -100,7 +100,7 @@ class Case:
     stdout: object = None
     stderr: object = None
     status: int = 0
-    # Why the case itself is none, as where nothing is expected of it.
+    # Why the case itself is invalid, as where nothing is expected of it.
     fault: str = None
     # Of a random case: the case of another input, and the parts that the input may lack, where they are no lines.
     remake: object = None

@@ -19,7 +19,7 @@ KNOWN = {
 
 
 class Malformed(Exception):
-    """A case file that is none, or a case that expects nothing."""
+    """An invalid case file, or a case that expects nothing."""
 
 
 def unescaped(text):

@@ -1,7 +1,7 @@
-"""Runs the examples of README.md and docs/*.md, so that a page that lies fails.
+"""Runs the examples of README.md and docs/*.md, so that a page with a wrong example fails.
 
 An indented block that begins with `$ ` is an example: after each `$ ` line comes what the command prints on both
-streams, as on a terminal. A block right behind a line that ends in `NAME`: is the file NAME, for the examples of
+streams, as on a terminal. A block right after a line that ends in `NAME`: is the file NAME, for the examples of
 the page below it. A line of two dots represents lines that the page leaves out, two dots at the end of a line for its
 rest.
 
@@ -46,7 +46,7 @@ def blocks_of(text):
     before, block = "", []
     for line in [*FENCED.sub("", text).split("\n"), "end"]:
         if line.startswith("    $ ") and block and not block[0].startswith("$ "):
-            # An example right behind a file.
+            # An example right after a file.
             yield before, "\n".join(block).rstrip("\n").split("\n")
             before, block = "", []
         if line.startswith("    "):

@@ -91,7 +91,7 @@ class Running:
 
 
 class Recovered:
-    """An unfinished transaction of a journal after a restart: who is still to be told."""
+    """An unfinished transaction of a journal after a restart: who is still to be notified."""
 
     recovering = "recovering "
 
@@ -305,7 +305,7 @@ class Engine:
         return line
 
     def tell(self, its, due):
-        """The line of a told, and its advice with its key."""
+        """The line of an outcome, and its advice with its key."""
         call, entry = due
         body, place, phase = self.replies.advice(its, due), its.place(), its.phase
         if isinstance(its, Running):

@@ -176,7 +176,7 @@ def step_of(line):
 def lines_of(text):
     """The header, and what the lines of each kind say, each line read by itself."""
     lines = text.split(b"\n")
-    # What stands behind the last line feed is a line without one.
+    # What stands after the last line feed is a line without one.
     whole, tail = lines[:-1], lines[-1]
     if not whole:
         raise Fault("BadHeader")
@@ -297,7 +297,7 @@ def integers_of(value):
 
 
 def float_of(digits):
-    """A float of TOML; one out of range is none."""
+    """A float of TOML; one out of range is not one."""
     value = float(digits)
     if value in (float("inf"), float("-inf")) and "inf" not in digits:
         raise Fault("NotToml")

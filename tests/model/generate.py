@@ -11,7 +11,7 @@ NAMES = ["main", "g", "h", "alpha", "beta", "a.b-c_D9", "x" * 32]
 PARTICIPANTS = ["check", "limits", "route", "p", "q", "r", "s", "P", "standin", "y" * 32]
 BAD_NAMES = ["", "p!", "x" * 33, "p q", "é", "a/b", "main,g"]
 BYTES = [0x01] * 8 + [0x81, 0x41, 0xC1, 0x41, 0x00, 0x02, 0x03, 0x05, 0x42, 0x82, 0xC0, 0xC2, 0xFF]
-REFUSED = b"cardswitch: a message or a frame of the input is refused"
+REFUSED = b"cardswitch: standard input: a message or a frame is refused"
 
 
 PICKS = Kind(selector=True)
@@ -233,7 +233,7 @@ class States:
         try:
             found = flows.read_flow(came)
         except flows.Fault as fault:
-            return f"{name} is no flow file: {texts.told(fault)}"
+            return f"{name} is not a flow file: {texts.told(fault)}"
         return None if found == self.wanted else f"{name} states another flow: {flows.image(found).decode()}"
 
 
@@ -573,7 +573,7 @@ def any_message(random):
 
 
 def stream(random):
-    """Frames, the last of them cut off now and then, or something behind it that is none."""
+    """Frames, the last of them cut off now and then, or something after it that is not a frame."""
     made = []
     for _ in range(random.choice([0, 1, 2, 10, 30])):
         text = message(random)

@@ -9,7 +9,7 @@ class Told:
     def __init__(self, stops):
         self.stops = stops
         self.outcome = None
-        # Who joined, and who was told the outcome: one that a stop left in doubt once.
+        # Who joined, and who was notified of the outcome: one that a stop left in doubt once.
         self.joined, self.told = [], []
         self.told_at = None
 
@@ -18,7 +18,7 @@ class Told:
         if self.outcome:
             return "is prepared after its outcome"
         if self.stops != stops:
-            return "is prepared on behind a stop"
+            return "is prepared again after a stop"
         self.joined += [name] * ("join" in marks)
         return None
 
@@ -34,7 +34,7 @@ class Told:
     def end(self):
         """What is wrong with it where it is over: each one who joined is notified in order, and who was being prepared."""
         if len(set(self.joined)) < len(self.joined):
-            # (one that stands twice may be told again or for its second place)
+            # (one that stands twice may be notified again or for its second place)
             return None
         if self.told[: len(self.joined)] != self.joined or len(self.told) > len(self.joined) + 1:
             return f"is notified to {' '.join(self.told)}, and {' '.join(self.joined)} joined"
@@ -71,7 +71,7 @@ def broken(lines, transactions):
 
 
 def undecided(lines):
-    """What the calls behind a stop have against the journal that it left: `found`, with its rows and their phases."""
+    """What the calls after a stop have against the journal that it left: `found`, with its rows and their phases."""
     committing = None
     for line in lines:
         words = line.split(" ")

@@ -108,7 +108,7 @@ def frames(text):
 
 
 def shown(text):
-    """Frames as lines, and what is left behind them."""
+    """Frames as lines, and what is left after them."""
     made = frames(text)
     return b"\n".join([*made, text[sum(map(len, made)) :]])
 

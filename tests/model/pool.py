@@ -36,7 +36,7 @@ class Shown:
         self.words, self.live = words, live
 
     def answer(self, its, due):
-        """Each preparation puts the participant's number behind the path."""
+        """Each preparation puts the participant's number after the path."""
         byte = int(self.words[5], 16)
         return byte, [("path", self.live.get("path", b"") + bytes([self.numbers[due[1].name]]))]
 
@@ -72,7 +72,7 @@ class Played(Engine):
             self.ended[its.id] = its.live
 
     def tell(self, its, due):
-        """An outcome puts the number with the highest bit set behind the path."""
+        """An outcome puts the number with the highest bit set after the path."""
         told = super().tell(its, due)
         its.live["path"] = its.live.get("path", b"") + bytes([0x80 | self.numbers[due[1].name]])
         return told
@@ -227,5 +227,5 @@ def wrong_with(flow, sessions, offers, text):
     except Wrong as wrong:
         return str(wrong)
     except (IndexError, KeyError, ValueError) as fault:
-        return f"a line is none of the program's: {fault!r}"
+        return f"not a line of the program: {fault!r}"
     return None

@@ -8,7 +8,7 @@ from model.engine import Engine, Refused
 
 
 class Malformed(Exception):
-    """A line that is none."""
+    """A malformed line."""
 
 
 def text_of(line):

@@ -1,7 +1,7 @@
 """What `test_switch stopped` prints of a script: runs that are cut while the journal is opened, read or written, and
 recovered.
 
-A cut comes at a moment: where the journal is opened or read, and before and behind each write. Which call of the disks
+A cut comes at a moment: where the journal is opened or read, and before and after each write. Which call of the disks
 falls on which moment the model does not know: the runs, each cut a call later than the last, have to be those of moments
 in their order, from the first to the run that is not cut.
 """
@@ -175,7 +175,7 @@ def are_in_order(came, wanted):
 
 
 def misplaced(sweep, wanted):
-    """The first run that is none of those wanted, or not in their order; None: there is none."""
+    """The first run that is not one of those wanted, or not in their order; None where there is none."""
     at = 0
     for runs in sweep:
         while at < len(wanted) and not are_in_order(runs, wanted[at]):

@@ -1,4 +1,4 @@
-"""The participants of the switch, and what `run` answers. docs/PARTICIPANTS.md and docs/OPERATING.md have them."""
+"""The participants of the switch, and what `run` answers. docs/SWITCH.md has them, docs/OPERATING.md has the run."""
 
 import functools
 

@@ -27,10 +27,10 @@ FILE = {
 
 # Why the stream of `run` is refused, and that a journal is.
 END = {
-    "BadLength": "cardswitch: a frame's length is bad; expected four digits",
-    "Truncated": "cardswitch: the input ends within a frame; found {at} bytes of it",
+    "BadLength": "cardswitch: standard input: bad frame length; expected four digits",
+    "Truncated": "cardswitch: standard input: ends within a frame; found {at} bytes of it",
 }
-REFUSED = "cardswitch: the store of the journal refused: Refused"
+REFUSED = "cardswitch: cannot read or write the journal: refused by its store"
 
 
 def place_of(at):

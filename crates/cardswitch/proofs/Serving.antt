@@ -14,7 +14,7 @@ use Rattle.cli_run.specs.declared.stream.StreamEnd.{StreamEnd}
 use Rattle.cli_run.specs.declared.stream.StreamEnd.TheVariants.{Whole, BadLength, Truncated, Unread}
 use Rattle.cardswitch.specs.Runs.{Served, link_step}
 
--- what a run has read, done and told, as `cli_run` has it
+-- what a run has read, done and written, as `cli_run` has it
 abbrev RanTo : Bool → Flow → ℕ → Seen → PlainSender → ℕ → Option (List ℕ) → Option (List ℕ) → Option (List ℕ) → Log → Log → StreamEnd → Type 0
 RanTo threads f n j sender most unread before after k l end =
     (frames : List (List ℕ)) × ReadTo end unread frames × (rounds : List Round) × RoundsFor threads (requests frames) rounds

@@ -118,7 +118,7 @@ prompted path (Ok flow) unread out err out_after err_after (Err e) is_flow no_fl
 prompted path (Err f) unread out err out_after err_after (Ok done) is_flow no_flow ran = let differ : Ok done ≡ Err f = no_flow.0 in cc
 prompted path (Err f) unread out err out_after err_after (Err e) is_flow no_flow ran = tt
 
--- a fault of the flow file is none of the session
+-- a fault of the flow file is not one of the session
 file_session : (path : Option (Bor (List ℕ))) (e : RunError) → IsFileFlowFault path e → IsSessionFault e
 file_session None e h = absurd h
 file_session (Some path) (error.FlowFile p cause) h = tt

@@ -94,8 +94,8 @@ IsErrorOf (Graph flow dot) unread written written_now e = IsDrawFault dot flow.n
 IsErrorOf (Decode mask) unread written written_now e = IsDecodeError mask unread written written_now e
 IsErrorOf Encode unread written written_now e = IsEncodeFault unread written written_now e
 
--- a run tells messages that it passes over, and its trace, and is done all the same; so is a session at a prompt, which tells
--- lines that it refuses
+-- a run reports messages that it passes over, and writes its trace, and is done all the same; so is a session at a prompt, which
+-- reports lines that it refuses
 abbrev pub IsQuiet : Options → Type 0
 IsQuiet (Run o) = ⊥
 IsQuiet (Step flow prompt) = prompt ≡ false

@@ -45,7 +45,7 @@ IsScriptFault before after (error.Write e) = Grows before after
 IsScriptFault before after error.OutOfMemory = Grows before after
 IsScriptFault before after _ = ⊥
 
--- the faults of `step`, the first of which it tells: its flow file, before which nothing is written, then those of its script
+-- the faults of `step`, the first of which it reports: its flow file, before which nothing is written, then those of its script
 abbrev pub IsStepFault : Option (Bor (List ℕ)) → Option (List ℕ) → Option (List ℕ) → RunError → Type 0
 IsStepFault path before after (error.FlowFile p cause) = (text_of path ≡ Some p) × (after ≡ before)
 IsStepFault path before after e = IsScriptFault before after e

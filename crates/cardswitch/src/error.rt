@@ -51,10 +51,10 @@ impl fmt::Debug for JournalFault {
 #[derive(Drop, Error)]
 pub enum RunError {
     /// The input could not be read to its end.
-    #[error("reading the input: {0}")]
+    #[error("standard input: cannot read: {0}")]
     Read(ReadError),
     /// The output could not be written.
-    #[error("writing the output: {0}")]
+    #[error("standard output: cannot write: {0}")]
     Write(WriteError),
     /// A line of the script, its flow or its plant is refused, or its journal refused. The lines before
     /// it have run.
@@ -64,7 +64,7 @@ pub enum RunError {
     #[error("{0}")]
     Serve(ServeError),
     /// What a card may spend is above the greatest limit.
-    #[error("the limit is too large; expected at most 999999999999999")]
+    #[error("--limit: too large; expected 0 to 999999999999999")]
     BadLimit,
     /// The file at the path is not taken as a journal.
     #[error("{}: {cause}", .path.as_str())]
@@ -75,14 +75,14 @@ pub enum RunError {
     /// The configuration file at the path is not taken.
     #[error("{}: {cause}", .path.as_str())]
     ConfigFile { path: Text, cause: ConfigFileError },
-    /// The standard input is no flow file or no image.
+    /// The standard input is not a flow file, or not an image.
     #[error("standard input: {0}")]
     Input(FlowsError),
     /// A line of a text of messages is refused. The frames of the messages before it are written.
     #[error("standard input: {0}")]
     Text(TextError),
     /// A message or a frame of a stream is refused; what it prints says which.
-    #[error("a message or a frame of the input is refused; expected frames of ISO 8583:1987 messages")]
+    #[error("standard input: a message or a frame is refused; expected frames of ISO 8583:1987 messages")]
     Refused,
     /// No memory was left.
     #[error("out of memory")]

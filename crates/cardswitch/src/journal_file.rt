@@ -42,10 +42,10 @@ fn write_empty(rt: &HostRuntime, path: &str) -> io::Result<()> {
     file.sync_all()
 }
 
-/// Lays a journal without tables at a path where nothing is. It is written beside that path and linked there whole, so
-/// that nobody finds a part of it, and none that another process laid meanwhile is lost.
+/// Makes the file of a journal without tables at a path where nothing is. It is written beside that path and linked
+/// there whole, so that no process finds a part of it, and a file that another process made meanwhile is kept.
 ///
-/// Where none is laid, as where a file stands beside the path already, which stays as it is, the journal is
+/// Where none is made, as where `PATH-new` exists already, which stays as it is, the journal is
 /// made as it is opened, with pages of the library's size.
 pub fn lay(rt: &HostRuntime, alloc: Global, path: &str) -> io::Result<()> {
     if path == ":memory:" || path.starts_with("file:") || fs::exists(rt, path)? {

@@ -63,7 +63,7 @@ enum Sight {
     Beside { bad: BadRow, rest: Rest },
 }
 
-// The error of a row at fault, as `run` tells it.
+// The error of a row at fault, as `run` reports it.
 fn bad_row(bad: BadRow) -> RunError
     ensures { result ≡ error_of_row bad }
 {

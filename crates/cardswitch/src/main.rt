@@ -1,6 +1,6 @@
 //! The card switch's program.
 //!
-//! The edge of the program: it reads its words and its input, runs the subcommand, and tells an error
+//! The edge of the program: it reads its words and its input, runs the subcommand, and reports an error
 //! by a text on standard error and by the exit status: 0 done, 1 refused input or a failed read or
 //! write, 2 a bad command line, 3 a refusal of a journal, 4 out of memory.
 #![tactic(auto)]

@@ -61,7 +61,7 @@ pub fn run<
     }
 }
 
-/// Tells an error, and gives the exit status that goes with it.
+/// Reports an error, and gives its exit status.
 fn tell<E: Write>(error: &RunError, err: &mut E) -> u8
     ensures { result ≡ run_status error.now }
 {
@@ -208,8 +208,8 @@ pub fn refuse<E: Write>(error: &OptionsError, shown: Result<(), WriteError>, err
     }
 }
 
-/// Tells that the words of the command line could not be read, and gives the exit status: 4 where memory ran out,
-/// and else 2, since they are no text.
+/// Reports that the words of the command line could not be read, and gives the exit status: 4 where memory ran out,
+/// and else 2, since they are not text.
 pub fn refuse_words<E: Write>(error: io::Error, err: &mut E) -> u8
     ensures memory { error_kind error ≡ ErrorKind.OutOfMemory → result ≡ 4 }
     ensures no_text { (error_kind error ≢ ErrorKind.OutOfMemory) → result ≡ 2 }

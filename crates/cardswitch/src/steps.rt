@@ -106,7 +106,7 @@ fn step_prompted<R: Read + Drop, O: Write, E: Write>(
 
 /// Runs the script of an input over the flow of its own lines, or over that of the flow file at a path. What a
 /// line prints is written before the next one is read. With a prompt each line is asked for, and one that is refused is
-/// told on `err` and passed over.
+/// reported on `err` and passed over.
 pub fn step<R: Read + Drop, O: Write, E: Write>(
     alloc: Global,
     rt: &HostRuntime,

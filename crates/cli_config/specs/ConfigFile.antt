@@ -94,7 +94,7 @@ stated top (Some e) = Err e
 abbrev pub states : Members → Result config.Config TableError
 states top = stated top (first_fault top)
 
--- what a text reads as: nothing where it is no TOML
+-- what a text reads as: nothing where it is not TOML
 unfoldable pub reading : List ℕ → Option (Result config.Config TableError)
 reading text = option_map states (parse_document text)
 
@@ -109,7 +109,7 @@ Gives (Err (Table e)) told = told ≡ Err e
 abbrev pub IsConfigFile : config.Config → List ℕ → Type 0
 IsConfigFile c text = reading text ≡ Some (Ok c)
 
--- What a refusal says of a text: nothing where memory ran out, else its first fault. That a text is no
+-- What a refusal says of a text: nothing where memory ran out, else its first fault. That a text is not
 -- TOML comes with a span of it.
 abbrev pub Refuses : List ℕ → ConfigError → Type 0
 Refuses text OutOfMemory = ⊤

@@ -13,7 +13,7 @@ pub enum ConfigError {
     /// An allocation failed, which says nothing of the file.
     #[error("out of memory")]
     OutOfMemory,
-    /// The text is no TOML; the reason has its line and column, both from 1.
+    /// The text is not TOML; the reason has its line and column, both from 1.
     #[error("{0}")]
     Toml(toml::de::Error),
     /// A table has a fault.

@@ -26,7 +26,7 @@
 //! Promised here: [`read_config`] answers exactly the configuration that a text states, or its first
 //! fault, with the key and the table that it stands in. The faults come in this order:
 //!
-//! 1. The text is no TOML.
+//! 1. The text is not TOML.
 //! 2. A table has a fault of its own: the top table, then each host, each route, `limits`, `run`. In a
 //!    table the least unknown key comes first, then the least missing one, then the least with a value
 //!    that may not stand there, then the least that excludes `simulated`.

@@ -183,7 +183,7 @@ fn read_document(alloc: Global, top: &Table) -> Result<Config, ConfigError>
 
 /// The configuration that a configuration file states.
 ///
-/// The crate's page has the order of the faults. An integer of more than 64 bits is no TOML.
+/// The crate's page has the order of the faults. An integer of more than 64 bits is not TOML.
 /// `OutOfMemory` comes only where an allocation failed.
 #[tactic(auto, unfolding(crate::specs::ConfigFile::reading))]
 pub fn read_config(alloc: Global, text: &str) -> Result<Config, ConfigError>

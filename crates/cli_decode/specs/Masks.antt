@@ -1,4 +1,4 @@
--- What `decode --mask` shows of a field that tells of a card, a PIN or a key.
+-- What `decode --mask` shows of a field with data of a card, a PIN or a key.
 use Rattle.std.specs.Prelude.{◌≡◌, ◌<◌, ◌⊎◌, ℕ, ◌-◌, ◌||◌, ◌==◌, nat_lt, Bool, true, false, List, [], ◌∷◌, ◌++◌, length, take, drop, replicate, codes}
 use Rattle.std.specs.Prelude.{if◌then◌else◌}
 use Rattle.std.specs.Fmt.{decimal}
@@ -25,7 +25,7 @@ masked_length value = decimal (length value) ++ codes " bytes"
 abbrev pub masked_value : ℕ → List ℕ → List ℕ
 masked_value n value = if n == 2 then masked_number value else masked_length value
 
--- `F* VALUE`: an asterisk after the number tells that the value is masked
+-- `F* VALUE`: an asterisk after the number shows that the value is masked
 abbrev pub masked_line : ℕ → List ℕ → List ℕ
 masked_line n value = decimal n ++ (codes "* " ++ (masked_value n value ++ codes "\n"))
 

@@ -13,10 +13,10 @@ use thiserror::Error;
 #[derive(Drop, Error)]
 pub enum StreamError {
     /// The input could not be read to its end.
-    #[error("reading the input: {0}")]
+    #[error("standard input: cannot read: {0}")]
     Read(ReadError),
     /// The text could not be written.
-    #[error("writing the output: {0}")]
+    #[error("standard output: cannot write: {0}")]
     Write(WriteError),
     /// No memory was left.
     #[error("out of memory")]

@@ -1,4 +1,4 @@
-//! What a masked text tells of a message.
+//! What a masked text shows of a message.
 
 ghost use Rattle.cli_decode.specs.Decoded.{MaskedTextsHide};
 

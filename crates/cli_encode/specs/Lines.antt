@@ -63,7 +63,7 @@ plain_line (line.Heading word) = Heading word.now
 plain_line (line.MessageType mti) = MessageType mti
 plain_line (line.Field n v) = Field n (value_of v)
 
--- the line that bytes are, or that they are no line
+-- the line that bytes are, or that they are not a line
 abbrev pub Says : List ℕ → Line → Type 0
 Says bytes l = (line_bytes (plain_line l) ≡ bytes) × IsLine (plain_line l)
 

@@ -141,10 +141,10 @@ pub enum EncodeError {
     #[error("{0}")]
     Text(TextError),
     /// The input could not be read to its end. Nothing is written.
-    #[error("reading the input: {0}")]
+    #[error("standard input: cannot read: {0}")]
     Read(ReadError),
     /// The frames could not be written.
-    #[error("writing the output: {0}")]
+    #[error("standard output: cannot write: {0}")]
     Write(WriteError),
     /// No memory was left.
     #[error("out of memory")]

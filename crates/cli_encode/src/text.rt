@@ -24,7 +24,7 @@ fn take_bytes(alloc: Global, encoder: &mut Encoder, line: &[u8]) -> Result<bool,
     }
 }
 
-/// Reads the lines of a text until one is refused, which is then told.
+/// Reads the lines of a text until one is refused, which is then reported.
 pub fn read_text(
     alloc: Global,
     encoder: &mut Encoder,

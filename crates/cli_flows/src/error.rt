@@ -26,17 +26,17 @@ pub enum FlowsError {
     /// It could not be read to its end.
     #[error("cannot read: {0}")]
     Read(ReadError),
-    /// A flow file is no text.
+    /// A flow file is not text.
     #[error("{0}; expected a flow file in UTF-8")]
     NotText(Utf8Error),
-    /// A text is no flow file, or its flow is refused; with the key or the value that is refused.
+    /// A text is not a flow file, or its flow is refused; with the key or the value that is refused.
     #[error("{}{}", .0, found(.1))]
     File(FlowTomlError, Option<Quoted>),
-    /// Bytes are no image; with the line that is refused.
+    /// Bytes are not an image; with the line that is refused.
     #[error("{}{}", .0, found(.1))]
     Image(LoadError, Option<Quoted>),
     /// The output could not be written.
-    #[error("writing the output: {0}")]
+    #[error("standard output: cannot write: {0}")]
     Write(WriteError),
 }
 

@@ -11,13 +11,13 @@ Text = List ℕ
 abbrev pub is_message : Text → Bool
 is_message name = bytes_eq name (codes "request") || bytes_eq name (codes "response")
 
--- the switch's own notes, which say nothing of a card
+-- the switch's own notes, which hold no card data
 abbrev pub is_note : Text → Bool
 is_note name =
     bytes_eq name (codes "rc") || bytes_eq name (codes "auth") || bytes_eq name (codes "sent")
     || bytes_eq name (codes "late") || bytes_eq name (codes "standin")
 
--- whether the value of an entry that is no message is masked
+-- whether the value of an entry that is not a message is masked
 abbrev pub is_masked : Masking → Text → Bool
 is_masked Off name = false
 is_masked On name = if is_note name then false else true

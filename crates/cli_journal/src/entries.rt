@@ -17,14 +17,14 @@ pub fn is_message(name: &str) -> bool
     name == "request" || name == "response"
 }
 
-// Whether an entry is a note of the switch, which says nothing of a card.
+// Whether an entry is a note of the switch, which holds no card data.
 fn is_note(name: &str) -> bool
     ensures { result ≡ spec.is_note name.now }
 {
     name == "rc" || name == "auth" || name == "sent" || name == "late" || name == "standin"
 }
 
-/// Whether the value of an entry that is no message is masked.
+/// Whether the value of an entry that is not a message is masked.
 pub fn is_masked(masking: Masking, name: &str) -> bool
     ensures { result ≡ spec.is_masked masking name.now }
 {

@@ -1,6 +1,6 @@
 //! `journal`: what a journal holds, as lines of text or of JSON.
 //!
-//! Promised here: [`show`] writes the lines that `specs/Shown.antt` writes down for a view of a
+//! Promised here: [`show`] writes the lines that `specs/Shown.antt` specifies for a view of a
 //! journal, in the form that is asked for. As text that is one fact a line: the layout, the next
 //! id, each transaction that is not finished with what a recovery will do, the shelf, and the
 //! advices. As JSON it is an object for each item, and one for each entry of its context. Of a

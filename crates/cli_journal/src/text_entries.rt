@@ -30,7 +30,7 @@ fn push_size(text: &mut Vec<u8>, value: &[u8]) -> Result<(), AllocError>
     text.extend_from_slice(b" bytes\n")
 }
 
-// Adds what comes after the name of an entry that is no message.
+// Adds what comes after the name of an entry that is not a message.
 fn push_note(text: &mut Vec<u8>, masked: bool, value: &[u8]) -> Result<(), AllocError>
     ensures { OnOk result (text.new.items ≡ text.old.items ++ spec.note_rest masked value.now) }
 {

@@ -1,4 +1,4 @@
--- Why words give no options, and the status with which a program tells it.
+-- Why words give no options, and the exit status of each reason.
 use Rattle.std.specs.Prelude.{◌≡◌, ℕ, ⊤, List, []}
 use Rattle.clap.specs.Words.{IsAmong, Row, Text, fault_of, kind_of}
 use Rattle.clap.specs.declared.error.kind.ErrorKind.{ErrorKind}
@@ -43,7 +43,7 @@ IsRunRefusal rows (BadNumber option expected found) = (o : RunOptions) → AreRu
 IsRunRefusal rows (BadForm found) = (o : RunOptions) → AreRunOptions rows o → ⊥
 IsRunRefusal rows _ = ⊥
 
--- help and the version are shown; every other text tells a mistake
+-- help and the version are shown; every other text reports a mistake
 abbrev pub kind_status : ErrorKind → ℕ
 kind_status kind.DisplayHelp = 0
 kind_status kind.DisplayVersion = 0

@@ -64,7 +64,7 @@ fn number_in(name: &'static str, text: Option<&str>) -> Result<Option<u64>, Opti
         Some(number) if number < BOUND => Ok(Some(number)),
         _ => Err(OptionsError::BadNumber {
             name,
-            expected: "decimal digits, of a number below 2^63",
+            expected: "a number below 2^63 in decimal digits",
             found: Quoted::of(text.as_bytes()),
         }),
     }
@@ -85,7 +85,7 @@ fn stats_in(text: Option<&str>) -> Result<StatsLines, OptionsError>
         Some(number) if 0 < number && number < BOUND => Ok(StatsLines::Every(number)),
         _ => Err(OptionsError::BadNumber {
             name: "stats",
-            expected: "decimal digits, of a number above 0 and below 2^63",
+            expected: "a number above 0 and below 2^63 in decimal digits",
             found: Quoted::of(text.as_bytes()),
         }),
     }

@@ -20,14 +20,14 @@ pub enum OptionsError {
     #[error("error: a subcommand was expected; try '--help'\n")]
     NoSubcommand,
     /// The text of an option is not the number that it takes.
-    #[error("error: --{name} has a bad number: expected {expected}; found {found}\n")]
+    #[error("error: invalid value {found} for '--{name} <N>': expected {expected}\n")]
     BadNumber {
         name: &'static str,
         expected: &'static str,
         found: Quoted,
     },
-    /// The value of `--trace` is no form of the trace.
-    #[error("error: --trace has a bad form: expected text or json; found {0}\n")]
+    /// The value of `--trace` is not a form of the trace.
+    #[error("error: invalid value {0} for '--trace <FORM>': expected text or json\n")]
     BadForm(Quoted),
     /// No memory was left to read the words.
     #[error("error: out of memory\n")]

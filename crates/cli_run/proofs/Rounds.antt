@@ -190,7 +190,7 @@ pub answering_append : (xs ys : List Pairs) → answering (xs ++ ys) ≡ answeri
 answering_append [] ys = refl
 answering_append (x ∷ xs) ys = ap (λ (l : List Round). Offered x ∷ Completed ∷ l) (answering_append xs ys)
 
--- what was told meanwhile
+-- what was written meanwhile
 
 pub reports_none : (p : Point) (o : Option (List ℕ)) (l : Log) → Reports [] 0 p o l p o l
 reports_none p o l = record { serves = serves_none p o; tells = tells_none l }

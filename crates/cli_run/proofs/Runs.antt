@@ -52,7 +52,7 @@ pub begun_next : (f : Flow) (n : ℕ) (view : JournalView) (j : Seen) (made : Wh
 unfolding begun
 begun_next f n view j made first id r is first_at before recovers = refl
 
--- all was served, and what it tells was told, with the numbers at its end
+-- all was served, and what it shows was written, with the numbers at its end
 abbrev pub ServesTold : AdviceStep → List Round → Point → Option (List ℕ) → Option (List ℕ) → ℕ → Log → Log → PlainAdvisor → Type 0
 ServesTold step rounds r a b n k l advisor = (s : ServesAll step rounds r advisor a b) × TellsAll (all_lines s) n s.end k l
 
@@ -73,7 +73,7 @@ ran f n view j made first id r step advisor sender most rounds a b passed k l is
     let (serves, tells) = subst (ServesTold step rounds r a b passed k l) (advisor_is f n view j made first advisor sender most is first_at by) is_told in
     (record { recovered = r; begins = begun f n view j made first id r is first_at before recovers; serves = serves }, tells)
 
--- the lines that were left were told, and the numbers last
+-- the lines that were left were written, and the numbers last
 pub told_last : (step : AdviceStep) (rounds : List Round) (p : Point) (advisor : PlainAdvisor) (a b : Option (List ℕ)) (n : ℕ) (k l m o : Log) (q : Point)
     (w : World) → (s : ServesAll step rounds p advisor a b) → s.end ≡ q → w ≡ world_at q
     → Tells (lines_cut s) n k l → Tells (lines_in w) 0 l m → Shows (numbers_at q m.passed) m o → ServesTold step rounds p a b n k o advisor
@@ -103,14 +103,14 @@ pub begun_recovers : (f : Flow) (n : ℕ) (view : JournalView) (j : Seen) (made 
 unfolding begun
 begun_recovers f n view j made first id r is first_at before recovers = (begun f n view j made first id r is first_at before recovers).recovers
 
--- what holds of what was served and told holds of the result
+-- what holds of what was served and written holds of the result
 pub through_both : {T E : Type 0} {P Q : T → Type 0} {R : Type 0} (s : Result T E) (t : Result (Unit {0}) E) (r : Result T E) → IfOk r (λ x. s ≡ Ok x) →
     OnOk r (t ≡ Ok tt) → IfOk s P → OnOk t R → ((x : T) → P x → R → Q x) → IfOk r Q
 through_both {T} {E} {P} {Q} {R} s t (Ok x) is first h k f =
     f x (subst (λ (z : Result T E). IfOk z P) is h) (subst (λ (z : Result (Unit {0}) E). OnOk z R) first k)
 through_both s t (Err e) is first h k f = tt
 
--- the end of a run, and what it told
+-- the end of a run, and what it wrote
 
 pub closed : (step : AdviceStep) (p q r : Point) (s t : PlainAdvisor) (a b : Option (List ℕ)) (k l : Log) → (d : DrainsAll p a k q b l) →
     SendsAll step (stored_at q) s q t r → IsAtRest r → IsEmptied (world_at r)

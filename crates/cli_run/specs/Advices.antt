@@ -75,7 +75,7 @@ pub record Between (step : AdviceStep) (s : PlainAdvisor) (p : Point) (lines : L
   pub sends : SendsAll step (take s.most (stored_at p)) s p t sent
   pub cuts : MayCut sent lines q
 
--- and the lines of the entries that are cut were told
+-- and the lines of the entries that are cut were written
 pub record SendsBetween (step : AdviceStep) (s : PlainAdvisor) (p : Point) (a : Log) (t : PlainAdvisor) (q : Point) (b : Log) : Type 0 where
   pub lines : List Line
   pub between : Between step s p lines t q

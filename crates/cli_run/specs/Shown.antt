@@ -13,7 +13,7 @@ abbrev pub if_shown : Bool → List ℕ → List ℕ
 if_shown true text = text
 if_shown false text = []
 
--- The line of these numbers was told, where it is wanted, with some time: all of it is written, or, where a write failed, a
+-- The line of these numbers was shown, where it is wanted, with some time: all of it is written, or, where a write failed, a
 -- beginning.
 pub record Shows (numbers : Numbers) (a b : Log) : Type 0 where
   pub milliseconds : ℕ
@@ -34,7 +34,7 @@ abbrev pub is_due : Option ℕ → ℕ → ℕ → Bool
 is_due None before now = false
 is_due (Some n) before now = nat_lt 0 n && nat_lt (before / n) (now / n)
 
--- the line was told where it is due since so many requests were answered
+-- the line was shown where it is due since so many requests were answered
 abbrev pub ShowsIf : Bool → Numbers → Log → Log → Type 0
 ShowsIf true numbers a b = Shows numbers a b
 ShowsIf false numbers a b = b ≡ a
@@ -42,7 +42,7 @@ ShowsIf false numbers a b = b ≡ a
 abbrev pub ShowsSince : Option ℕ → ℕ → Numbers → Log → Log → Type 0
 ShowsSince every before numbers a b = ShowsIf (is_due every before numbers.tally.requests) numbers a b
 
--- what a run tells: lines of its history, and messages that are passed over; at the end, its numbers
+-- what a run writes to standard error: lines of its history, and messages that are passed over; at the end, its numbers
 pub record TellsAll (lines : List Line) (passed : ℕ) (end : Point) (a b : Log) : Type 0 where
   pub between : Log
   pub tells : Tells lines passed a between

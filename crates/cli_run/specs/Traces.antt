@@ -106,7 +106,7 @@ abbrev pub if_wanted : Option Form → List Line → List ℕ
 if_wanted (Some form) lines = written_as form lines
 if_wanted None lines = []
 
--- these lines of the trace were told, in the form in which it is wanted, if it is, and so many messages that are passed over, which
+-- these lines of the trace were written, in the form in which it is wanted, if it is, and so many messages that are passed over, which
 -- are counted: all is written, or, where a write failed, beginnings of these pieces
 pub record Tells (lines : List Line) (passed : ℕ) (a b : Log) : Type 0 where
   pub wanted : b.wanted ≡ a.wanted
@@ -116,7 +116,7 @@ pub record Tells (lines : List Line) (passed : ℕ) (a b : Log) : Type 0 where
   pub adds : b.lost ≡ false → Adds a.stats (if_wanted a.wanted lines) passed a.text b.text
   pub some : AddsSome a.stats (if_wanted a.wanted lines) passed a.text b.text
 
--- with the trace no entry is left whose line is not told
+-- with the trace no entry is left whose line is not written
 abbrev pub IsLive : Option Form → World → Type 0
 IsLive wanted w = is_some wanted ≡ true → w.past ≡ []
 
@@ -129,13 +129,13 @@ abbrev pub passed_over : List (List ℕ) → ℕ
 passed_over [] = 0
 passed_over (bytes ∷ more) = if_passed (read bytes) + passed_over more
 
--- the history may be cut, and the lines of the entries that are cut were told
+-- the history may be cut, and the lines of the entries that are cut were written
 pub record Cuts (p : Point) (a : Log) (q : Point) (b : Log) : Type 0 where
   pub lines : List Line
   pub cuts : MayCut p lines q
   pub tells : Tells lines 0 a b
 
--- rounds were done, and the lines of the entries that were cut told, beside so many messages that are passed over
+-- rounds were done, and the lines of the entries that were cut were written, beside so many messages that are passed over
 pub record Reports (rounds : List Round) (passed : ℕ) (p : Point) (before : Option (List ℕ)) (a : Log) (q : Point) (after : Option (List ℕ))
     (b : Log) : Type 0 where
   pub serves : Serves rounds p before q after
@@ -153,7 +153,7 @@ pub record DrainsAll (p : Point) (before : Option (List ℕ)) (a : Log) (q : Poi
   pub drains : Drains p before q after
   pub tells : Tells drains.serves.lines 0 a b
 
--- Behind a batch: the responses of all transactions that ended are given, the queue and the shelf are emptied, and the history
+-- After a batch: the responses of all transactions that ended are given, the queue and the shelf are emptied, and the history
 -- may be cut.
 pub record Finishes (p : Point) (before : Option (List ℕ)) (a : Log) (q : Point) (after : Option (List ℕ)) (b : Log) : Type 0 where
   pub text : List ℕ

@@ -25,7 +25,7 @@ pub enum ServeError {
         and query_NAME for each link", .0.as_str())]
     NoStation(Text),
     /// Two links have one name, so that this participant would be there twice.
-    #[error("participant {} is there twice; expected links of different names", .0.as_str())]
+    #[error("two links have the participant {}; expected links of different names", .0.as_str())]
     DoubleStation(Text),
     /// A link has this name.
     #[error("bad link name {}; expected at most 26 bytes of a-z A-Z 0-9 _ - .", .0.as_str())]
@@ -46,16 +46,16 @@ pub enum ServeError {
     #[error("{0}")]
     Journal(JournalError),
     /// The input could not be read to its end.
-    #[error("reading the input: {0}")]
+    #[error("standard input: cannot read: {0}")]
     Read(ReadError),
     /// The output could not be written.
-    #[error("writing the output: {0}")]
+    #[error("standard output: cannot write: {0}")]
     Write(WriteError),
-    /// Four bytes in a length's place are no digits.
-    #[error("a frame's length is bad; expected four digits")]
+    /// Four bytes in a length's place are not digits.
+    #[error("standard input: bad frame length; expected four digits")]
     BadLength,
     /// The input ends within a frame, so many bytes after its beginning.
-    #[error("the input ends within a frame; found {0} bytes of it")]
+    #[error("standard input: ends within a frame; found {0} bytes of it")]
     Truncated(usize),
     /// The response of this transaction does not fit a frame.
     #[error("the response of transaction {0} is longer than a frame; expected at most 9,999 bytes")]

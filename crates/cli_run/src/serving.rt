@@ -221,7 +221,7 @@ fn end_of(
     Ok(end)
 }
 
-// What a run takes beside the stations, as one value: where a station is not made, one is let go.
+// What a run takes beside the stations, as one value: where a station is not made, only one value is dropped.
 struct Over<S: Alter, R: Read, L: Link> {
     journal: Journal<S>,
     input: Option<R>,
@@ -304,7 +304,7 @@ impl<S: Alter + Drop, R: Read + Drop, L: Link> Over<S, R, L> {
     }
 }
 
-// A participant that joins nobody, ready for a station.
+// A participant that never joins, ready for a station.
 fn boxed<P: Unjoined>(alloc: Global, participant: P) -> Result<Box<Bystander<P>>, ServeError> {
     Ok(Box::new(alloc, Bystander::new(participant))?)
 }
@@ -323,7 +323,7 @@ fn boxed<P: Unjoined>(alloc: Global, participant: P) -> Result<Box<Bystander<P>>
 /// The numbers of the run, where `stderr` wants them, are written after each so many requests, with threads after a
 /// batch, and last.
 ///
-/// Standard error that takes nothing is no error of the run: its result is as if all had been written there.
+/// A failed write to standard error is not an error of the run: its result is as if all had been written there.
 ///
 /// The switch has seven participants, and one more for each link that is queried. Refused are, before anything is
 /// done: the first link whose name makes no participant's name (`BadLinkName`), then the first participant of the
@@ -378,7 +378,7 @@ pub fn run<S: Alter + Drop, T: Threads + Wait + Clock + Sync, R: Read + Drop, O:
         sessions,
         threads,
     };
-    // (All at once: with a return for each, each would prove how all else is let go.)
+    // (All at once: with a return for each, each would prove how all else is dropped.)
     let (Ok(check), Ok(limits), Ok(route), Ok(reverse)) = (
         boxed(alloc, CheckFields::new(alloc)),
         Box::new(alloc, Limits::new(alloc, book)),

@@ -37,9 +37,9 @@ pub(crate) const PIECE: usize = 65_536;
 /// How a stream of frames ended. What came before is answered.
 #[derive(Drop)]
 pub enum StreamEnd {
-    /// Behind a whole frame, or before the first.
+    /// After a whole frame, or before the first.
     Whole,
-    /// Four bytes in a length's place were no digits.
+    /// Four bytes in a length's place were not digits.
     BadLength,
     /// Within a frame, of which so many bytes came.
     Truncated(usize),

@@ -151,7 +151,7 @@ impl<S: Alter> Switch<S> {
     }
 
     /// Writes the responses that were not given, those of transactions that ended since, and counts them. Then
-    /// the contexts of all that ended are let go, so that a long run keeps none of them.
+    /// the contexts of all that ended are dropped, so that a long run keeps none of them.
     pub(crate) fn give<O: Write>(&mut self, alloc: Global, out: &mut O) -> Result<(), ServeError>
         requires rests { RestsGiven (point_of S.Store self.old) }
         ensures gives { OnOk result ((text : List ℕ)

@@ -70,7 +70,7 @@ fn has_bad_entry(text: &str) -> bool
 }
 
 /// The entries of a text that may be empty. They are read once, and looked over again where that
-/// fails: marks that there are not are reported before out of memory.
+/// fails: unknown marks are reported before out of memory.
 fn read_entries(alloc: Global, text: &str) -> Result<Sequence<Entry>, LineError>
     ensures { Answers (or_refuse Marks (entries_spelled (further_words text.now))) result }
 {

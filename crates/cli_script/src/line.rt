@@ -6,13 +6,13 @@ use sw_scripted::{Put, QueuedAnswer};
 /// A line of a script.
 #[derive(Drop)]
 pub enum ScriptLine {
-    /// A line that settles something before the first action.
+    /// A line that states something before the first action.
     Setting(Setting),
     /// A line that runs something.
     Action(Action),
 }
 
-/// What is settled before a script's first action.
+/// What is stated before a script's first action.
 #[derive(Drop)]
 pub enum Setting {
     /// `retries N`: how often a transaction that aborts with RETRY is tried again.

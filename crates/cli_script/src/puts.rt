@@ -74,7 +74,7 @@ fn further_puts(alloc: Global, text: &str) -> Result<Sequence<Put>, LineError>
     Ok(Sequence::new(spelled_puts(alloc, words.as_slice())?))
 }
 
-/// Whether a word of the text is no entry.
+/// Whether a word of the text is not an entry.
 fn has_bad_put(text: &str) -> bool
     ensures { result ≡ has_bad put_spelled (further_words text.now) }
 {

@@ -52,7 +52,7 @@ fn text_of(line: &[u8]) -> Result<&str, LineError>
     Ok(text)
 }
 
-/// What a line means, which stands here without its line feed. It is refused exactly where the written
+/// What a line means, which stands here without its line feed. It is refused exactly where the specified
 /// grammar refuses it, for the grammar's reason; out of memory is reported for other lines alone.
 pub fn read_line(alloc: Global, line: &[u8]) -> Result<ScriptLine, LineError>
     ensures { Answers (meaning_of line.now) result }

@@ -84,7 +84,7 @@ fn read_head(alloc: Global, has_file: bool, script: &[u8]) -> Result<Head<'_>, S
     })
 }
 
-/// A script from its first line on that is no setting.
+/// A script from its first line on that is not a setting.
 #[derive(Drop)]
 pub struct Script<'a> {
     /// The flow that the settings state. It is checked.
@@ -101,7 +101,7 @@ pub struct Script<'a> {
 /// that they state. `None` where it has nothing but settings, whose flow is then not looked at.
 ///
 /// Refused are the first line that is not of its form or stands where it may not, up to the first that is
-/// no setting, and at that one a flow that is refused.
+/// not a setting, and at that one a flow that is refused.
 pub fn open_script(
     alloc: Global,
     file: Option<Flow>,

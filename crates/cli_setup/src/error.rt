@@ -25,10 +25,10 @@ pub enum ConfigFileError {
     /// It could not be read to its end.
     #[error("cannot read: {0}")]
     Read(ReadError),
-    /// It is no text.
+    /// It is not text.
     #[error("{0}; expected a configuration file in UTF-8")]
     NotText(Utf8Error),
-    /// The text is no configuration file; with the key that is refused.
+    /// The text is not a configuration file; with the key that is refused.
     #[error("{0}")]
     Config(ConfigError),
 }
@@ -73,11 +73,11 @@ impl From<Utf8Error> for ConfigFileError {
 /// Why a run is not set up.
 #[derive(Drop, Error)]
 pub enum SetupError {
-    /// No memory, or no thread, was to be had.
+    /// Out of memory, or a thread could not be started.
     #[error("out of memory")]
     OutOfMemory,
     /// What a card may spend is above the greatest limit.
-    #[error("the limit is too large; expected at most 999999999999999")]
+    #[error("--limit: too large; expected 0 to 999999999999999")]
     BadLimit,
 }
 

@@ -20,7 +20,7 @@ use sw_participant::Text;
 /// What a card may spend in one run, in minor units, where nothing states it.
 const LIMIT: u64 = 10_000;
 
-/// The greatest limit: that of a book, of which `Book::new` says only that it takes every smaller one.
+/// The greatest limit of a book. (`Book::new` promises only that it takes every smaller one.)
 const MOST_LIMIT: u64 = 999_999_999_999_999;
 
 /// The path of the journal, if it is in a file. Out of memory is the only refusal.

@@ -21,11 +21,11 @@ abbrev pub is_idle : Outcome → Bool
 is_idle outcome.Idle = true
 is_idle _ = false
 
--- of a step all is told but that the session is idle
+-- the lines of a step: that of every outcome but an idle session
 abbrev pub step_text : World → Outcome → Text
 step_text w o = if is_idle o then [] else whole_line (said w 0 o)
 
--- of every other turn a refusal alone
+-- the lines of every other turn: a refusal alone
 abbrev pub quiet_text : World → Outcome → Text
 quiet_text w o = if is_refused o then whole_line (said w 0 o) else []
 

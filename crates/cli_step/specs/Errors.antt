@@ -1,4 +1,4 @@
--- The errors that end a run, made of those of its parts: out of memory is told as such.
+-- The errors that end a run, made of those of its parts: out of memory is reported as such.
 use Rattle.std.specs.Prelude.{ℕ}
 use Rattle.cli_io.specs.declared.error.ReadError.{ReadError}
 use Rattle.cli_io.specs.declared.error.ReadError.TheVariants as read

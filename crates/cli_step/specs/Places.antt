@@ -16,7 +16,7 @@ call_text f p = act_word p.call.act ++ codes " " ++ part_name f p.call.participa
 abbrev pub entry_text : Flow → ℕ → ℕ → Text
 entry_text f g i = codes " " ++ group_name f g ++ codes "/" ++ decimal i
 
--- the same where an entry is called; nothing while members are told
+-- the same where an entry is called; nothing while members are notified
 abbrev pub called_entry : Flow → Option ℕ → Option ℕ → Text
 called_entry f (Some g) (Some i) = entry_text f g i
 called_entry f _ _ = []

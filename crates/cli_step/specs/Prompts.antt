@@ -39,7 +39,7 @@ pub record Scene : Type 0 where
 abbrev pub scene : Point → Option (List ℕ) → Option (List ℕ) → Scene
 scene p out err = record { at = p; out = out; err = err }
 
--- a refusal was told
+-- a refusal was reported
 abbrev pub IsTold : Option (List ℕ) → Option (List ℕ) → Type 0
 IsTold before after = (text : Text) × Appends before after (codes "cardswitch: " ++ text)
 
@@ -71,7 +71,7 @@ pub record Does (line : List ℕ) (a b : Scene) : Type 0 where
   pub out : Appends a.out b.out text
   pub err : b.err ≡ a.err
 
--- a line is refused, which is told; nothing else changes
+-- a line is refused, which is reported; nothing else changes
 pub record Refuses (line : List ℕ) (a b : Scene) : Type 0 where
   pub refused : IsRefusedLine line
   pub at : b.at ≡ a.at
@@ -150,7 +150,7 @@ IsUnopened file settings =
     ((line : ℕ) × (cause : ScriptError) × (cause ≢ script.OutOfMemory) × IsUnstated file settings line cause)
     ⊎ ((o : Opening) × IsStated file settings o × HasBadSessions o.flow o.sessions)
 
--- a refusal is told; settings and output stay
+-- a refusal is reported; settings and output stay
 pub record StaysHead (a b : Heading) : Type 0 where
   pub settings : b.settings ≡ a.settings
   pub out : b.out ≡ a.out

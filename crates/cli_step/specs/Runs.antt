@@ -25,7 +25,7 @@ use Rattle.tx_plant.specs.declared.turn.PlantError.TheVariants as plant
 use Rattle.cli_step.specs.declared.error.StepError.{StepError}
 use Rattle.cli_step.specs.declared.error.StepError.TheVariants as error
 
--- what a line does that is no turn: `auto`, or it shows something
+-- what a line does that is not a turn: `auto`, or it shows something
 abbrev pub Queries : Action → Point → Text → Point → Type 0
 Queries action.Auto p text q = Autos p text q
 Queries a p text q = Shows a p text × (q ≡ p)
@@ -38,7 +38,7 @@ ActsBy None a p text q = Queries a p text q
 abbrev pub Acts : Action → Point → Text → Point → Type 0
 Acts a p text q = ActsBy (turn_of a) a p text q
 
--- what a line printed that was not done: nothing, or what `auto` had to tell till then
+-- what a line printed that was not done: nothing, or the lines of `auto` up to then
 abbrev pub IsLeft : Action → Text → Type 0
 IsLeft action.Auto text = ⊤
 IsLeft a text = text ≡ []
@@ -73,7 +73,7 @@ IsWriting (error.Write e) = ⊤
 IsWriting error.OutOfMemory = ⊤
 IsWriting e = ⊥
 
--- why a line's text is not told as written: the output failed, with a beginning of it written, or the line was not done
+-- why a line's text is not reported as written: the output failed, with a beginning of it written, or the line was not done
 abbrev pub IsUnwritten : Option (List ℕ) → Option (List ℕ) → Text → Result Unit ActionError → ℕ → StepError → Type 0
 IsUnwritten before after text ran line e = ((count : ℕ) × Appends before after (take count text))
     × (IsWriting e ⊎ (Appends before after text × ((x : ActionError) × (ran ≡ Err x) × (e ≡ at_line line x))))

@@ -40,7 +40,7 @@ place_of w s = option_map place_at (at_of w s)
 abbrev pub held_line : World → ℕ → Text
 held_line w s = option_map_or (held_text w.flow s) (place_of w s) (codes "idle " ++ decimal s)
 
--- what came of a turn of this session that is no entry
+-- what came of a turn of this session that is not an entry
 abbrev pub told : World → ℕ → Outcome → Text
 told w s (outcome.Accepted n) = []
 told w s (outcome.Refused e) = codes "refused " ++ refusal_name e

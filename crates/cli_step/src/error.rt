@@ -26,10 +26,10 @@ pub enum StepError {
     #[error("line {line}: the journal refused: {cause}")]
     Journal { line: usize, cause: JournalError },
     /// The next line could not be read.
-    #[error("reading the input: {0}")]
+    #[error("standard input: cannot read: {0}")]
     Read(ReadError),
     /// The output could not be written.
-    #[error("writing the output: {0}")]
+    #[error("standard output: cannot write: {0}")]
     Write(WriteError),
     /// No memory was left.
     #[error("out of memory")]

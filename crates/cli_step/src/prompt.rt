@@ -71,7 +71,7 @@ fn hint(cause: &StepError) -> &'static str {
     }
 }
 
-/// Tells why a line is refused.
+/// Reports why a line is refused.
 pub fn tell<E: Write>(alloc: Global, cause: &StepError, err: &mut E) -> Result<(), StepError>
     ensures told { OnOk result (IsTold (E.contents err.old) (E.contents err.new)) }
     ensures grows { Grows (E.contents err.old) (E.contents err.new) }
@@ -100,7 +100,7 @@ fn show_word<S: Alter, W: Write>(
     Ok(write_out(out, text.as_slice())?)
 }
 
-/// The refusal of a line. Out of memory is no refusal, and ends the session.
+/// The refusal of a line. Out of memory is not one, and ends the session.
 pub fn refusal(error: ScriptError) -> Result<ScriptError, StepError>
     ensures same { IfOk result (λ e. e ≡ error) }
     ensures refused { IfOk result (λ _. error ≢ script.OutOfMemory) }
@@ -113,7 +113,7 @@ pub fn refusal(error: ScriptError) -> Result<ScriptError, StepError>
     }
 }
 
-/// Answers a line: shows what it asks for, runs it, or tells why it is refused. So many lines came before it.
+/// Answers a line: shows what it asks for, runs it, or reports why it is refused. `before` lines came before it.
 pub fn answer<S: Alter, W: Write, E: Write>(
     alloc: Global,
     plant: &mut Plant<S>,

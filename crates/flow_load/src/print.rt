@@ -185,7 +185,7 @@ impl fmt::Display for ImageText<'_> {
     }
 }
 
-/// The image of the steps: the lines that [`load`](crate::load) reads. The only refusal is want of
+/// The image of the steps: the lines that [`load`](crate::load) reads. The only refusal is out of
 /// memory.
 pub fn image(alloc: Global, code: &Code) -> Result<Vec<u8>, AllocError>
     ensures { IfOk result (λ bytes. bytes.items ≡ spec.image_of code.now) }

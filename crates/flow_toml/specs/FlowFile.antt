@@ -91,7 +91,7 @@ checked f (Some e) = Err (Flow e)
 abbrev pub checked_flow_of : Members → Result flow.Flow FlowTomlError
 checked_flow_of ms = flow_of ms >>= λ f. checked f (first_fault f)
 
--- what a text reads as; nothing where it is no TOML
+-- what a text reads as; nothing where it is not TOML
 unfoldable pub reading : List ℕ → Option (Result flow.Flow FlowTomlError)
 reading text = option_map checked_flow_of (parse_document text)
 

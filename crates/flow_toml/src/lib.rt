@@ -17,7 +17,7 @@
 //! `recovers` and `selector` (false where they are absent).
 //!
 //! Promised here:
-//! - [`read_flow`] answers exactly the checked flow of a text, or its first fault in one written
+//! - [`read_flow`] answers exactly the checked flow of a text, or its first fault in the specified
 //!   order, with the key and the table that it stands in.
 //! - [`print_flow`] writes a text that reads back as the same flow.
 //!

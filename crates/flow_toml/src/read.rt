@@ -279,7 +279,7 @@ fn read_document(alloc: Global, table: &Table) -> Result<Flow, FlowTomlError>
 
 /// The flow that a flow file states.
 ///
-/// The refusals are tested in this order: a text that is no TOML; the top table, then each group,
+/// The refusals are tested in this order: a text that is not TOML; the top table, then each group,
 /// each followed by its entries in order; then the flow's own check. In each table the least unknown
 /// key comes first, then the least missing one, then the least whose value is of the wrong kind. An
 /// integer outside 0 to 100 for `retries` is the check's `BadRetries`; one of more than 64 bits is

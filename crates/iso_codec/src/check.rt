@@ -59,7 +59,7 @@ fn check_fields<'a>(numbers: &[u8], bytes: &'a [u8]) -> Result<&'a [u8], DecodeE
     Ok(rest)
 }
 
-/// The type of the message that the bytes are; refuses bytes that are no message.
+/// The type of the message that the bytes are; refuses bytes that are not a message.
 #[tactic(auto, unfolding(crate::specs::Reads::read_over))]
 pub fn check(bytes: &[u8]) -> Result<Mti, DecodeError>
     ensures { Exactly (λ m. m) result (read_over bytes.now) }

@@ -1,4 +1,4 @@
-//! Why bytes are no message.
+//! Why bytes are not a message.
 
 ghost use Rattle.std.specs.Prelude.{◌≡◌};
 ghost use Rattle.iso_codec.specs.GrowingMessage.{error_of};
@@ -28,7 +28,7 @@ pub enum DecodeError {
     /// The least number that a bitmap tells of and the profile does not have.
     #[error("field {0}: the profile has no field of this number")]
     FieldNotInProfile(u8),
-    /// The digits of a variable length are no digits, or tell more than the field takes.
+    /// The digits of a variable length are not digits, or are more than the field takes.
     #[error("{}: bad length, expected {}", FieldLabel(*.0), ExpectedValue(*.0))]
     BadLength(u8),
     /// The value has a byte that the field does not take.

@@ -33,7 +33,7 @@ impl Numbers {
         }
     }
 
-    /// The numbers without bit 1, which is no field.
+    /// The numbers without bit 1, which is not a field.
     pub fn fields(&self) -> &[u8]
         ensures { result.now ≡ field_numbers self.now }
     {

@@ -125,7 +125,7 @@ IsForm (Fixed content exact) = Unit {0}
 IsForm (Variable content places most) = ((places ≡ 2) × (most < 100)) ⊎ ((places ≡ 3) × (most < 1000))
 IsForm Binary = Unit {0}
 
--- a number that has a form is one of 2 to 128: bit 1 is no field
+-- a number that has a form is one of 2 to 128: bit 1 is not a field
 abbrev pub IsKnown : ℕ → Option Form → Type 0
 IsKnown n None = Unit {0}
 IsKnown n (Some form) = (1 < n) × (n < 129) × IsForm form

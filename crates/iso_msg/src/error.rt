@@ -16,7 +16,7 @@ pub enum MessageError {
     /// The allocator has refused memory.
     #[error("out of memory")]
     OutOfMemory,
-    /// The number is no field of the profile.
+    /// The number is not a field of the profile.
     #[error("field {0}: the profile has no field of this number")]
     FieldNotInProfile(u8),
     /// The value is shorter or longer than the field takes.

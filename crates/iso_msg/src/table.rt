@@ -99,7 +99,7 @@ macro_rules! definition {
 }
 
 /// The definition of each number from 0 to 128. Those of fields outside this profile are missing;
-/// bit 1 only tells that there is a second bitmap, and is no field.
+/// bit 1 only says that there is a second bitmap, and is not a field.
 static TABLE: [Option<Definition>; 129] = [
     None, // 0
     None, // 1
@@ -244,7 +244,7 @@ fn row(number: usize) -> Option<Definition>
     TABLE[number]
 }
 
-/// The definition of a field, or `None` for a number that is no field of the profile.
+/// The definition of a field, or `None` for a number that is not a field of the profile.
 pub fn definition_at(number: u8) -> Option<Definition>
     ensures { result ≡ definition_of number }
 {
@@ -253,7 +253,7 @@ pub fn definition_at(number: u8) -> Option<Definition>
     if number < 129 { row(number) } else { None }
 }
 
-/// The form of a field, or `None` for a number that is no field of the profile.
+/// The form of a field, or `None` for a number that is not a field of the profile.
 pub fn form_at(number: u8) -> Option<Form>
     ensures form { result ≡ form_of number }
     ensures known { IsKnown number result }

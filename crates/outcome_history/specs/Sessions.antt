@@ -46,14 +46,14 @@ id_events f v past = by_ids f (id_view f v.view) (session_events f v past)
 
 -- where transactions stand
 
--- the row that a transaction was opened from, until somebody was told
+-- the row that a transaction was opened from, until a member was notified
 abbrev pub opened_since : TxRow → List Item → Option TxRow
 opened_since r [] = Some r
 opened_since r (item.Answer b c ∷ xs) = opened_since r xs
 opened_since r (item.Choice t ∷ xs) = opened_since r xs
 opened_since r (item.Told a ∷ xs) = None
 
--- whether its context was restored since somebody was told
+-- whether its context was restored since a member was notified
 abbrev pub restored : Flow → Start → List Event → ℕ → Bool
 restored f v [] id = false
 restored f v (event.Recovered s c ∷ past) id = is_id (serves f v past s) id || restored f v past id

@@ -25,7 +25,7 @@ ghost use Rattle.outcome_history.specs.Sessions.{full_state, id_events, recovere
 ghost use Rattle.outcome_history.specs.Sessions.{session_events};
 
 /// A sound journal, by look-up, is one that the outcome law begins from; and an opening's closing
-/// entries are of the rows with nobody to tell, each once.
+/// entries are of the rows with nobody to notify, each once.
 pub fn views_fit()
     ensures fits { (f : Flow) (w : JournalView) → IsOk w → ViewFits (id_view f w) }
     ensures shuts { (f : Flow) (v : Start)
@@ -59,7 +59,7 @@ pub fn sessions_agree()
 
 /// Each transaction stands in the outcome law where it stands in the history: one of this life at
 /// its state; a journalled one, unless it was closed, at its state too, with the row that it was
-/// opened from until somebody was told. Nothing stands under the other ids.
+/// opened from until a member was notified. Nothing stands under the other ids.
 pub fn states_agree()
     ensures whole { (f : Flow) (v : Start) (past : List Event) (id : ℕ)
         → IsOrdered v.view → IsLawful f v past
@@ -85,8 +85,8 @@ pub fn states_agree()
 {}
 
 /// The same call is due to the transaction that a session serves, a `recover` call before an
-/// outcome among them; and of the transaction that is recovered it is told alike whether its
-/// context was restored.
+/// outcome among them. Both agree whether the context of the transaction that is recovered was
+/// restored.
 pub fn calls_agree()
     ensures calls { (f : Flow) (v : Start) (past : List Event) (s id : ℕ)
         → IsOrdered v.view → IsLawful f v past → serves f v past s ≡ Some id → Calls f v past id }

@@ -6,7 +6,7 @@ ghost use Rattle.sw_frame.specs.Feeds.{AddsFrames, messages, IsRest};
 use crate::digits::{LengthHeader, header_of};
 use std::alloc::{AllocError, Global};
 
-/// Messages, how many bytes their frames take, and whether bytes follow that are no length.
+/// Messages, how many bytes their frames take, and whether bytes follow that are not a length.
 #[derive(Drop)]
 pub struct Walk {
     pub messages: Vec<Vec<u8>>,

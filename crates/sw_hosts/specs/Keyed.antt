@@ -8,7 +8,7 @@ abbrev pub key_of_message : Option PlainMessage → Option (List ℕ)
 key_of_message None = None
 key_of_message (Some m) = key m
 
--- none where they are no message
+-- none where they are not a message
 abbrev pub key_in : List ℕ → Option (List ℕ)
 key_in bytes = key_of_message (message_of (Some bytes))
 

@@ -23,7 +23,7 @@ abbrev pub tests_with : Option EchoTests → ℕ → ℕ → Duration → EchoTe
 tests_with None now heard timeout = record { deadline = record { micros = later now timeout }; heard = heard; count = 1 }
 tests_with (Some tests) now heard timeout = record tests { count = min (tests.count + 1) 18446744073709551615 }
 
--- so long after the last frame; never, where it is no time
+-- so long after the last frame; never, where it is 0
 abbrev pub due : Watch → Duration → Option Moment
 due w echo = if as_nanos echo == 0 then None else Some (record { micros = later w.written.micros echo })
 

@@ -17,7 +17,7 @@ pub enum Came {
     Echo,
     /// Another message that has a key.
     Keyed(Received),
-    /// Bytes that are no message, or a message without a key.
+    /// Bytes that are not a message, or a message without a key.
     Unkeyed,
 }
 

@@ -4,7 +4,7 @@ use crate::counts::Counts;
 use crate::shared::Shared;
 use std::sync::Arc;
 
-/// The counts of a host, for whoever shows them while its links are in use.
+/// The counts of a host, to be shown while its links are in use.
 pub struct HostCounts {
     shared: Arc<Shared>,
 }

@@ -24,8 +24,8 @@ use sw_parts::Link;
 ///   none at once where that message reached nobody or has no key, once a direction is closed, and
 ///   from the deadline on, which is the host's timeout after the sending. It takes no memory.
 ///
-/// Contracts see of a link that it has no state: what comes over a wire is no promise of anybody, and
-/// a key is compared again by whoever receives.
+/// Contracts see no state of a link: nothing can be promised of what comes over a wire, and the
+/// receiver compares the key again.
 pub struct HostLink<C: Clock + Drop = HostRuntime> {
     alloc: Global,
     way: HostWay<C>,

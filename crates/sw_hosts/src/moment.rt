@@ -81,8 +81,8 @@ fn micros_of(time: Duration) -> u64
     u64::try_from(time.as_micros()).unwrap_or(u64::MAX)
 }
 
-/// The sleeps of whoever looks again and again: each takes twice as long as the one before it, up
-/// to a millisecond.
+/// The sleeps between two looks: each takes twice as long as the one before it, up to a
+/// millisecond.
 #[derive(Drop)]
 pub struct Naps {
     micros: u64,

@@ -165,7 +165,7 @@ impl<R: Wait> HostThread<'_, R> {
         }
     }
 
-    // Reads messages until the end, a read that fails, or bytes that are no frames.
+    // Reads messages until the end, a read that fails, or bytes that are not frames.
     fn read_messages<I: Read + Drop>(&self, reader: I) {
         let mut reader = reader;
         let mut framer = Framer::new(self.alloc);

@@ -86,7 +86,7 @@ impl<L: Link> Sender<L, Heap> {
 impl<L: Link, M: Memory> Sender<L, M> {
     /// Sends an advice once, as a repeat where `repeat` says so (the last digit of its type is
     /// then 1), and tells whether a response with its key and response code 00 came within eight
-    /// receives. Bytes that are no message, a card number without a route and a group without a
+    /// receives. Bytes that are not a message, a card number without a route and a group without a
     /// link answer no, and nothing is sent. Out of memory before the message is sent is the only
     /// refusal, and changes nothing; after it, out of memory counts as no response.
     pub fn send(&mut self, advice: &[u8], repeat: bool) -> Result<bool, NoMemory>

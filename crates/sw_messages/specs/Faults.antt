@@ -1,4 +1,4 @@
--- Why a message is no request of the switch, as a function of the message alone.
+-- Why a message is not a valid request of the switch, as a function of the message alone.
 use Rattle.std.specs.Prelude.{ℕ, Bool, false, ◌==◌, not, nat_lt, List, [], ◌∷◌, length}
 use Rattle.std.specs.Prelude.{Option, Some, None, is_some}
 use Rattle.std.specs.List.{list_all}

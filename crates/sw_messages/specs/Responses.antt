@@ -15,7 +15,7 @@ copied_numbers =
 abbrev pub response_type : List ℕ → List ℕ
 response_type mti = slice_index mti 0 ∷ slice_index mti 1 ∷ (slice_index mti 2 + 1) ∷ 48 ∷ []
 
--- a message with an odd third digit is no request
+-- a message with an odd third digit is a response
 abbrev pub is_response : List ℕ → Bool
 is_response mti = slice_index mti 2 % 2 == 1
 

@@ -35,7 +35,7 @@ pub fn class_of(mti: &[u8]) -> Option<Class>
 }
 
 impl Class {
-    /// The fields without which a request of the class is no request.
+    /// The fields that a request of the class needs.
     pub fn needed_fields(self) -> &'static [u8]
         ensures { result.now ≡ needed_fields self }
     {

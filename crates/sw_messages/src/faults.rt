@@ -1,4 +1,4 @@
-//! Why a message is no request of the switch.
+//! Why a message is not a valid request of the switch.
 
 ghost use Rattle.std.specs.Prelude.{◌≡◌, ◌==◌, option_map};
 ghost use Rattle.std.specs.List.{list_all};

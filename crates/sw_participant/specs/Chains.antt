@@ -52,7 +52,7 @@ pub data ChainItem (V : Type 0) : Type 0 where
   Stopped : (view : V) → ChainItem V
 
 -- the place of a call: where a member is notified of the outcome, and as it recovers before that, the number of members that
--- were told before
+-- were notified before
 abbrev pub outcome_place : Act → ℕ → Option ℕ
 outcome_place Prepare told = None
 outcome_place PrepareForAbort told = None

@@ -4,8 +4,8 @@
 //! Promised here:
 //! - [`Station::call`] makes the one call that a [`Call`] names, by the relation that the participant
 //!   states for it, and counts it; a call that is refused memory changes nothing and is not counted.
-//! - [`read_answer`] reads an answer byte by one written rule: a byte with an unknown bit is bad and
-//!   says nothing, and PREPARED silences RETRY.
+//! - [`read_answer`] reads an answer byte by one specified rule: a byte with an unknown bit is bad and
+//!   has no bits, and RETRY does not count beside PREPARED.
 //! - A participant that never joins may implement [`Unjoined`]: [`Bystander`] makes the participant of it.
 //! - [`Text`], [`Bytes`] and [`Sequence`] are seen by contracts as plain lists, so a clause never
 //!   speaks of capacities or addresses.

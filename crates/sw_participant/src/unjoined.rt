@@ -8,8 +8,8 @@ use crate::participant::{AdviceResult, NoMemory, Participant};
 use crate::values::Text;
 use sw_context::Context;
 
-/// What takes part in a transaction by what it prepares and selects alone: it never joins, so no outcome is
-/// its business. The relations are those of [`Participant`].
+/// What takes part in a transaction by what it prepares and selects alone: it never joins, so it is
+/// notified of no outcome. The relations are those of [`Participant`].
 pub trait Unjoined: Drop {
     /// What contracts see of it.
     ghost object: { Self → List ℕ };

@@ -1,4 +1,4 @@
-//! Whether a request is one at all.
+//! Whether a request is valid.
 
 ghost use Rattle.std.specs.Prelude.{◌≡◌, []};
 ghost use Rattle.sw_parts.specs.Checks.{ChecksFields};
@@ -10,8 +10,8 @@ use sw_context::Context;
 use sw_messages::{fault_of, request_in};
 use sw_participant::{NoMemory, Text, Unjoined};
 
-/// Refuses what is no request of the switch: it notes the response code of the fault that
-/// [`sw_messages::fault_of`] tells, and the transaction aborts.
+/// Refuses a message that is not a valid request of the switch: it notes the response code of the
+/// fault that [`sw_messages::fault_of`] gives, and the transaction aborts.
 pub struct CheckFields {
     alloc: Global,
 }

@@ -13,7 +13,7 @@ use sw_context::Context;
 use sw_messages::{Class, STAND_IN, authorization_advice, class_of, request_in, reversal_advice};
 use sw_participant::{AdviceResult, Bytes, NoMemory, Participant, Text};
 
-/// Stores what issuers have to be told later: at commit an authorization advice (0120) of what
+/// Stores what issuers are notified of later: at commit an authorization advice (0120) of what
 /// the switch approved by itself, with the approval code and the response code, and else a
 /// reversal advice (0420) of each reversal.
 pub struct Forward {

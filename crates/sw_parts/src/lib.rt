@@ -3,10 +3,10 @@
 //! They read the request of a transaction's context and leave notes for one another beside it, as
 //! `sw_messages` has them.
 //!
-//! - [`CheckFields`] refuses what is no request, [`Limits`] holds, spends and gives back the
+//! - [`CheckFields`] refuses invalid requests, [`Limits`] holds, spends and gives back the
 //!   amounts of cards, [`Route`] chooses the group that asks the issuer, [`QueryIssuer`] asks it
 //!   over a [`Link`]. The first message with the request's key within eight receives is the answer
-//!   ([`hear`]), and only where [`Memory`] is refused is it not taken.
+//!   ([`hear`]); it is lost only where [`Memory`] is refused.
 //! - [`StandIn`] decides where the issuer's answer is late, [`Reverse`] and [`Forward`] give the
 //!   advices that are stored for the issuer, [`Respond`] writes the response.
 //!

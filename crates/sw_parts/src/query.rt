@@ -94,7 +94,7 @@ fn code_of(answer: &Message) -> &[u8]
     }
 }
 
-/// Notes what an answer says; it is late no more.
+/// Notes what an answer says, and takes `late` out.
 fn answered<M: Memory>(memory: &M, context: &mut Context, answer: &Message) -> Result<(), NoMemory>
     ensures noted { OnOk result (context.new ≡ answered answer.now context.old) }
     ensures refused { OnErr result M.refused }

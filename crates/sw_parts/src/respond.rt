@@ -15,8 +15,8 @@ use sw_participant::{NoMemory, Text, Unjoined};
 
 /// Writes the response to the request of a context. The code in `rc` is its field 39, and without
 /// one it is 00 where the transaction prepares and 96 where it aborts; the code in `auth` is its
-/// field 38. A code that its field does not take counts as absent. To what is no request nothing
-/// is written.
+/// field 38. A code that its field does not take counts as absent. An unreadable message and one of
+/// a response's type get no response.
 pub struct Respond {
     alloc: Global,
 }

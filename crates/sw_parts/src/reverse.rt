@@ -18,7 +18,7 @@ use sw_participant::{AdviceResult, Bytes, NoMemory, Participant, Text};
 /// Gives the reversal (0420) of an authorization that an issuer may have approved and the switch
 /// did not end so: at commit where the issuer's answer is late, at abort where the request was
 /// sent and its answer is late or was an approval, and at any abort after a restart, when the
-/// context no longer tells.
+/// context may lack the notes.
 pub struct Reverse {
     alloc: Global,
 }

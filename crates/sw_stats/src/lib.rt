@@ -1,5 +1,5 @@
 //! The numbers of a run: how its requests were answered, counted from the contexts that their transactions ended
-//! with, and the line that tells them.
+//! with, and the line that shows them.
 //!
 //! - [`Counts`] counts contexts: the response of each, by its response code (field 39 of ISO 8583:1987), stand-ins
 //!   and reversals. No count wraps: one that is full stays.

@@ -176,7 +176,7 @@ fn drive_rest<W: Write>(
     Ok(true)
 }
 
-// Does the turns over a plant of these stations; where its journal fails, over a new one, which is told as a stop.
+// Does the turns over a plant of these stations; where its journal fails, over a new one, which is reported as a stop.
 // `is_begun` is set before the first turn.
 fn drive_all<W: Write>(
     alloc: Global,

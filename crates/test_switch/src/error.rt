@@ -10,7 +10,7 @@ use thiserror::Error;
 use tx_journal::JournalError;
 use tx_plant::PlantError;
 
-/// Why the program ends early. That the disks are cut is no such case.
+/// Why the program ends early. Disks that are cut are not an error.
 #[derive(Drop, Error)]
 pub enum TestError {
     #[error("expected: silent FLOW JOURNAL, stopped power|kill [twice], stopped refusal, again, opened PATH, \

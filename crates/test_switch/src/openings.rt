@@ -19,9 +19,9 @@ const MOST_CALLS: u64 = 100_000;
 enum Task<'a> {
     /// The statements, one a line, make the database.
     Lay(&'a str),
-    /// A journal is opened, and nothing is told of it.
+    /// A journal is opened, and nothing is written of it.
     Open,
-    /// The layout is told, then the journal's view, or why it has none.
+    /// The layout is written, then the journal's view, or why it has none.
     Show,
 }
 

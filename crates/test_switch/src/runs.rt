@@ -75,7 +75,7 @@ fn run_part<S: Alter + Drop, W: Write>(
 }
 
 // Writes the lines of one plant over the journal of this connection, and adds whether it was cut. After a
-// refusal the connection goes on, where it can, with a second plant, of which the same is told.
+// refusal the connection goes on, where it can, with a second plant, whose lines are written too.
 fn run_over<S: Alter + Drop, W: Write>(
     alloc: Global,
     script: &[u8],

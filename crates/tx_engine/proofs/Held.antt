@@ -1,4 +1,4 @@
--- What is told of the transaction that a session holds.
+-- What an engine answers of the transaction that a session holds.
 -- for: engine::Engine::saved, engine::Engine::at
 use Rattle.std.proofs.Common.{◌≡◌, ℕ, ◌<◌, Bool, false, Option, Some, None, Ok, refl, ◌∙◌, subst, arith}
 use Rattle.std.specs.Prelude.{nat_le, option_map, ⊤}

@@ -43,7 +43,7 @@ names_known f id (x ∷ names) h = by (nat_lt (number_of f x) (length (parts_of 
     by true e ih h = let lt : number_of f x < length (parts_of f) = grind (arith, nat_tests) in All-cons (Known f) x names lt (ih h)
     by false e ih h = absurd (cc)
 
--- where no name is unknown, the flow has everybody who is to be told
+-- where no name is unknown, the flow has every participant that is to be notified
 pub rows_known : (f : Flow) (rows : List (ℕ × Row)) → unknown_of f rows ≡ None → AreKnown f rows
 rows_known f [] h k r there = absurd (cc)
 rows_known f (x ∷ rows) h zero r there = let w = none_of (unknown_in f x.0 (to_tell x.1 x.1.doing)) (unknown_of f rows) h in
@@ -68,7 +68,7 @@ start_fits f j ok known = record {
       λ id r h. looked j.rows id r (λ (r : Row). All (Known f) (to_tell r r.doing)) known h;
 }
 
--- the first of two refusals is told first
+-- the first of two refusals is reported first
 pub told_first : (a b : Option EngineError) (e : EngineError) → IsOpenRefusal a e → IsOpenRefusal (or_else a b) e
 told_first (Some x) b e h = h
 told_first None b error.OutOfMemory h = tt

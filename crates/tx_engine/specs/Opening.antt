@@ -47,7 +47,7 @@ are_bad_sessions n = nat_lt n 1 || nat_lt 16 n
 abbrev pub open_refusal : Flow → JournalView → ℕ → Option EngineError
 open_refusal f j n = first_of (refused_if (are_bad_sessions n) BadSessions ∷ unknown_of f j.rows ∷ [])
 
--- the error is that refusal, or memory was wanting: the name in a refusal needs some
+-- the error is that refusal, or memory ran out: the name in a refusal needs some
 abbrev pub IsOpenRefusal : Option EngineError → EngineError → Type 0
 IsOpenRefusal refusal OutOfMemory = ⊤
 IsOpenRefusal refusal e = refusal ≡ Some e

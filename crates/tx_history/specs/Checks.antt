@@ -15,7 +15,7 @@ abbrev pub are_apart : List (ℕ × Row) → List (ℕ × Waiting) → Bool
 are_apart [] shelf = true
 are_apart (r ∷ rows) shelf = not (is_some (look r.0 shelf)) && are_apart rows shelf
 
--- the numbers told and joined fit the phase
+-- the numbers of members that were notified and that joined fit the phase
 abbrev pub counts_fit : Row → Bool
 counts_fit r =
     if is_open r.phase then (r.told == 0) && nat_le (length r.joined) 1000

@@ -201,14 +201,14 @@ held_of f v past (Some id) = unless_ended f (state_of f v past id) id
 abbrev pub holds : Flow → Start → List Event → ℕ → Option ℕ
 holds f v past s = held_of f v past (serves f v past s)
 
--- whether the context was restored since the last outcome that session 0 told
+-- whether the context was restored since the last outcome of which session 0 notified a member
 abbrev pub is_restored : List Event → Bool
 is_restored [] = false
 is_restored (Recovered s c ∷ past) = true
 is_restored (Told s a ∷ past) = not (s == 0) && is_restored past
 is_restored (_ ∷ past) = is_restored past
 
--- the member to be told, and whether to commit
+-- the member to be notified, and whether to commit
 abbrev pub outcome_of : Due → Option (ℕ × Bool)
 outcome_of (Commit p) = Some (p, true)
 outcome_of (Abort p) = Some (p, false)
@@ -274,7 +274,7 @@ abbrev pub place_in : Flow → Start → List Event → Option ℕ → Option (�
 place_in f v past None = None
 place_in f v past (Some id) = Some (id, (state_of f v past id).told)
 
--- the transaction and the place of the member that the session tells
+-- the transaction and the place of the member that the session notifies
 abbrev pub advice_place : Flow → Start → List Event → ℕ → Option (ℕ × ℕ)
 advice_place f v past s = place_in f v past (serves f v past s)
 

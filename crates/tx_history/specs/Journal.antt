@@ -40,7 +40,7 @@ is_closed [] id = false
 is_closed (Closed k ∷ past) id = (k == id) || is_closed past id
 is_closed (_ ∷ past) id = is_closed past id
 
--- a journalled transaction keeps its row until somebody was told
+-- a journalled transaction keeps its row until a member was notified
 abbrev pub row_since : Flow → Row → List Item → Option Row
 row_since f r [] = Some r
 row_since f r (x ∷ xs) = row f (after_newest f (reopened f r) (x ∷ xs))

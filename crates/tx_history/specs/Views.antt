@@ -37,9 +37,9 @@ pub record RowFits (r : Row) : Type 0 where
   pub members : length r.joined ≤ 1001
   pub names : All IsNamed r.joined
   pub doing : IsDoing r.doing
-  -- while preparing or aborting nobody was told
+  -- while preparing or aborting nobody was notified
   pub untold : is_open r.phase ≡ true → (r.told ≡ 0) × (length r.joined ≤ 1000)
-  -- while committing or undoing somebody is to be told
+  -- while committing or undoing a member is left to notify
   pub telling : is_open r.phase ≡ false → (r.doing ≡ None) × (r.told < length r.joined)
   pub tries : r.tries ≤ 100
   pub context : IsSpelled r.context
@@ -72,7 +72,7 @@ pub record FlowFits (f : Flow) : Type 0 where
   pub retries : f.retries ≤ 100
   pub names : (name : List ℕ) → All (λ (s : PlacedEntry). IsNamed (name_of f s.participant)) (entries_named f name)
 
--- the flow knows everybody who is to be told
+-- the flow has every participant that is to be notified
 abbrev pub Knows : Flow → JournalView → Type 0
 Knows f v = (id : ℕ) (r : Row) → look id v.rows ≡ Some r → All (λ n. number_of f n < length (parts_of f)) (to_tell r r.doing)
 

@@ -79,7 +79,7 @@ fn is_doing(doing: &Option<Text>) -> bool
 }
 
 impl Row {
-    // Whether the numbers told and joined fit the phase.
+    // Whether the numbers of members that were notified and that joined fit the phase.
     fn counts_fit(&self) -> bool
         ensures { result ≡ counts_fit self.now }
     {
@@ -180,9 +180,9 @@ impl JournalView {
 
     /// Whether an engine may be opened on this view: the next id is 1 to 2^63 - 1; ids rise from 1 and
     /// are below it, none with both a row and a place on the shelf; there are at most 16 rows; members
-    /// and the participant of a due call have names; while preparing or aborting nobody was told and
-    /// there are at most 1,000 members, while committing or undoing no call is doing and fewer were
-    /// told than the at most 1,001 members; tries are at most 100, contexts are bytes of contexts;
+    /// and the participant of a due call have names; while preparing or aborting nobody was notified
+    /// and there are at most 1,000 members, while committing or undoing `doing` is empty and fewer
+    /// were notified than the at most 1,001 members; tries are at most 100, contexts are bytes of contexts;
     /// advices stand under rising places from 0 to 1,000. It takes no memory.
     #[tactic(auto, using(crate::proofs::ViewTests::ok_frame, crate::proofs::ViewTests::ok_rows))]
     pub fn ok(&self) -> bool

@@ -82,7 +82,7 @@ pub fn checked_flows_fit()
 
 /// The journalled transactions are recovered one after the other, ids rising: those after the one
 /// that is recovered have no items, and when it is over the first one after it with somebody to
-/// tell follows. An item moves its own transaction by the specified table and leaves the others.
+/// notify follows. An item moves its own transaction by the specified table and leaves the others.
 pub fn recovered_in_turn()
     ensures untouched { (f : Flow) (v : Start) (past : List Event) (id j : ℕ)
         → IsOrdered v.view → IsLawful f v past → recovering f v past ≡ Some id

@@ -239,7 +239,7 @@ impl Machine {
         Ok(())
     }
 
-    /// The reply to a due commit or abort: the member was told.
+    /// The reply to a due commit or abort: the member was notified.
     #[tactic(auto, unfolding(crate::specs::Contract::tx_state, crate::specs::Contract::IsSound))]
     pub fn told(&mut self, _code: &Code) -> Result<(), MachineError>
         requires { IsSound _code.now self.old }

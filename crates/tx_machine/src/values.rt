@@ -51,7 +51,7 @@ pub enum Item {
     Answer(u8, Bytes),
     /// The text of a selection: names of groups, parted by spaces and commas.
     Choice(Text),
-    /// A member was told; it may have given an advice to be forwarded.
+    /// A member was notified of the outcome; it may have given an advice to be forwarded.
     Told(Option<Bytes>),
 }
 

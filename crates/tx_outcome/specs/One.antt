@@ -6,7 +6,7 @@ use Rattle.tx_outcome.specs.Trail.{Deed, Answered, Chose, Told, Recovered, Stopp
 use Rattle.tx_outcome.specs.Trail.{places_told, last_told, may_tell, may_recover, is_unstopped, InOrder, count, listed, is_committing, last_row, FollowsRows}
 use Rattle.tx_outcome.specs.Trail.{IdLaw}
 
--- Undecided: preparing or aborting, nobody told. A journalled transaction never is.
+-- Undecided: preparing or aborting, nobody notified. A journalled transaction never is.
 pub data Decision : Type 0 where
   Undecided : Decision
   ToCommit : Decision
@@ -42,7 +42,7 @@ commits Undecided = false
 commits ToCommit = true
 commits ToAbort = false
 
--- what a row tells of a standing
+-- what a row says of a standing
 pub record IsRowOf (st : Standing) (r : Row) : Type 0 where
   pub phase : is_committing r.phase ≡ commits st.decision
   pub told : r.told ≡ st.told

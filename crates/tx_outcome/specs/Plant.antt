@@ -42,7 +42,7 @@ abbrev pub seek : (ℕ → Bool) → ℕ → ℕ → Option ℕ
 seek test n zero = None
 seek test n (suc k) = if test n then Some n else seek test (n + 1) k
 
--- the recovered transaction that is next to be told
+-- the recovered transaction whose members are notified next
 abbrev pub recovering : Flow → IdView → List IdEvent → Option ℕ
 recovering f v l = seek (λ id. unfinished f (at f v l id)) 0 v.next_id
 

@@ -18,10 +18,10 @@ use Rattle.tx_outcome.specs.One.{Advice, Restored, Standing, commits}
 
 pub record FullState : Type 0 where
   pub state : TxState
-  -- the row of a journalled transaction, until something was told
+  -- the row of a journalled transaction, until a member was notified
   pub opened : Option Row
   pub recovered : Bool
-  -- the recover call of the member that is to be told was made
+  -- the recover call of the member that is to be notified was made
   pub restored : Bool
 
 -- what a taken transaction starts with: the tries left and the context
@@ -73,7 +73,7 @@ due f st = seen f st (due_of f st.state)
 abbrev pub table_row : Due → Phase → TxState → Option Row
 table_row d ph s = row_at (record s { phase = ph }) d
 
--- the row that the journal has: of a journalled transaction to which nothing was told yet the one that it had
+-- the row that the journal has: of a journalled transaction of which no member was notified yet the one that it had
 abbrev pub row_in : Option Row → Due → Phase → TxState → Option Row
 row_in (Some r) d ph s = Some r
 row_in None d ph s = table_row d ph s
@@ -105,7 +105,7 @@ reopen r = record { state = reopening (is_committing r.phase) (listed r) r.told 
 abbrev pub PhaseFits : Row → Type 0
 PhaseFits r = IsInPhase r.phase r
 
--- the state of a journalled transaction to which nothing was told yet
+-- the state of a journalled transaction of which no member was notified yet
 pub record IsOpenedFrom (r : Row) (ph : Phase) (st : FullState) : Type 0 where
   pub phase : is_committing r.phase ≡ commits (decision ph)
   pub told : r.told ≡ st.state.told

@@ -13,7 +13,7 @@ use Rattle.tx_outcome.specs.Trail.{Deed, Answered, Chose, Told, Recovered}
 use Rattle.tx_outcome.specs.One.{FullReply, Answer, Chosen, Advice, Restored}
 use Rattle.tx_outcome.specs.States.{FullState, restores}
 
--- the deed of a call and its reply; its place is the number of members told before it
+-- the deed of a call and its reply; its place is the number of members notified before it
 abbrev pub deed_of : Act → ℕ → ℕ → Reply → Option Deed
 deed_of act.Prepare p n (station.Answer b) = Some (Answered p b)
 deed_of act.PrepareForAbort p n (station.Answer b) = Some (Answered p b)

@@ -8,7 +8,7 @@ use Rattle.tx_machine.specs.declared.values.Phase.{Phase}
 use Rattle.tx_machine.specs.declared.values.Phase.TheVariants.{Preparing, Aborting, Committing, Undoing}
 
 -- What was done for a transaction, by its id: a participant `p` was called, with its reply; or everything stopped, with
--- the row that the journal had then. A place is the number of members told before.
+-- the row that the journal had then. A place is the number of members notified before.
 pub data Deed : Type 0 where
   Answered : (p : ℕ) → (byte : ℕ) → Deed
   Chose : (p : ℕ) → Deed
@@ -34,7 +34,7 @@ has_abort [] = false
 has_abort (Told c p n a ∷ t) = not c || has_abort t
 has_abort (_ ∷ t) = has_abort t
 
--- whether anybody was told, or recovered in order to be told
+-- whether anybody was notified of an outcome, or recovered before that
 abbrev pub has_outcome : List Deed → Bool
 has_outcome [] = false
 has_outcome (Told c p n a ∷ t) = true
@@ -48,7 +48,7 @@ has_open_call (Answered p b ∷ t) = true
 has_open_call (Chose p ∷ t) = true
 has_open_call (_ ∷ t) = has_open_call t
 
--- whether p was told an outcome as the member of this place
+-- whether p was notified of an outcome as the member of this place
 abbrev pub told_by : ℕ → ℕ → List Deed → Bool
 told_by p n [] = false
 told_by p n (Told c q m a ∷ t) = ((q == p) && (m == n)) || told_by p n t
@@ -60,7 +60,7 @@ joins_of p [] = 0
 joins_of p (Answered q b ∷ t) = if (q == p) && joins b then joins_of p t + 1 else joins_of p t
 joins_of p (_ ∷ t) = joins_of p t
 
--- at how many of the k places from n on was p told an outcome
+-- at how many of the k places from n on p was notified of an outcome
 abbrev pub places_told : ℕ → List Deed → ℕ → ℕ → ℕ
 places_told p t n zero = 0
 places_told p t n (suc k) = if told_by p n t then places_told p t (n + 1) k + 1 else places_told p t (n + 1) k
@@ -104,7 +104,7 @@ is_unstopped (Stopped row ∷ t) = not (has_open_call t)
 is_unstopped (_ ∷ t) = is_unstopped t
 
 -- No stop stands between two preparations or selections, and none of them follows an outcome or a recover call. A member is
--- told, or recovers, again only after a stop at which the journal did not have yet that it was told.
+-- notified, or recovers, again only after a stop at which the journal did not have yet that it was notified.
 abbrev pub InOrder : List Deed → Type 0
 InOrder [] = Unit {0}
 InOrder (Answered p b ∷ t) = (is_unstopped t ≡ true) × (has_outcome t ≡ false) × InOrder t
@@ -149,8 +149,8 @@ FollowsRows (Told c p n a ∷ t) = IsOutcomeOf (last_row t) c × FollowsRows t
 FollowsRows (_ ∷ t) = FollowsRows t
 
 -- What the law says of a transaction with this row: commits only where it is committing and aborts only where it is not;
--- each member below the number told was told; nobody prepared more often than the row has it; no advice of a place that was
--- not told.
+-- each member at a place below its `told` was notified; nobody prepared more often than the row has it; no advice of a place
+-- that was not notified.
 pub record InRow (t : List Deed) (r : Row) (advice : ℕ → Option (List ℕ)) : Type 0 where
   pub no_commit : is_committing r.phase ≡ false → has_commit t ≡ false
   pub no_abort : is_committing r.phase ≡ true → has_abort t ≡ false
@@ -160,10 +160,10 @@ pub record InRow (t : List Deed) (r : Row) (advice : ℕ → Option (List ℕ)) 
 
 -- The outcome law for one id, by its trail, whether it is below the journal's next id, its row and its advices by place:
 -- one way (a): nobody is notified of the commit where anybody is notified of the abort;
--- all told (b): without a row in the journal, each participant was told at as many places as it prepared without NO_JOIN;
--- in order (c): calls come in the order above, each member told once but for a stop that lost it;
+-- all told (b): without a row in the journal, each participant was notified at as many places as it prepared without NO_JOIN;
+-- in order (c): calls come in the order above, each member notified once but for a stop that lost it;
 -- advised (d): an advice that the journal holds is what the last outcome call of its place gave;
--- numbered and in row (e): no call is of an id that the journal does not know, and a row tells what was called;
+-- numbered and in row (e): no call is of an id that the journal has not given, and a row says what was called;
 -- decided (f): after a restart a transaction that was committing is committed, and any other that the journal has is aborted.
 pub record IdLaw (t : List Deed) (known : Bool) (row : Option Row) (advice : ℕ → Option (List ℕ)) : Type 0 where
   pub one_way : has_commit t ≡ true → has_abort t ≡ true → ⊥

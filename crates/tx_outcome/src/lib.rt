@@ -3,13 +3,13 @@
 //! A *trail* is all that was done for one transaction: its calls, with their replies, and the stops
 //! between them. Of every trail, and of the journal that goes with it, holds (`specs/Trail.antt`):
 //! - nobody is notified of the commit where anybody is notified of the abort;
-//! - once the journal has no row of a transaction, each participant that joined was told, as often
-//!   as it joined;
+//! - once the journal has no row of a transaction, each participant that joined was notified, as
+//!   often as it joined;
 //! - no stop stands between two preparations, none follows an outcome, and a member is notified a
-//!   second time only after a stop at which the journal did not have yet that it was told;
+//!   second time only after a stop at which the journal did not have the first time yet;
 //! - an advice that the journal holds is what the member gave last;
-//! - the journal knows each transaction that was called for, and a row says no less than what was
-//!   done;
+//! - the journal has given the id of each transaction that was called for, and a row says no less
+//!   than what was done;
 //! - who is notified after a restart is notified of the commit where the journal's row was committing, and else
 //!   to abort.
 //!

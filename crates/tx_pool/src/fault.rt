@@ -13,7 +13,7 @@ pub enum Fault {
     ReceiptMismatch(usize),
     /// The engine refused an event, as where the ids are spent.
     Engine(EngineError),
-    /// Memory was refused, or no thread was to be had.
+    /// Memory was refused, or a thread could not be started.
     OutOfMemory,
 }
 

@@ -317,7 +317,7 @@ impl<K: Run> Locked<K> {
         !self.is_ripe()
     }
 
-    /// Whether there is an entry to write that is no offer's. (Nobody waits for an offer's entry: it is
+    /// Whether there is an entry to write that is not an offer's. (No session waits for an offer's: it is
     /// written with those that follow.)
     pub(crate) fn is_ripe(&self) -> bool {
         for entry in self.running.unwritten() {

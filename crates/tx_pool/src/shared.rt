@@ -19,7 +19,7 @@ const GATHERING: u64 = 1;
 ///
 /// No wake-up is lost. A thread waits only after it found, under the engine's lock, that it has
 /// nothing to do, and `wait` gives the lock up in one step with falling asleep. What it waits for
-/// changes under the same lock, and whoever changes it notifies afterwards:
+/// changes under the same lock, and the thread that changes it notifies afterwards:
 ///
 /// - `work`: the keeper waits while `is_quiet`. A session ends this by an entry that is not an
 ///   offer's, or by leaving. After such an entry the session makes no call before it waits or
@@ -37,8 +37,8 @@ const GATHERING: u64 = 1;
 /// - A fault ends each of these waits. A session or the keeper that finds one leaves, and wakes
 ///   all others by `tell_all` when it does; so does `stop`.
 ///
-/// `gathered` is no condition variable: the keeper sleeps on it for a millisecond at most, so a
-/// word that comes too early costs only that.
+/// `gathered` is not a condition variable: the keeper sleeps on it for a millisecond at most, so a
+/// notification that comes too early costs only that.
 #[derive(Drop)]
 pub(crate) struct Shared<K: Run, C: Caller> {
     pub(crate) locked: Mutex<Locked<K>>,

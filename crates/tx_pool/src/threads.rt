@@ -21,8 +21,8 @@ use sw_participant::Caller;
 use tx_intake::{Putter, Source};
 use tx_journal::Journal;
 
-/// What comes back of the threads. The source or the sessions are not there where no thread was to
-/// be had, and the sessions where memory was refused.
+/// What comes back of the threads. The source or the sessions are missing where no thread could be
+/// started, and the sessions where memory was refused.
 #[derive(Drop)]
 pub(crate) struct Worked<S: Alter, K: Run, O: Source> {
     pub(crate) fed: Option<Fed<K, O>>,
@@ -31,7 +31,7 @@ pub(crate) struct Worked<S: Alter, K: Run, O: Source> {
 }
 
 /// Runs all threads until each has ended: the feeder's, that of the sessions, each of which has one
-/// of its own, and the calling one, which keeps the journal. Where one is not to be had the run is
+/// of its own, and the calling one, which keeps the journal. Where one cannot be started the run is
 /// given up.
 pub(crate) fn work<
     R: Threads + Wait + Sync,

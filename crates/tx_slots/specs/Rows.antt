@@ -14,7 +14,7 @@ use Rattle.tx_slots.specs.declared.slot.Slot.TheVariants.{Free, Holding}
 use Rattle.tx_slots.specs.declared.slot.Hold.{Hold}
 use Rattle.tx_slots.specs.Slots.{slot_of}
 
--- the flow has everybody who is to be told
+-- the flow has every participant that is to be notified
 abbrev pub AreKnown : Flow → List (ℕ × Row) → Type 0
 AreKnown f rows = (k : ℕ) (r : ℕ × Row) → slice_get rows k ≡ Some r → All (λ n. number_of f n < length (parts_of f)) (to_tell r.1 r.1.doing)
 

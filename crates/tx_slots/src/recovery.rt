@@ -28,7 +28,7 @@ fn add_numbers(numbers: &mut Vec<usize>, code: &Code, names: &[Text]) -> Result<
     Ok(())
 }
 
-// The numbers of those who are to be told: all that may have been prepared.
+// The numbers of the participants to notify: all that may have been prepared.
 fn members_of(alloc: Global, code: &Code, row: &Row) -> Result<Vec<usize>, AllocError>
     ensures { IfOk result (λ members. members.items
         ≡ map (number_of code.now) (to_tell row.now row.now.doing)) }
@@ -50,7 +50,7 @@ fn is_committing(phase: Phase) -> bool
     matches!(phase, Phase::Committing)
 }
 
-/// Whether nobody is to be told of a transaction of the journal. That is so in every flow.
+/// Whether nobody is left to notify in a transaction of the journal, whatever the flow is.
 pub fn is_over(row: &Row) -> bool
     ensures { (f : Flow) → result ≡ is_ended f (reopened f row.now) }
 {
@@ -82,9 +82,8 @@ pub fn open_behind(rows: &[(u64, Row)], id: u64) -> usize
     count
 }
 
-/// The machine of a transaction of the journal before anybody is notified of its outcome: its members are
-/// told on, or, where it was not committing, from its first one. The only refusal is want of
-/// memory.
+/// The machine of a transaction of the journal as it is recovered: the next member is notified, or,
+/// if it was not committing, the first one. The only refusal is out of memory.
 pub fn reopened(alloc: Global, code: &Code, row: &Row) -> Result<Machine, AllocError>
     requires { All (λ n. number_of code.now n < length (parts_of code.now))
         (to_tell row.now row.now.doing) }

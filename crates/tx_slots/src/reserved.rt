@@ -93,7 +93,7 @@ impl Lists {
         self.queue.push_back_reserved(waiting);
     }
 
-    /// Makes sure of memory for an entry that is no offer.
+    /// Makes sure of memory for an entry that is not an offer.
     pub fn reserve_entry(&mut self) -> Result<(), AllocError>
         ensures entries { self.new.entries.items ≡ self.old.entries.items }
         ensures queue { self.new.queue.items ≡ self.old.queue.items }
@@ -115,7 +115,7 @@ impl Lists {
         self.entries.push_reserved(entry);
     }
 
-    /// Adds an entry that is no offer.
+    /// Adds an entry that is not an offer.
     pub fn push(&mut self, entry: Entry) -> Result<(), AllocError>
         ensures entries { OnOk result (self.new.entries.items
             ≡ self.old.entries.items ++ entry ∷ []) }

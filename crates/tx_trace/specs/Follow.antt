@@ -64,7 +64,7 @@ pub record Follows (w : World) (t : Tracer) : Type 0 where
 abbrev pub count_of : Tracer → ℕ
 count_of t = t.done
 
--- how many lines a call gave: one, or none where there is none or memory is refused
+-- how many lines a call gave: one; none where no entry is left or memory is refused
 abbrev pub lines_given : {L : Type 0} → Result (Option L) AllocError → ℕ
 lines_given (Ok (Some line)) = 1
 lines_given _ = 0

@@ -97,7 +97,7 @@ list_text names = codes "[" ++ comma_list names ++ codes "] "
 abbrev pub choice_text : Flow → Text → Text
 choice_text f text = list_text (known f.groups text)
 
--- a told: `[advice PLACE ]`, PLACE being the member's number from 0
+-- a told (the event): `[advice PLACE ]`, PLACE being the member's number from 0
 abbrev pub told_text : Bool → ℕ → Text
 told_text advised place = word_if advised (codes "advice " ++ decimal place ++ codes " ")
 

@@ -107,7 +107,7 @@ fn is_told(alloc: Global, bytes: &[u8], wanted: DecodeError) -> bool {
     matches!(decode(alloc, bytes), Err(error) if error == wanted)
 }
 
-/// Passes whichever allocation is refused (`rt try --test --fail-alloc N`): a fault is reported before want
+/// Passes whichever allocation is refused (`rt try --test --fail-alloc N`): a fault is reported before out
 /// of memory, and out of memory only in the place of a message.
 #[test]
 fn want_of_memory_is_told_last(rt: HostRuntime) {

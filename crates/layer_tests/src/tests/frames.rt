@@ -63,7 +63,7 @@ fn wants_memory_or_goes_on(framer: &mut Framer, piece: &[u8]) -> bool {
     }
 }
 
-// It holds with each allocation refused in its turn too, as by `rt try --test --fail-alloc 3`: a feed that wants
+// It holds with each allocation refused in its turn too, as by `rt try --test --fail-alloc 3`: a feed that is refused
 // memory leaves what is pending, and the next finds no fault that isn't there.
 #[test]
 fn a_feed_that_wants_memory_changes_nothing(rt: HostRuntime) {

@@ -25,7 +25,7 @@ impl Participant for Stamp {
     // An abort needs no stamp.
     ghost prepares_for_abort = { λ id o x byte p y. (p ≡ o) × (byte ≡ 0xc0) × (y ≡ x) };
 
-    // It is no selector.
+    // It is not a selector.
     ghost selects = { λ id o x text p. p ≡ o };
 
     ghost commits = { λ id recovering o x advice p y. (p ≡ o) × (advice ≡ None) × (y ≡ x) };

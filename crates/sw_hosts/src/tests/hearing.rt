@@ -25,7 +25,7 @@ fn hears_nothing(rt: HostRuntime, link: &mut HostLink) -> Result<bool, Fail> {
     Ok(heard.is_none() && start.elapsed(&rt)? < Duration::from_secs(5))
 }
 
-// The first request gets no answer in time, and its response comes with that of the next one, behind
+// The first request gets no answer in time, and its response comes with that of the next one, after
 // bytes that are not a message and a message without a key.
 #[test]
 fn a_late_answer_is_dropped(rt: HostRuntime) -> Result<(), Fail> {
@@ -50,7 +50,7 @@ fn a_late_answer_is_dropped(rt: HostRuntime) -> Result<(), Fail> {
     Ok(())
 }
 
-// Bytes that are no frame close the direction, and so does the end of the stream within a frame. It is
+// Bytes that are not a frame close the direction, and so does the end of the stream within a frame. It is
 // opened again a second after the last order, and not before.
 #[test]
 fn what_breaks_is_opened_again(rt: HostRuntime) -> Result<(), Fail> {

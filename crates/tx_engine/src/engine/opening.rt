@@ -28,10 +28,10 @@ const MOST_SESSIONS: usize = 16;
 
 impl Engine {
     /// An engine on a journal's view, with so many sessions, which hold nothing: its history has a
-    /// closing entry for each row with nobody to notify, and session 0 is to tell on the first other
+    /// closing entry for each row with nobody to notify, and session 0 recovers the first other
     /// one. The queue is empty, and no breakpoint is set. Refuses, in this order, `BadSessions`
     /// unless there are 1 to 16, and `UnknownParticipant` of the least id, its members in order
-    /// and then who is doing; out of memory only where the number of sessions is good.
+    /// and then the participant of `doing`; out of memory only where the number of sessions is good.
     pub fn open(
         alloc: Global,
         code: &Code,
@@ -169,7 +169,7 @@ fn test_names(code: &Code, id: u64, names: &[Text]) -> Result<(), EngineError>
     Ok(())
 }
 
-// Whether the flow has everybody who is to be told.
+// Refuses a row that names a participant to notify which the flow does not have.
 fn test_row(code: &Code, id: u64, row: &Row) -> Result<(), EngineError>
     ensures { Tells (unknown_in code.now id (to_tell row.now row.now.doing)) result }
 {

@@ -1,4 +1,4 @@
-//! What an engine tells of itself, without memory; and the written mark.
+//! What an engine answers about itself, without memory; and the written mark.
 
 ghost use Rattle.std.specs.Prelude.{◌≡◌, ◌≤◌, ◌<◌, ⊤, drop, length, is_some, option_map, IfOk};
 ghost use Rattle.sw_base.specs.Refusals.{Accepts, refused};
@@ -52,7 +52,7 @@ impl Engine {
         &self.code
     }
 
-    /// The code that the engine was opened with. The engine is given up.
+    /// The code that the engine was opened with. The engine is dropped.
     pub fn into_code(self) -> Code
         ensures { result ≡ self.flow }
     {
@@ -205,7 +205,7 @@ impl Engine {
     }
 
     /// The places (group, index) of the entries to come of the transaction that the session holds,
-    /// the next one first; none for an idle or unknown session. The only refusal is want of
+    /// the next one first; none for an idle or unknown session. The only refusal is out of
     /// memory.
     pub fn rest(&self, alloc: Global, s: usize) -> Result<Vec<(usize, usize)>, AllocError>
         ensures { IfOk result (λ places. places.items ≡ rest_of self.now s) }
