@@ -84,6 +84,15 @@ def built_case(name, block, _page, examples):
     return case
 
 
+def path_case(name, block, _page, examples):
+    """The command that puts the built program on the path, for the examples."""
+    built = 'mkdir crates/cardswitch/out && ln -s "$(command -v cardswitch)" crates/cardswitch/out && PATH=/usr/bin:/bin'
+    run = "cardswitch run --flow switch.toml < requests.frames"
+    case = Case(f"{name}: {block[0]}", f"{LAID_OUT} && {built}\n{block[0]}\n{run}", files=dict(examples))
+    case.stdout = Exactly(examples["responses.frames"])
+    return case
+
+
 def schema_case(name, block, _page, examples):
     """The tables of a new journal are those of the page."""
     select = "SELECT sql FROM sqlite_master WHERE type = 'table' ORDER BY rowid"
@@ -119,6 +128,7 @@ def elsewhere(_name, _block, _page, _examples):
 # How a block begins that is neither an example nor a file of one, and what is made of it.
 FORMS = [
     ("(cd crates/cardswitch && rt ", built_case),
+    ("cd examples; PATH=", path_case),
     ("CREATE TABLE ", schema_case),
     ("sqlite> ", turned_case),
     ("[[host]]", config_case),
