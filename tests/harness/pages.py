@@ -163,11 +163,12 @@ def code_cases(name, text, top):
 
 
 def cases_of_page(name, text, examples):
-    files = dict(examples)
+    files, unused = dict(examples), set()
     for before, block in blocks_of(text):
         named = NAMED.search(before)
         if block[0].startswith("$ "):
             commands = commands_of(block)
+            unused = {it for it in unused if not any(it in command for command, _ in commands)}
             for number, (command, wanted) in enumerate(commands):
                 # What came before in the block is run again, so that files and $? are there.
                 earlier = "".join(f"{{ {line}; }} > /dev/null 2>&1\n" for line, _ in commands[:number])
@@ -176,8 +177,10 @@ def cases_of_page(name, text, examples):
                 yield case
         elif named:
             files[named[1]] = "".join(f"{line}\n" for line in block).encode()
+            unused.add(named[1])
         else:
             yield other_case(name, block, text, examples)
+    yield from (judged(f"{name}: {it}", "no example uses this file") for it in sorted(unused))
 
 
 def picture_case(name, text, examples):
