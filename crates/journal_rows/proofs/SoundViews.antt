@@ -6,7 +6,7 @@ use Rattle.std.proofs.Common.{◌∙◌, true≢false, arith}
 use Rattle.std.specs.List.{AllByRecursion}
 use Rattle.std.specs.Ordering.{ordering_then}
 use Rattle.std.proofs.lemmas.Int.{ints}
-use Rattle.std.proofs.lemmas.Bool.{and_parts}
+use Rattle.std.proofs.lemmas.Bool.{and_parts, not-true}
 use Rattle.std.proofs.lemmas.Bool.Decides.{nat_tests}
 use Rattle.std.proofs.lemmas.List.Elements.{All-from_recursion}
 use Rattle.sqlite.specs.declared.types.Value.TheVariants.{Int}
@@ -40,10 +40,6 @@ use Rattle.journal_rows.proofs.Views.{NoFault, all_from_map, all_passed, next_of
 
 -- numbers
 
-unset : (b : Bool) → not b ≡ true → b ≡ false
-unset true e = absurd (true≢false (sym e))
-unset false e = refl
-
 below_from : (a b : ℕ) → int_lt (pos a) (pos b) ≡ true → a < b
 below_from a b h = grind (arith, ints)
 
@@ -53,11 +49,11 @@ not_below_from a b h = grind (arith, ints)
 given_from : (n : ℕ) (next i : ℤ) → next ≡ pos n → is_given next i ≡ true → (1 ≤ nat_of i) × (nat_of i < n)
 given_from n next (pos a) is h =
     let both = and_parts _ _ h in
-    (not_below_from a 1 (unset (int_lt (pos a) (pos 1)) both.0), below_from a n (ap (int_lt (pos a)) (sym is) ∙ both.1))
+    (not_below_from a 1 (not-true (int_lt (pos a) (pos 1)) both.0), below_from a n (ap (int_lt (pos a)) (sym is) ∙ both.1))
 given_from n next (negsuc a) is h = absurd (true≢false (sym h))
 
 within_from : (i : ℤ) (high : ℕ) → is_within i (pos 0) (pos high) ≡ true → nat_of i ≤ high
-within_from (pos a) high h = not_below_from high a (unset (int_lt (pos high) (pos a)) (and_parts _ _ h).1)
+within_from (pos a) high h = not_below_from high a (not-true (int_lt (pos high) (pos a)) (and_parts _ _ h).1)
 within_from (negsuc a) high h = absurd (true≢false (sym h))
 
 -- what stands under an id
@@ -324,7 +320,8 @@ module _ (t : Tables) (o : IsOrdered t) (f : IsFaultIn t None) where
   unlisted =
       let nats = all_map (λ r. IsNat (column r 0)) shown_shelf t.shelf o.shelf_ids in
       all_both (λ r. IsNat (column r 0)) (ShelfFits (next_of t) tx 0) (λ r. has_id (pos (nat_at r 0)) tx ≡ false)
-      (λ r nat k. sym (ap (λ i. has_id i tx) (ap int_in nat)) ∙ unset (has_id (int_at r 0) tx) (and_parts _ _ (and_parts _ _ k.good).0).1) shelf nats shelf_fits
+      (λ r nat k. sym (ap (λ i. has_id i tx) (ap int_in nat)) ∙ not-true (has_id (int_at r 0) tx) (and_parts _ _ (and_parts _ _ k.good).0).1)
+      shelf nats shelf_fits
 
   apart_ids : (id : ℕ) (r : own.Row) (w : Waiting) → look id (map row_under tx) ≡ Some r → look id (map shelf_under shelf) ≡ Some w → ⊥
   apart_ids id r w here there =

@@ -1,6 +1,6 @@
 -- Where the transactions of a history stand, as the outcome law has it: what each event makes of it.
 -- for: laws::sessions_agree
-use Rattle.std.proofs.Common.{◌≡◌, ◌≢◌, ℕ, ◌+◌, ◌-◌, ◌<◌, Bool, true, false, List, [], ◌∷◌, length, drop, Option, Some, None, refl, ap, arith, zero, suc}
+use Rattle.std.proofs.Common.{◌≡◌, ◌≢◌, ℕ, ◌+◌, ◌-◌, ◌<◌, Bool, true, false, List, [], ◌∷◌, length, Option, Some, None, refl, ap, arith, zero, suc}
 use Rattle.std.specs.Prelude.{if◌then◌else◌, slice_get, ◌==◌, ◌&&◌, nat_lt, not, option_map}
 use Rattle.std.proofs.lemmas.Bool.Decides.{nat_tests}
 use Rattle.flow_model.specs.declared.flow.Flow.{Flow}
@@ -27,10 +27,15 @@ use Rattle.tx_history.proofs.OwnItems.{is_yes, is_other}
 use Rattle.tx_history.proofs.GivenItems.{Gave}
 use Rattle.tx_history.proofs.Sessions.{state_given}
 use Rattle.tx_history.proofs.SoundJournals.{own_none}
+use Rattle.tx_history.proofs.RisingKeys.{get_drop}
 use Rattle.outcome_history.specs.Looked.{numbered}
 use Rattle.outcome_history.specs.Sessions.{head_of, restored, journalled, taken_at, full_state}
 use Rattle.outcome_history.proofs.LookedRows.{look_above}
 use Rattle.outcome_history.proofs.OpeningClosings.{listed_told}
+
+pub if_some : {A : Type 0} (b c : Bool) (o : Option A) (x : A) → (if b && c then o else None) ≡ Some x → b ≡ true
+if_some true c o x h = refl
+if_some false c o x h = absurd (cc)
 
 -- at first
 
@@ -134,11 +139,6 @@ pub closed_other : (f : Flow) (v : Start) (past : List Event) (id j : ℕ) → (
 closed_other f v past id j d = rw d refl
 
 -- a take
-
-get_drop : {A : Type 0} (n : ℕ) (xs : List A) → slice_get (drop n xs) 0 ≡ slice_get xs n
-get_drop zero xs = refl
-get_drop (suc n) [] = refl
-get_drop (suc n) (x ∷ xs) = get_drop n xs
 
 begin_from : (f : Flow) (o : Option Waiting) → (o ≡ None → ⊥) → Some (begin f (head_of o)) ≡ taken_at true (begun f o)
 begin_from f None some = absurd (some refl)

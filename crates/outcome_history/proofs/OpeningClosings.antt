@@ -3,7 +3,7 @@
 use Rattle.std.proofs.Common.{◌≡◌, ℕ, ◌+◌, ◌<◌, ◌≤◌, Bool, true, false, List, [], ◌∷◌, ◌++◌, length, map, Option, Some, None, refl, sym, ◌∙◌, ap, arith}
 use Rattle.std.proofs.Common.{length-append}
 use Rattle.std.specs.Prelude.{if◌then◌else◌, ◌==◌, ◌||◌, nat_lt, not, option_map}
-use Rattle.std.proofs.lemmas.List.{length-map}
+use Rattle.std.proofs.lemmas.List.{append-nil, length-map}
 use Rattle.std.proofs.lemmas.Bool.Decides.{nat_tests}
 use Rattle.flow_model.specs.declared.flow.Flow.{Flow}
 use Rattle.tx_machine.specs.Row.{Row as TxRow}
@@ -27,12 +27,8 @@ pub map_push : (h : List ℕ → ℕ) (xs : List (List ℕ)) (x : List ℕ) → 
 map_push h [] x = refl
 map_push h (y ∷ ys) x = ap (λ (l : List ℕ). h y ∷ l) (map_push h ys x)
 
-pub append_none : (xs : List ℕ) → xs ++ [] ≡ xs
-append_none [] = refl
-append_none (x ∷ xs) = ap (λ (ys : List ℕ). x ∷ ys) (append_none xs)
-
 listed_by : (f : Flow) (r : Row) (o : Option (List ℕ)) → map (number_of f) r.joined ++ one_of (option_map (number_of f) o) ≡ map (number_of f) (to_tell r o)
-listed_by f r None = append_none (map (number_of f) r.joined)
+listed_by f r None = append-nil (map (number_of f) r.joined)
 listed_by f r (Some n) = map_push (number_of f) r.joined n
 
 pub listed_told : (f : Flow) (r : Row) → listed (numbered f r) ≡ map (number_of f) (to_tell r r.doing)

@@ -16,6 +16,7 @@ use Rattle.tx_history.proofs.OwnItems.{found, old_stays, holds_serves, is_yes, t
 use Rattle.tx_history.proofs.Sessions.{serves_who, recovered_first, recovered_stays}
 use Rattle.tx_history.proofs.RecoveredSessions.{none_taken}
 use Rattle.outcome_history.specs.Sessions.{restored}
+use Rattle.outcome_history.proofs.FullStates.{if_some}
 
 -- while a journalled transaction is recovered, it is the one that is served
 pub served_is : (f : Flow) (v : Start) (past : List Event) (s id k : ℕ) → IsOrdered v.view → IsLawful f v past → recovering f v past ≡ Some k →
@@ -58,10 +59,6 @@ was_recovering : (f : Flow) (v : Start) (past : List Event) (e : Event) (id : �
     → (r : Option ℕ) → recovering f v past ≡ r → X
 was_recovering f v past e id X o acc h use_it None is = absurd (let n = recovered_stays f v past e o acc is in cc)
 was_recovering f v past e id X o acc h use_it (Some k) is = use_it k is
-
-if_some : {A : Type 0} (b c : Bool) (o : Option A) (x : A) → (if b && c then o else None) ≡ Some x → b ≡ true
-if_some true c o x h = refl
-if_some false c o x h = absurd (cc)
 
 -- a context is restored for the one that is recovered
 restores_it : (f : Flow) (v : Start) (past : List Event) (s : ℕ) (c : List ℕ) (acc : IsAccepted f v past (Recovered s c)) →

@@ -1,7 +1,6 @@
 -- The rows that a lawful history leaves, by name in its journal and by number in the outcome law's.
 -- for: laws::journals_agree
-use Rattle.std.proofs.Common.{◌≡◌, ℕ, ◌+◌, ◌<◌, ◌≤◌, Bool, true, false, List, [], ◌∷◌, ◌++◌, map, length, Option, Some, None, refl, sym, ◌∙◌, ap, arith, suc}
-use Rattle.std.proofs.Common.{zero}
+use Rattle.std.proofs.Common.{◌≡◌, ℕ, ◌+◌, ◌<◌, ◌≤◌, Bool, true, false, List, [], ◌∷◌, map, length, Option, Some, None, refl, sym, ◌∙◌, ap, arith}
 use Rattle.std.specs.Prelude.{if◌then◌else◌, ◌==◌, nat_lt, option_map}
 use Rattle.std.specs.List.{All}
 use Rattle.std.specs.Option.{option_map_or}
@@ -24,12 +23,12 @@ use Rattle.tx_outcome.specs.Core.{at, standing_of}
 use Rattle.tx_history.specs.declared.event.Event.{Event}
 use Rattle.tx_history.specs.declared.event.Event.TheVariants.{Offered, Taken, Answered, Chose, Told, Recovered, Released, Acked, Broke, Cleared, LetGo, Closed}
 use Rattle.tx_history.specs.declared.journal.Row.{Row}
-use Rattle.tx_history.specs.Keys.{look, keyed, gather}
+use Rattle.tx_history.specs.Keys.{look}
 use Rattle.tx_history.specs.History.{Start, name_of, number_of, is_id, own_items, next_id, takes, ids, reopened, serves, state_of}
 use Rattle.tx_history.specs.Journal.{IsLawful, is_closed, journal, named_row, old_row, row, row_at}
 use Rattle.tx_history.specs.Views.{IsOrdered, StartFits}
 use Rattle.tx_history.proofs.RisingKeys.{look_below}
-use Rattle.tx_history.proofs.SoundJournals.{look_gather}
+use Rattle.tx_history.proofs.Lookups.{gathered_not, gathered_at}
 use Rattle.outcome_history.specs.Looked.{numbered, id_view}
 use Rattle.outcome_history.specs.Sessions.{opened_since, journalled, full_state, id_events, restored}
 use Rattle.outcome_history.proofs.StatesAgree.{states_agree}
@@ -159,59 +158,6 @@ rows_if f v past id all st law lt false e =
     let named : row_at f v past id ≡ row f (state_of f v past id) = rw e refl in
     ap (λ (s : Option FullState). standing_row (standing_of f s)) full
     ∙ (state_row f (own (state_of f v past id)) all (proper_state f v past id st law) None refl refl ∙ ap (option_map (numbered f)) (sym named))
-
--- a row under its id
-
-look_last : {A : Type 0} (m : ℕ) (o : Option A) → look m (keyed m o) ≡ o
-look_last m None = refl
-look_last m (Some x) = let yes : (m == m) ≡ true = grind (arith, nat_tests) in rw yes refl
-
-look_first : {A : Type 0} (id : ℕ) (xs ys : List (ℕ × A)) (x : A) → look id xs ≡ Some x → look id (xs ++ ys) ≡ Some x
-look_first id [] ys x h = absurd (cc)
-look_first id (y ∷ xs) ys x h = by (y.0 == id) h (look_first id xs ys x)
-  where
-    by : (b : Bool) → (if b then Some y.1 else look id xs) ≡ Some x → (look id xs ≡ Some x → look id (xs ++ ys) ≡ Some x) →
-        (if b then Some y.1 else look id (xs ++ ys)) ≡ Some x
-    by true h ih = h
-    by false h ih = ih h
-
-look_behind : {A : Type 0} (id : ℕ) (xs ys : List (ℕ × A)) → look id xs ≡ None → look id (xs ++ ys) ≡ look id ys
-look_behind id [] ys h = refl
-look_behind id (y ∷ xs) ys h = by (y.0 == id) h (look_behind id xs ys)
-  where
-    by : (b : Bool) → (if b then Some y.1 else look id xs) ≡ None → (look id xs ≡ None → look id (xs ++ ys) ≡ look id ys) →
-        (if b then Some y.1 else look id (xs ++ ys)) ≡ look id ys
-    by true h ih = absurd (cc)
-    by false h ih = ih h
-
-not_in : {A : Type 0} (h : ℕ → Option A) (n k id : ℕ) → (n ≤ id → id < n + k → ⊥) → (o : Option A) → look id (gather h n k) ≡ o → o ≡ None
-not_in h n k id out None e = refl
-not_in h n k id out (Some x) e = absurd (let w = look_gather h n k id x e in out w.from w.below)
-
-gathered_not : {A : Type 0} (h : ℕ → Option A) (n k id : ℕ) → (n ≤ id → id < n + k → ⊥) → look id (gather h n k) ≡ None
-gathered_not h n k id out = not_in h n k id out (look id (gather h n k)) refl
-
--- at its end, and before it
-last_at : {A : Type 0} (h : ℕ → Option A) (n k id : ℕ) → id ≡ n + k → look id (gather h n (suc k)) ≡ h id
-last_at h n k id same = rw same (look_behind (n + k) (gather h n k) (keyed (n + k) (h (n + k))) (gathered_not h n k (n + k) (λ a b. omega arith))
-    ∙ look_last (n + k) (h (n + k)))
-
-other_last : {A : Type 0} (m id : ℕ) (o : Option A) → id < m → look id (keyed m o) ≡ None
-other_last m id None less = refl
-other_last m id (Some x) less = let other : (m == id) ≡ false = grind (arith, nat_tests) in rw other refl
-
-before_last : {A : Type 0} (h : ℕ → Option A) (n k id : ℕ) → id < n + k → (o : Option A) → look id (gather h n k) ≡ o → look id (gather h n (suc k)) ≡ o
-before_last h n k id less None e = look_behind id (gather h n k) (keyed (n + k) (h (n + k))) e ∙ other_last (n + k) id (h (n + k)) less
-before_last h n k id less (Some x) e = look_first id (gather h n k) (keyed (n + k) (h (n + k))) x e
-
-gathered_if : {A : Type 0} (h : ℕ → Option A) (n k id : ℕ) → id < n + suc k → (id < n + k → look id (gather h n k) ≡ h id) → (b : Bool) →
-    (id == n + k) ≡ b → look id (gather h n (suc k)) ≡ h id
-gathered_if h n k id hi ih true e = let same : id ≡ n + k = grind (arith, nat_tests) in last_at h n k id same
-gathered_if h n k id hi ih false e = let less : id < n + k = grind (arith, nat_tests) in before_last h n k id less (h id) (ih less)
-
-gathered_at : {A : Type 0} (h : ℕ → Option A) (n k id : ℕ) → n ≤ id → id < n + k → look id (gather h n k) ≡ h id
-gathered_at h n zero id lo hi = absurd (omega arith)
-gathered_at h n (suc k) id lo hi = gathered_if h n k id hi (λ less. gathered_at h n k id lo less) (id == n + k) refl
 
 -- each row
 

@@ -1,8 +1,8 @@
 -- Whom sessions serve, in the outcome law's words and in those of histories.
 -- for: laws::sessions_agree
-use Rattle.std.proofs.Common.{◌≡◌, ℕ, ◌+◌, ◌-◌, ◌<◌, ◌≤◌, Bool, true, false, List, [], ◌∷◌, length, Option, Some, None, refl, sym, ◌∙◌, ap, subst, arith, zero}
+use Rattle.std.proofs.Common.{◌≡◌, ℕ, ◌+◌, ◌-◌, ◌<◌, ◌≤◌, Bool, true, false, List, [], ◌∷◌, Option, Some, None, refl, sym, ◌∙◌, ap, subst, arith, zero}
 use Rattle.std.proofs.Common.{suc}
-use Rattle.std.specs.Prelude.{if◌then◌else◌, slice_get, ◌==◌, ◌||◌, nat_lt, not}
+use Rattle.std.specs.Prelude.{if◌then◌else◌, ◌==◌, nat_lt, not}
 use Rattle.std.proofs.lemmas.Bool.Decides.{nat_tests}
 use Rattle.flow_model.specs.declared.flow.Flow.{Flow}
 use Rattle.tx_machine.specs.declared.values.Item.{Item}
@@ -13,19 +13,19 @@ use Rattle.tx_machine.specs.Bounds.{after_newest}
 use Rattle.tx_outcome.specs.One.{FullReply, Answer, Chosen, Advice, Restored}
 use Rattle.tx_outcome.specs.States.{FullState, seen, outcome_due, restores}
 use Rattle.tx_outcome.specs.Core as core
-use Rattle.tx_outcome.specs.Core.{IdView, IdEvent, at}
+use Rattle.tx_outcome.specs.Core.{IdEvent, at}
 use Rattle.tx_outcome.specs.Plant as plant
-use Rattle.tx_outcome.specs.Plant.{is_idle, unfinished, seek, serves_in, given_to, by_ids, taken_count}
+use Rattle.tx_outcome.specs.Plant.{is_idle, unfinished, seek, serves_in, given_to, taken_count}
 use Rattle.tx_history.specs.declared.event.Event.{Event}
 use Rattle.tx_history.specs.declared.event.Event.TheVariants.{Offered, Taken, Answered, Chose, Told, Recovered, Released, Acked, Broke, Cleared, LetGo, Closed}
 use Rattle.tx_history.specs.declared.journal.Row.{Row}
 use Rattle.tx_history.specs.Keys.{look, Rising}
 use Rattle.tx_history.specs.History.{Start, reopened, is_over, is_ended, first_unfinished, or_taken, own_items, recovering, serves, next_id, takes, taken}
-use Rattle.tx_history.specs.Journal.{to_close, is_closed, IsLawful}
+use Rattle.tx_history.specs.Journal.{is_closed, IsLawful}
 use Rattle.tx_history.specs.Views.{IsOrdered}
 use Rattle.tx_history.proofs.RisingKeys.{look_below}
 use Rattle.tx_history.proofs.OwnItems.{ended_stays}
-use Rattle.tx_history.proofs.GivenItems.{Closing, closing}
+use Rattle.tx_history.proofs.GivenItems.{closed_over}
 use Rattle.tx_history.proofs.Sessions.{recovered_first}
 use Rattle.tx_history.proofs.RecoveredSessions.{none_taken}
 use Rattle.outcome_history.specs.Looked.{numbered, id_view}
@@ -174,29 +174,6 @@ unfinished_journalled f (Some r) false items back h = ap not
     (due_of f (after_newest f (reopened f r) items)))
 
 -- a closed transaction had nobody to tell
-closed_if : (f : Flow) (v : Start) (past : List Event) (k id : ℕ) → IsOrdered v.view → slice_get (to_close f v.view.rows) (length past) ≡ Some k →
-    (is_closed past id ≡ true → Closing f v.view.rows id)
-    → (b : Bool) → (k == id) ≡ b → (b || is_closed past id) ≡ true → Closing f v.view.rows id
-closed_if f v past k id o there ih true e h =
-    let same : k ≡ id = grind (arith, nat_tests) in
-    closing f v.view.rows 1 v.view.next_id (length past) id o.rows (there ∙ ap Some same)
-closed_if f v past k id o there ih false e h = ih h
-
-closed_over : (f : Flow) (v : Start) (past : List Event) (id : ℕ) → IsOrdered v.view → IsLawful f v past → is_closed past id ≡ true → Closing f v.view.rows id
-closed_over f v [] id o law h = absurd (cc)
-closed_over f v (Offered x ∷ past) id o law h = closed_over f v past id o law.2 h
-closed_over f v (Taken t ∷ past) id o law h = closed_over f v past id o law.2 h
-closed_over f v (Answered t b x ∷ past) id o law h = closed_over f v past id o law.2 h
-closed_over f v (Chose t x ∷ past) id o law h = closed_over f v past id o law.2 h
-closed_over f v (Told t x ∷ past) id o law h = closed_over f v past id o law.2 h
-closed_over f v (Recovered t x ∷ past) id o law h = closed_over f v past id o law.2 h
-closed_over f v (Released ∷ past) id o law h = closed_over f v past id o law.2 h
-closed_over f v (Acked k n ∷ past) id o law h = closed_over f v past id o law.2 h
-closed_over f v (Broke p ∷ past) id o law h = closed_over f v past id o law.2 h
-closed_over f v (Cleared p ∷ past) id o law h = closed_over f v past id o law.2 h
-closed_over f v (LetGo t ∷ past) id o law h = closed_over f v past id o law.2 h
-closed_over f v (Closed k ∷ past) id o law h = closed_if f v past k id o law.0 (closed_over f v past id o law.2) (k == id) refl h
-
 pub closed_idle : (f : Flow) (v : Start) (past : List Event) (id : ℕ) → IsOrdered v.view → IsLawful f v past → is_closed past id ≡ true →
     open_at f (look id v.view.rows) (own_items f v past id) ≡ false
 closed_idle f v past id o law h =

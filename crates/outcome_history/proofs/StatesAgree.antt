@@ -24,7 +24,7 @@ use Rattle.tx_history.proofs.Sessions.{state_more, state_released}
 use Rattle.outcome_history.specs.Looked.{id_view}
 use Rattle.outcome_history.specs.Sessions.{session_events, id_events, restored, journalled, taken_at, full_state, head_of}
 use Rattle.outcome_history.proofs.FullStates.{full_first, full_given, full_other, full_restored, restored_other, full_closed, closed_other, full_taken}
-use Rattle.outcome_history.proofs.FullStates.{taken_other}
+use Rattle.outcome_history.proofs.FullStates.{taken_other, if_some}
 use Rattle.outcome_history.proofs.ServedSessions.{States, next_same, serves_from, recovering_same}
 
 -- by cases of an id
@@ -115,10 +115,6 @@ closed_below f v past id o acc =
     let w = closing f v.view.rows 1 v.view.next_id (length past) id o.rows acc in
     let k = (look_within v.view.rows 1 v.view.next_id id w.row o.rows w.there).1 in
     grind (arith, nat_tests)
-
-if_some : {A : Type 0} (b c : Bool) (o : Option A) (x : A) → (if b && c then o else None) ≡ Some x → b ≡ true
-if_some true c o x h = refl
-if_some false c o x h = absurd (cc)
 
 -- the whole history
 pub states_agree : (f : Flow) (v : Start) (past : List Event) → IsOrdered v.view → IsLawful f v past → States f v past

@@ -22,7 +22,7 @@ use Rattle.tx_history.specs.History.{Start, reopened, is_ended, takes, ids, is_i
 use Rattle.tx_history.specs.History.{shelved_at, shelf, state_of, advice_place, put_advice}
 use Rattle.tx_history.specs.Journal.{IsLawful, to_close, row, row_at, is_closed, journal, applied, Leads, touched, shelved_change}
 use Rattle.tx_history.specs.Views.{IsOrdered}
-use Rattle.tx_history.proofs.RisingKeys.{put_gather, put_none, look_within}
+use Rattle.tx_history.proofs.RisingKeys.{put_gather, put_none, look_other}
 use Rattle.tx_history.proofs.OwnItems.{Found, serves_below, serves_old, is_yes, is_other, holds_serves, old_outcome, ended_stays}
 
 -- an item given for a transaction
@@ -95,12 +95,6 @@ pub record Closing (f : Flow) (rows : List (ℕ × Row)) (id : ℕ) : Type 0 whe
   pub there : look id rows ≡ Some row
   pub over : is_ended f (reopened f row) ≡ true
 
-look_other : {A : Type 0} (x : ℕ × A) (xs : List (ℕ × A)) (m id : ℕ) (y : A) → Rising (x.0 + 1) m xs → look id xs ≡ Some y → look id (x ∷ xs) ≡ Some y
-look_other x xs m id y rise h =
-    let w = (look_within xs (x.0 + 1) m id y rise h).0 in
-    let no : (x.0 == id) ≡ false = grind (arith, nat_tests) in
-    rw no h
-
 close_later : (f : Flow) (r : ℕ × Row) (rows : List (ℕ × Row)) (m id : ℕ) → Rising (r.0 + 1) m rows → Closing f rows id → Closing f (r ∷ rows) id
 close_later f r rows m id rise w = record { row = w.row; there = look_other r rows m id w.row rise w.there; over = w.over }
 
@@ -127,7 +121,8 @@ closed_if f v past k id o at ih true e h =
     closing f v.view.rows 1 v.view.next_id (length past) id o.rows (at ∙ ap Some same)
 closed_if f v past k id o at ih false e h = ih h
 
-closed_over : (f : Flow) (v : Start) (past : List Event) (id : ℕ) → IsOrdered v.view → IsLawful f v past → is_closed past id ≡ true → Closing f v.view.rows id
+pub closed_over : (f : Flow) (v : Start) (past : List Event) (id : ℕ) → IsOrdered v.view → IsLawful f v past → is_closed past id ≡ true →
+    Closing f v.view.rows id
 closed_over f v [] id o law h = absurd (cc)
 closed_over f v (Offered x ∷ past) id o law h = closed_over f v past id o law.2 h
 closed_over f v (Taken t ∷ past) id o law h = closed_over f v past id o law.2 h

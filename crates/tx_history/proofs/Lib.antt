@@ -6,6 +6,7 @@ pub mod Changes
 pub mod Sessions
 pub mod Rows
 pub mod SoundJournals
+pub mod Lookups
 pub mod AdvicePlaces
 pub mod RowCounts
 pub mod NextStarts

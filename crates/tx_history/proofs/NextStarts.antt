@@ -10,6 +10,7 @@ use Rattle.tx_machine.specs.declared.values.Due.TheVariants.{Prepare, PrepareFor
 use Rattle.tx_machine.specs.declared.values.Item.{Item}
 use Rattle.tx_machine.specs.Table.{TxState, is_open}
 use Rattle.tx_machine.specs.Due.{due_of}
+use Rattle.tx_machine.proofs.StepBounds.{reopened_open}
 use Rattle.tx_history.specs.declared.event.Event.{Event}
 use Rattle.tx_history.specs.declared.event.Event.TheVariants.{Closed}
 use Rattle.tx_history.specs.declared.journal.Row.{Row}
@@ -26,7 +27,6 @@ use Rattle.std.specs.Str.{bytes_eq}
 use Rattle.std.proofs.lemmas.Slice.Eq.{bytes_eq-Decides}
 use Rattle.flow_model.specs.declared.numbering.Part.{Part}
 use Rattle.flow_model.specs.Places.{parts_of, number_in}
-use Rattle.tx_machine.specs.declared.values.Phase.TheVariants.{Committing, Undoing}
 use Rattle.tx_history.proofs.Rows.{Proper, as_row_fits, row_some, telling, as_row, doing}
 use Rattle.tx_history.proofs.SoundJournals.{Good, good}
 use Rattle.tx_history.specs.Views.{AreSessions}
@@ -112,10 +112,6 @@ known_told f r (Some n) h k = All-push (Known f) r.joined n h k
 
 row_known : (f : Flow) (s : TxState) → Proper f s → is_ended f s ≡ false → All (Known f) (to_tell (as_row f s) (as_row f s).doing)
 row_known f s p u = known_told f (as_row f s) (as_row f s).doing (known_names f s.joined p.names) (known_doing f s (due_of f s) (as_row_fits f s p u).doing)
-
-reopened_open : (b : Bool) → is_open (if b then Committing else Undoing) ≡ false
-reopened_open true = refl
-reopened_open false = refl
 
 told_none : (r : Row) (d : Option (List ℕ)) → d ≡ None → to_tell r d ≡ r.joined
 told_none r None e = refl

@@ -12,6 +12,7 @@ use Rattle.tx_machine.specs.declared.values.Item.{Item}
 use Rattle.tx_machine.specs.declared.values.Item.TheVariants.{Answer, Choice, Told as ToldOne}
 use Rattle.tx_machine.specs.Table.{TxState, Upcoming, Prepare, Select, is_open, answered_at, chosen_at}
 use Rattle.tx_machine.specs.Due.{due_of}
+use Rattle.tx_machine.proofs.StepBounds.{reopened_open}
 use Rattle.tx_history.specs.declared.event.Event.{Event}
 use Rattle.tx_history.specs.declared.event.Event.TheVariants.{Offered, Taken, Answered, Chose, Told, Recovered, Released, Acked, Broke, Cleared, LetGo, Closed}
 use Rattle.tx_history.specs.declared.journal.Row.{Row}
@@ -21,7 +22,7 @@ use Rattle.tx_history.specs.History.{Start, reopened, is_ended, is_over, is_comm
 use Rattle.tx_history.specs.History.{own_items, recovering, is_fresh, arrivals, state_of, held_of, holds}
 use Rattle.tx_history.specs.Journal.{IsLawful}
 use Rattle.tx_history.specs.Views.{IsOrdered}
-use Rattle.tx_history.proofs.RisingKeys.{look_within}
+use Rattle.tx_history.proofs.RisingKeys.{look_other, look_within}
 
 -- a journalled transaction
 
@@ -91,10 +92,6 @@ outcome_at f s Undoing e o r = record {
   unshelved = rw (e, r) (abort_kept (nat_lt s.told (length s.joined)) _);
 }
 
-reopened_open : (b : Bool) → is_open (if b then Committing else Undoing) ≡ false
-reopened_open true = refl
-reopened_open false = refl
-
 pub old_outcome : (f : Flow) (r : Row) (items : List Item) → AtOutcome f (after_newest f (reopened f r) items)
 old_outcome f r items =
     let w = old_stays f (reopened f r) items refl refl in
@@ -117,12 +114,6 @@ pub record Found (f : Flow) (rows : List (ℕ × Row)) (items : ℕ → List Ite
   pub row : Row
   pub there : look id rows ≡ Some row
   pub unfinished : is_ended f (after_newest f (reopened f row) (items id)) ≡ false
-
-look_other : {A : Type 0} (x : ℕ × A) (xs : List (ℕ × A)) (m id : ℕ) (y : A) → Rising (x.0 + 1) m xs → look id xs ≡ Some y → look id (x ∷ xs) ≡ Some y
-look_other x xs m id y rise h =
-    let w = (look_within xs (x.0 + 1) m id y rise h).0 in
-    let no : (x.0 == id) ≡ false = grind (arith, nat_tests) in
-    rw no h
 
 found_if : (f : Flow) (r : ℕ × Row) (rows : List (ℕ × Row)) (items : ℕ → List Item) (n m id : ℕ) → Rising n m (r ∷ rows) →
     (first_unfinished f rows items ≡ Some id → Found f rows items id)

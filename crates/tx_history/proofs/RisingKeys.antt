@@ -1,7 +1,7 @@
 -- Lists under rising keys: gathering, looking up and putting.
 -- for: laws::changes_lead_on
 use Rattle.std.proofs.Common.{◌≡◌, ◌≢◌, ℕ, ◌+◌, ◌-◌, ◌<◌, ◌≤◌, Bool, true, false, List, [], ◌∷◌, ◌++◌, length, Option, Some, None, refl, sym, ◌∙◌, ap, subst}
-use Rattle.std.proofs.Common.{arith, suc, zero, filter, append_assoc, append-nil}
+use Rattle.std.proofs.Common.{arith, suc, zero, drop, filter, append_assoc, append-nil}
 use Rattle.std.specs.Prelude.{if◌then◌else◌, slice_get, ◌==◌, nat_lt}
 use Rattle.std.proofs.lemmas.Bool.Decides.{nat_tests}
 use Rattle.tx_history.specs.Keys.{keyed, gather, look, put_at, Rising}
@@ -114,6 +114,11 @@ get_append [] ys k h = absurd (omega arith)
 get_append (x ∷ xs) ys zero h = refl
 get_append (x ∷ xs) ys (suc k) h = get_append xs ys k (omega arith)
 
+pub get_drop : {A : Type 0} (n : ℕ) (xs : List A) → slice_get (drop n xs) 0 ≡ slice_get xs n
+get_drop zero xs = refl
+get_drop (suc n) [] = refl
+get_drop (suc n) (x ∷ xs) = get_drop n xs
+
 -- a list whose keys rise is what looking up in it gathers
 pub look_below : {A : Type 0} (xs : List (ℕ × A)) (n m id : ℕ) → Rising n m xs → id < n → look id xs ≡ None
 look_below [] n m id rise lt = refl
@@ -163,3 +168,9 @@ look_within_if y xs n m id x rise h ih false e =
 pub look_within : {A : Type 0} (xs : List (ℕ × A)) (n m id : ℕ) (x : A) → Rising n m xs → look id xs ≡ Some x → (n ≤ id) × (id < m)
 look_within [] n m id x rise h = absurd (cc)
 look_within (y ∷ xs) n m id x rise h = look_within_if y xs n m id x rise h (look_within xs (y.0 + 1) m id x rise.2) (y.0 == id) refl
+
+pub look_other : {A : Type 0} (x : ℕ × A) (xs : List (ℕ × A)) (m id : ℕ) (y : A) → Rising (x.0 + 1) m xs → look id xs ≡ Some y → look id (x ∷ xs) ≡ Some y
+look_other x xs m id y rise h =
+    let w = (look_within xs (x.0 + 1) m id y rise h).0 in
+    let no : (x.0 == id) ≡ false = grind (arith, nat_tests) in
+    rw no h

@@ -199,7 +199,7 @@ pub record Taker (v : Start) (past : List Event) (n j : ℕ) : Type 0 where
   pub within : session < n
   pub took : taken v past session ≡ Some j
 
-held_some : (f : Flow) (v : Start) (past : List Event) (s j : ℕ) → recovering f v past ≡ None → taken v past s ≡ Some j →
+pub held_some : (f : Flow) (v : Start) (past : List Event) (s j : ℕ) → recovering f v past ≡ None → taken v past s ≡ Some j →
     is_ended f (state_of f v past j) ≡ false → holds f v past s ≡ Some j
 held_some f v past s j none h u =
     let who : serves f v past s ≡ Some j = by (s == 0) (recovering f v past) none in

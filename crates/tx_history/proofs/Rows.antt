@@ -1,13 +1,15 @@
 -- The bounds of a state and of its row.
 -- for: laws::rows_are_bounded
-use Rattle.std.proofs.Common.{◌≡◌, ℕ, ◌+◌, ◌<◌, ◌≤◌, Bool, true, false, ◌⊎◌, inl, inr, List, [], ◌∷◌, ◌++◌, length, Some, None, refl, ap, subst, arith, map}
-use Rattle.std.proofs.Common.{length-append, suc, sym, Option, ◌∙◌}
+use Rattle.std.proofs.Common.{◌≡◌, ℕ, ◌+◌, ◌<◌, ◌≤◌, Bool, true, false, ◌⊎◌, inl, inr, List, [], ◌∷◌, ◌++◌, length, Some, None, refl, subst, arith, map}
+use Rattle.std.proofs.Common.{sym, Option, ◌∙◌}
 use Rattle.std.specs.Prelude.{if◌then◌else◌, ◌==◌, nat_lt, not, ◌&&◌, codes, option_map}
-use Rattle.std.specs.List.{All, flat_map}
+use Rattle.std.specs.List.{All}
 use Rattle.std.proofs.lemmas.Bool.Decides.{nat_tests}
-use Rattle.std.proofs.lemmas.List.Elements.{All-nil, All-cons, All-head, All-tail, All-append, All-map, All-push}
+use Rattle.std.proofs.lemmas.Bool.{and_parts}
+use Rattle.std.proofs.lemmas.List.Elements.{All-nil, All-head, All-tail, All-append, All-map}
+use Rattle.std.proofs.lemmas.List.{length-map}
 use Rattle.sw_context.specs.Spelling.{IsSpelled}
-use Rattle.sw_participant.specs.Answers.{stays_out, is_readonly, is_prepared}
+use Rattle.sw_participant.specs.Answers.{is_readonly}
 use Rattle.flow_model.specs.declared.flow.Flow.{Flow}
 use Rattle.flow_model.specs.declared.flow.PlacedEntry.{PlacedEntry}
 use Rattle.flow_model.specs.Places.{entries_named}
@@ -16,7 +18,7 @@ use Rattle.tx_machine.specs.declared.values.Phase.TheVariants.{Preparing, Aborti
 use Rattle.tx_machine.specs.declared.values.Due.TheVariants.{Prepare as DuePrepare, PrepareForAbort, Select as DueSelect, Commit, Abort, Shelve, Done}
 use Rattle.tx_machine.specs.declared.values.Item.{Item}
 use Rattle.tx_machine.specs.declared.values.Item.TheVariants.{Answer, Choice, Told as ToldOne}
-use Rattle.tx_machine.specs.Table.{TxState, Upcoming, Prepare, Select, next, after, opening, chosen, is_open, is_due, prepares_next, selects_next, passed}
+use Rattle.tx_machine.specs.Table.{TxState, Upcoming, Prepare, Select, next, after, opening, chosen, is_open, is_due, prepares_next, selects_next}
 use Rattle.tx_machine.specs.Table.{settled, is_aborting, cut_at, limited, decide_at, advanced, entered, after_byte, retry_after, joined_after, saved_after}
 use Rattle.tx_machine.specs.Table.{answered_at, chosen_at}
 use Rattle.tx_machine.specs.Lists.{is_lawful}
@@ -26,17 +28,9 @@ use Rattle.tx_history.specs.declared.journal.Row.{Row}
 use Rattle.tx_history.specs.History.{is_ended, is_over, name_of}
 use Rattle.tx_history.specs.Journal.{named_row, row}
 use Rattle.tx_machine.specs.Row.{row_at}
+use Rattle.tx_machine.proofs.StepBounds.{unopened, settled_all, entered_all, joined_all, named_all, not_full, less_if, byte_open, joined_length, tells}
+use Rattle.tx_machine.proofs.StepBounds.{decided_not}
 use Rattle.tx_history.specs.Views.{IsNamed, IsDoing, RowFits, FlowFits, IsItem, AreItems}
-
--- one item more, at the end of tx_machine's list
-
-pub after_snoc : (f : Flow) (st : TxState) (xs : List Item) (x : Item) → after f st (xs ++ x ∷ []) ≡ next f (after f st xs) x
-after_snoc f st [] x = refl
-after_snoc f st (y ∷ xs) x = after_snoc f (next f st y) xs x
-
-pub lawful_snoc : (f : Flow) (st : TxState) (xs : List Item) (x : Item) → is_lawful f st (xs ++ x ∷ []) ≡ (is_lawful f st xs && is_due (after f st xs) x)
-lawful_snoc f st [] x = grind (arith)
-lawful_snoc f st (y ∷ xs) x = grind (arith, lawful_snoc f (next f st y) xs x)
 
 -- bounds
 
@@ -65,20 +59,6 @@ pub record Proper (f : Flow) (s : TxState) : Type 0 where
   pub saved : IsSpelled s.saved
   pub tries : s.tries ≤ 100
 
-passed_named : (f : Flow) (ms : List Upcoming) → All (UpcomingNamed f) ms → All (UpcomingNamed f) (passed ms)
-passed_named f [] h = h
-passed_named f (Select s ∷ ms) h = h
-passed_named f (Prepare s ∷ ms) h = by s.kind.abort_aware s.kind.selector (passed_named f ms (All-tail (UpcomingNamed f) (Prepare s) ms h))
-  where
-    by : (a b : Bool) → All (UpcomingNamed f) (passed ms) → All (UpcomingNamed f) (if a then Prepare s ∷ ms else if b then Select s ∷ ms else passed ms)
-    by true b ih = h
-    by false true ih = All-cons (UpcomingNamed f) (Select s) ms (All-head (UpcomingNamed f) (Prepare s) ms h) (All-tail (UpcomingNamed f) (Prepare s) ms h)
-    by false false ih = ih
-
-settled_named : (f : Flow) (b : Bool) (ms : List Upcoming) → All (UpcomingNamed f) ms → All (UpcomingNamed f) (settled b ms)
-settled_named f true ms h = passed_named f ms h
-settled_named f false ms h = h
-
 record Cut (f : Flow) (s : TxState) : Type 0 where
   open_one : Open f s
   more : (s.rest ≡ []) ⊎ (s.calls < 1000)
@@ -101,45 +81,32 @@ cut_open f s (m ∷ ms) true r h o = record {
   more = inl refl;
 }
 
-not_full : (n : ℕ) → n ≤ 1000 → (n == 1000) ≡ false → n < 1000
-not_full n h e = grind (arith, nat_tests)
+cut_proper : (f : Flow) (s : TxState) → Cut f s → Proper f s
+cut_proper f s c = let o = c.open_one in let t = o.told in record {
+  calls = o.calls;
+  more = c.more;
+  members = o.members;
+  told = omega arith;
+  fresh = λ h. t;
+  names = o.names;
+  marks = o.marks;
+  saved = o.saved;
+  tries = o.tries;
+}
 
-decide_proper : (f : Flow) (s : TxState) (ms : List Upcoming) (ps : List ℕ) → s.rest ≡ ms → Cut f s → Proper f (decide_at s ms ps)
-decide_proper f s (m ∷ ms) ps r c = let o = c.open_one in let t = o.told in record {
-  calls = o.calls;
-  more = c.more;
-  members = o.members;
-  told =
-      omega arith;
+decide_proper : (f : Flow) (s : TxState) (ms : List Upcoming) (ps : List ℕ) → Cut f s → Proper f (decide_at s ms ps)
+decide_proper f s (m ∷ ms) ps c = cut_proper f s c
+decide_proper f s [] [] c = cut_proper f s c
+decide_proper f s [] (p ∷ ps) c = let w = cut_proper f s c in let t = c.open_one.told in record {
+  calls = w.calls;
+  more = w.more;
+  members = w.members;
+  told = w.told;
   fresh = λ h. t;
-  names = o.names;
-  marks = o.marks;
-  saved = o.saved;
-  tries = o.tries;
-}
-decide_proper f s [] [] r c = let o = c.open_one in let t = o.told in record {
-  calls = o.calls;
-  more = c.more;
-  members = o.members;
-  told =
-      omega arith;
-  fresh = λ h. t;
-  names = o.names;
-  marks = o.marks;
-  saved = o.saved;
-  tries = o.tries;
-}
-decide_proper f s [] (p ∷ ps) r c = let o = c.open_one in let t = o.told in record {
-  calls = o.calls;
-  more = c.more;
-  members = o.members;
-  told =
-      omega arith;
-  fresh = λ h. t;
-  names = o.names;
-  marks = o.marks;
-  saved = o.saved;
-  tries = o.tries;
+  names = w.names;
+  marks = w.marks;
+  saved = w.saved;
+  tries = w.tries;
 }
 
 advance_proper : (f : Flow) (s : TxState) → Open f s → Proper f (advanced s)
@@ -152,53 +119,12 @@ advance_proper f s o =
       phase = o.phase;
       names = o.names;
       marks =
-          settled_named f (is_aborting s.phase) s.rest o.marks;
+          settled_all (UpcomingNamed f) (λ s h. h) (is_aborting s.phase) s.rest o.marks;
       saved = o.saved;
       tries = o.tries;
     } in
     let c : Cut f (limited t) = cut_open f t t.rest (t.calls == 1000) refl (not_full t.calls o.calls) ot in
-    decide_proper f (limited t) (limited t).rest (limited t).joined refl c
-
-both : (x y : Bool) → (x && y) ≡ true → (x ≡ true) × (y ≡ true)
-both true true h = (refl, refl)
-both true false h = absurd (cc)
-both false y h = absurd (cc)
-
-less_if : (ms : List Upcoming) (n : ℕ) (m : Upcoming) (tail : List Upcoming) → ms ≡ m ∷ tail → (ms ≡ []) ⊎ (n < 1000) → n < 1000
-less_if ms n m tail e h = elim h [ inl none ↦ absurd (cc) | inr less ↦ less ]
-
-byte_open : (p : Phase) (b : ℕ) → is_open p ≡ true → is_open (after_byte p b) ≡ true
-byte_open Preparing b h = by (is_prepared b)
-  where
-    by : (x : Bool) → is_open (if x then Preparing else Aborting) ≡ true
-    by true = refl
-    by false = refl
-byte_open Aborting b h = refl
-byte_open Committing b h = absurd (cc)
-byte_open Undoing b h = absurd (cc)
-
-joined_length : (b p : ℕ) (ps : List ℕ) → length (joined_after b p ps) ≤ length ps + 1
-joined_length b p ps = by (stays_out b)
-  where
-    by : (out : Bool) → length (if out then ps else ps ++ p ∷ []) ≤ length ps + 1
-    by true = omega arith
-    by false = omega (arith, length-append ps (p ∷ []))
-
-joined_named : (f : Flow) (b p : ℕ) (ps : List ℕ) → All (λ p. IsNamed (name_of f p)) ps → IsNamed (name_of f p) →
-    All (λ p. IsNamed (name_of f p)) (joined_after b p ps)
-joined_named f b p ps h n = by (stays_out b)
-  where
-    by : (out : Bool) → All (λ p. IsNamed (name_of f p)) (if out then ps else ps ++ p ∷ [])
-    by true = h
-    by false = All-push (λ p. IsNamed (name_of f p)) ps p h n
-
-entered_named : (f : Flow) (s : PlacedEntry) (ms : List Upcoming) → IsNamed (name_of f s.participant) → All (UpcomingNamed f) ms →
-    All (UpcomingNamed f) (entered s ms)
-entered_named f s ms n h = by s.kind.selector
-  where
-    by : (x : Bool) → All (UpcomingNamed f) (if x then Select s ∷ ms else ms)
-    by true = All-cons (UpcomingNamed f) (Select s) ms n h
-    by false = h
+    decide_proper f (limited t) (limited t).rest (limited t).joined c
 
 saved_spelled : (b : ℕ) (c saved : List ℕ) → IsSpelled c → IsSpelled saved → IsSpelled (saved_after b c saved)
 saved_spelled b c saved h k = by (is_readonly b)
@@ -231,16 +157,11 @@ answer_proper f s b c (Prepare x ∷ tail) r o e i h =
       members = omega arith;
       told = h.fresh o;
       phase = byte_open s.phase b o;
-      names = joined_named f b x.participant s.joined h.names one;
-      marks = entered_named f x tail one (All-tail (UpcomingNamed f) (Prepare x) tail all);
+      names = joined_all (λ p. IsNamed (name_of f p)) b x.participant s.joined h.names one;
+      marks = entered_all (UpcomingNamed f) x tail one (All-tail (UpcomingNamed f) (Prepare x) tail all);
       saved = saved_spelled b c s.saved i h.saved;
       tries = h.tries;
     })
-
-slots_all : (f : Flow) → FlowFits f → (ns : List (List ℕ)) → All (λ (s : PlacedEntry). IsNamed (name_of f s.participant)) (flat_map (entries_named f) ns)
-slots_all f fits [] = All-nil (λ (s : PlacedEntry). IsNamed (name_of f s.participant))
-slots_all f fits (n ∷ ns) = All-append (λ (s : PlacedEntry). IsNamed (name_of f s.participant)) (entries_named f n) (flat_map (entries_named f) ns)
-    (fits.names n) (slots_all f fits ns)
 
 choice_proper : (f : Flow) (s : TxState) (t : List ℕ) (ms : List Upcoming) → FlowFits f → s.rest ≡ ms → is_open s.phase ≡ true → selects_next ms ≡ true →
     Proper f s → Proper f (chosen_at f s t ms)
@@ -257,25 +178,16 @@ choice_proper f s t (Select x ∷ tail) fits r o e h =
       told = h.fresh o;
       phase = o;
       names = h.names;
-      marks = All-append (UpcomingNamed f) (map Prepare (chosen f t)) tail (All-map (UpcomingNamed f) Prepare (chosen f t) (slots_all f fits _))
+      marks = All-append (UpcomingNamed f) (map Prepare (chosen f t)) tail
+          (All-map (UpcomingNamed f) Prepare (chosen f t) (named_all (λ (s : PlacedEntry). IsNamed (name_of f s.participant)) f fits.names _))
           (All-tail (UpcomingNamed f) (Select x) tail all);
       saved = h.saved;
       tries = h.tries;
     })
 
-tells : (x : Bool) (n k : ℕ) → (x && nat_lt n k) ≡ true → n + 1 ≤ k
-tells true n k h = grind (arith, nat_tests)
-tells false n k h = absurd (cc)
-
-closed_not : (p : Phase) (y : Bool) → (not (is_open p) && y) ≡ true → is_open p ≡ true → ⊥
-closed_not Preparing y h k = cc
-closed_not Aborting y h k = cc
-closed_not Committing y h k = cc
-closed_not Undoing y h k = cc
-
 pub next_proper : (f : Flow) (s : TxState) (x : Item) → FlowFits f → IsItem x → is_due s x ≡ true → Proper f s → Proper f (next f s x)
-next_proper f s (Answer b c) fits i d h = let w = both (is_open s.phase) (prepares_next s.rest) d in answer_proper f s b c s.rest refl w.0 w.1 i h
-next_proper f s (Choice t) fits i d h = let w = both (is_open s.phase) (selects_next s.rest) d in choice_proper f s t s.rest fits refl w.0 w.1 h
+next_proper f s (Answer b c) fits i d h = let w = and_parts (is_open s.phase) (prepares_next s.rest) d in answer_proper f s b c s.rest refl w.0 w.1 i h
+next_proper f s (Choice t) fits i d h = let w = and_parts (is_open s.phase) (selects_next s.rest) d in choice_proper f s t s.rest fits refl w.0 w.1 h
 next_proper f s (ToldOne a) fits i d h =
     record {
       calls = h.calls;
@@ -283,7 +195,7 @@ next_proper f s (ToldOne a) fits i d h =
       members = h.members;
       told = tells (not (is_open s.phase)) s.told (length s.joined) d;
       fresh =
-          λ o. absurd (closed_not s.phase (nat_lt s.told (length s.joined)) d o);
+          λ o. absurd (decided_not s.phase (nat_lt s.told (length s.joined)) d o);
       names = h.names;
       marks = h.marks;
       saved = h.saved;
@@ -292,18 +204,7 @@ next_proper f s (ToldOne a) fits i d h =
 
 pub opening_proper : (f : Flow) (tries : ℕ) (saved : List ℕ) → FlowFits f → tries ≤ 100 → IsSpelled saved → Proper f (opening f tries saved)
 opening_proper f tries saved fits few i =
-    advance_proper f (record {
-      phase = Preparing;
-      rest = map Prepare (entries_named f (codes "main"));
-      retry = false;
-      bound = false;
-      calls = 0;
-      joined =
-          [];
-      told = 0;
-      saved = saved;
-      tries = tries;
-    })
+    advance_proper f (unopened f tries saved)
     (record {
       calls = omega arith;
       members = omega arith;
@@ -320,10 +221,6 @@ opening_proper f tries saved fits few i =
 
 map_names : (f : Flow) (ps : List ℕ) → All (λ p. IsNamed (name_of f p)) ps → All IsNamed (map (name_of f) ps)
 map_names f ps h = All-map IsNamed (name_of f) ps h
-
-length_map : (f : Flow) (ps : List ℕ) → length (map (name_of f) ps) ≡ length ps
-length_map f [] = refl
-length_map f (p ∷ ps) = ap (λ n. suc n) (length_map f ps)
 
 -- the participant of a due preparation, by name
 abbrev pub doing : Flow → Due → Option (List ℕ)
@@ -410,7 +307,7 @@ telling f s o u = telling_if f s s.phase s.rest (nat_lt s.told (length s.joined)
 
 pub as_row_fits : (f : Flow) (s : TxState) → Proper f s → is_ended f s ≡ false → RowFits (as_row f s)
 as_row_fits f s h u =
-    let len = length_map f s.joined in
+    let len = length-map s.joined (name_of f) in
     let few = h.members in
     let calls = h.calls in
     record {
@@ -438,7 +335,7 @@ row_fits f s r h e = let w = row_some f s r e in subst RowFits w.1 (as_row_fits 
 after_proper : (f : Flow) (s : TxState) (xs : List Item) → FlowFits f → AreItems xs → is_lawful f s xs ≡ true → Proper f s → Proper f (after f s xs)
 after_proper f s [] fits is law h = h
 after_proper f s (x ∷ xs) fits is law h =
-    let w = both (is_due s x) (is_lawful f (next f s x) xs) law in
+    let w = and_parts (is_due s x) (is_lawful f (next f s x) xs) law in
     after_proper f (next f s x) xs fits is.1 w.1 (next_proper f s x fits is.0 w.0 h)
 
 pub rows_bounded : (f : Flow) (tries : ℕ) (saved : List ℕ) (items : List Item) (r : Row) → FlowFits f → tries ≤ 100 → IsSpelled saved → AreItems items →

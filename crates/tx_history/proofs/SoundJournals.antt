@@ -11,6 +11,7 @@ use Rattle.tx_machine.specs.declared.values.Item.{Item}
 use Rattle.tx_machine.specs.declared.values.Item.TheVariants.{Answer, Choice, Told as ToldOne}
 use Rattle.tx_machine.specs.Table.{TxState, is_open, is_due}
 use Rattle.tx_machine.specs.Due.{due_of}
+use Rattle.tx_machine.proofs.StepBounds.{reopened_open}
 use Rattle.tx_history.specs.declared.event.Event.{Event}
 use Rattle.tx_history.specs.declared.event.Event.TheVariants.{Offered, Taken, Answered, Chose, Told, Recovered, Released, Acked, Broke, Cleared, LetGo, Closed}
 use Rattle.tx_history.specs.declared.journal.Waiting.{Waiting}
@@ -30,7 +31,6 @@ use Rattle.std.proofs.lemmas.Slice.Eq.{bytes_eq-Decides}
 use Rattle.sw_context.specs.Spelling.{IsSpelled}
 use Rattle.flow_model.specs.declared.numbering.Part.{Part}
 use Rattle.flow_model.specs.Places.{parts_of, number_in}
-use Rattle.tx_machine.specs.declared.values.Phase.TheVariants.{Committing, Undoing}
 use Rattle.tx_history.specs.History.{shelf_of}
 use Rattle.tx_history.proofs.GivenItems.{Gave, gave_answered, gave_chose, gave_told, state_other}
 use Rattle.tx_history.proofs.Sessions.{state_given, state_more, state_released}
@@ -135,17 +135,13 @@ names_told : (r : Row) (d : Option (List ℕ)) → IsDoing d → All IsNamed r.j
 names_told r None i h = h
 names_told r (Some n) i h = All-push IsNamed r.joined n h i
 
-not_open : (b : Bool) → is_open (if b then Committing else Undoing) ≡ false
-not_open true = refl
-not_open false = refl
-
 pub reopened_fits : (f : Flow) (r : Row) (items : List Item) → RowFits r → All (λ n. number_of f n < length (parts_of f)) (to_tell r r.doing) →
     is_ended f (after_newest f (reopened f r) items) ≡ false
     → RowFits (as_row f (after_newest f (reopened f r) items))
 reopened_fits f r items h known u =
     let s : TxState = after_newest f (reopened f r) items in
     let w = old_stays f (reopened f r) items refl refl in
-    let closed : is_open s.phase ≡ false = ap is_open w.phase ∙ not_open (is_committing r.phase) in
+    let closed : is_open s.phase ≡ false = ap is_open w.phase ∙ reopened_open (is_committing r.phase) in
     let t = telling f s closed u in
     let names : map (name_of f) s.joined ≡ to_tell r r.doing = ap (map (name_of f)) w.joined ∙ names_back f (to_tell r r.doing) known in
     let few = members_told r r.doing refl h in

@@ -4,6 +4,7 @@ use Rattle.std.proofs.Common.{◌≡◌, ℕ, ◌+◌, ◌<◌, ◌≤◌, Bool,
 use Rattle.std.specs.Prelude.{if◌then◌else◌, ◌==◌, ◌&&◌, nat_le, nat_lt, not, is_some}
 use Rattle.std.specs.List.{All}
 use Rattle.std.proofs.lemmas.Bool.Decides.{nat_tests}
+use Rattle.std.proofs.lemmas.Bool.{and_parts}
 use Rattle.std.proofs.lemmas.List.Elements.{All-nil, All-cons, All-head}
 use Rattle.tx_history.specs.declared.journal.Row.{Row}
 use Rattle.tx_history.specs.declared.journal.Waiting.{Waiting}
@@ -14,16 +15,11 @@ use Rattle.tx_history.specs.Views.{AllUnder, IsOk, PlacesRise, RowFits, WaitingF
 use Rattle.tx_history.proofs.RisingKeys.{look_within}
 use Rattle.tx_history.proofs.AdvicePlaces.{all_imp, place_trans}
 
-both : (x y : Bool) → (x && y) ≡ true → (x ≡ true) × (y ≡ true)
-both true true h = (refl, refl)
-both true false h = absurd (cc)
-both false y h = absurd (cc)
-
 pub rises_rising : {A : Type 0} (n m : ℕ) (xs : List (ℕ × A)) → rises n m xs ≡ true → Rising n m xs
 rises_rising n m [] h = grind (arith, nat_tests)
 rises_rising n m (x ∷ xs) h =
-    let outer = both (nat_le n x.0 && nat_lt x.0 m) (rises (x.0 + 1) m xs) h in
-    let inner = both (nat_le n x.0) (nat_lt x.0 m) outer.0 in
+    let outer = and_parts (nat_le n x.0 && nat_lt x.0 m) (rises (x.0 + 1) m xs) h in
+    let inner = and_parts (nat_le n x.0) (nat_lt x.0 m) outer.0 in
     let from = inner.0 in
     let below = inner.1 in
     (grind (arith, nat_tests), grind (arith, nat_tests), rises_rising (x.0 + 1) m xs outer.1)
@@ -64,7 +60,7 @@ found_apart : (rows : List (ℕ × Row)) (shelf : List (ℕ × Waiting)) → are
     not (is_some (look id shelf)) ≡ true
 found_apart [] shelf h id r there = absurd (cc)
 found_apart (x ∷ rows) shelf h id r there =
-    let w = both (not (is_some (look x.0 shelf))) (are_apart rows shelf) h in
+    let w = and_parts (not (is_some (look x.0 shelf))) (are_apart rows shelf) h in
     by (x.0 == id) refl there w.0 (found_apart rows shelf w.1 id r)
   where
     by : (b : Bool) → x.0 == id ≡ b → (if b then Some x.1 else look id rows) ≡ Some r → not (is_some (look x.0 shelf)) ≡ true
@@ -125,10 +121,10 @@ above_nil (Some before) = All-nil (λ (y : Advice). place_lt before y.0 ≡ true
 pub places_tested : (before : Option (ℕ × ℕ)) (n : ℕ) (xs : List Advice) → places_rise before n xs ≡ true → IsRisen before n xs
 places_tested before n [] h = record { rise = tt; above = above_nil before }
 places_tested before n (x ∷ xs) h =
-    let outer = both (follows before x.0 && place_fits n x.0) (places_rise (Some x.0) n xs) h in
-    let inner = both (follows before x.0) (place_fits n x.0) outer.0 in
-    let fit = both (nat_le 1 x.0.0 && nat_lt x.0.0 n) (nat_le x.0.1 1000) inner.1 in
-    let id = both (nat_le 1 x.0.0) (nat_lt x.0.0 n) fit.0 in
+    let outer = and_parts (follows before x.0 && place_fits n x.0) (places_rise (Some x.0) n xs) h in
+    let inner = and_parts (follows before x.0) (place_fits n x.0) outer.0 in
+    let fit = and_parts (nat_le 1 x.0.0 && nat_lt x.0.0 n) (nat_le x.0.1 1000) inner.1 in
+    let id = and_parts (nat_le 1 x.0.0) (nat_lt x.0.0 n) fit.0 in
     let later = places_tested (Some x.0) n xs outer.1 in
     let a = id.0 in let b = id.1 in let d = fit.1 in
     record {
@@ -157,12 +153,12 @@ rising_least n m (x ∷ xs) h = let a : n ≤ x.0 = h.0 in let b : x.0 < m = h.1
 
 pub ok_tested : (v : JournalView) → frame_fits v ≡ true → AllUnder RowFits v.rows → AllUnder WaitingFits v.shelf → IsOk v
 ok_tested v h rows shelf =
-    let all = both (nat_le v.next_id 9223372036854775807 && nat_le (length v.rows) 16)
+    let all = and_parts (nat_le v.next_id 9223372036854775807 && nat_le (length v.rows) 16)
     (((rises 1 v.next_id v.rows && rises 1 v.next_id v.shelf) && are_apart v.rows v.shelf) && places_rise None v.next_id v.advices) h in
-    let bounds = both (nat_le v.next_id 9223372036854775807) (nat_le (length v.rows) 16) all.0 in
-    let lists = both ((rises 1 v.next_id v.rows && rises 1 v.next_id v.shelf) && are_apart v.rows v.shelf) (places_rise None v.next_id v.advices) all.1 in
-    let keys = both (rises 1 v.next_id v.rows && rises 1 v.next_id v.shelf) (are_apart v.rows v.shelf) lists.0 in
-    let rise = both (rises 1 v.next_id v.rows) (rises 1 v.next_id v.shelf) keys.0 in
+    let bounds = and_parts (nat_le v.next_id 9223372036854775807) (nat_le (length v.rows) 16) all.0 in
+    let lists = and_parts ((rises 1 v.next_id v.rows && rises 1 v.next_id v.shelf) && are_apart v.rows v.shelf) (places_rise None v.next_id v.advices) all.1 in
+    let keys = and_parts (rises 1 v.next_id v.rows && rises 1 v.next_id v.shelf) (are_apart v.rows v.shelf) lists.0 in
+    let rise = and_parts (rises 1 v.next_id v.rows) (rises 1 v.next_id v.shelf) keys.0 in
     let last = bounds.0 in
     let few = bounds.1 in
     record {

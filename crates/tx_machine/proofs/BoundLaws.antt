@@ -1,15 +1,14 @@
 -- What every lawful list keeps of a state, and the bounds of rows.
 -- for: laws::lists_extend, laws::lists_keep_bounds
 use Rattle.std.proofs.Common.{◌≡◌, ℕ, ◌+◌, ◌<◌, ◌≤◌, Bool, true, false, ◌⊎◌, inl, inr, List, [], ◌∷◌, ◌++◌, length, map, Option, Some, None, refl, ap, subst}
-use Rattle.std.proofs.Common.{arith, length-append, if◌then◌else◌}
+use Rattle.std.proofs.Common.{arith, if◌then◌else◌}
 use Rattle.std.specs.Prelude.{◌==◌, nat_lt, not, ◌&&◌, codes, reverse, slice_index}
-use Rattle.std.specs.List.{All, flat_map}
+use Rattle.std.specs.List.{All}
 use Rattle.std.proofs.lemmas.Bool.Decides.{nat_tests}
-use Rattle.std.proofs.lemmas.List.Elements.{All-nil, All-cons, All-head, All-tail, All-append, All-map, All-push}
+use Rattle.std.proofs.lemmas.Bool.{and_parts}
+use Rattle.std.proofs.lemmas.List.Elements.{All-nil, All-head, All-tail, All-append, All-map}
 use Rattle.std.proofs.lemmas.List.{reverse-append}
-use Rattle.sw_participant.specs.Answers.{stays_out, is_prepared}
 use Rattle.flow_model.specs.declared.flow.Flow.{Flow}
-use Rattle.flow_model.specs.declared.flow.PlacedEntry.{PlacedEntry}
 use Rattle.flow_model.specs.Places.{entries_named, parts_of, IsOfParticipant}
 use Rattle.flow_model.proofs.ParticipantBounds.{named_of_participants}
 use Rattle.tx_machine.specs.declared.values.Phase.{Phase}
@@ -18,12 +17,14 @@ use Rattle.tx_machine.specs.declared.values.Due.TheVariants as due
 use Rattle.tx_machine.specs.declared.values.Item.{Item}
 use Rattle.tx_machine.specs.declared.values.Item.TheVariants.{Answer, Choice, Told}
 use Rattle.tx_machine.specs.Table.{TxState, Upcoming, Prepare, Select, next, after, opening, reopening, chosen, is_open, is_due, prepares_next, selects_next}
-use Rattle.tx_machine.specs.Table.{passed, settled, is_aborting, cut_at, limited, decide_at, advanced, outcome, entered, after_byte, retry_after, joined_after}
+use Rattle.tx_machine.specs.Table.{settled, is_aborting, cut_at, limited, decide_at, advanced, outcome, entered, after_byte, retry_after, joined_after}
 use Rattle.tx_machine.specs.Table.{saved_after, answered_at, chosen_at}
 use Rattle.tx_machine.specs.Lists.{is_lawful}
 use Rattle.tx_machine.specs.Due.{due_at, end_by}
 use Rattle.tx_machine.specs.Row.{Row, row_with, row_at, row_of, IsDoing, IsInPhase, IsRow}
 use Rattle.tx_machine.specs.Bounds.{after_newest, IsOfFlow, IsProper}
+use Rattle.tx_machine.proofs.StepBounds.{unopened, settled_all, entered_all, joined_all, named_all, not_full, less_if, byte_open, joined_length, tells}
+use Rattle.tx_machine.proofs.StepBounds.{decided_not, reopened_open}
 
 -- ---- one item more
 
@@ -53,20 +54,6 @@ record IsOpen (f : Flow) (s : TxState) : Type 0 where
   joined : All (λ p. p < length (parts_of f)) s.joined
   rest : All (IsOfFlow f) s.rest
 
-passed_of_flow : (f : Flow) (ms : List Upcoming) → All (IsOfFlow f) ms → All (IsOfFlow f) (passed ms)
-passed_of_flow f [] h = h
-passed_of_flow f (Select s ∷ ms) h = h
-passed_of_flow f (Prepare s ∷ ms) h = by s.kind.abort_aware s.kind.selector (passed_of_flow f ms (All-tail (IsOfFlow f) (Prepare s) ms h))
-  where
-    by : (a b : Bool) → All (IsOfFlow f) (passed ms) → All (IsOfFlow f) (if a then Prepare s ∷ ms else if b then Select s ∷ ms else passed ms)
-    by true b ih = h
-    by false true ih = All-cons (IsOfFlow f) (Select s) ms (All-head (IsOfFlow f) (Prepare s) ms h) (All-tail (IsOfFlow f) (Prepare s) ms h)
-    by false false ih = ih
-
-settled_of_flow : (f : Flow) (b : Bool) (ms : List Upcoming) → All (IsOfFlow f) ms → All (IsOfFlow f) (settled b ms)
-settled_of_flow f true ms h = passed_of_flow f ms h
-settled_of_flow f false ms h = h
-
 record IsCut (f : Flow) (s : TxState) : Type 0 where
   opened : IsOpen f s
   more : (s.rest ≡ []) ⊎ (s.calls < 1000)
@@ -78,9 +65,6 @@ cut_open f s (m ∷ ms) true r h o = record {
   opened = record { calls = o.calls; members = o.members; told = o.told; phase = refl; joined = o.joined; rest = All-nil (IsOfFlow f) };
   more = inl refl;
 }
-
-not_full : (n : ℕ) → n ≤ 1000 → (n == 1000) ≡ false → n < 1000
-not_full n h e = grind (arith, nat_tests)
 
 told_within : (n told : ℕ) → told ≡ 0 → told ≤ n
 told_within n told h = omega arith
@@ -142,51 +126,12 @@ advance_proper f s o =
       phase = o.phase;
       joined = o.joined;
       rest =
-          settled_of_flow f (is_aborting s.phase) s.rest o.rest;
+          settled_all (IsOfFlow f) (λ s h. h) (is_aborting s.phase) s.rest o.rest;
     } in
     let c : IsCut f (limited t) = cut_open f t t.rest (t.calls == 1000) refl (not_full t.calls o.calls) ot in
     decide_proper f (limited t) (limited t).rest (limited t).joined refl refl c
 
 -- ---- one item
-
-both : (x y : Bool) → (x && y) ≡ true → (x ≡ true) × (y ≡ true)
-both true true h = (refl, refl)
-both true false h = absurd (cc)
-both false y h = absurd (cc)
-
-less_if : (ms : List Upcoming) (n : ℕ) (m : Upcoming) (tail : List Upcoming) → ms ≡ m ∷ tail → (ms ≡ []) ⊎ (n < 1000) → n < 1000
-less_if ms n m tail e h = elim h [ inl none ↦ absurd (cc) | inr less ↦ less ]
-
-byte_open : (p : Phase) (b : ℕ) → is_open p ≡ true → is_open (after_byte p b) ≡ true
-byte_open Preparing b h = by (is_prepared b)
-  where
-    by : (x : Bool) → is_open (if x then Preparing else Aborting) ≡ true
-    by true = refl
-    by false = refl
-byte_open Aborting b h = refl
-byte_open Committing b h = absurd (cc)
-byte_open Undoing b h = absurd (cc)
-
-joined_length : (b p : ℕ) (ps : List ℕ) → length (joined_after b p ps) ≤ length ps + 1
-joined_length b p ps = by (stays_out b)
-  where
-    by : (out : Bool) → length (if out then ps else ps ++ p ∷ []) ≤ length ps + 1
-    by true = omega arith
-    by false = omega (arith, length-append ps (p ∷ []))
-
-joined_within : (n b p : ℕ) (ps : List ℕ) → All (λ q. q < n) ps → p < n → All (λ q. q < n) (joined_after b p ps)
-joined_within n b p ps h l = by (stays_out b)
-  where
-    by : (out : Bool) → All (λ q. q < n) (if out then ps else ps ++ p ∷ [])
-    by true = h
-    by false = All-push (λ q. q < n) ps p h l
-
-entered_of_flow : (f : Flow) (s : PlacedEntry) (ms : List Upcoming) → IsOfParticipant f s → All (IsOfFlow f) ms → All (IsOfFlow f) (entered s ms)
-entered_of_flow f s ms n h = by s.kind.selector
-  where
-    by : (x : Bool) → All (IsOfFlow f) (if x then Select s ∷ ms else ms)
-    by true = All-cons (IsOfFlow f) (Select s) ms n h
-    by false = h
 
 answer_proper : (f : Flow) (s : TxState) (b : ℕ) (c : List ℕ) (ms : List Upcoming) → s.rest ≡ ms → is_open s.phase ≡ true → prepares_next ms ≡ true →
     IsProper f s → IsProper f (answered_at s b c ms)
@@ -213,13 +158,9 @@ answer_proper f s b c (Prepare x ∷ tail) r o e h =
       members = omega arith;
       told = u.untold;
       phase = byte_open s.phase b o;
-      joined = joined_within (length (parts_of f)) b x.participant s.joined h.joined one;
-      rest = entered_of_flow f x tail one (All-tail (IsOfFlow f) (Prepare x) tail all);
+      joined = joined_all (λ q. q < length (parts_of f)) b x.participant s.joined h.joined one;
+      rest = entered_all (IsOfFlow f) x tail one (All-tail (IsOfFlow f) (Prepare x) tail all);
     })
-
-chosen_of_flow : (f : Flow) (ns : List (List ℕ)) → All (IsOfParticipant f) (flat_map (entries_named f) ns)
-chosen_of_flow f [] = All-nil (IsOfParticipant f)
-chosen_of_flow f (n ∷ ns) = All-append (IsOfParticipant f) (entries_named f n) (flat_map (entries_named f) ns) (named_of_participants f n) (chosen_of_flow f ns)
 
 choice_proper : (f : Flow) (s : TxState) (t : List ℕ) (ms : List Upcoming) → s.rest ≡ ms → is_open s.phase ≡ true → selects_next ms ≡ true → IsProper f s →
     IsProper f (chosen_at f s t ms)
@@ -237,23 +178,14 @@ choice_proper f s t (Select x ∷ tail) r o e h =
       told = u.untold;
       phase = o;
       joined = h.joined;
-      rest = All-append (IsOfFlow f) (map Prepare (chosen f t)) tail (All-map (IsOfFlow f) Prepare (chosen f t) (chosen_of_flow f _))
+      rest = All-append (IsOfFlow f) (map Prepare (chosen f t)) tail
+          (All-map (IsOfFlow f) Prepare (chosen f t) (named_all (IsOfParticipant f) f (named_of_participants f) _))
           (All-tail (IsOfFlow f) (Select x) tail all);
     })
 
-tells : (x : Bool) (n k : ℕ) → (x && nat_lt n k) ≡ true → n + 1 ≤ k
-tells true n k h = grind (arith, nat_tests)
-tells false n k h = absurd (cc)
-
-decided_not : (p : Phase) (y : Bool) → (not (is_open p) && y) ≡ true → is_open p ≡ true → ⊥
-decided_not Preparing y h k = cc
-decided_not Aborting y h k = cc
-decided_not Committing y h k = cc
-decided_not Undoing y h k = cc
-
 pub next_proper : (f : Flow) (s : TxState) (x : Item) → is_due s x ≡ true → IsProper f s → IsProper f (next f s x)
-next_proper f s (Answer b c) d h = let w = both (is_open s.phase) (prepares_next s.rest) d in answer_proper f s b c s.rest refl w.0 w.1 h
-next_proper f s (Choice t) d h = let w = both (is_open s.phase) (selects_next s.rest) d in choice_proper f s t s.rest refl w.0 w.1 h
+next_proper f s (Answer b c) d h = let w = and_parts (is_open s.phase) (prepares_next s.rest) d in answer_proper f s b c s.rest refl w.0 w.1 h
+next_proper f s (Choice t) d h = let w = and_parts (is_open s.phase) (selects_next s.rest) d in choice_proper f s t s.rest refl w.0 w.1 h
 next_proper f s (Told a) d h = record {
   calls = h.calls;
   more = h.more;
@@ -269,18 +201,7 @@ next_proper f s (Told a) d h = record {
 
 pub opening_proper : (f : Flow) (tries : ℕ) (saved : List ℕ) → IsProper f (opening f tries saved)
 opening_proper f tries saved =
-    advance_proper f (record {
-      phase = Preparing;
-      rest = map Prepare (entries_named f (codes "main"));
-      retry = false;
-      bound = false;
-      calls = 0;
-      joined =
-          [];
-      told = 0;
-      saved = saved;
-      tries = tries;
-    })
+    advance_proper f (unopened f tries saved)
     (record {
       calls = omega arith;
       members = omega arith;
@@ -292,35 +213,21 @@ opening_proper f tries saved =
 
 pub reopening_proper : (f : Flow) (committing : Bool) (joined : List ℕ) (told tries : ℕ) (saved : List ℕ) → told ≤ length joined → length joined ≤ 1001 →
     All (λ p. p < length (parts_of f)) joined → IsProper f (reopening committing joined told tries saved)
-reopening_proper f true joined told tries saved within few all =
-    record {
-      calls = omega arith;
-      more = inl refl;
-      undecided = λ o. absurd cc;
-      decided = λ _. refl;
-      few = few;
-      told = within;
-      joined = all;
-      rest =
-          All-nil (IsOfFlow f);
-    }
-reopening_proper f false joined told tries saved within few all =
-    record {
-      calls = omega arith;
-      more = inl refl;
-      undecided = λ o. absurd cc;
-      decided = λ _. refl;
-      few = few;
-      told = within;
-      joined = all;
-      rest =
-          All-nil (IsOfFlow f);
-    }
+reopening_proper f committing joined told tries saved within few all = record {
+  calls = omega arith;
+  more = inl refl;
+  undecided = λ o. absurd (not_both (is_open (if committing then Committing else Undoing)) o (reopened_open committing));
+  decided = λ _. refl;
+  few = few;
+  told = within;
+  joined = all;
+  rest = All-nil (IsOfFlow f);
+}
 
 pub after_proper : (f : Flow) (s : TxState) (xs : List Item) → IsProper f s → is_lawful f s xs ≡ true → IsProper f (after f s xs)
 after_proper f s [] h law = h
 after_proper f s (x ∷ xs) h law =
-    let w = both (is_due s x) (is_lawful f (next f s x) xs) law in
+    let w = and_parts (is_due s x) (is_lawful f (next f s x) xs) law in
     after_proper f (next f s x) xs (next_proper f s x w.0 h) w.1
 
 -- ---- the row

@@ -1,5 +1,6 @@
 mod NameRuns
 -- what crates over transactions cite
+pub mod StepBounds
 pub mod BoundLaws
 pub mod ListLaws
 pub mod Dues

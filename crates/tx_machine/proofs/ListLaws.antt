@@ -3,18 +3,18 @@
 -- for: laws::whole_lists, laws::bounded_lists
 use Rattle.std.proofs.Common.{◌≡◌, ℕ, ◌+◌, ◌≤◌, Bool, true, false, List, [], ◌∷◌, ◌++◌, length, map, refl, sym, ap, ◌∙◌, arith, if◌then◌else◌, append_assoc}
 use Rattle.std.proofs.Common.{length-append}
-use Rattle.std.specs.Prelude.{◌==◌, ◌&&◌, codes}
+use Rattle.std.specs.Prelude.{◌==◌}
 use Rattle.std.proofs.lemmas.List.{append-nil}
+use Rattle.std.proofs.lemmas.Bool.{and_parts}
 use Rattle.sw_participant.specs.Answers.{stays_out}
 use Rattle.flow_model.specs.declared.flow.Flow.{Flow}
-use Rattle.flow_model.specs.Places.{entries_named}
-use Rattle.tx_machine.specs.declared.values.Phase.TheVariants.{Preparing}
 use Rattle.tx_machine.specs.declared.values.Item.{Item}
 use Rattle.tx_machine.specs.declared.values.Item.TheVariants.{Answer, Choice, Told}
 use Rattle.tx_machine.specs.Table.{TxState, Upcoming, Prepare, Select, next, after, is_due, is_open, prepares_next, selects_next, advanced, limited, cut_at}
 use Rattle.tx_machine.specs.Table.{decide_at, settled, is_aborting, after_byte, retry_after, joined_after, saved_after, entered, chosen, answered_at, chosen_at}
 use Rattle.tx_machine.specs.Table.{opening}
 use Rattle.tx_machine.specs.Lists.{is_lawful, saved_in, joined_in, calls_in, preparing, IsWhole, IsBounded}
+use Rattle.tx_machine.proofs.StepBounds.{unopened}
 use Rattle.tx_machine.proofs.BoundLaws.{opening_proper, after_proper}
 
 -- what going on leaves as it was
@@ -55,11 +55,6 @@ joins : (out : Bool) (ps : List ℕ) (p : ℕ) → (if out then ps else ps ++ p 
 joins true ps p = sym (append-nil ps)
 joins false ps p = refl
 
-both : (x y : Bool) → (x && y) ≡ true → (x ≡ true) × (y ≡ true)
-both true true h = (refl, refl)
-both true false h = absurd (cc)
-both false y h = absurd (cc)
-
 at_answer : (s : TxState) (b : ℕ) (c : List ℕ) (ms : List Upcoming) → prepares_next ms ≡ true → IsAnswered s (answered_at s b c ms) b c ms
 at_answer s b c [] h = absurd (cc)
 at_answer s b c (Select e ∷ tail) h = absurd (cc)
@@ -92,8 +87,8 @@ at_choice f s t (Select e ∷ tail) h =
 pub whole : (f : Flow) (s : TxState) (xs : List Item) → is_lawful f s xs ≡ true → IsWhole f s xs
 whole f s [] h = record { saved = refl; told = omega arith; joined = sym (append-nil s.joined); calls = omega arith; tries = refl }
 whole f s (Answer b c ∷ xs) h =
-    let l = both (is_due s (Answer b c)) (is_lawful f (next f s (Answer b c)) xs) h in
-    let w = at_answer s b c s.rest (both (is_open s.phase) (prepares_next s.rest) l.0).1 in
+    let l = and_parts (is_due s (Answer b c)) (is_lawful f (next f s (Answer b c)) xs) h in
+    let w = at_answer s b c s.rest (and_parts (is_open s.phase) (prepares_next s.rest) l.0).1 in
     let ih = whole f (next f s (Answer b c)) xs l.1 in
     record {
       saved = ih.saved ∙ ap (λ z. saved_in z xs) w.saved;
@@ -104,8 +99,8 @@ whole f s (Answer b c ∷ xs) h =
       tries = ih.tries ∙ w.tries;
     }
 whole f s (Choice t ∷ xs) h =
-    let l = both (is_due s (Choice t)) (is_lawful f (next f s (Choice t)) xs) h in
-    let w = at_choice f s t s.rest (both (is_open s.phase) (selects_next s.rest) l.0).1 in
+    let l = and_parts (is_due s (Choice t)) (is_lawful f (next f s (Choice t)) xs) h in
+    let w = at_choice f s t s.rest (and_parts (is_open s.phase) (selects_next s.rest) l.0).1 in
     let ih = whole f (next f s (Choice t)) xs l.1 in
     record {
       saved = ih.saved ∙ ap (λ z. saved_in z xs) w.saved;
@@ -115,7 +110,7 @@ whole f s (Choice t ∷ xs) h =
       tries = ih.tries ∙ w.tries;
     }
 whole f s (Told a ∷ xs) h =
-    let l = both (is_due s (Told a)) (is_lawful f (next f s (Told a)) xs) h in
+    let l = and_parts (is_due s (Told a)) (is_lawful f (next f s (Told a)) xs) h in
     let ih = whole f (next f s (Told a)) xs l.1 in
     record { saved = ih.saved; told = omega (arith, ih.told); joined = ih.joined; calls = ih.calls; tries = ih.tries }
 
@@ -143,18 +138,7 @@ few_joined f s (Told a ∷ xs) = few_joined f (next f s (Told a)) xs
 
 pub bounded : (f : Flow) (tries : ℕ) (saved : List ℕ) (xs : List Item) → is_lawful f (opening f tries saved) xs ≡ true → IsBounded f (opening f tries saved) xs
 bounded f tries saved xs l =
-    let first : TxState = record {
-      phase = Preparing;
-      rest = map Prepare (entries_named f (codes "main"));
-      retry = false;
-      bound = false;
-      calls = 0;
-      joined =
-          [];
-      told = 0;
-      saved = saved;
-      tries = tries;
-    } in
+    let first : TxState = unopened f tries saved in
     let s : TxState = opening f tries saved in
     let start = advance_same first in
     let w = whole f s xs l in
