@@ -51,8 +51,8 @@ stand_in = 500
 # A silent host is not asked for a second, and then gets echo tests until it answers. And the messages that a host answers.
 TESTED, ANSWERED = "retry_ms = 1000\necho_s = 30", (b"0100", b"0120", b"0121", b"0420", b"0421", b"0800")
 PIPES = 'to = "beta.to"\nfrom = "beta.from"\ntimeout_ms = 1500'
-# A card of beta.
-FIVE = b"5000000000000009"
+# A card of beta, and a network test.
+FIVE, NETWORK_TEST = b"5000000000000009", messages.encode(b"0800", {11: b"000000", 70: b"301"})
 
 
 class Wrong(Exception):
@@ -210,13 +210,15 @@ class Run:
 
 @contextlib.contextmanager
 def switch(program, room, *words, alpha="", beta="simulated = true", more=""):
-    """A run and the host of `alpha`, which listens."""
+    """A run that has begun, and the host of `alpha`, which listens."""
     with open(os.path.join(room, "config.toml"), "w", encoding="utf-8") as file:
         file.write(CONFIG.format(alpha=alpha, beta=beta) + more)
     wire = Wire(room, "alpha")
     wire.listen()
     run = Run(program, room, *words)
     try:
+        # (the switch answers a network test by itself)
+        wanted("the answer to a network test", run.ask(NETWORK_TEST)[0], b"0810")
         yield run, wire
     finally:
         run.process.kill()
@@ -617,6 +619,8 @@ def asked_for(run, stans, seconds):
 
 
 def at_once(took):
+    if not took:
+        raise Wrong("the switch stood in for no request at once")
     if max(took) > AT_ONCE:
         raise Wrong(f"the switch stood in after {max(took):.2f} seconds, wanted at once")
 
@@ -748,16 +752,31 @@ def silent_in_a_batch(program, room):
             wanted("at the other host", wire.read(0), b"")
 
 
+@contextlib.contextmanager
+def worked(room, name):
+    """`examples/hosts/host.py` at its pipes, once it has answered a network test. (Each is opened for both ways: no opening waits.)"""
+    ends = [os.open(os.path.join(room, f"{name}.{it}"), os.O_RDWR) for it in ("to", "from")]
+    host = subprocess.Popen([sys.executable, HOST], stdin=ends[0], stdout=ends[1])
+    try:
+        os.write(ends[0], messages.framed(NETWORK_TEST))
+        if not select.select(ends[1:], [], [], SECONDS)[0]:
+            raise Wrong("the host did not answer a network test")
+        wanted("the host's answer to a network test", os.read(ends[1], 65_536)[4:8], b"0810")
+        yield
+    finally:
+        host.kill()
+        host.wait()
+        for end in ends:
+            os.close(end)
+
+
 def worked_host(program, room):
     """`examples/hosts/host.py` at the pipes gives the responses of the simulated issuers."""
     with switch(program, room, beta=PIPES) as (run, wire):
         wire.hang_up()
         for path in "beta.to", "beta.from":
             os.mkfifo(os.path.join(room, path))
-        hosts = [f'python3 "{HOST}" < {it}.to > {it}.from' for it in ("alpha", "beta")]
-        started = [subprocess.Popen(["sh", "-c", it], cwd=room) for it in hosts]
-        time.sleep(1)
-        try:
+        with worked(room, "alpha"), worked(room, "beta"):
             with open(os.path.join(EXAMPLES, "requests.frames"), "rb") as file:
                 frames = file.read()
             run.process.stdin.write(frames)
@@ -767,10 +786,6 @@ def worked_host(program, room):
                 mti, fields, _ = run.receive()
                 wanted(f"response {number}", messages.framed(messages.encode(mti, fields)), frame)
             run.end()
-        finally:
-            for it in started:
-                it.kill()
-                it.wait()
 
 
 def behind_socat(program, room):
