@@ -462,6 +462,26 @@ def silent_and_tested(program, room):
             run.end()
 
 
+def silent_and_back(program, room):
+    """A silent host dies, and is back: without a request its pipes are opened, and it gets an echo test. Then it is asked again."""
+    with switch(program, room, alpha=TESTED) as (run, wire):
+        run.send(small(1))
+        wire.put(reply(wire.get()))
+        wanted("field 38 before", run.receive()[1].get(38), b"HOST42")
+        run.send(small(2))
+        wire.get()
+        wanted("field 38 of a silent host", run.receive()[1].get(38), b"SI0002")
+        wire.hang_up()
+        # (an echo test that nobody reads closes the other pipe too)
+        time.sleep(1.5)
+        wire.listen()
+        message = wire.get()
+        echo(message)
+        wire.put(reply(message))
+        with played(wire) as player:
+            back(run, player, itertools.count(3), SECONDS)
+
+
 def tested_and_never_answered(program, room):
     """A host that answers echo tests alone is asked again, after `retry_ms` each time: one request waits, and the others do not."""
     with switch(program, room, alpha=TESTED) as (run, wire), played(wire) as player:
@@ -614,6 +634,7 @@ CASES = [
     nothing_opened,
     retried,
     silent_and_tested,
+    silent_and_back,
     tested_and_never_answered,
     late_ends_silence,
     silent_while_idle,
