@@ -3,9 +3,10 @@
 
     tests/hosts.py [WORD] [--program PATH]
 
-Each case is a row of `docs/HOSTS.md`: what the host does, and what the switch then answers, stores and sends. The hosts are played here,
-frame by frame; one case runs `examples/hosts/host.py`, and one `examples/hosts/try.sh`, in which socat carries the frames over connections
-on the loopback, where it is installed. WORD picks the cases whose name has these letters. The last line counts; the status is 1 where something is wrong.
+Each case is a row of `docs/HOSTS.md`: what the host does, and what the switch then answers, stores and sends. The hosts are played frame
+by frame (`harness/hosts.py`). One case runs `examples/hosts/host.py`, and one `examples/hosts/try.sh`, in which socat carries the frames
+over connections on the loopback, where it is installed. WORD picks the cases whose name has these letters. The last line counts; the status
+is 1 where something is wrong.
 """
 
 import argparse
