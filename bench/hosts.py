@@ -11,8 +11,8 @@ comes before those that are timed. The requests come over a pipe, so many in fli
 cards, at random places. With threads the responses of a batch leave when all of it has ended, so that a request of alpha waits for those
 of beta in its batch.
 
-With --first the first request of beta is one of those that are timed, with --dead too. Two more rows say what it costs: how long the
-longest of alpha's requests waits, and how many of them wait for over half the timeout.
+With --first the first request of beta is one of those that are timed, with --dead too. Two more rows say what it costs: how long alpha's
+requests wait at most, and how many of them wait for over half the timeout. That is to be far above what they wait without beta.
 
 It prints one table: the requests a second, and of alpha's requests the median time until the response, and what 99 of 100 stay below.
 So many sessions as threads stand beside the same run without threads. Each figure is the middle one of the rounds, in which
@@ -131,7 +131,7 @@ def rows(given, share):
         yield f"{share} of 100 to beta: alpha's longest, ms", cells(longest, "{:,.2f}")
         least = given.timeout / 2e3
         held = (statistics.median(sum(it > least for it in took) for _, took in its) for its in found.values())
-        yield f"{share} of 100 to beta: alpha's over half the timeout", [f"{count:,.0f}" for count in held]
+        yield f"{share} of 100 to beta: alpha's that wait over half the timeout", [f"{count:,.0f}" for count in held]
 
 
 def main():

@@ -3,9 +3,10 @@
 
     tests/hosts.py [WORD] [--program PATH]
 
-Each case is a row of `docs/HOSTS.md`: what the host does, and what the switch then answers, stores and sends. The hosts are played here,
-frame by frame; one case runs `examples/hosts/host.py`, and one `examples/hosts/try.sh`, in which socat carries the frames over connections
-on the loopback, where it is installed. Two cases run commands of the pages as they stand there. WORD picks the cases whose name has these letters. The last line counts; the status is 1 where something is wrong.
+Each case is a row of `docs/HOSTS.md`: what the host does, and what the switch then answers, stores and sends. The hosts are played frame
+by frame (`harness/hosts.py`). One case runs `examples/hosts/host.py`, and one `examples/hosts/try.sh`, in which socat carries the frames
+over connections on the loopback, where it is installed. Two cases run commands of the pages as they stand there. WORD picks the cases whose
+name has these letters. The last line counts; the status is 1 where something is wrong.
 """
 
 import argparse
@@ -13,28 +14,24 @@ import contextlib
 import datetime
 import itertools
 import os
-import select
 import shutil
 import signal
 import socket
 import subprocess
 import sys
 import tempfile
-import threading
 import time
 
 sys.dont_write_bytecode = True
 
 import kills  # noqa: E402
 from harness import pages  # noqa: E402
+from harness.hosts import EXAMPLES, NETWORK_TEST, SECONDS, Run, Wire, Wrong, played, reply, request, small, wanted, worked  # noqa: E402
 from model import messages  # noqa: E402
 
-TOP = os.path.dirname(os.path.dirname(os.path.abspath(__file__)))
-EXAMPLES = os.path.join(TOP, "examples")
-HOST = os.path.join(EXAMPLES, "hosts", "host.py")
-# How long a query waits, in seconds, how long anything here may take, how long a case, and what is at once on a busy machine. And how
-# long a query may wait on a busy machine: shorter than one without a `timeout_ms`.
-TIMEOUT, SECONDS, CASE, AT_ONCE, MOST = 1.5, 20, 120, 1.1, 8
+# How long a query waits, in seconds, how long a case may take, and what is at once on a busy machine. And how long a query may wait on
+# a busy machine: shorter than one without a `timeout_ms`.
+TIMEOUT, CASE, AT_ONCE, MOST = 1.5, 120, 1.1, 8
 CONFIG = """
 [[host]]
 name = "alpha"
@@ -57,168 +54,17 @@ PIPES = 'to = "beta.to"\nfrom = "beta.from"\ntimeout_ms = 1500'
 FIVE = b"5000000000000009"
 
 
-class Wrong(Exception):
-    """What is wrong in a case."""
-
-
-def wanted(what, got, want):
-    if got != want:
-        raise Wrong(f"{what}: {got!r}, wanted {want!r}")
-
-
-class Wire:
-    """The host's ends of its two named pipes."""
-
-    def __init__(self, room, name):
-        self.to, self.back, self.bytes = os.path.join(room, f"{name}.to"), os.path.join(room, f"{name}.from"), b""
-        self.reads = self.writes = None
-        for path in self.to, self.back:
-            os.mkfifo(path)
-
-    def listen(self):
-        """The host is there, and reads."""
-        self.reads, self.bytes = os.open(self.to, os.O_RDONLY | os.O_NONBLOCK), b""
-
-    def read(self, seconds):
-        ready, _, _ = select.select([self.reads], [], [], seconds)
-        # (an end that is closed is ready, and the switch may open it again before the read)
-        with contextlib.suppress(BlockingIOError):
-            return os.read(self.reads, 65_536) if ready else b""
-        return b""
-
-    def come(self, seconds):
-        """The next message from the switch, if one comes within so long."""
-        until = time.monotonic() + seconds
-        while time.monotonic() < until:
-            if len(self.bytes) >= 4 and len(self.bytes) >= 4 + int(self.bytes[:4]):
-                size = 4 + int(self.bytes[:4])
-                frame, self.bytes = self.bytes[:size], self.bytes[size:]
-                return frame[4:]
-            self.bytes += self.read(0.05)
-            time.sleep(0.001)
-        return None
-
-    def get(self):
-        """The next message from the switch."""
-        message = self.come(SECONDS)
-        if message is None:
-            raise Wrong("no message came to the host")
-        return message
-
-    def quiet(self, seconds):
-        """Nothing comes to the host for so long."""
-        time.sleep(seconds)
-        wanted("at the host", self.read(0), b"")
-
-    def hung_up(self):
-        """The switch closes its end, and nothing comes before."""
-        until = time.monotonic() + SECONDS
-        while time.monotonic() < until:
-            if select.select([self.reads], [], [], 0.05)[0]:
-                wanted("before the switch closed", os.read(self.reads, 65_536), b"")
-                return
-        raise Wrong("the switch did not close its end")
-
-    def put(self, data):
-        """Writes to the switch, which may still be opening its end."""
-        until = time.monotonic() + SECONDS
-        while self.writes is None:
-            try:
-                self.writes = os.open(self.back, os.O_WRONLY | os.O_NONBLOCK)
-            except OSError:
-                if time.monotonic() > until:
-                    raise Wrong("the switch does not read from its host") from None
-                time.sleep(0.005)
-        os.write(self.writes, data)
-
-    def cut_off(self):
-        """The switch closes the end that it reads; then the host closes its own."""
-        poll = select.poll()
-        poll.register(self.writes, 0)
-        if not poll.poll(1e3 * SECONDS):
-            raise Wrong("the switch did not close the end that it reads")
-        os.close(self.writes)
-        self.writes = None
-
-    def hang_up(self):
-        for end in self.reads, self.writes:
-            if end is not None:
-                os.close(end)
-        self.reads = self.writes = None
-
-
-def request(stan, amount=2500, card=b"4000000000000002"):
-    fields = {2: card, 3: b"000000", 4: b"%012d" % amount, 7: b"0102030405", 11: b"%06d" % stan, 41: b"TERM0001", 49: b"978"}
-    return messages.encode(b"0100", fields)
-
-
-def small(stan):
-    """A request that the switch approves where it stands in, of a card of its own, so that many of them stay below its limit."""
-    return request(stan, 400, b"4%015d" % stan)
-
-
-def reply(message, code=b"00", auth=b"HOST42"):
-    """The host's answer to a message."""
-    mti, fields = messages.decode(message)
-    told = {it: fields[it] for it in (2, 3, 4, 7, 11, 41, 49) if it in fields}
-    if code == b"00" and mti[:2] == b"01" and mti[2:3] == b"0":
-        told |= {38: auth}
-    return messages.framed(messages.encode(mti[:2] + bytes([mti[2] + 1]) + b"0", told | {39: code}))
-
-
-class Run:
-    """A run of the switch in a folder, with its input open."""
-
-    def __init__(self, program, room, *words):
-        command = [program, "run", "--flow", os.path.join(EXAMPLES, "switch.toml"), "--config", "config.toml", *words]
-        streams = {"stdin": subprocess.PIPE, "stdout": subprocess.PIPE, "stderr": subprocess.PIPE, "bufsize": 0}
-        self.process, self.bytes, self.room = subprocess.Popen(command, cwd=room, **streams), b"", room
-
-    def send(self, message):
-        self.process.stdin.write(messages.framed(message))
-
-    def receive(self):
-        """The next response, as its type and fields, and how many seconds it took."""
-        began = time.monotonic()
-        while time.monotonic() - began < SECONDS:
-            if len(self.bytes) >= 4 and len(self.bytes) >= 4 + int(self.bytes[:4]):
-                size = 4 + int(self.bytes[:4])
-                frame, self.bytes = self.bytes[:size], self.bytes[size:]
-                return *messages.decode(frame[4:]), time.monotonic() - began
-            ready, _, _ = select.select([self.process.stdout], [], [], 0.05)
-            if ready:
-                self.bytes += os.read(self.process.stdout.fileno(), 65_536)
-        raise Wrong("no response came")
-
-    def ask(self, message):
-        self.send(message)
-        return self.receive()
-
-    def end(self, status=0):
-        """The input ends; all that is left comes, and what was written to standard error."""
-        self.process.stdin.close()
-        try:
-            got = self.process.wait(SECONDS)
-        except subprocess.TimeoutExpired:
-            raise Wrong("the run had not ended") from None
-        err = self.process.stderr.read()
-        wanted(f"status ({err.decode(errors='replace')})", got, status)
-        return err
-
-    def kill(self):
-        self.process.send_signal(signal.SIGKILL)
-        self.process.wait()
-
-
 @contextlib.contextmanager
 def switch(program, room, *words, alpha="", beta="simulated = true", more=""):
-    """A run and the host of `alpha`, which listens."""
+    """A run that has begun, and the host of `alpha`, which listens."""
     with open(os.path.join(room, "config.toml"), "w", encoding="utf-8") as file:
         file.write(CONFIG.format(alpha=alpha, beta=beta) + more)
     wire = Wire(room, "alpha")
     wire.listen()
     run = Run(program, room, *words)
     try:
+        # (the switch answers a network test by itself)
+        wanted("the answer to a network test", run.ask(NETWORK_TEST)[0], b"0810")
         yield run, wire
     finally:
         run.process.kill()
@@ -471,8 +317,8 @@ def echo(message):
     mti, fields = messages.decode(message)
     wanted("an echo test's type, fields and code", (mti, sorted(fields), fields.get(70)), (b"0800", [7, 11, 70], b"301"))
     now, said = datetime.datetime.now(datetime.timezone.utc), fields[7].decode()
-    its = datetime.datetime.strptime(f"{now.year}{said}+0000", "%Y%m%d%H%M%S%z")
-    if abs(now - its).total_seconds() > SECONDS:
+    stamps = [(now - datetime.timedelta(seconds=it)).strftime("%m%d%H%M%S") for it in range(SECONDS)]
+    if said not in stamps:
         raise Wrong(f"field 7 of an echo test: {said}, and it is {now}")
     return fields[11]
 
@@ -572,41 +418,6 @@ def retried(program, room):
         wanted("field 38 of a host that is asked again", run.receive()[1].get(38), b"BACK03")
 
 
-class Player(threading.Thread):
-    """Plays a host beside the requests: notes the types of the messages that come, and answers those of some types."""
-
-    def __init__(self, wire):
-        super().__init__(daemon=True)
-        self.wire, self.answered, self.came, self.over, self.fault = wire, (), [], False, None
-
-    def run(self):
-        try:
-            while not self.over:
-                message = self.wire.come(0.05)
-                if message is not None:
-                    self.came.append(message[:4])
-                    if message[:4] in self.answered:
-                        # (an answer is lost where the switch has closed its end)
-                        with contextlib.suppress(BrokenPipeError):
-                            self.wire.put(reply(message))
-        except Exception as fault:  # pylint: disable=broad-except
-            self.fault = fault
-
-
-@contextlib.contextmanager
-def played(wire):
-    """A host that answers nothing yet. What goes wrong at the host is reported after what goes wrong in the case."""
-    player = Player(wire)
-    player.start()
-    try:
-        yield player
-    finally:
-        player.over = True
-        player.join()
-    if player.fault is not None:
-        raise Wrong(f"at the host: {player.fault!r}")
-
-
 def asked_for(run, stans, seconds):
     """Sends a request each quarter of a second, for so long; how long each response took."""
     until, took = time.monotonic() + seconds, []
@@ -619,6 +430,8 @@ def asked_for(run, stans, seconds):
 
 
 def at_once(took):
+    if not took:
+        raise Wrong("the switch stood in for no request at once")
     if max(took) > AT_ONCE:
         raise Wrong(f"the switch stood in after {max(took):.2f} seconds, wanted at once")
 
@@ -650,6 +463,26 @@ def silent_and_tested(program, room):
                 raise Wrong(f"{tests} echo tests came in five seconds, wanted about one a second")
             back(run, player, stans, 1 + 1 + AT_ONCE)
             run.end()
+
+
+def silent_and_back(program, room):
+    """A silent host dies, and is back: without a request its pipes are opened, and it gets an echo test. Then it is asked again."""
+    with switch(program, room, alpha=TESTED) as (run, wire):
+        run.send(small(1))
+        wire.put(reply(wire.get()))
+        wanted("field 38 before", run.receive()[1].get(38), b"HOST42")
+        run.send(small(2))
+        wire.get()
+        wanted("field 38 of a silent host", run.receive()[1].get(38), b"SI0002")
+        wire.hang_up()
+        # (an echo test that nobody reads closes the other pipe too)
+        time.sleep(1.5)
+        wire.listen()
+        message = wire.get()
+        echo(message)
+        wire.put(reply(message))
+        with played(wire) as player:
+            back(run, player, itertools.count(3), SECONDS)
 
 
 def tested_and_never_answered(program, room):
@@ -756,10 +589,7 @@ def worked_host(program, room):
         wire.hang_up()
         for path in "beta.to", "beta.from":
             os.mkfifo(os.path.join(room, path))
-        hosts = [f'python3 "{HOST}" < {it}.to > {it}.from' for it in ("alpha", "beta")]
-        started = [subprocess.Popen(["sh", "-c", it], cwd=room) for it in hosts]
-        time.sleep(1)
-        try:
+        with worked(room, "alpha"), worked(room, "beta"):
             with open(os.path.join(EXAMPLES, "requests.frames"), "rb") as file:
                 frames = file.read()
             run.process.stdin.write(frames)
@@ -769,10 +599,6 @@ def worked_host(program, room):
                 mti, fields, _ = run.receive()
                 wanted(f"response {number}", messages.framed(messages.encode(mti, fields)), frame)
             run.end()
-        finally:
-            for it in started:
-                it.kill()
-                it.wait()
 
 
 def behind_socat(program, room):
@@ -794,14 +620,14 @@ def behind_socat(program, room):
 
 def block_of(page, begin):
     """The block of a page whose first line begins so, as lines."""
-    with open(os.path.join(TOP, "docs", page), encoding="utf-8") as file:
+    with open(os.path.join(os.path.dirname(EXAMPLES), "docs", page), encoding="utf-8") as file:
         blocks = [block for _, block in pages.blocks_of(file.read())]
     return next(block for block in blocks if block[0].startswith(begin))
 
 
 def furnished(program, room):
     """The examples, and the program on PATH: what a folder has in which the commands of pages are run."""
-    for folder in EXAMPLES, os.path.dirname(HOST):
+    for folder in EXAMPLES, os.path.join(EXAMPLES, "hosts"):
         for entry in filter(os.DirEntry.is_file, os.scandir(folder)):
             shutil.copy(entry.path, room)
     os.symlink(program, os.path.join(room, "cardswitch"))
@@ -880,6 +706,7 @@ CASES = [
     nothing_opened,
     retried,
     silent_and_tested,
+    silent_and_back,
     tested_and_never_answered,
     late_ends_silence,
     silent_while_idle,

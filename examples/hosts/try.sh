@@ -25,9 +25,15 @@ start() {
     hosts="$hosts $!"
 }
 
-start alpha 18583
-start beta 18584
-# A request that comes before its host is there is stood in for.
-sleep 1
+# Ports of its own, so that it may run twice at once.
+port=$((10000 + $$ % 10000 * 2))
+start alpha $port
+start beta $((port + 1))
+# A request that comes before its host is there is stood in for. So each host answers an echo test first. (To open an end of a named
+# pipe waits for the other one.)
+exec 6> alpha.to 7< alpha.from 8> beta.to 9< beta.from
+echo_test=00550800822000000000000004000000000000000102030405000001301
+printf %s $echo_test >&6 && head -c 61 <&7 > /dev/null || exit
+printf %s $echo_test >&8 && head -c 61 <&9 > /dev/null || exit
 "$program" run --flow "$here/../switch.toml" --config "$here/config.toml" < "$here/../requests.frames" > responses.frames || exit
 cmp responses.frames "$here/../responses.frames" && echo "the same responses"
