@@ -1,5 +1,8 @@
 //! A host and its threads.
 
+ghost use Rattle.std.specs.Prelude.{◌≡◌, IfOk};
+ghost use Rattle.std.specs.Arc.{arc_value};
+
 use crate::counts::Counts;
 use crate::host_way::HostWay;
 use crate::link::HostLink;
@@ -39,7 +42,9 @@ impl Host {
         R: Threads + Wait + Clock + Clone + Drop + Send + 'static,
         W: OpenWriter + Send + 'static,
         I: OpenReader + Send + 'static,
-    >(rt: &R, alloc: Global, to: W, from: I, times: HostTimes) -> Result<Host, AllocError> {
+    >(rt: &R, alloc: Global, to: W, from: I, times: HostTimes) -> Result<Host, AllocError>
+        ensures { IfOk result (λ host. (arc_value host.shared).times ≡ times) }
+    {
         let shared = Arc::new(alloc, Shared::new(alloc, times)?)?;
         let (rt_to, shared_to) = (rt.clone()?, Arc::try_clone(&shared)?);
         thread::spawn(rt, move || {
@@ -64,7 +69,9 @@ impl Host {
 
     /// A link to the host. All links of a host share its directions and its inbox, so only one of them
     /// may wait for an answer at a time: what the others wait for is dropped as late.
-    pub fn link<C: Clock + Drop>(&self, clock: C) -> Result<HostLink<C>, AllocError> {
+    pub fn link<C: Clock + Drop>(&self, clock: C) -> Result<HostLink<C>, AllocError>
+        ensures { IfOk result (λ link. arc_value link.way.shared ≡ arc_value self.now.shared) }
+    {
         let way = HostWay::new(clock, Arc::try_clone(&self.shared)?);
         Ok(HostLink::new(self.alloc, way))
     }

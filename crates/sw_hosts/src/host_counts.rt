@@ -1,5 +1,7 @@
 //! The counts of a host, apart from its links.
 
+ghost use Rattle.std.specs.Prelude.{◌≡◌};
+
 use crate::counts::Counts;
 use crate::shared::Shared;
 use std::sync::Arc;
@@ -17,7 +19,9 @@ impl Drop for HostCounts {
 }
 
 impl HostCounts {
-    pub(crate) fn new(shared: Arc<Shared>) -> HostCounts {
+    pub(crate) fn new(shared: Arc<Shared>) -> HostCounts
+        ensures { result.shared ≡ shared }
+    {
         HostCounts { shared }
     }
 

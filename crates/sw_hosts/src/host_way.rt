@@ -1,8 +1,10 @@
 //! The way over the threads of a host.
 
-ghost use Rattle.std.specs.Prelude.{◌≡◌, ⊤, IfSome, Some};
+ghost use Rattle.std.specs.Prelude.{◌≡◌, ⊤, ℕ, IfOk, IfSome, Some};
+ghost use Rattle.std.specs.Arc.{arc_value};
 ghost use Rattle.sw_hosts.specs.Keyed.{key_in};
 ghost use Rattle.sw_hosts.specs.Looks.{answer_in};
+ghost use Rattle.sw_hosts.specs.Moments.{later};
 
 use crate::direction::DirectionState;
 use crate::frame::Frame;
@@ -56,12 +58,16 @@ fn locked<'a, T, C: Clock>(clock: &C, mutex: &'a Mutex<T>) -> Option<MutexGuard<
 }
 
 impl<C: Clock + Drop> HostWay<C> {
-    pub fn new(clock: C, shared: Arc<Shared>) -> HostWay<C> {
+    pub fn new(clock: C, shared: Arc<Shared>) -> HostWay<C>
+        ensures { result.shared ≡ shared }
+    {
         HostWay { clock, shared }
     }
 
     /// The counts of the host.
-    pub fn host_counts(&self) -> Result<HostCounts, AllocError> {
+    pub fn host_counts(&self) -> Result<HostCounts, AllocError>
+        ensures { IfOk result (λ c. arc_value c.shared ≡ arc_value self.now.shared) }
+    {
         Ok(HostCounts::new(Arc::try_clone(&self.shared)?))
     }
 
@@ -124,7 +130,8 @@ impl<C: Clock + Drop> HostWay<C> {
 }
 
 impl<C: Clock + Drop> Way for HostWay<C> {
-    ghost dates = { λ way deadline. ⊤ };
+    ghost dates = { λ way deadline.
+        (now : ℕ) × (deadline ≡ later now (arc_value way.shared).times.timeout) };
 
     ghost takes = { λ way frame taken. ⊤ };
 

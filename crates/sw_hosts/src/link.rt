@@ -1,6 +1,7 @@
 //! A link to a host.
 
-ghost use Rattle.std.specs.Prelude.{◌≡◌, [], IfSome, OnOk, OnErr};
+ghost use Rattle.std.specs.Prelude.{◌≡◌, [], IfOk, IfSome, OnOk, OnErr};
+ghost use Rattle.std.specs.Arc.{arc_value};
 ghost use Rattle.sw_hosts.specs.Ways.{AnswersTo, KeyedFor};
 
 use crate::host_counts::HostCounts;
@@ -44,7 +45,9 @@ impl<C: Clock + Drop> Drop for HostLink<C> {
 }
 
 impl<C: Clock + Drop> HostLink<C> {
-    pub(crate) fn new(alloc: Global, way: HostWay<C>) -> HostLink<C> {
+    pub(crate) fn new(alloc: Global, way: HostWay<C>) -> HostLink<C>
+        ensures { result.way ≡ way }
+    {
         HostLink {
             alloc,
             way,
@@ -53,7 +56,9 @@ impl<C: Clock + Drop> HostLink<C> {
     }
 
     /// The counts of the host.
-    pub fn host_counts(&self) -> Result<HostCounts, AllocError> {
+    pub fn host_counts(&self) -> Result<HostCounts, AllocError>
+        ensures { IfOk result (λ c. arc_value c.shared ≡ arc_value self.now.way.shared) }
+    {
         self.way.host_counts()
     }
 

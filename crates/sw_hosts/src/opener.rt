@@ -1,5 +1,7 @@
 //! How the directions of a host are opened.
 
+ghost use Rattle.std.specs.Prelude.{◌≡◌};
+
 use std::fs::{File, OpenOptions};
 use std::io::{self, Read, Write};
 use std::rt::Files;
@@ -32,7 +34,9 @@ pub struct WritePath<R: Files<File = File> + Drop> {
 
 impl<R: Files<File = File> + Drop> WritePath<R> {
     /// This path.
-    pub fn new(rt: R, path: String) -> WritePath<R> {
+    pub fn new(rt: R, path: String) -> WritePath<R>
+        ensures { result.path ≡ path }
+    {
         WritePath { rt, path }
     }
 }
@@ -56,7 +60,9 @@ pub struct ReadPath<R: Files<File = File> + Drop> {
 
 impl<R: Files<File = File> + Drop> ReadPath<R> {
     /// This path.
-    pub fn new(rt: R, path: String) -> ReadPath<R> {
+    pub fn new(rt: R, path: String) -> ReadPath<R>
+        ensures { result.path ≡ path }
+    {
         ReadPath { rt, path }
     }
 }

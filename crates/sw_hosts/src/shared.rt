@@ -1,5 +1,7 @@
 //! What the threads of a host and its links share.
 
+ghost use Rattle.std.specs.Prelude.{◌≡◌, IfOk};
+
 use crate::came::{Came, came_in};
 use crate::counts::Counters;
 use crate::direction::Direction;
@@ -49,7 +51,9 @@ impl Drop for Shared {
 
 impl Shared {
     /// Both directions are closed, and both boxes empty.
-    pub fn new(alloc: Global, times: HostTimes) -> Result<Shared, AllocError> {
+    pub fn new(alloc: Global, times: HostTimes) -> Result<Shared, AllocError>
+        ensures { IfOk result (λ shared. shared.times ≡ times) }
+    {
         Ok(Shared {
             times,
             to: Direction::new(),
