@@ -1,9 +1,9 @@
 -- No two rows of `advice` are at one place of one id, so the view of a journal without a fault is sound.
 -- for: laws::read_views_are_sound
-use Rattle.std.proofs.Common.{◌≡◌, ◌≤◌, ℤ, Bool, true, false, not, ◌&&◌, [], ◌∷◌, Some, Less, IsTrue, refl, sym, ap, subst, ◌∙◌, true≢false}
+use Rattle.std.proofs.Common.{◌≡◌, ◌≤◌, ℤ, true, false, ◌&&◌, [], ◌∷◌, Less, IsTrue, sym, ap, subst, ◌∙◌, true≢false}
 use Rattle.std.specs.List.{AllByRecursion}
 use Rattle.std.specs.Ordering.{is_eq, is_ne, ordering_reverse}
-use Rattle.std.proofs.lemmas.Bool.{and_parts}
+use Rattle.std.proofs.lemmas.Bool.{and_parts, not-true}
 use Rattle.std.proofs.lemmas.Cmp.{tied_itself}
 use Rattle.sqlite.specs.Collation.TheVariants.{Binary}
 use Rattle.sqlite.specs.Effect.{Database}
@@ -15,7 +15,7 @@ use Rattle.sqlite_value.proofs.OrderLemmas.{value_cmp_total}
 use Rattle.sqlite_trees.specs.Tree.{Trees, rowid}
 use Rattle.sqlite_trees.specs.View.{IsShaped, is_int}
 use Rattle.sqlite_trees.specs.declared.store.Shape.TheVariants.{Table}
-use Rattle.sqlite_sql.specs.Ops.{binary, from_truth, is_true}
+use Rattle.sqlite_sql.specs.Ops.{binary}
 use Rattle.sqlite_schema.specs.Rules.{Obeys, agree, clashes, differ, equal, passes}
 use Rattle.sqlite_schema.specs.declared.schema.Constraint.TheVariants.{Unique}
 use Rattle.sqlite_rules.specs.Edit.{id_in}
@@ -29,7 +29,7 @@ use Rattle.journal_rows.specs.Tables.{tables_of}
 use Rattle.journal_rows.proofs.SoundViews.{Apart, AreApart, ok_from}
 use Rattle.journal_tables.specs.Schema.{advice, journal_schema}
 use Rattle.journal_tables.specs.Steps.{IsJournal}
-use Rattle.journal_tables.proofs.CascadeLemmas.{and_true, equals_int}
+use Rattle.journal_tables.proofs.CascadeLemmas.{and_true, equals_int, truth}
 use Rattle.journal_tables.proofs.Types.{advice_ints, standing_from}
 
 same_cells : (v w : Value) → IsInt w → v ≡ w → equal Binary v w ≡ true
@@ -42,10 +42,6 @@ agree_places : (a b : Row) → IsInt (column b 1) × IsInt (column b 2) → colu
 unfolding first_key
 agree_places a b ints id place i = same_cells (column a 1) (column b 1) ints.0 id i && (and_true _ ∙ same_cells (column a 2) (column b 2) ints.1 place) i
 
-truth : (b : Bool) → is_true (from_truth (Some b)) ≡ b
-truth true = refl
-truth false = refl
-
 above_differs : (a b : ℤ) → value_cmp (Int a) (Int b) ≡ Less → differ (Int b) (Int a) ≡ true
 unfolding binary
 above_differs a b less = truth _ ∙ ap is_ne (value_cmp_total.antisymm (Int b) (Int a) ∙ ap ordering_reverse less)
@@ -56,10 +52,6 @@ rowids_differ a b p q less =
     let one = int_is (rowid a) p in
     let two = int_is (rowid b) q in
     (λ i. differ (two i) (one i)) ∙ above_differs (id_in (rowid a)) (id_in (rowid b)) (sym (λ i. value_cmp (one i) (two i)) ∙ less)
-
-unset : (b : Bool) → not b ≡ true → b ≡ false
-unset true e = absurd (true≢false (sym e))
-unset false e = refl
 
 apart_from : (a b : Row) → IsTrue (is_int (rowid a)) → IsInt (column a 1) × IsInt (column a 2) → IsTrue (is_int (rowid b)) →
     (agree plain (1 ∷ 2 ∷ []) b (1 ∷ 2 ∷ []) a && differ (rowid b) (rowid a)) ≡ false → Apart a b
@@ -72,7 +64,7 @@ pub advices_apart : (db : Trees) → Obeys journal_schema db → IsShaped Table 
 advices_apart db obeys shaped =
     let rows = db 5 in
     let clashing = all_weaker (λ r. passes Unique journal_schema db advice r ≡ true) (λ r. clashes plain (1 ∷ 2 ∷ []) rows r ≡ false)
-    (λ r h. unset _ (and_parts _ _ h).0) rows (obeys.rules Unique).1.1.1.1.0 in
+    (λ r h. not-true _ (and_parts _ _ h).0) rows (obeys.rules Unique).1.1.1.1.0 in
     let cells = all_both (λ r. IsTrue (is_int (rowid r))) (λ r. IsInt (column r 1) × IsInt (column r 2))
     (λ r. IsTrue (is_int (rowid r)) × (IsInt (column r 1) × IsInt (column r 2))) (λ r p k. (p, k)) rows shaped.1 (advice_ints db obeys) in
     all_both (λ r. IsTrue (is_int (rowid r)) × (IsInt (column r 1) × IsInt (column r 2))) (λ r. clashes plain (1 ∷ 2 ∷ []) rows r ≡ false)
