@@ -200,7 +200,8 @@ def refusing(run):
     limited = ["sh", "-c", f"trap '' XFSZ; ulimit -f {run.chosen.randrange(540, 1000)}; exec \"$@\"", "sh"]
     came = run.ran(lambda words: inputs.run_in_packets([*limited, *words], pieces, SECONDS, {}), *run.threads, "--trace")
     *lines, last = came.stderr.decode().split("\n")[:-1]
-    need(last == texts.REFUSED, f"wanted that {texts.REFUSED!r} is reported, came {last!r}")
+    wanted = f"cardswitch: {run.journal}: {texts.REFUSED}"
+    need(last == wanted, f"wanted that {wanted!r} is reported, came {last!r}")
     answered = len(messages.frames(came.stdout))
     need(answered % FEW == 0, f"{answered} responses are not those of whole batches")
     its = threads.Run(Switch(run.flow, run.limit, run.sessions), made[:answered], threads.begins(made[:answered], map(len, pieces)))

@@ -147,7 +147,7 @@ def shown_case(random, name, any_message):
     case.status = 3
     if bad:
         case.stdout = Exactly(printed(tables, is_json, is_clear))
-        case.stderr = Exactly(f"cardswitch: bad row of the journal: {bad[0]} {bad[1]}\n".encode())
+        case.stderr = Exactly(f"cardswitch: journal.db: bad row of the journal: {bad[0]} {bad[1]}\n".encode())
     elif journal.is_database(tables):
         case.stdout, case.stderr, case.status = Exactly(printed(tables, is_json, is_clear)), Exactly(b""), 0
     return case

@@ -30,7 +30,7 @@ END = {
     "BadLength": "cardswitch: standard input: bad frame length; expected four digits",
     "Truncated": "cardswitch: standard input: ends within a frame; found {at} bytes of it",
 }
-REFUSED = "cardswitch: cannot read or write the journal: refused by its store"
+REFUSED = "cannot read or write the journal: refused by its store"
 
 
 def place_of(at):

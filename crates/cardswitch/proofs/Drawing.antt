@@ -17,7 +17,7 @@ use Rattle.cardswitch.specs.declared.error.RunError.TheVariants as error
 pub no_flow : (dot : Bool) (path : List ℕ) (before : Option (List ℕ)) (e : RunError) → IsFlowFault path e → IsDrawFault dot path before before e
 no_flow dot path before (error.FlowFile p cause) h = (h, refl)
 no_flow dot path before error.OutOfMemory h = inl refl
-no_flow dot path before error.BadLimit h = absurd h
+no_flow dot path before (error.BadLimit n) h = absurd h
 no_flow dot path before (error.ConfigFile p cause) h = absurd h
 no_flow dot path before (error.JournalFile p cause) h = absurd h
 no_flow dot path before error.Refused h = absurd h

@@ -45,7 +45,7 @@ flow_fault : (path : Option (Bor (List ℕ))) (before after : Option (List ℕ))
 flow_fault None before after e h same = absurd h
 flow_fault (Some path) before after (error.FlowFile p cause) h same = (ap Some (sym h), same)
 flow_fault (Some path) before after error.OutOfMemory h same = subst (Grows before) (sym same) ([], Appends-nil before)
-flow_fault (Some path) before after error.BadLimit h same = absurd h
+flow_fault (Some path) before after (error.BadLimit n) h same = absurd h
 flow_fault (Some path) before after (error.ConfigFile p cause) h same = absurd h
 flow_fault (Some path) before after (error.JournalFile p cause) h same = absurd h
 flow_fault (Some path) before after error.Refused h same = absurd h
@@ -64,7 +64,7 @@ script_fault path before after (error.Write e) h = h
 script_fault path before after (error.Step e) h = h
 script_fault path before after error.OutOfMemory h = h
 script_fault path before after (error.FlowFile p cause) h = absurd h
-script_fault path before after error.BadLimit h = absurd h
+script_fault path before after (error.BadLimit n) h = absurd h
 script_fault path before after (error.ConfigFile p cause) h = absurd h
 script_fault path before after (error.JournalFile p cause) h = absurd h
 script_fault path before after error.Refused h = absurd h
@@ -123,7 +123,7 @@ file_session : (path : Option (Bor (List ℕ))) (e : RunError) → IsFileFlowFau
 file_session None e h = absurd h
 file_session (Some path) (error.FlowFile p cause) h = tt
 file_session (Some path) error.OutOfMemory h = tt
-file_session (Some path) error.BadLimit h = tt
+file_session (Some path) (error.BadLimit n) h = tt
 file_session (Some path) (error.ConfigFile p cause) h = tt
 file_session (Some path) (error.JournalFile p cause) h = tt
 file_session (Some path) error.Refused h = tt

@@ -51,7 +51,7 @@ error_of_serve e = Serve e
 
 abbrev pub error_of_setup : SetupError → RunError
 error_of_setup setup.OutOfMemory = OutOfMemory
-error_of_setup setup.BadLimit = BadLimit
+error_of_setup (setup.BadLimit limit) = BadLimit limit
 
 abbrev pub error_of_stream : StreamError → RunError
 error_of_stream (stream.Read e) = Read e

@@ -122,7 +122,8 @@ IsFileFault path before after e = IsServeFault e
 -- The faults of `run` by this configuration, the first of which it reports: its limit, its journal's file, and what is done
 -- with the journal. Nothing is written before that, nor under a limit that is too great.
 abbrev pub IsRunFaultBy : RunOptions → Config → Option (List ℕ) → Option (List ℕ) → RunError → Type 0
-IsRunFaultBy o c before after error.BadLimit = (999999999999999 < limit_of o c) × (after ≡ before)
+IsRunFaultBy o c before after (error.BadLimit limit) =
+    (limit ≡ limit_of o c) × (999999999999999 < limit) × (after ≡ before)
 IsRunFaultBy o c before after (error.JournalFile path cause) =
     (limit_of o c ≤ 999999999999999) × (journal_of o c ≡ Some path) × (after ≡ before)
 IsRunFaultBy o c before after (error.Serve e) = (limit_of o c ≤ 999999999999999) × (e ≢ serve.OutOfMemory)

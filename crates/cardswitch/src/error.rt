@@ -16,6 +16,7 @@ use std::alloc::{AllocError, AllocFailed};
 use std::{fmt, io};
 use sw_participant::Text;
 use thiserror::Error;
+use tx_journal::JournalError;
 
 /// Why a file is not taken as a journal. The text does not name the file.
 #[derive(Drop, Error)]
@@ -32,6 +33,12 @@ pub enum JournalFault {
     /// It is another file than a journal's.
     #[error("not a journal of cardswitch")]
     NotAJournal,
+    /// It is another database than a journal's, or its disk refuses it: the store does not say which.
+    #[error("not a journal of cardswitch, or its disk refuses it")]
+    Refused,
+    /// It is refused as a journal otherwise.
+    #[error("{0}")]
+    Journal(JournalError),
     /// Its copy was not of one moment, each time that it was read.
     #[error("changed while it was read; try again")]
     Changed,
@@ -64,8 +71,8 @@ pub enum RunError {
     #[error("{0}")]
     Serve(ServeError),
     /// What a card may spend is above the greatest limit.
-    #[error("--limit: too large; expected 0 to 999999999999999")]
-    BadLimit,
+    #[error("--limit: {0} is not 0 to 999999999999999")]
+    BadLimit(u64),
     /// The file at the path is not taken as a journal.
     #[error("{}: {cause}", .path.as_str())]
     JournalFile { path: Text, cause: JournalFault },
@@ -97,6 +104,11 @@ impl fmt::Debug for RunError {
 }
 
 impl RunError {
+    /// Whether the journal refused while it was in use.
+    pub fn is_of_journal(&self) -> bool {
+        matches!(self, RunError::Serve(ServeError::Journal(_)))
+    }
+
     /// The exit status of a run that ends with this error: 1 for a refused input and for failed reads
     /// and writes, 3 where a journal refused, 4 where memory ran out.
     pub fn status(&self) -> u8
@@ -211,7 +223,7 @@ impl From<SetupError> for RunError {
     fn from(error: SetupError) -> RunError {
         match error {
             SetupError::OutOfMemory => RunError::OutOfMemory,
-            SetupError::BadLimit => RunError::BadLimit,
+            SetupError::BadLimit(limit) => RunError::BadLimit(limit),
         }
     }
 }

@@ -14,9 +14,32 @@ use sqlite_trees::store::Store;
 use std::alloc::Global;
 use std::io::{self, ErrorKind};
 use sw_participant::Text;
-use tx_journal::Journal;
+use tx_journal::{Cause, Journal, JournalError};
 
-// Opens the journal of a connection.
+// Why a database is not opened as a journal.
+fn unopened(error: JournalError) -> JournalFault {
+    match error {
+        JournalError::Store(Cause::Refused) => JournalFault::Refused,
+        other => JournalFault::Journal(other),
+    }
+}
+
+// Opens the journal of a connection to the file at a path.
+fn open_at<S: Alter + Drop>(
+    alloc: Global,
+    path: &str,
+    conn: Connection<S>,
+) -> Result<Journal<S>, RunError>
+    ensures journal { IfOk result (IsOpenedOf S.Store conn) }
+    ensures failed { IfErr result (IsOpenFault path.now) }
+{
+    match Journal::open(alloc, conn) {
+        Ok(journal) => Ok(journal),
+        Err((cause, _)) => Err(refusal(alloc, path, unopened(cause))),
+    }
+}
+
+// Opens the journal of a connection to a database in memory.
 fn open<S: Alter + Drop>(alloc: Global, conn: Connection<S>) -> Result<Journal<S>, RunError>
     ensures journal { IfOk result (IsOpenedOf S.Store conn) }
     ensures failed { IfErr result IsServeFault }
@@ -65,7 +88,7 @@ pub fn open_file(
     // Where no file was laid, the journal is made as it is opened.
     let laid = lay(rt, alloc, path);
     match Connection::open(rt, path) {
-        Ok(conn) => open(alloc, conn),
+        Ok(conn) => open_at(alloc, path, conn),
         Err(error) => Err(refusal(alloc, path, fault_of(error, read, laid))),
     }
 }

@@ -151,7 +151,8 @@ fn answer_by<
     ensures no_config { IfOk code (λ _. IfErr config (λ e. (result ≡ Err e)
         × (O.contents out.new ≡ O.contents out.old))) }
     ensures bad_limit { IfTaken code config (λ _ c. 999999999999999 < limit_of options.now c
-        → (result ≡ Err RunError.BadLimit) × (O.contents out.new ≡ O.contents out.old)) }
+        → (result ≡ Err (RunError.BadLimit (limit_of options.now c)))
+        × (O.contents out.new ≡ O.contents out.old)) }
     ensures answered { IfTaken code config (λ flow c. OnOk result
         (AnsweredBy ⟦<FileStore<File> as Store>⟧ flow options.now c
         (R.remaining input) (O.contents out.old) (O.contents out.new))) }

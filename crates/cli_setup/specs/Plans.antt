@@ -1,5 +1,5 @@
 -- What a run is set up with: the options of the command line come first, then the configuration, then what the program has itself.
-use Rattle.std.specs.Prelude.{◌≡◌, ◌≤◌, ℕ, Bool, false, ◌||◌, List, [], ◌∷◌, map, Option, None, unwrap_or, codes}
+use Rattle.std.specs.Prelude.{◌≡◌, ◌<◌, ◌≤◌, ⊤, ℕ, Bool, false, ◌||◌, List, [], ◌∷◌, map, Option, None, unwrap_or, codes}
 use Rattle.std.specs.Option.{option_map_or, option_or}
 use Rattle.sw_parts.specs.declared.route.Routing.{Routing}
 use Rattle.sw_issuers.specs.Sending.{LinkStates, link_states}
@@ -13,6 +13,8 @@ use Rattle.sw_book.specs.Items.{PlainBook}
 use Rattle.sw_hosts.specs.declared.issuer_link.IssuerLink.{IssuerLink}
 use Rattle.cli_run.specs.Links.{switch_routes}
 use Rattle.cli_run.specs.declared.setup.Setup.{Setup}
+use Rattle.cli_setup.specs.declared.error.SetupError.{SetupError}
+use Rattle.cli_setup.specs.declared.error.SetupError.TheVariants.{BadLimit, OutOfMemory}
 use Rattle.cli_setup.specs.Links.{host_link, named_state, shown_link, wire_state}
 
 -- a configuration that states nothing
@@ -27,6 +29,11 @@ no_config = record {
 -- what a card may spend, 10,000 minor units where nothing states it
 abbrev pub limit_of : RunOptions → Config → ℕ
 limit_of o c = unwrap_or (option_or o.limit c.limits.per_card) 10000
+
+-- a limit that is refused is that of the run, and greater than any that a book may have
+abbrev pub IsLimitFault : RunOptions → Config → SetupError → Type 0
+IsLimitFault o c (BadLimit limit) = (limit ≡ limit_of o c) × (999999999999999 < limit)
+IsLimitFault o c OutOfMemory = ⊤
 
 -- what the switch approves in a silent issuer's place, 1,000 minor units where nothing states it
 abbrev pub stand_in_of : Config → ℕ

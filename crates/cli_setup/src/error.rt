@@ -77,8 +77,8 @@ pub enum SetupError {
     #[error("out of memory")]
     OutOfMemory,
     /// What a card may spend is above the greatest limit.
-    #[error("--limit: too large; expected 0 to 999999999999999")]
-    BadLimit,
+    #[error("--limit: {0} is not 0 to 999999999999999")]
+    BadLimit(u64),
 }
 
 // By hand: a person is shown the same text, and a derived `fmt` is slow to prove.

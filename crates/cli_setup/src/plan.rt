@@ -1,7 +1,7 @@
 //! What a run is set up with.
 
 ghost use Rattle.std.specs.Prelude.{◌≡◌, ◌<◌, ◌≤◌, [], Err, IfErr, IfOk, OnOk};
-ghost use Rattle.cli_setup.specs.Plans.{IsSetUp, advices_of, journal_of, limit_of, plain_setup, recovery_of};
+ghost use Rattle.cli_setup.specs.Plans.{IsLimitFault, IsSetUp, advices_of, journal_of, limit_of, plain_setup, recovery_of};
 ghost use Rattle.cli_setup.specs.Plans.{sessions_of, stand_in_of, threads_of};
 ghost use Rattle.cli_setup.specs.declared.error.SetupError.TheVariants.{BadLimit, OutOfMemory};
 
@@ -74,10 +74,10 @@ fn stand_in(config: &Config) -> u64
 fn book(alloc: Global, limit: u64) -> Result<Book, SetupError>
     ensures book { IfOk result (λ book. book ≡ record { limit = limit; items = [] }) }
     ensures within { OnOk result (limit ≤ 999999999999999) }
-    ensures refused { IfErr result (λ e. (e ≡ BadLimit) × (999999999999999 < limit)) }
+    ensures refused { IfErr result (λ e. (e ≡ BadLimit limit) × (999999999999999 < limit)) }
 {
     if limit > MOST_LIMIT {
-        return Err(SetupError::BadLimit);
+        return Err(SetupError::BadLimit(limit));
     }
     match Book::new(alloc, limit) {
         Ok(book) => Ok(book),
@@ -95,8 +95,9 @@ pub fn setup<T: Threads + Wait + Clock + Clone + Drop + Send + 'static>(
     config: &Config,
 ) -> Result<Setup<SwitchLink>, SetupError>
     ensures set_up { IfOk result (IsSetUp options.now config.now) }
-    ensures bad_limit { 999999999999999 < limit_of options.now config.now → result ≡ Err BadLimit }
-    ensures within { result ≡ Err BadLimit → 999999999999999 < limit_of options.now config.now }
+    ensures bad_limit { 999999999999999 < limit_of options.now config.now
+        → result ≡ Err (BadLimit (limit_of options.now config.now)) }
+    ensures within { IfErr result (IsLimitFault options.now config.now) }
 {
     let book = book(alloc, limit(options, config))?;
     let routes = routes(alloc, config)?;
