@@ -3,7 +3,7 @@
 use Rattle.std.proofs.Common.{◌≡◌, ◌∙◌, ◌≤◌, ◌<◌, ◌+◌, ◌-◌, ◌*◌, ◌/◌, ◌%◌, ◌&&◌, ◌||◌, ◌==◌, ◌⊎◌, inl, inr, ℕ, Bool, true, false, cond, leb, List, [], ◌∷◌}
 use Rattle.std.proofs.Common.{length, take, drop, Option, Some, None, Result, Ok, Err, refl, sym, ap, subst, arith}
 use Rattle.std.specs.List.{flat_map, list_all}
-use Rattle.std.proofs.lemmas.Bool.{cases_lt, ltb-true, lt-ltb, le-ltb, le-leb, leb-true}
+use Rattle.std.proofs.lemmas.Bool.{cases_lt, ltb-true, lt-ltb, le-ltb, leb-true, lt-leb}
 use Rattle.iso_msg.proofs.Bools.{and_both, some_is}
 use Rattle.iso_msg.specs.Values.{is_byte}
 use Rattle.iso_codec.specs.Digits.{hex_value, both, octets}
@@ -15,46 +15,14 @@ use Rattle.iso_msg.specs.declared.table.Form.TheVariants.{Binary}
 use Rattle.iso_codec.specs.declared.error.DecodeError.{DecodeError}
 use Rattle.iso_codec.specs.declared.error.DecodeError.TheVariants.{Short, BadContent}
 use Rattle.iso_codec.specs.Reads.{◌>>=◌, or_fault, part, octets_at}
+use Rattle.iso_codec.proofs.Encoding.{octets_hex, hex_length}
 use Rattle.cli_encode.specs.Lines.{has_byte, has_lower, AreOctetsOf, IsNoValueOf}
-
-leb-false-from : (a b : ℕ) → b < a → leb a b ≡ false
-leb-false-from a b h = by (leb a b) refl
-  where
-    by : (t : Bool) → leb a b ≡ t → t ≡ false
-    by true e = absurd (omega (arith, leb-true a b e))
-    by false e = refl
-
-hex_upper : (d : ℕ) → d < 16 → hex_value (upper d) ≡ Some d
-hex_upper d h =
-    elim (cases_lt d 10) [
-      | inl w ↦ rw (lt-ltb d 10 w, le-leb 48 (48 + d) (omega arith), le-leb (48 + d) 57 (omega arith)) (ap Some (omega arith))
-      | inr w ↦ rw (
-        le-ltb d 10 w,
-        le-leb 48 (55 + d) (omega arith),
-        leb-false-from (55 + d) 57 (omega arith),
-        le-leb 65 (55 + d) (omega arith),
-        le-leb (55 + d) 70 (omega arith),
-      ) (ap Some (omega arith))
-    ]
-
-pub octets_hex : (v : List ℕ) → list_all is_byte v ≡ true → octets (flat_map hex v) ≡ Some v
-unfolding octets
-octets_hex [] h = refl
-octets_hex (b ∷ v) h =
-    let p = and_both (is_byte b) (list_all is_byte v) h in
-    let small : b < 256 = ltb-true b 256 p.0 in
-    let e : 16 * (b / 16) + b % 16 ≡ b = omega arith in
-    rw (hex_upper (b / 16) (omega arith), hex_upper (b % 16) (omega arith), octets_hex v p.1) (ap (λ n. Some (n ∷ v)) e)
-
-pub hex_length : (v : List ℕ) → length (flat_map hex v) ≡ 2 * length v
-hex_length [] = refl
-hex_length (b ∷ v) = let e = hex_length v in omega (arith, e)
 
 upper_small : (d : ℕ) → d < 16 → leb 97 (upper d) ≡ false
 upper_small d h =
     elim (cases_lt d 10) [
-      | inl w ↦ rw (lt-ltb d 10 w) (leb-false-from 97 (48 + d) (omega arith))
-      | inr w ↦ rw (le-ltb d 10 w) (leb-false-from 97 (55 + d) (omega arith))
+      | inl w ↦ rw (lt-ltb d 10 w) (lt-leb 97 (48 + d) (omega arith))
+      | inr w ↦ rw (le-ltb d 10 w) (lt-leb 97 (55 + d) (omega arith))
     ]
 
 pub none_lower : (v : List ℕ) → list_all is_byte v ≡ true → has_lower (flat_map hex v) ≡ false

@@ -27,7 +27,8 @@ pub is_none : (r : Result PlainMessage DecodeError) (e : DecodeError) (bytes : L
 is_none r e bytes is = rw is refl
 
 -- bytes that have a type are a request, and are not passed over
-pub typed_request : (r : Result PlainMessage DecodeError) (bytes : List ℕ) → is_some (type_of r) ≡ true → map request_of (if_read r bytes) ≡ request_of bytes ∷ []
+pub typed_request : (r : Result PlainMessage DecodeError) (bytes : List ℕ) → is_some (type_of r) ≡ true →
+    map request_of (if_read r bytes) ≡ request_of bytes ∷ []
 typed_request (Ok m) bytes typed = refl
 typed_request (Err e) bytes typed = absurd cc
 

@@ -14,7 +14,8 @@ use Rattle.iso_codec.specs.declared.error.DecodeError.TheVariants.{Short, BadMti
 use Rattle.iso_codec.specs.Digits.{bits_at, octets}
 use Rattle.sw_base.specs.Digits.{is_digit, number_of}
 use Rattle.iso_codec.specs.Grammar.{Spells}
-use Rattle.iso_codec.specs.Reads.{◌>>=◌, or_fault, part, mti_is, bitmap_at, bitmaps_at, starts_with_1, field_numbers, front_at, known, behind_length, octets_at, text_at}
+use Rattle.iso_codec.specs.Reads.{◌>>=◌, or_fault, part, mti_is, bitmap_at, bitmaps_at, starts_with_1, field_numbers, front_at, known, behind_length}
+use Rattle.iso_codec.specs.Reads.{octets_at, text_at}
 use Rattle.iso_codec.specs.Reads.{field_at, fields_at, read, Answers, Fails, content_is, field_over, fields_over, read_over, type_of}
 use Rattle.iso_codec.proofs.FrontReads as fronts
 use Rattle.iso_codec.proofs.MessageReads.{read_found, read_again}

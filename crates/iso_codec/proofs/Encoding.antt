@@ -3,7 +3,7 @@
 use Rattle.std.proofs.Common.{◌≡◌, inl, inr, ℕ, zero, suc, ◌<◌, ◌≤◌, ◌+◌, ◌*◌, ◌/◌, ◌%◌, Bool, true, false, ◌&&◌, ◌||◌, cond, eqb, ltb, leb, List, [], ◌∷◌}
 use Rattle.std.proofs.Common.{◌++◌, length, Option, Some, None, refl, sym, ap, subst, ◌∙◌, append_assoc, arith}
 use Rattle.std.specs.List.{flat_map, list_all, list_any}
-use Rattle.std.proofs.lemmas.Bool.{cases_lt, eqb-true, eqb-false, ltb-true, ltb-false, lt-ltb, le-ltb, le-leb, leb-true}
+use Rattle.std.proofs.lemmas.Bool.{cases_lt, eqb-true, eqb-false, ltb-true, ltb-false, lt-ltb, le-ltb, le-leb, leb-true, lt-leb}
 use Rattle.iso_msg.specs.declared.table.Form.{Form}
 use Rattle.iso_msg.specs.declared.table.Form.TheVariants.{Fixed, Variable, Binary}
 use Rattle.iso_msg.specs.Table.{form_of, IsKnown}
@@ -26,13 +26,6 @@ use Rattle.iso_codec.specs.RisingBitmaps.{bit_of, digit_of, bits_of, bitmaps_of,
 
 -- ---- digits
 
-leb-false-from : (a b : ℕ) → b < a → leb a b ≡ false
-leb-false-from a b h = by (leb a b) refl
-  where
-    by : (t : Bool) → leb a b ≡ t → t ≡ false
-    by true e = absurd (omega (arith, leb-true a b e))
-    by false e = refl
-
 hex_upper : (d : ℕ) → d < 16 → hex_value (upper d) ≡ Some d
 hex_upper d h =
     elim (cases_lt d 10) [
@@ -40,13 +33,13 @@ hex_upper d h =
       | inr w ↦ rw (
         le-ltb d 10 w,
         le-leb 48 (55 + d) (omega arith),
-        leb-false-from (55 + d) 57 (omega arith),
+        lt-leb (55 + d) 57 (omega arith),
         le-leb 65 (55 + d) (omega arith),
         le-leb (55 + d) 70 (omega arith),
       ) (ap Some (omega arith))
     ]
 
-octets_hex : (v : List ℕ) → list_all is_byte v ≡ true → octets (flat_map hex v) ≡ Some v
+pub octets_hex : (v : List ℕ) → list_all is_byte v ≡ true → octets (flat_map hex v) ≡ Some v
 unfolding octets
 octets_hex [] h = refl
 octets_hex (b ∷ v) h =

@@ -1,9 +1,10 @@
 -- The entries that an opening makes, and that they leave all but the rows.
 -- for: engine::opening::closings
-use Rattle.std.proofs.Common.{◌≡◌, ℕ, ◌+◌, Bool, true, false, List, [], ◌∷◌, ◌++◌, length, Some, None, refl, sym, ◌∙◌, ap, subst, arith, suc, zero, take, map}
+use Rattle.std.proofs.Common.{◌≡◌, ℕ, ◌+◌, Bool, true, false, List, [], ◌∷◌, ◌++◌, length, Some, None, refl, sym, ◌∙◌, ap, subst, arith, suc, zero, take}
 use Rattle.std.proofs.Common.{length-append}
 use Rattle.std.specs.Prelude.{if◌then◌else◌, slice_get, nat_lt, nat_le, not}
 use Rattle.std.proofs.lemmas.Bool.Decides.{nat_tests}
+use Rattle.std.proofs.lemmas.List.{length-map}
 use Rattle.flow_model.specs.declared.flow.Flow.{Flow}
 use Rattle.tx_history.specs.declared.event.Event.{Event}
 use Rattle.tx_history.specs.declared.event.Event.TheVariants.{Closed}
@@ -18,12 +19,8 @@ use Rattle.tx_engine.proofs.FilledMaps.{get_first}
 
 -- whether a row has nobody to notify
 
-length_map : {A B : Type 0} (g : A → B) (xs : List A) → length (map g xs) ≡ length xs
-length_map g [] = refl
-length_map g (x ∷ xs) = ap (λ n. suc n) (length_map g xs)
-
 over_is : (f : Flow) (r : Row) → is_ended f (reopened f r) ≡ not (nat_lt r.told (length (to_tell r r.doing)))
-over_is f r = (old_outcome f r []).ended ∙ ap (λ (n : ℕ). not (nat_lt r.told n)) (length_map (number_of f) (to_tell r r.doing))
+over_is f r = (old_outcome f r []).ended ∙ ap (λ (n : ℕ). not (nat_lt r.told n)) (length-map (to_tell r r.doing) (number_of f))
 
 pub over_none : (f : Flow) (r : Row) → r.doing ≡ None → nat_le (length r.joined) r.told ≡ is_ended f (reopened f r)
 over_none f r e = let t : not (nat_lt r.told (length r.joined)) ≡ nat_le (length r.joined) r.told = grind (arith, nat_tests) in sym (over_is f r ∙ (rw e t))

@@ -12,16 +12,15 @@ use Rattle.tx_history.specs.declared.event.Entry.{Entry}
 use Rattle.tx_history.specs.declared.journal.JournalView.{JournalView}
 use Rattle.tx_history.specs.declared.journal.Waiting.{Waiting}
 use Rattle.tx_history.specs.Keys.{gather, look}
-use Rattle.tx_history.specs.History.{Start, has_break, held_of, holds, ids, is_among, is_ended, next_id, or_taken, own_items, recovering, serves, state_of}
-use Rattle.tx_history.specs.History.{taken}
+use Rattle.tx_history.specs.History.{Start, has_break, holds, ids, is_among, is_ended, next_id, own_items, recovering, state_of}
 use Rattle.tx_history.specs.Journal.{IsLawful, is_closed, old_row, row, row_at, to_close}
 use Rattle.tx_history.specs.Held.{session_state}
 use Rattle.tx_history.specs.Lives.{after_cut}
 use Rattle.tx_history.specs.Views.{AreSessions, IsOrdered, StartFits}
 use Rattle.tx_history.proofs.Changes.{journal_first}
 use Rattle.tx_history.proofs.NextStarts.{cut_fits}
-use Rattle.tx_history.proofs.RisingKeys.{filter_append}
-use Rattle.tx_history.proofs.RowCounts.{old_gone, taker}
+use Rattle.tx_history.proofs.RisingKeys.{filter_append, gather_none}
+use Rattle.tx_history.proofs.RowCounts.{old_gone, taker, held_some}
 use Rattle.tx_history.proofs.Rows.{as_row, row_unended}
 use Rattle.tx_history.proofs.Sessions.{holds_recovered}
 use Rattle.tx_engine.specs.declared.error.EngineError.{EngineError}
@@ -74,32 +73,13 @@ none_below P a (suc n) s free le lt = by (a == s) refl (P a) refl free (λ h l m
 
 -- no row is left
 
-gather_none : {A : Type 0} (h : ℕ → Option A) (n k : ℕ) → ((j : ℕ) → n ≤ j → j < n + k → h j ≡ None) → gather h n k ≡ []
-gather_none h n zero e = refl
-gather_none h n (suc k) e =
-    let last : h (n + k) ≡ None = e (n + k) (omega arith) (omega arith) in
-    let before : gather h n k ≡ [] = gather_none h n k (λ j a b. e j a (omega arith)) in
-    rw (before, last) refl
-
--- whom a session took it holds while that is unfinished
-took_holds : (f : Flow) (v : Start) (past : List Event) (s j : ℕ) → recovering f v past ≡ None → taken v past s ≡ Some j →
-    is_ended f (state_of f v past j) ≡ false → holds f v past s ≡ Some j
-took_holds f v past s j none h u =
-    let who : serves f v past s ≡ Some j = by (s == 0) (recovering f v past) none in
-    ap (held_of f v past) who ∙ rw u refl
-  where
-    by : (b : Bool) (o : Option ℕ) → o ≡ None → (if b then or_taken o (taken v past s) else taken v past s) ≡ Some j
-    by true None e = h
-    by true (Some k) e = absurd (cc)
-    by false o e = h
-
 new_ended : (f : Flow) (v : Start) (past : List Event) (n j : ℕ) → IsOrdered v.view → AreSessions n past → IsLawful f v past → recovering f v past ≡ None →
     ((s : ℕ) → s < n → holds f v past s ≡ None) → v.view.next_id ≤ j → j < next_id v past
     → (b : Bool) → is_ended f (state_of f v past j) ≡ b → b ≡ true
 new_ended f v past n j o ss law none free lo hi true u = refl
 new_ended f v past n j o ss law none free lo hi false u =
     let t = taker f v past n j o ss law lo hi u in
-    let some : holds f v past t.session ≡ Some j = took_holds f v past t.session j none t.took u in
+    let some : holds f v past t.session ≡ Some j = held_some f v past t.session j none t.took u in
     absurd (let no = free t.session t.within in cc)
 
 row_gone : (f : Flow) (v : Start) (past : List Event) (n j : ℕ) → IsOrdered v.view → AreSessions n past → IsLawful f v past → recovering f v past ≡ None →

@@ -187,11 +187,12 @@ length_set [] s y = refl
 length_set (x ∷ xs) zero y = refl
 length_set (x ∷ xs) (suc s) y = ap (λ n. suc n) (length_set xs s y)
 
--- the mark
+-- the mark and the reserve
 
-pub kept_mark : (f : Flow) (n : ℕ) (v : Start) (es : List Entry) (mark reserved to : ℕ) (r : Running) → Kept (world f n v es mark reserved) es r →
-    to ≤ length es → Kept (world f n v es to reserved) es r
-kept_mark f n v es mark reserved to r k le =
+-- neither the mark nor the memory that is reserved changes anything else
+pub kept_in : (f : Flow) (n : ℕ) (v : Start) (es : List Entry) (mark reserved to other : ℕ) (r : Running) → Kept (world f n v es mark reserved) es r →
+    to ≤ length es → Kept (world f n v es to other) es r
+kept_in f n v es mark reserved to other r k le =
     let len : length (past_of es) ≡ length es = length_past es in
     record {
       seats = k.seats;
@@ -211,3 +212,14 @@ kept_mark f n v es mark reserved to r k le =
       spent = k.spent;
       marked = omega arith;
     }
+
+pub kept_mark : (f : Flow) (n : ℕ) (v : Start) (es : List Entry) (mark reserved to : ℕ) (r : Running) → Kept (world f n v es mark reserved) es r →
+    to ≤ length es → Kept (world f n v es to reserved) es r
+kept_mark f n v es mark reserved to r k le = kept_in f n v es mark reserved to reserved r k le
+
+pub kept_reserved : (f : Flow) (n : ℕ) (v : Start) (es : List Entry) (mark a b : ℕ) (r : Running) → Kept (world f n v es mark a) es r →
+    Kept (world f n v es mark b) es r
+kept_reserved f n v es mark a b r k =
+    let len : length (past_of es) ≡ length es = length_past es in
+    let within : mark ≤ length (past_of es) = k.marked in
+    kept_in f n v es mark a mark b r k (omega arith)

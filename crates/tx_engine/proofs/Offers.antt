@@ -66,28 +66,6 @@ steps_released f n v es mark reserved r k = record {
   spent = k.spent;
 }
 
--- memory that is reserved changes nothing else
-pub kept_reserved : (f : Flow) (n : ℕ) (v : Start) (es : List Entry) (mark a b : ℕ) (r : Running) → Kept (world f n v es mark a) es r →
-    Kept (world f n v es mark b) es r
-kept_reserved f n v es mark a b r k = record {
-  seats = k.seats;
-  flow = k.flow;
-  start = k.start;
-  past = k.past;
-  history = k.history;
-  sessions = k.sessions;
-  queued = k.queued;
-  shelved = k.shelved;
-  advised = k.advised;
-  stops = k.stops;
-  numbered = k.numbered;
-  renewed = k.renewed;
-  recovers = k.recovers;
-  closed = k.closed;
-  spent = k.spent;
-  marked = k.marked;
-}
-
 -- the history after an offer in memory that was reserved for it
 back : (w : World) → with_reserved (with_reserved w (w.reserved + 1)) (w.reserved + 1 - 1) ≡ w
 back w = let same : w.reserved + 1 - 1 ≡ w.reserved = omega arith in ap (λ (n : ℕ). with_reserved w n) same

@@ -20,6 +20,7 @@ use Rattle.tx_history.specs.Journal.{row}
 use Rattle.tx_history.specs.Views.{IsOrdered}
 use Rattle.tx_history.specs.Held.{session_state, state_of_served}
 use Rattle.tx_history.proofs.OwnItems.{serves_below}
+use Rattle.tx_history.proofs.RisingKeys.{get_drop}
 use Rattle.tx_history.proofs.SoundJournals.{own_none}
 use Rattle.tx_history.proofs.SessionStates.{held_taken}
 use Rattle.tx_engine.specs.declared.error.EngineError.TheVariants.{Busy, Empty, Recovering, IdsSpent, NoSession, HistoryFull}
@@ -30,11 +31,6 @@ use Rattle.tx_engine.specs.Calls.{is_full, no_session, waits, take_refusal, IsFi
 use Rattle.tx_slots.specs.Slots.{slot_of, is_holding}
 use Rattle.tx_engine.specs.Kept.{Kept, Running, SlotIs, past_of, world}
 use Rattle.tx_engine.proofs.Keeps.{Steps, slot_keep, slot_made, set_slots, slot_there, state_served, holds_is, hold_holds, length_past, same_yes, same_no}
-
-get_drop : {A : Type 0} (n : ℕ) (xs : List A) → slice_get (drop n xs) 0 ≡ slice_get xs n
-get_drop zero xs = refl
-get_drop (suc n) [] = refl
-get_drop (suc n) (x ∷ xs) = get_drop n xs
 
 drop_one_more : {A : Type 0} (n : ℕ) (xs : List A) → drop 1 (drop n xs) ≡ drop (suc n) xs
 drop_one_more zero xs = refl

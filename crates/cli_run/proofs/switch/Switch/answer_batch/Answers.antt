@@ -1,7 +1,8 @@
 use Rattle.std.proofs.Common.{◌≡◌, ◌≤◌, true, length, arith}
 use Rattle.std.proofs.lemmas.Bool.Decides.{nat_tests}
 use Rattle.cli_run.specs.Points.{point_of}
-use Rattle.cli_run.proofs.Batched.{answers_same, batch_leads, halts_finished, halts_same, no_request, one_request, serves_finished, serves_nothing, together_rests}
+use Rattle.cli_run.proofs.Batched.{answers_same, batch_leads, halts_finished, halts_same, no_request, one_request, serves_finished, serves_nothing}
+use Rattle.cli_run.proofs.Batched.{together_rests}
 use Rattle.cli_run.proofs.Stops.{on_err_of, toward_none}
 use Rattle.cli_run.proofs.switch.Switch.answer_batch.Goals as goal
 

@@ -1,4 +1,4 @@
-use Rattle.tx_engine.proofs.Offers.{kept_reserved}
+use Rattle.tx_engine.proofs.Keeps.{kept_reserved}
 use Rattle.tx_engine.proofs.engine.Engine.offer.Goals as goal
 
 pub invariant_of-self-2 : goal.invariant_of-self-2

@@ -1,7 +1,7 @@
 use Rattle.std.proofs.Common.{◌≡◌, ◌<◌, ◌+◌, length, arith, refl}
 use Rattle.tx_engine.specs.contracts.engine.Engine.{the_view}
-use Rattle.tx_engine.proofs.Keeps.{kept_step}
-use Rattle.tx_engine.proofs.Offers.{kept_reserved, spare_entry, steps_offered}
+use Rattle.tx_engine.proofs.Keeps.{kept_step, kept_reserved}
+use Rattle.tx_engine.proofs.Offers.{spare_entry, steps_offered}
 use Rattle.tx_engine.proofs.engine.Engine.offer_reserved.Goals as goal
 
 pub invariant_of-self : goal.invariant_of-self
