@@ -1,10 +1,9 @@
 //! The way over the threads of a host.
 
-ghost use Rattle.std.specs.Prelude.{◌≡◌, ⊤, ℕ, IfOk, IfSome, Some};
+ghost use Rattle.std.specs.Prelude.{◌≡◌, ⊤, IfOk, IfSome, Some};
 ghost use Rattle.std.specs.Arc.{arc_value};
 ghost use Rattle.sw_hosts.specs.Keyed.{key_in};
 ghost use Rattle.sw_hosts.specs.Looks.{answer_in};
-ghost use Rattle.sw_hosts.specs.Moments.{later};
 
 use crate::direction::DirectionState;
 use crate::frame::Frame;
@@ -130,8 +129,7 @@ impl<C: Clock + Drop> HostWay<C> {
 }
 
 impl<C: Clock + Drop> Way for HostWay<C> {
-    ghost dates = { λ way deadline.
-        (now : ℕ) × (deadline ≡ later now (arc_value way.shared).times.timeout) };
+    ghost dates = { λ way deadline. ⊤ };
 
     ghost takes = { λ way frame taken. ⊤ };
 
