@@ -207,7 +207,7 @@ class Program:
         return folder
 
     def run_in(self, folder, case, words):
-        how = {"cwd": folder, "env": self.environment}
+        how = {"cwd": folder, "env": self.environment, "start_new_session": True}
         if case.pieces is None:
             return Came(*inputs.run_on_pipe(words, [(0, case.stdin)], SECONDS, how))
         return Came(*inputs.run_in_packets(words, case.pieces, SECONDS, how))

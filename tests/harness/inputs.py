@@ -4,6 +4,7 @@ None where the program was killed after so many seconds."""
 import contextlib
 import os
 import select
+import signal
 import subprocess
 import tempfile
 import threading
@@ -55,8 +56,16 @@ def ended(process, seconds):
     try:
         return *process.communicate(timeout=seconds), process.returncode
     except subprocess.TimeoutExpired:
-        process.kill()
+        kill(process)
         return *process.communicate(), None
+
+
+def kill(process):
+    """Kills a process, and its group where it leads one: else what it has started would keep its pipes open."""
+    try:
+        os.killpg(process.pid, signal.SIGKILL)
+    except ProcessLookupError:
+        process.kill()
 
 
 def run_in_talk(words, turns, count, seconds, how):
