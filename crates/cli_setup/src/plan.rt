@@ -1,8 +1,8 @@
 //! What a run is set up with.
 
 ghost use Rattle.std.specs.Prelude.{◌≡◌, ◌<◌, ◌≤◌, [], Err, IfErr, IfOk, OnOk};
-ghost use Rattle.cli_setup.specs.Plans.{IsLimitFault, IsSetUp, advices_of, journal_of, limit_of, plain_setup, recovery_of};
-ghost use Rattle.cli_setup.specs.Plans.{sessions_of, stand_in_of, threads_of};
+ghost use Rattle.cli_setup.specs.Plans.{IsLimitFault, IsSetUp, advices_of, journal_of, limit_of};
+ghost use Rattle.cli_setup.specs.Plans.{plain_setup, recovery_of, sessions_of, stand_in_of, threads_of};
 ghost use Rattle.cli_setup.specs.declared.error.SetupError.TheVariants.{BadLimit, OutOfMemory};
 
 use crate::error::SetupError;
