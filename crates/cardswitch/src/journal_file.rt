@@ -22,8 +22,8 @@ const EMPTY: &[u8] = b"SQLite format 3\x00\
 /// The bytes with which a database begins.
 const HEADER: &[u8; 16] = b"SQLite format 3\x00";
 
-/// Whether a file that is not empty begins otherwise than a database, and no log of changes is beside it, from which the
-/// database could still be made. The store would lay a log beside it before it refuses it.
+/// Whether a file that is not empty begins otherwise than a database, and no log of changes is beside it, from which
+/// the database could still be made. The store would lay a log beside it before it refuses it.
 pub fn is_foreign(rt: &HostRuntime, alloc: Global, path: &str) -> io::Result<bool> {
     let mut first = [0u8; 16];
     let count = File::open(rt, path)?.read(&mut first)?;

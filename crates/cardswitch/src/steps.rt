@@ -27,8 +27,8 @@ fn file_flow(alloc: Global, rt: &HostRuntime, path: Option<&str>) -> Result<Opti
     }
 }
 
-// Runs the script of an input, each line before the next one is read. (The flow comes as what became of its file, so that contracts can say that its
-// fault is the first.)
+// Runs the script of an input, each line before the next one is read. (The flow comes as what became of its file, so
+// that contracts can say that its fault is the first.)
 fn step_over<R: Read + Drop, O: Write>(
     alloc: Global,
     file: Result<Option<Flow>, RunError>,

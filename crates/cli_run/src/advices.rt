@@ -8,7 +8,7 @@ ghost use Rattle.cli_run.specs.Advices.{Sends, SendsAll, SendsBetween, StaysAtRe
 ghost use Rattle.cli_run.specs.Advices.{begun_advisor, is_repeat, is_up_to, last_with, stored_at};
 ghost use Rattle.cli_run.specs.Points.{IsAtRest, IsReady, point_of, world_at};
 ghost use Rattle.cli_run.specs.Rounds.{IsEmptied};
-ghost use Rattle.cli_run.specs.Stored.{place_of, plain};
+ghost use Rattle.cli_run.specs.Stored.{stored_id, plain};
 ghost use Rattle.cli_run.specs.Traces.{log_of};
 
 use crate::error::ServeError;
@@ -112,7 +112,7 @@ impl<L: Link> Model for Advisor<L> {
 
 // Whether the advice comes no later than that one, ids and places rising.
 fn is_up_to(stored: &Stored, last: Option<Sent>) -> bool
-    ensures { result ≡ is_up_to (place_of stored.now) (option_map (λ l. (l.id, l.place)) last) }
+    ensures { result ≡ is_up_to (stored_id stored.now) (option_map (λ l. (l.id, l.place)) last) }
 {
     match last {
         None => false,
@@ -142,14 +142,14 @@ impl<L: Link> Advisor<L> {
 
     // Whether an advice may have been sent before.
     fn is_repeat(&self, stored: &Stored) -> bool
-        ensures { result ≡ is_repeat self.now (place_of stored.now) }
+        ensures { result ≡ is_repeat self.now (stored_id stored.now) }
     {
         stored.id < self.first || is_up_to(stored, self.last)
     }
 
     // Notes that an advice was sent.
     fn note(&mut self, stored: &Stored)
-        ensures { self.new ≡ record self.old { last = last_with self.old (place_of stored.now) } }
+        ensures { self.new ≡ record self.old { last = last_with self.old (stored_id stored.now) } }
     {
         if !self.is_repeat(stored) {
             self.last = Some(Sent {
@@ -173,11 +173,11 @@ impl<L: Link> Advisor<L> {
     fn send(&mut self, stored: &Stored) -> Result<bool, NoMemory>
         ensures sent { IfOk result (λ accepted.
             SendsAdvice L.sends L.receives L.starves (Unit {0})
-            (plain stored.now).1 (is_repeat self.old (place_of stored.now)) self.old.sender
+            (plain stored.now).1 (is_repeat self.old (stored_id stored.now)) self.old.sender
             accepted self.new.sender) }
         ensures noted { OnOk result (self.new ≡ record self.old {
           sender = self.new.sender;
-          last = last_with self.old (place_of stored.now);
+          last = last_with self.old (stored_id stored.now);
         }) }
     {
         let is_repeat = self.is_repeat(stored);

@@ -9,7 +9,7 @@ use Rattle.sw_base.specs.Spelling.{number_spelled}
 use Rattle.cli_script.specs.Bytes.{byte_spelled, hex_spelled}
 use Rattle.cli_script.specs.Forms.{Meaning, ack_line, ack_numbers, advice_line, answer_byte, answer_line, bare_line, choose_line, flow_line, meant, name_line}
 use Rattle.cli_script.specs.Forms.{name_or, or_refuse, restore_line, write_line}
-use Rattle.cli_script.specs.Grammar.{Answers, Row, action_rows, meaning_at, meaning_of, query_rows, rows, unless_refused, whole_rows, words_refusal}
+use Rattle.cli_script.specs.Grammar.{Answers, CommandRow, action_rows, meaning_at, meaning_of, query_rows, rows, unless_refused, whole_rows, words_refusal}
 use Rattle.cli_script.specs.Puts.{puts_spelled}
 use Rattle.cli_script.specs.Scripts.{IsMeant}
 use Rattle.cli_script.specs.Words.{cut_at, first_word, further_words, has_control, rest_of}
@@ -89,7 +89,7 @@ restore_form : (rest : List ℕ) → wants (restore_line rest) ≡ false
 restore_form rest =
     if_form (is_name (first_word rest)) _ _ (meant_or _ refusal.Entry (puts_spelled (further_words (rest_of rest))) refl) refl
 
-abbrev AreForms : List Row → Type 0
+abbrev AreForms : List CommandRow → Type 0
 AreForms [] = Unit {0}
 AreForms (r ∷ rs) = ((rest : List ℕ) → wants (r.meaning rest) ≡ false) × AreForms rs
 
@@ -174,7 +174,7 @@ forms = (
   ),
 )
 
-row_form : (rs : List Row) (word rest : List ℕ) → AreForms rs → wants (meaning_at rs word rest) ≡ false
+row_form : (rs : List CommandRow) (word rest : List ℕ) → AreForms rs → wants (meaning_at rs word rest) ≡ false
 row_form [] word rest all = refl
 row_form (r ∷ rs) word rest all = if_form (bytes_eq word r.word) _ _ (all.0 rest) (row_form rs word rest all.1)
 

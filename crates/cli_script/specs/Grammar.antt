@@ -15,16 +15,16 @@ use Rattle.cli_script.specs.declared.line.Setting.TheVariants as setting
 use Rattle.cli_script.specs.declared.line.Action.TheVariants as action
 
 -- a row: the first word of a line, and what the text after its space means
-pub record Row : Type 0 where
+pub record CommandRow : Type 0 where
   pub word : List ℕ
   pub meaning : List ℕ → Meaning
 
-abbrev pub row : List ℕ → (List ℕ → Meaning) → Row
+abbrev pub row : List ℕ → (List ℕ → Meaning) → CommandRow
 row word meaning = record { word = word; meaning = meaning }
 
 -- the grammar of actions: those on the journal and the whole, those that show something, and those of the queue and
 -- of sessions
-abbrev pub whole_rows : List Row
+abbrev pub whole_rows : List CommandRow
 whole_rows = row (codes "release") (bare_line action.Release refusal.Release)
     ∷ row (codes "ack") (λ rest. ack_line (cut_at 32 rest))
     ∷ row (codes "write") write_line
@@ -33,14 +33,14 @@ whole_rows = row (codes "release") (bare_line action.Release refusal.Release)
     ∷ row (codes "auto") (bare_line action.Auto refusal.Auto)
     ∷ []
 
-abbrev pub query_rows : List Row
+abbrev pub query_rows : List CommandRow
 query_rows = row (codes "where") (number_line action.Where refusal.Where)
     ∷ row (codes "rest") (number_line action.Rest refusal.Rest)
     ∷ row (codes "saved") (number_line action.Saved refusal.Saved)
     ∷ row (codes "calls") (name_line action.Calls refusal.Calls)
     ∷ whole_rows
 
-abbrev pub action_rows : List Row
+abbrev pub action_rows : List CommandRow
 action_rows = row (codes "offer") offer_line
     ∷ row (codes "take") (number_line action.Take refusal.Take)
     ∷ row (codes "call") (number_line action.Call refusal.Call)
@@ -50,7 +50,7 @@ action_rows = row (codes "offer") offer_line
     ∷ query_rows
 
 -- the grammar: settings, then actions
-abbrev pub rows : List Row
+abbrev pub rows : List CommandRow
 rows = row (codes "retries") (λ rest. meant (λ n. line.Setting (setting.Retries n)) (number_or refusal.Retries rest))
     ∷ row (codes "sessions") (λ rest. meant (λ n. line.Setting (setting.Sessions n)) (number_or refusal.Sessions rest))
     ∷ row (codes "flow") flow_line
@@ -60,7 +60,7 @@ rows = row (codes "retries") (λ rest. meant (λ n. line.Setting (setting.Retrie
     ∷ row (codes "restore") restore_line
     ∷ action_rows
 
-abbrev pub meaning_at : List Row → List ℕ → List ℕ → Meaning
+abbrev pub meaning_at : List CommandRow → List ℕ → List ℕ → Meaning
 meaning_at [] word rest = Err refusal.Command
 meaning_at (r ∷ rs) word rest = if bytes_eq word r.word then r.meaning rest else meaning_at rs word rest
 

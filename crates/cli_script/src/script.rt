@@ -146,8 +146,8 @@ pub struct Opening {
     pub replies: Replies,
 }
 
-/// Opens the settings of a prompt over the flow of a flow file, if there is one: checks the flow that they state. `line`
-/// is the number of the line at which this is done, which a refused flow names.
+/// Opens the settings of a prompt over the flow of a flow file, if there is one: checks the flow that they state.
+/// `line` is the number of the line at which this is done, which a refused flow names.
 pub fn open_settings(
     alloc: Global,
     file: Option<Flow>,

@@ -7,7 +7,7 @@ use Rattle.tx_plant.specs.declared.turn.Outcome.{Outcome}
 use Rattle.tx_plant.specs.declared.turn.Outcome.TheVariants as outcome
 use Rattle.tx_engine.specs.World.{World}
 use Rattle.tx_trace.specs.Trace.{Text}
-use Rattle.cli_step.specs.Said.{said, whole_line}
+use Rattle.cli_step.specs.TurnLines.{turn_line, whole_line}
 use Rattle.cli_step.specs.Auto.{AreAccepted, Round, Rounds, Then, ToEnd, is_accepted, is_idle, is_refused, quiet_text, step_text}
 use Rattle.cli_step.specs.Doing.{Adds, Point}
 
@@ -89,7 +89,7 @@ on_err (Err e) f holds = f holds
 pub idle_text : (w : World) (o : Outcome) → is_idle o ≡ true → [] ≡ step_text w o
 idle_text w o idle = rw idle refl
 
-pub told_text : (w : World) (o : Outcome) → is_idle o ≡ false → whole_line (said w 0 o) ≡ step_text w o
+pub told_text : (w : World) (o : Outcome) → is_idle o ≡ false → whole_line (turn_line w 0 o) ≡ step_text w o
 told_text w o idle = rw idle refl
 
 pub still_text : (w : World) (o : Outcome) → is_refused o ≡ false → [] ≡ quiet_text w o

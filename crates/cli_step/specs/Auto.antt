@@ -7,7 +7,7 @@ use Rattle.tx_plant.specs.declared.turn.Turn.{Turn}
 use Rattle.tx_plant.specs.declared.turn.Turn.TheVariants as turn
 use Rattle.tx_trace.specs.Trace.{Text}
 use Rattle.cli_step.specs.Doing.{Does, Point, world_of}
-use Rattle.cli_step.specs.Said.{said, whole_line}
+use Rattle.cli_step.specs.TurnLines.{turn_line, whole_line}
 
 abbrev pub is_refused : Outcome → Bool
 is_refused (outcome.Refused e) = true
@@ -23,11 +23,11 @@ is_idle _ = false
 
 -- the lines of a step: that of every outcome but an idle session
 abbrev pub step_text : World → Outcome → Text
-step_text w o = if is_idle o then [] else whole_line (said w 0 o)
+step_text w o = if is_idle o then [] else whole_line (turn_line w 0 o)
 
 -- the lines of every other turn: a refusal alone
 abbrev pub quiet_text : World → Outcome → Text
-quiet_text w o = if is_refused o then whole_line (said w 0 o) else []
+quiet_text w o = if is_refused o then whole_line (turn_line w 0 o) else []
 
 abbrev pub Quietly : Turn → Point → Text → Point → Type 0
 Quietly t p text q = (o : Outcome) × Does t o p q × (text ≡ quiet_text (world_of q) o)

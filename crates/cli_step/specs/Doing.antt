@@ -20,7 +20,7 @@ use Rattle.tx_plant.specs.Steps.{Moved}
 use Rattle.tx_trace.specs.Follow.{count_of}
 use Rattle.tx_trace.specs.declared.tracer.Tracer.{Tracer}
 use Rattle.tx_trace.specs.Trace.{Text}
-use Rattle.cli_step.specs.Said.{said, whole_line}
+use Rattle.cli_step.specs.TurnLines.{turn_line, whole_line}
 
 -- the offer of a context with these entries
 abbrev pub offer_of : List Put → Turn
@@ -68,7 +68,7 @@ Does t o p q = (m : List Moved) × Turned t (Ok o) m p.plant q.plant × (q.names
 
 -- the turn was done, and this is the line of what came of it
 abbrev pub Says : Turn → ℕ → Point → Text → Point → Type 0
-Says t s p text q = (o : Outcome) × Does t o p q × (text ≡ whole_line (said (world_of q) s o))
+Says t s p text q = (o : Outcome) × Does t o p q × (text ≡ whole_line (turn_line (world_of q) s o))
 
 -- such a text was added
 abbrev pub Adds : (Text → Type 0) → Text → Text → Type 0

@@ -1,5 +1,5 @@
 pub mod Places
-pub mod Said
+pub mod TurnLines
 pub mod Doing
 pub mod Shown
 pub mod Auto

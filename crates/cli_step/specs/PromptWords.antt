@@ -7,7 +7,7 @@ use Rattle.tx_history.specs.History.{queue, shelf}
 use Rattle.tx_history.specs.Journal.{entries}
 use Rattle.tx_engine.specs.World.{World}
 use Rattle.tx_trace.specs.Trace.{Text}
-use Rattle.cli_step.specs.Said.{place_of, where_line, whole_line}
+use Rattle.cli_step.specs.TurnLines.{place_now, where_line, whole_line}
 use Rattle.cli_step.specs.declared.prompt_words.PromptWord.{PromptWord}
 use Rattle.cli_step.specs.declared.prompt_words.PromptWord.TheVariants as word
 use Rattle.cli_step.specs.declared.prompt_words.TheConstants.{HELP}
@@ -27,7 +27,7 @@ each_session text (suc n) = each_session text n ++ text n
 
 -- `session S at step N`, where the session's transaction stands at a numbered step
 abbrev pub step_line : World → ℕ → Option Text
-step_line w s = option_map (λ n. codes "session " ++ decimal s ++ codes " at step " ++ decimal n) (option_and_then (λ p. p.step) (place_of w s))
+step_line w s = option_map (λ n. codes "session " ++ decimal s ++ codes " at step " ++ decimal n) (option_and_then (λ p. p.step) (place_now w s))
 
 -- `list`: the image of the flow, and at which of its steps the sessions stand
 abbrev pub list_text : World → Text

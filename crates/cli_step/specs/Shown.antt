@@ -12,7 +12,7 @@ use Rattle.tx_engine.specs.declared.error.EngineError.{EngineError}
 use Rattle.tx_trace.specs.Trace.{Text}
 use Rattle.cli_step.specs.Doing.{Point, world_of}
 use Rattle.cli_step.specs.Places.{calls_text, rest_text, saved_text}
-use Rattle.cli_step.specs.Said.{refusal_name, where_line, whole_line}
+use Rattle.cli_step.specs.TurnLines.{refusal_name, where_line, whole_line}
 
 -- the line of `saved S`, by what the engine keeps of the session's transaction: the bytes of a context, whose entries
 -- are shown

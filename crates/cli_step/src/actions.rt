@@ -7,8 +7,8 @@ ghost use Rattle.cli_step.specs.Runs.{Acts, IsLeft};
 
 use crate::auto::auto;
 use crate::error::ActionError;
-use crate::said::say;
 use crate::shown::show;
+use crate::turn_lines::push_turn;
 use crate::turns::do_turn;
 use cli_script::Action;
 use sqlite::Alter;
@@ -78,7 +78,7 @@ fn run_turn<S: Alter>(
     ensures follows { OnOk result (Follows plant.new.running.engine tracer.new) }
 {
     let outcome = do_turn(alloc, plant, tracer, turn)?;
-    say(alloc, plant.engine(), tracer, s, &outcome, text)
+    push_turn(alloc, plant.engine(), tracer, s, &outcome, text)
 }
 
 /// Runs a line, and adds what it prints. A line that is a turn does that turn, and the line of what came

@@ -7,7 +7,7 @@ ghost use Rattle.cli_step.specs.Auto.{Autos, Quietly, Round, ToEnd, is_accepted,
 ghost use Rattle.cli_step.specs.Doing.{Adds, point_of};
 
 use crate::error::ActionError;
-use crate::said::say;
+use crate::turn_lines::push_turn;
 use crate::turns::do_turn;
 use sqlite::Alter;
 use std::alloc::Global;
@@ -55,7 +55,7 @@ fn quiet_turn<S: Alter>(
     if !is_refused(&outcome) {
         return Ok(());
     }
-    say(alloc, plant.engine(), tracer, 0, &outcome, text)
+    push_turn(alloc, plant.engine(), tracer, 0, &outcome, text)
 }
 
 // Writes all, and makes the due call of session 0; whether there may be more to do.
@@ -78,7 +78,7 @@ fn auto_step<S: Alter>(
     if is_idle(&outcome) {
         return Ok(false);
     }
-    say(alloc, plant.engine(), tracer, 0, &outcome, text)?;
+    push_turn(alloc, plant.engine(), tracer, 0, &outcome, text)?;
     Ok(is_accepted(&outcome))
 }
 

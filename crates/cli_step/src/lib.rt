@@ -15,13 +15,13 @@ mod opening;
 mod places;
 mod prompt;
 mod prompt_words;
-mod said;
 mod script;
 mod shown;
+mod turn_lines;
 mod turns;
 
 pub use actions::turn_of;
 pub use error::StepError;
 pub use opening::run_prompted;
-pub use said::told;
 pub use script::{run_actions, run_lines};
+pub use turn_lines::outcome_line;

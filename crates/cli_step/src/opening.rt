@@ -190,8 +190,8 @@ fn open_over<R: Read, W: Write, E: Write>(
     )
 }
 
-// Opens the flow that the settings state, and answers a line and then all that are still to come; or reports why the flow
-// is not opened. Returns whether it is.
+// Opens the flow that the settings state, and answers a line and then all that are still to come; or reports why the
+// flow is not opened. Returns whether it is.
 fn open_or_tell<R: Read, W: Write, E: Write>(
     alloc: Global,
     file: &Option<Code>,

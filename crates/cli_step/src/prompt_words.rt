@@ -4,11 +4,11 @@ ghost use Rattle.std.specs.Prelude.{◌≡◌, ◌++◌, Some, IfOk, OnOk, optio
 ghost use Rattle.cli_script.specs.Scripts.{line_of};
 ghost use Rattle.cli_step.specs.PromptWords.{each_session, info_text, list_text, prompt_word_of};
 ghost use Rattle.cli_step.specs.PromptWords.{prompt_word_text, session_line, step_line, totals_line};
-ghost use Rattle.cli_step.specs.Said.{whole_line};
+ghost use Rattle.cli_step.specs.TurnLines.{whole_line};
 ghost use Rattle.cli_step.specs.Totals.{entry_count, totals_text};
 
-use crate::said::where_line;
 use crate::shown::push_line;
+use crate::turn_lines::where_line;
 use cli_lines::line_end;
 use flow_load::image;
 use std::alloc::{AllocError, Global};

@@ -8,12 +8,12 @@ ghost use Rattle.tx_engine.specs.Calls.{rest_of};
 ghost use Rattle.tx_trace.specs.Trace.{hex_text};
 ghost use Rattle.cli_step.specs.Doing.{Adds, point_of};
 ghost use Rattle.cli_step.specs.Places.{calls_text, entry_text, put_text, rest_text, saved_text};
-ghost use Rattle.cli_step.specs.Said.{whole_line};
+ghost use Rattle.cli_step.specs.TurnLines.{whole_line};
 ghost use Rattle.cli_step.specs.Shown.{IsSavedLine, IsShown, Shows, calls_made};
 
 use crate::error::ActionError;
 use crate::places::CallsText;
-use crate::said::{refusal_name, where_line};
+use crate::turn_lines::{refusal_name, where_line};
 use cli_script::Action;
 use sqlite::Alter;
 use std::alloc::{AllocError, Global};

@@ -74,8 +74,8 @@ pub fn check(bytes: &[u8]) -> Result<Mti, DecodeError>
     Ok(mti)
 }
 
-/// The type of the message that the bytes spell, `None` where they spell none. The bytes are looked over, which takes no
-/// memory.
+/// The type of the message that the bytes spell, `None` where they spell none. The bytes are looked over, which
+/// takes no memory.
 pub fn type_in(bytes: &[u8]) -> Option<Mti>
     ensures { result ≡ type_of (read bytes.now) }
 {

@@ -55,7 +55,7 @@ fn read_fixed<'a>(
     Ok(rest)
 }
 
-fn read_behind_length<'a>(
+fn read_after_length<'a>(
     alloc: Global,
     content: Content,
     length_digits: u16,
@@ -116,7 +116,7 @@ fn read_field<'a>(
                 max_length,
             },
         ) => {
-            read_behind_length(
+            read_after_length(
                 alloc,
                 content,
                 length_digits,

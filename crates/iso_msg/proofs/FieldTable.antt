@@ -10,7 +10,7 @@ use Rattle.iso_msg.specs.declared.table.Form.{Form}
 use Rattle.iso_msg.specs.declared.table.Form.TheVariants.{Fixed, Variable, Binary}
 use Rattle.std.specs.Prelude.{option_map}
 use Rattle.iso_msg.specs.declared.table.Definition.{Definition}
-use Rattle.iso_msg.specs.Table.{Row, form_of, rows, definition_in, definition_of, definitions, IsForm, IsKnown}
+use Rattle.iso_msg.specs.Table.{FieldRow, form_of, rows, definition_in, definition_of, definitions, IsForm, IsKnown}
 
 pub definitions_at : (k n i : ℕ) → i < k → get_or (definitions n k) i None ≡ definition_of (n + i)
 definitions_at zero n i h = absurd (omega arith)
@@ -25,14 +25,14 @@ is_form Binary = true
 abbrev is_row : ℕ → Form → Bool
 is_row n f = ltb 1 n && ltb n 129 && is_form f
 
-rows_are : list_all (λ (r : Row). is_row r.0 r.2) rows ≡ true
+rows_are : list_all (λ (r : FieldRow). is_row r.0 r.2) rows ≡ true
 unfolding rows
 rows_are = refl
 
-row_is : (rs : List Row) (n : ℕ) (d : Definition) → list_all (λ (r : Row). is_row r.0 r.2) rs ≡ true → definition_in n rs ≡ Some d → is_row n d.form ≡ true
+row_is : (rs : List FieldRow) (n : ℕ) (d : Definition) → list_all (λ (r : FieldRow). is_row r.0 r.2) rs ≡ true → definition_in n rs ≡ Some d → is_row n d.form ≡ true
 row_is [] n d h e = absurd cc
 row_is (r ∷ rs) n d h e =
-    let p = and_both (is_row r.0 r.2) (list_all (λ (r : Row). is_row r.0 r.2) rs) h in
+    let p = and_both (is_row r.0 r.2) (list_all (λ (r : FieldRow). is_row r.0 r.2) rs) h in
     let made : Definition = record { name = r.1; form = r.2 } in
     elim (chosen (eqb r.0 n) (Some made) (definition_in n rs) (Some d) e) [
       | inl w ↦ let k : r.0 ≡ n = eqb-true _ _ w.0 in let g : made ≡ d = some_is made d w.1 in

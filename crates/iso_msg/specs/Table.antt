@@ -21,8 +21,8 @@ use Rattle.iso_msg.specs.declared.table.Form.{Form}
 use Rattle.iso_msg.specs.declared.table.Form.TheVariants.{Fixed, Variable, Binary}
 use Rattle.iso_msg.specs.declared.table.Content.TheVariants.{Numeric, Printable}
 
-abbrev pub Row : Type 0
-Row = ℕ × FieldName × Form
+abbrev pub FieldRow : Type 0
+FieldRow = ℕ × FieldName × Form
 
 -- The forms as the standard writes them: so many digits (n) or characters (ans), at most so many after two
 -- digits of length (LLVAR) or three (LLLVAR), and 64 bits (b).
@@ -44,7 +44,7 @@ ans_lllvar most = Variable Printable 3 most
 abbrev b64 : Form
 b64 = Binary
 
-unfoldable pub rows : List Row
+unfoldable pub rows : List FieldRow
 rows =
     (2, PrimaryAccountNumber, n_llvar 19) ∷
     (3, ProcessingCode, n 6) ∷
@@ -102,7 +102,7 @@ rows =
     []
 
 -- the definition of a number in the first row that has it
-abbrev pub definition_in : ℕ → List Row → Option Definition
+abbrev pub definition_in : ℕ → List FieldRow → Option Definition
 definition_in n [] = None
 definition_in n (row ∷ others) =
     if row.0 == n then Some (record { name = row.1; form = row.2 }) else definition_in n others

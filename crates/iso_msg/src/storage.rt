@@ -12,7 +12,7 @@ use crate::field::Field;
 use std::alloc::{AllocError, Global};
 
 /// Where a number is, or else where it has to go.
-fn place(fields: &[Field], number: u8) -> Result<usize, usize>
+fn index_of(fields: &[Field], number: u8) -> Result<usize, usize>
     requires { AreFields 1 (pairs fields.now) }
     ensures { result ≡ field_index number (pairs fields.now) }
 {
@@ -31,7 +31,7 @@ fn is_above(fields: &[Field], number: u8) -> bool
     }
 }
 
-fn put_behind(fields: &mut Vec<Field>, number: u8, value: Vec<u8>) -> Result<(), MessageError>
+fn put_last(fields: &mut Vec<Field>, number: u8, value: Vec<u8>) -> Result<(), MessageError>
     ensures ok { OnOk result (pairs fields.new.items
         ≡ pairs fields.old.items ++ (number, value.items) ∷ []) }
     ensures err { OnErr result (fields.new.items ≡ fields.old.items) }
@@ -48,7 +48,7 @@ fn put_among(fields: &mut Vec<Field>, number: u8, value: Vec<u8>) -> Result<(), 
     ensures err { OnErr result (fields.new.items ≡ fields.old.items) }
     ensures memory { IfErr result (λ e. e ≡ OutOfMemory) }
 {
-    match place(fields, number) {
+    match index_of(fields, number) {
         Ok(i) => fields[i] = Field { number, value },
         Err(i) => fields.insert(i, Field { number, value })?,
     }
@@ -64,7 +64,7 @@ pub fn put(fields: &mut Vec<Field>, number: u8, value: Vec<u8>) -> Result<(), Me
     ensures memory { IfErr result (λ e. e ≡ OutOfMemory) }
 {
     if is_above(fields, number) {
-        put_behind(fields, number, value)
+        put_last(fields, number, value)
     } else {
         put_among(fields, number, value)
     }
@@ -75,7 +75,7 @@ pub fn get(fields: &[Field], number: u8) -> Option<&[u8]>
     ensures value { option_map (λ v. v.now) result ≡ value_at number (pairs fields.now) }
     ensures fits { IfSome result (λ v. refusal number v.now ≡ None) }
 {
-    match place(fields, number) {
+    match index_of(fields, number) {
         Ok(i) => Some(&fields[i].value),
         Err(_) => None,
     }
@@ -86,7 +86,7 @@ pub fn take(fields: &mut Vec<Field>, number: u8) -> Option<Vec<u8>>
     ensures value { option_map (λ v. v.items) result ≡ value_at number (pairs fields.old.items) }
     ensures others { pairs fields.new.items ≡ without number (pairs fields.old.items) }
 {
-    match place(fields, number) {
+    match index_of(fields, number) {
         Ok(i) => {
             let field = fields.remove(i);
             Some(field.value)

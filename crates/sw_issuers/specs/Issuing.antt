@@ -6,7 +6,7 @@ use Rattle.std.specs.Coded.{coded_bool, coded_ℕ, coded_list, coded×}
 use Rattle.iso_msg.specs.Messages.{PlainMessage, value_at}
 use Rattle.iso_codec.specs.Spelling.{spelling}
 use Rattle.sw_participant.specs.Shown.{shown}
-use Rattle.sw_messages.specs.Placing.{placed, copied}
+use Rattle.sw_messages.specs.Placing.{with_field, copied}
 use Rattle.sw_messages.specs.Requests.{message_of, is_authorization}
 use Rattle.sw_issuers.specs.declared.verdict.Verdict.{Verdict}
 use Rattle.sw_issuers.specs.declared.verdict.Verdict.TheVariants.{Approved, Refused, Silent}
@@ -20,14 +20,14 @@ copied_numbers = 2 ∷ 3 ∷ 4 ∷ 7 ∷ 11 ∷ 41 ∷ 49 ∷ []
 abbrev pub response : List ℕ → List ℕ → PlainMessage → PlainMessage
 response mti code m = record {
   mti = mti;
-  fields = placed 39 (Some code) (copied copied_numbers m.fields []);
+  fields = with_field 39 (Some code) (copied copied_numbers m.fields []);
 }
 
 -- an approval: code 00, and the STAN as approval code
 abbrev pub approval : PlainMessage → PlainMessage
 approval m = record {
   mti = codes "0110";
-  fields = placed 38 (value_at 11 m.fields) (response (codes "0110") (codes "00") m).fields;
+  fields = with_field 38 (value_at 11 m.fields) (response (codes "0110") (codes "00") m).fields;
 }
 
 -- by the last two digits of the amount

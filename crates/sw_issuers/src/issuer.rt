@@ -10,7 +10,7 @@ use iso_codec::{DecodeError, decode, encode};
 use iso_msg::{Message, Mti};
 use std::alloc::Global;
 use std::collections::VecDeque;
-use sw_messages::{copy_fields, place};
+use sw_messages::{copy_fields, put_field};
 use sw_participant::{Bytes, NoMemory};
 use sw_parts::Link;
 
@@ -51,7 +51,7 @@ fn response(
     };
     let mut response = Message::new(alloc, mti);
     copy_fields(alloc, &COPIED, request, &mut response)?;
-    place(alloc, &mut response, 39, Some(code))?;
+    put_field(alloc, &mut response, 39, Some(code))?;
     Ok(response)
 }
 
@@ -59,7 +59,7 @@ fn approval(alloc: Global, request: &Message) -> Result<Message, NoMemory>
     ensures { IfOk result (λ m. m ≡ approval request.now) }
 {
     let mut approval = response(alloc, b"0110", b"00", request)?;
-    place(alloc, &mut approval, 38, request.get(11))?;
+    put_field(alloc, &mut approval, 38, request.get(11))?;
     Ok(approval)
 }
 

@@ -3,7 +3,7 @@ use Rattle.std.specs.Prelude.{ℕ, ◌+◌, ◌%◌, Bool, ◌==◌, List, [], �
 use Rattle.iso_msg.specs.Messages.{PlainMessage}
 use Rattle.sw_context.specs.Pairs.{Pairs, find}
 use Rattle.sw_messages.specs.declared.response_code.ResponseCode.{ResponseCode}
-use Rattle.sw_messages.specs.Placing.{placed, copied}
+use Rattle.sw_messages.specs.Placing.{with_field, copied}
 use Rattle.sw_messages.specs.Requests.{digits_of}
 
 -- what a response has from its request
@@ -25,8 +25,8 @@ abbrev pub response_to : PlainMessage → ResponseCode → Pairs → PlainMessag
 response_to m default x = record {
   mti = response_type m.mti;
   fields =
-      placed 39 (find (codes "rc") x)
-      (placed 39 (Some (digits_of default))
-      (placed 38 (find (codes "auth") x)
+      with_field 39 (find (codes "rc") x)
+      (with_field 39 (Some (digits_of default))
+      (with_field 38 (find (codes "auth") x)
       (copied copied_numbers m.fields [])));
 }

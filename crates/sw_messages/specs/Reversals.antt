@@ -2,7 +2,7 @@
 use Rattle.std.specs.Prelude.{ℕ, ◌-◌, List, [], ◌∷◌, ◌++◌, length, replicate, codes}
 use Rattle.std.specs.Prelude.{Option, Some, None}
 use Rattle.iso_msg.specs.Messages.{PlainMessage, value_at}
-use Rattle.sw_messages.specs.Placing.{placed, copied}
+use Rattle.sw_messages.specs.Placing.{with_field, copied}
 
 -- a value with zeros in front of it, so that there are so many; all zeros where there is none
 abbrev pub zeros_before : ℕ → Option (List ℕ) → List ℕ
@@ -24,5 +24,5 @@ reversal_numbers = 2 ∷ 3 ∷ 4 ∷ 7 ∷ 11 ∷ 12 ∷ 13 ∷ 32 ∷ 37 ∷ 41
 abbrev pub reversal_of : PlainMessage → PlainMessage
 reversal_of m = record {
   mti = codes "0420";
-  fields = placed 90 (Some (original_data m)) (copied reversal_numbers m.fields []);
+  fields = with_field 90 (Some (original_data m)) (copied reversal_numbers m.fields []);
 }

@@ -4,7 +4,7 @@ ghost use Rattle.std.specs.Prelude.{◌≡◌, IfOk};
 ghost use Rattle.iso_codec.specs.Spelling.{spelling};
 ghost use Rattle.sw_messages.specs.Advices.{authorization_advice, reversal_advice};
 
-use crate::build::{encode_as, place};
+use crate::build::{encode_as, put_field};
 use crate::notes::{APPROVAL, CODE};
 use iso_msg::Message;
 use std::alloc::Global;
@@ -22,8 +22,8 @@ pub fn authorization_advice(
         bytes ≡ spelling (authorization_advice request.now context.now)) }
 {
     let mut advice = request.copy(alloc)?;
-    place(alloc, &mut advice, 38, context.get(APPROVAL))?;
-    place(alloc, &mut advice, 39, context.get(CODE))?;
+    put_field(alloc, &mut advice, 38, context.get(APPROVAL))?;
+    put_field(alloc, &mut advice, 39, context.get(CODE))?;
     Ok(Bytes::new(encode_as(alloc, b"0120", &advice)?))
 }
 

@@ -2,7 +2,7 @@
 
 ghost use Rattle.std.specs.Prelude.{◌≡◌, ◌+◌, ◌≤◌, length, IfOk, OnOk, option_map};
 ghost use Rattle.iso_codec.specs.Spelling.{spelling};
-ghost use Rattle.sw_messages.specs.Placing.{placed, copied, put_at};
+ghost use Rattle.sw_messages.specs.Placing.{with_field, copied, put_at};
 
 use iso_codec::encode;
 use iso_msg::{Message, MessageError};
@@ -10,7 +10,7 @@ use std::alloc::{AllocError, Global};
 use sw_participant::NoMemory;
 
 /// Puts a value, if there is one and its field takes it.
-pub fn place(
+pub fn put_field(
     alloc: Global,
     message: &mut Message,
     number: u8,
@@ -18,7 +18,7 @@ pub fn place(
 ) -> Result<(), NoMemory>
     ensures { OnOk result (message.new ≡ record {
       mti = message.old.mti;
-      fields = placed number (option_map (λ v. v.now) value.entry) message.old.fields;
+      fields = with_field number (option_map (λ v. v.now) value.entry) message.old.fields;
     }) }
 {
     let Some(value) = value else {
@@ -43,7 +43,7 @@ pub fn copy_fields(
     }) }
 {
     for number in numbers {
-        place(alloc, to, *number, from.get(*number))?;
+        put_field(alloc, to, *number, from.get(*number))?;
     }
     Ok(())
 }

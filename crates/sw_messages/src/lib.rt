@@ -24,7 +24,7 @@ mod reversal;
 
 pub use advices::{authorization_advice, reversal_advice};
 pub use amount::amount_of;
-pub use build::{copy_fields, place, put_part};
+pub use build::{copy_fields, put_field, put_part};
 pub use class::{Class, class_of};
 pub use faults::fault_of;
 pub use notes::{

@@ -3,7 +3,7 @@
 ghost use Rattle.std.specs.Prelude.{◌≡◌, IfOk, IfSome, is_none};
 ghost use Rattle.sw_messages.specs.Responses.{response_type, is_response, response_to};
 
-use crate::build::{copy_fields, place};
+use crate::build::{copy_fields, put_field};
 use crate::notes::{APPROVAL, CODE};
 use crate::response_code::ResponseCode;
 use iso_msg::{Message, Mti};
@@ -29,9 +29,9 @@ pub fn response_to(
 {
     let mut response = Message::new(alloc, mti);
     copy_fields(alloc, &COPIED, request, &mut response)?;
-    place(alloc, &mut response, 38, context.get(APPROVAL))?;
-    place(alloc, &mut response, 39, Some(default.digits()))?;
-    place(alloc, &mut response, 39, context.get(CODE))?;
+    put_field(alloc, &mut response, 38, context.get(APPROVAL))?;
+    put_field(alloc, &mut response, 39, Some(default.digits()))?;
+    put_field(alloc, &mut response, 39, context.get(CODE))?;
     Ok(response)
 }
 

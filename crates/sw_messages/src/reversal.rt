@@ -3,7 +3,7 @@
 ghost use Rattle.std.specs.Prelude.{◌≡◌, ◌++◌, ◌≤◌, replicate, IfOk, OnOk, option_map};
 ghost use Rattle.sw_messages.specs.Reversals.{zeros_before, original_data, reversal_of};
 
-use crate::build::{copy_fields, place};
+use crate::build::{copy_fields, put_field};
 use iso_msg::{Message, Mti};
 use std::alloc::{AllocError, Global};
 use sw_participant::NoMemory;
@@ -55,6 +55,6 @@ pub fn reversal_of(alloc: Global, request: &Message) -> Result<Message, NoMemory
     let mut reversal = Message::new(alloc, mti);
     copy_fields(alloc, &COPIED, request, &mut reversal)?;
     let original = original_data(alloc, request)?;
-    place(alloc, &mut reversal, 90, Some(&original))?;
+    put_field(alloc, &mut reversal, 90, Some(&original))?;
     Ok(reversal)
 }

@@ -19,4 +19,4 @@ mod mux;
 
 pub use error::MuxError;
 pub use key::{Key, key_of};
-pub use mux::{Mux, Outcome};
+pub use mux::{Mux, Response};

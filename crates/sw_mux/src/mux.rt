@@ -23,7 +23,7 @@ use std::marker::Model;
 
 /// What a message from the other side is.
 #[derive(Drop)]
-pub enum Outcome {
+pub enum Response {
     /// The response to the request with this key, which waits no more.
     Matched(Key, Message),
     /// The response to nothing that waits.
@@ -148,16 +148,16 @@ impl Mux {
     /// Takes a message from the other side: `Matched` exactly where its key waits, which then
     /// waits no more; a second response with the key is `Unhandled`. It takes no memory. A
     /// message of a request's type has the request's own key, and is matched too.
-    pub fn response(&mut self, message: Message) -> Outcome
+    pub fn response(&mut self, message: Message) -> Response
         ensures { Answers message self.old result self.new }
     {
         let Some(key) = key_of(&message) else {
-            return Outcome::Unhandled(message);
+            return Response::Unhandled(message);
         };
         if !self.take(&key) {
-            return Outcome::Unhandled(message);
+            return Response::Unhandled(message);
         }
-        Outcome::Matched(key, message)
+        Response::Matched(key, message)
     }
 
     /// Takes one key out, and changes nothing where it does not wait. It takes no memory.

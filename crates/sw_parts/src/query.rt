@@ -17,7 +17,7 @@ use sw_context::Context;
 use sw_messages::{
     APPROVAL, CODE, Class, LATE, REQUEST, ResponseCode, SENT, note, note_code, request_in,
 };
-use sw_mux::{Key, Mux, MuxError, Outcome};
+use sw_mux::{Key, Mux, MuxError, Response};
 use sw_participant::{NoMemory, Text, Unjoined};
 
 /// The message of these bytes, where it has the key that waits.
@@ -39,8 +39,8 @@ fn answer_in<M: Memory>(
         return Ok(None);
     };
     match mux.response(message) {
-        Outcome::Matched(_, answer) => Ok(Some(answer)),
-        Outcome::Unhandled(_) => Ok(None),
+        Response::Matched(_, answer) => Ok(Some(answer)),
+        Response::Unhandled(_) => Ok(None),
     }
 }
 

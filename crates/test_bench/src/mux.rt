@@ -5,7 +5,7 @@ use iso_codec::decode;
 use iso_msg::Message;
 use std::alloc::Global;
 use std::collections::{HashMap, VecDeque};
-use sw_mux::{Key, Mux, Outcome, key_of};
+use sw_mux::{Key, Mux, Response, key_of};
 
 const REQUEST: &[u8] = b"01000020000000800000000000TERM0001";
 
@@ -41,8 +41,8 @@ impl Waiting {
     fn response(&mut self, message: Message) -> Result<Message, &'static str> {
         match self {
             Waiting::Mux(mux) => match mux.response(message) {
-                Outcome::Matched(_, message) => Ok(message),
-                Outcome::Unhandled(_) => Err("a response was not matched"),
+                Response::Matched(_, message) => Ok(message),
+                Response::Unhandled(_) => Err("a response was not matched"),
             },
             Waiting::Map(map) => {
                 let Some(key) = key_of(&message) else {

@@ -16,10 +16,10 @@
 //! - of each call, in the order in which they were made, `called S ID CALL NAME`,
 //! - of each transaction that is done `ended ID NAME=HEX ..`, the context that it ended with.
 //!
-//! `test_pool again FLOW SESSIONS OFFERS SEED` runs such a plant over so many offers, for tests that refuse it memory, and
-//! then over as many again. Where memory is refused before the first run it begins anew; where a run is given up, a new
-//! plant is made on what it left and recovers, and `given up` is printed. It prints the lines of the trace of the last plant,
-//! the stations' counts, and the calls that threads made, as above.
+//! `test_pool again FLOW SESSIONS OFFERS SEED` runs such a plant over so many offers, for tests that refuse it
+//! memory, and then over as many again. Where memory is refused before the first run it begins anew; where a run is
+//! given up, a new plant is made on what it left and recovers, and `given up` is printed. It prints the lines of the
+//! trace of the last plant, the stations' counts, and the calls that threads made, as above.
 #![tactic(auto)]
 
 mod again;

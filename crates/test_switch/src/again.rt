@@ -1,15 +1,15 @@
 //! A script whose turns are made again where memory is refused.
 //!
-//! The script is read, and its participants are made, before the first turn: a try of that which runs out of memory begins
-//! anew. Then a plant does the turns, each again where memory is refused. Only where it is refused to the journal's store a
-//! new plant goes on, over what the store has.
+//! The script is read, and its participants are made, before the first turn: a try of that which runs out of memory
+//! begins anew. Then a plant does the turns, each again where memory is refused. Only where it is refused to the
+//! journal's store a new plant goes on, over what the store has.
 
 ghost use Rattle.tx_plant.specs.Plant.{IsEngine};
 
 use crate::error::TestError;
 use cli_io::write_whole;
 use cli_script::{Actions, ScriptError, open_script};
-use cli_step::{told, turn_of};
+use cli_step::{outcome_line, turn_of};
 use flow_asm::{Code, assemble};
 use sqlite::{Connection, MemStore};
 use std::alloc::{AllocError, Global};
@@ -92,7 +92,7 @@ fn line_of(
             Some(text) => Ok(text),
             None => Ok(String::new(alloc)),
         },
-        other => told(alloc, engine, session, other),
+        other => outcome_line(alloc, engine, session, other),
     }
 }
 
@@ -259,9 +259,9 @@ fn is_memory(error: &TestError) -> bool {
     )
 }
 
-/// Does the turns of a script's lines over a journal in memory, and prints what comes of each. A turn that is refused for
-/// memory is done again. Where memory is refused to the journal's store, a new plant goes on over what the store has, and
-/// that is printed as a stop is.
+/// Does the turns of a script's lines over a journal in memory, and prints what comes of each. A turn that is
+/// refused for memory is done again. Where memory is refused to the journal's store, a new plant goes on over what
+/// the store has, and that is printed as a stop is.
 pub fn run_again<W: Write>(alloc: Global, script: &[u8], out: &mut W) -> Result<(), TestError> {
     let mut is_begun = false;
     for _ in 0..TRIES {

@@ -13,9 +13,9 @@
 //! opened again, the lines of the recovery, `left` with the journal after it, and after the lines of
 //! each plant `calls NAME COUNT` for each of its stations.
 //!
-//! `test_switch again < SCRIPT` does the turns of a script over a journal in memory, and prints what comes of each; a
-//! turn that is refused for memory is done again. Where memory is refused to the journal's store, a new plant goes on over
-//! what the store has, and `restart UNFINISHED` is printed, as of a stop.
+//! `test_switch again < SCRIPT` does the turns of a script over a journal in memory, and prints what comes of each;
+//! a turn that is refused for memory is done again. Where memory is refused to the journal's store, a new plant goes
+//! on over what the store has, and `restart UNFINISHED` is printed, as of a stop.
 //!
 //! `test_switch opened PATH` prints the layout of the journal in the file, opens it, and prints its view, or why it is
 //! refused: `layout N`, `next NEXTID`, and a line for each row, context on the shelf and advice.

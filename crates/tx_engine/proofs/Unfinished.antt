@@ -20,7 +20,7 @@ use Rattle.tx_slots.specs.declared.slot.Slot.{Slot}
 use Rattle.tx_slots.specs.declared.slot.Slot.TheVariants.{Free, Holding}
 use Rattle.tx_engine.specs.World.{World}
 use Rattle.tx_engine.specs.Calls.{unfinished, unfinished_in}
-use Rattle.tx_slots.specs.Rows.{behind}
+use Rattle.tx_slots.specs.Rows.{later_rows}
 use Rattle.tx_engine.specs.Kept.{Kept, Running, SlotIs}
 use Rattle.tx_engine.proofs.Keeps.{hold_holds, holds_is}
 
@@ -36,7 +36,7 @@ unfinished_none f (r ∷ rows) items h = by (is_ended f (after_newest f (reopene
 
 -- nothing was given to those after the one that is recovered
 all_behind : (f : Flow) (rows : List (ℕ × Row)) (items : ℕ → List Item) (id n m : ℕ) → Rising n m rows → id < n →
-    ((j : ℕ) → id < j → j < m → items j ≡ []) → unfinished_in f items rows ≡ behind f rows id
+    ((j : ℕ) → id < j → j < m → items j ≡ []) → unfinished_in f items rows ≡ later_rows f rows id
 all_behind f [] items id n m rise lt none = refl
 all_behind f (r ∷ rows) items id n m rise lt none =
     let lo = rise.0 in
@@ -47,9 +47,9 @@ all_behind f (r ∷ rows) items id n m rise lt none =
 
 unfinished_first_if : (f : Flow) (r : ℕ × Row) (rows : List (ℕ × Row)) (items : ℕ → List Item) (id n m : ℕ) → Rising n m (r ∷ rows) →
     ((j : ℕ) → id < j → j < m → items j ≡ [])
-    → (first_unfinished f rows items ≡ Some id → length (unfinished_in f items rows) ≡ length (behind f rows id) + 1)
+    → (first_unfinished f rows items ≡ Some id → length (unfinished_in f items rows) ≡ length (later_rows f rows id) + 1)
     → (b : Bool) → is_ended f (after_newest f (reopened f r.1) (items r.0)) ≡ b → (if b then first_unfinished f rows items else Some r.0) ≡ Some id
-    → length (unfinished_in f items (r ∷ rows)) ≡ length (behind f (r ∷ rows) id) + 1
+    → length (unfinished_in f items (r ∷ rows)) ≡ length (later_rows f (r ∷ rows) id) + 1
 unfinished_first_if f r rows items id n m rise none ih true e h =
     let w = found f rows items (r.0 + 1) m id rise.2 h in
     let within = look_within rows (r.0 + 1) m id w.row rise.2 w.there in
@@ -59,13 +59,13 @@ unfinished_first_if f r rows items id n m rise none ih true e h =
 unfinished_first_if f r rows items id n m rise none ih false e h =
     let same : r.0 ≡ id = grind (arith) in
     let below : nat_lt id r.0 ≡ false = grind (arith, nat_tests) in
-    let rest : unfinished_in f items rows ≡ behind f rows id = all_behind f rows items id (r.0 + 1) m rise.2 (omega arith) none in
+    let rest : unfinished_in f items rows ≡ later_rows f rows id = all_behind f rows items id (r.0 + 1) m rise.2 (omega arith) none in
     let len = ap (λ (l : List (ℕ × Row)). length l) rest in
     rw (e, below) (omega arith)
 
 unfinished_first : (f : Flow) (rows : List (ℕ × Row)) (items : ℕ → List Item) (id n m : ℕ) → Rising n m rows → ((j : ℕ) → id < j → j < m → items j ≡ []) →
     first_unfinished f rows items ≡ Some id
-    → length (unfinished_in f items rows) ≡ length (behind f rows id) + 1
+    → length (unfinished_in f items rows) ≡ length (later_rows f rows id) + 1
 unfinished_first f [] items id n m rise none h = absurd (cc)
 unfinished_first f (r ∷ rows) items id n m rise none h =
     unfinished_first_if f r rows items id n m rise none (λ e. unfinished_first f rows items id (r.0 + 1) m rise.2 none e)
@@ -88,7 +88,7 @@ none_unfinished u w es r k same h =
 
 -- session 0 holds the one that is recovered
 pub unfinished_held : (u w : World) (es : List Entry) (r : Running) (x : Slot) (h : Hold) → Kept u es r → u ≡ w → r.recovering ≡ true →
-    slice_get r.slots 0 ≡ Some x → x ≡ Holding h → length (behind u.flow u.start.view.rows h.id) + 1 ≡ unfinished w
+    slice_get r.slots 0 ≡ Some x → x ≡ Holding h → length (later_rows u.flow u.start.view.rows h.id) + 1 ≡ unfinished w
 unfinished_held u w es r x h k same busy at is =
     let b = is_recovering u.flow u.start u.past (recovering u.flow u.start u.past) refl (sym k.recovers ∙ busy) in
     let o = k.start.view.ordered in
@@ -96,7 +96,7 @@ unfinished_held u w es r x h k same busy at is =
     let who : Some b.0 ≡ Some h.id = sym (holds_recovered u.flow u.start u.past b.0 o b.1) ∙ hold_holds u.flow u.start u.past 0 h here in
     let one : b.0 ≡ h.id = grind (arith) in
     let first : recovering u.flow u.start u.past ≡ Some h.id = b.1 ∙ who in
-    subst (λ (z : World). length (behind u.flow u.start.view.rows h.id) + 1 ≡ unfinished z) same
+    subst (λ (z : World). length (later_rows u.flow u.start.view.rows h.id) + 1 ≡ unfinished z) same
     (sym (unfinished_first u.flow u.start.view.rows (own_items u.flow u.start u.past) h.id 1 u.start.view.next_id o.rows
     (λ j lo hi. later_none u.flow u.start u.past h.id j o k.past.lawful first lo hi) first))
 

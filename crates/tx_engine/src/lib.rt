@@ -5,9 +5,9 @@
 
 mod engine;
 mod error;
-mod prepared;
+mod offer;
 
 pub use engine::{Engine, TakenTx};
 pub use error::EngineError;
-pub use prepared::Offer;
+pub use offer::Offer;
 pub use tx_slots::{At, Next, reopened, restored_by};

@@ -1,5 +1,5 @@
 -- The stack: its top frame, and what a return does.
--- for: walk::leave, walk::enter, walk::settle
+-- for: walk::leave, walk::enter, walk::next_due
 use Rattle.std.proofs.Common.{◌≡◌, ℕ, suc, ◌+◌, ◌<◌, Bool, true, false, ◌⊎◌, ⊎_elim, List, [], ◌∷◌, ◌++◌, length, map, take, get_or, set, refl, sym, ap, ◌∙◌}
 use Rattle.std.proofs.Common.{subst, arith, append_assoc, if◌then◌else◌}
 use Rattle.std.specs.List.{All, remove}

@@ -1,5 +1,5 @@
 -- What is to come from a step on.
--- for: walk::look, walk::group_step, walk::last_step, walk::settle
+-- for: walk::look, walk::group_step, walk::last_step, walk::next_due
 use Rattle.std.proofs.Common.{◌≡◌, ℕ, suc, ◌+◌, ◌<◌, Bool, true, false, ⊎_elim, List, [], ◌∷◌, ◌++◌, length, map, drop, Some, refl, sym, ap, ◌∙◌, subst, arith}
 use Rattle.std.proofs.Common.{append_assoc, if◌then◌else◌}
 use Rattle.std.specs.Prelude.{slice_get}

@@ -17,7 +17,7 @@ use crate::places::{add_frames, add_steps, spot};
 use crate::rules::{MAX_CALLS, end_of, is_open, join, outcome_of, phase_after, retry_by, save};
 use crate::selection::{chosen_groups, end_step, main_step};
 use crate::values::{Due, Item, Phase};
-use crate::walk::{Frame, copy_frames, enter, look, settle};
+use crate::walk::{Frame, copy_frames, enter, look, next_due};
 use flow_asm::{Code, StepView};
 use std::alloc::{AllocError, Global};
 
@@ -86,7 +86,7 @@ impl Machine {
         ensures ready { IsReady code.now self.new }
     {
         let aborting = matches!(self.phase, Phase::Aborting);
-        self.step = settle(code, aborting, self.step, &mut self.stack);
+        self.step = next_due(code, aborting, self.step, &mut self.stack);
         self.limit(code);
         if self.is_over(code) && !self.joined.is_empty() {
             self.phase = outcome_of(self.phase);

@@ -117,7 +117,7 @@ pub(crate) fn enter(
 
 /// Goes on from a step to the next one where a call is due, or to the end. While aborting, calls of
 /// participants that are not abort-aware are passed over.
-pub(crate) fn settle(code: &Code, aborting: bool, from: usize, stack: &mut Vec<Frame>) -> usize
+pub(crate) fn next_due(code: &Code, aborting: bool, from: usize, stack: &mut Vec<Frame>) -> usize
     requires from { from < length (stages code.now) }
     requires frames { All (IsFrame code.now) stack.old.items }
     ensures within { result < length (stages code.now) }

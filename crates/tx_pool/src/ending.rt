@@ -109,7 +109,7 @@ struct Settled<O: Source> {
 }
 
 // Takes apart what the threads left, but for journal and stations.
-fn settle<K: Run, O: Source>(
+fn take_back<K: Run, O: Source>(
     locked: Locked<K>,
     intake: RunIntake<K>,
     fed: Option<Fed<K, O>>,
@@ -275,7 +275,7 @@ pub(crate) fn conclude<S: Alter + Drop, K: Run, C: Caller, O: Source>(
         sessions,
         kept,
     } = worked;
-    let settled = match settle(locked, intake, fed, sessions, share, receipts) {
+    let settled = match take_back(locked, intake, fed, sessions, share, receipts) {
         Ok(settled) => settled,
         Err(fault) => return Err(give_up(fault, kept, back)),
     };

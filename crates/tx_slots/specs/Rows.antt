@@ -24,8 +24,8 @@ next_row f [] id = None
 next_row f (r ∷ rows) id = if nat_lt id r.0 && not (is_ended f (reopened f r.1)) then Some r else next_row f rows id
 
 -- those of these transactions after an id with somebody to notify
-abbrev pub behind : Flow → List (ℕ × Row) → ℕ → List (ℕ × Row)
-behind f rows id = filter (λ (r : ℕ × Row). nat_lt id r.0 && not (is_ended f (reopened f r.1))) rows
+abbrev pub later_rows : Flow → List (ℕ × Row) → ℕ → List (ℕ × Row)
+later_rows f rows id = filter (λ (r : ℕ × Row). nat_lt id r.0 && not (is_ended f (reopened f r.1))) rows
 
 -- a transaction of the journal before its first item
 pub record IsReopened (f : Flow) (r : ℕ × Row) (h : Hold) : Type 0 where

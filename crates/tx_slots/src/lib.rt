@@ -13,7 +13,7 @@ mod slot;
 
 pub use maps::put_both;
 pub use next::{At, Next, ReplyKind, is_asked, restored_by};
-pub use recovery::{is_over, next_slot, open_behind, reopened};
+pub use recovery::{is_over, next_slot, open_after, reopened};
 pub use reply::{Given, Ready, after_answer, after_choice, after_told, goes_on, make_ready};
 pub use reserved::Lists;
 pub use rows::{no_change, row_of};

@@ -7,7 +7,7 @@ ghost use Rattle.flow_model.specs.declared.flow.Flow.{Flow};
 ghost use Rattle.flow_model.specs.Places.{parts_of};
 ghost use Rattle.tx_machine.specs.Contract.{IsSound, tx_state};
 ghost use Rattle.tx_history.specs.History.{is_committing, is_ended, number_of, reopened, to_tell};
-ghost use Rattle.tx_slots.specs.Rows.{AreKnown, IsNextSlot, IsSlotAfter, behind};
+ghost use Rattle.tx_slots.specs.Rows.{AreKnown, IsNextSlot, IsSlotAfter, later_rows};
 
 use crate::slot::{Slot, is_holding, slot_for};
 use flow_asm::Code;
@@ -62,20 +62,20 @@ pub fn is_over(row: &Row) -> bool
 }
 
 // Whether the transaction of this id and row is after another one and has somebody to notify.
-fn is_behind(id: u64, next: u64, row: &Row) -> bool
+fn is_open_after(id: u64, next: u64, row: &Row) -> bool
     ensures { (f : Flow) → result ≡ (nat_lt id next && not (is_ended f (reopened f row.now))) }
 {
     id < next && !is_over(row)
 }
 
 /// How many of these transactions after an id have somebody to notify. There are at most 16 rows.
-pub fn open_behind(rows: &[(u64, Row)], id: u64) -> usize
-    ensures counted { (f : Flow) → result ≡ length (behind f rows.now id) }
+pub fn open_after(rows: &[(u64, Row)], id: u64) -> usize
+    ensures counted { (f : Flow) → result ≡ length (later_rows f rows.now id) }
     ensures few { result ≤ length rows.now }
 {
     let mut count = 0;
     for (next, row) in rows {
-        if is_behind(id, *next, row) {
+        if is_open_after(id, *next, row) {
             count += 1;
         }
     }
@@ -131,15 +131,15 @@ pub(crate) fn slot_after(
     code: &Code,
     rows: &[(u64, Row)],
     recovering: bool,
-    step: Step,
+    progress: Progress,
 ) -> Result<Slot, AllocError>
-    requires sound { IsSound code.now step.machine }
+    requires sound { IsSound code.now progress.machine }
     requires known { AreKnown code.now rows.now }
     ensures { IfOk result (λ x.
-        IsSlotAfter recovering code.now rows.now step.id step.machine step.number x) }
+        IsSlotAfter recovering code.now rows.now progress.id progress.machine progress.number x) }
 {
-    let id = step.id;
-    let slot = slot_for(code, id, step.machine, step.number);
+    let id = progress.id;
+    let slot = slot_for(code, id, progress.machine, progress.number);
     if !recovering || is_holding(&slot) {
         return Ok(slot);
     }
@@ -148,7 +148,7 @@ pub(crate) fn slot_after(
 
 /// Where an entry leads its transaction.
 #[derive(Drop)]
-pub(crate) struct Step {
+pub(crate) struct Progress {
     pub(crate) id: u64,
     pub(crate) machine: Machine,
     /// The entry's number.

@@ -12,7 +12,7 @@ ghost use Rattle.tx_slots.specs.Rows.{item_change};
 ghost use Rattle.tx_slots.specs.Rows.{AreKnown, IsSlotAfter};
 ghost use Rattle.tx_slots.specs.Slots.{is_holding};
 
-use crate::recovery::{Step, slot_after};
+use crate::recovery::{Progress, slot_after};
 use crate::rows::change_of;
 use crate::slot::{Slot, is_holding};
 use flow_asm::Code;
@@ -112,12 +112,12 @@ pub fn make_ready(
         event,
         change: change_of(alloc, code, id, &machine, advice)?,
     };
-    let step = Step {
+    let progress = Progress {
         id,
         machine,
         number,
     };
-    let slot = slot_after(alloc, code, rows, recovering, step)?;
+    let slot = slot_after(alloc, code, rows, recovering, progress)?;
     let shelved = shelved_by(&entry.change)?;
     let advice = advice_by(&entry.change)?;
     Ok(Ready {

@@ -3,7 +3,7 @@ use iso_codec::decode;
 use iso_msg::Message;
 use std::alloc::Global;
 use std::test::Fail;
-use sw_mux::{Key, Mux, MuxError, Outcome};
+use sw_mux::{Key, Mux, MuxError, Response};
 
 const REQUEST: &[u8] = b"01000020000000800000000042TERM0001";
 
@@ -19,7 +19,7 @@ fn message(alloc: Global, bytes: &[u8]) -> Result<Message, Fail> {
 
 fn matches(alloc: Global, mux: &mut Mux, bytes: &[u8]) -> Result<bool, Fail> {
     let message = message(alloc, bytes)?;
-    Ok(matches!(mux.response(message), Outcome::Matched(_, _)))
+    Ok(matches!(mux.response(message), Response::Matched(_, _)))
 }
 
 fn request(mux: &mut Mux, message: &Message) -> Result<Key, MuxError> {

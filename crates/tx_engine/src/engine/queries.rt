@@ -17,7 +17,7 @@ use std::collections::BTreeMap;
 use sw_context::Context;
 use sw_participant::Bytes;
 use tx_history::{Entry, JournalView};
-use tx_slots::{At, Next, Slot, at_slot, next_at, open_behind};
+use tx_slots::{At, Next, Slot, at_slot, next_at, open_after};
 
 impl Engine {
     /// What the session is to do. Refuses `NoSession`.
@@ -165,7 +165,7 @@ impl Engine {
         }
         match &self.slots[0] {
             Slot::Free => 0,
-            Slot::Holding(hold) => 1 + open_behind(self.first.rows.as_slice(), hold.id),
+            Slot::Holding(hold) => 1 + open_after(self.first.rows.as_slice(), hold.id),
         }
     }
 

@@ -9,7 +9,7 @@ ghost use Rattle.tx_engine.specs.Calls.{spare_of, take_refusal, with_reserved};
 
 use super::{Engine, LAST_ID, MOST_ENTRIES};
 use crate::error::EngineError;
-use crate::prepared::Offer;
+use crate::offer::Offer;
 use std::alloc::Global;
 use sw_context::Context;
 use tx_history::{Change, Entry, Event, Row, Waiting};

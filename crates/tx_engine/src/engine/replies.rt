@@ -13,7 +13,7 @@ ghost use Rattle.tx_engine.specs.Items.{Allows, Gives};
 
 use super::Engine;
 use crate::error::EngineError;
-use crate::prepared::spelled;
+use crate::offer::spelled;
 use flow_asm::Code;
 use std::alloc::{AllocError, Global};
 use sw_context::Context;

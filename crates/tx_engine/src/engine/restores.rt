@@ -9,7 +9,7 @@ ghost use Rattle.tx_slots.specs.Slots.{touched};
 
 use super::Engine;
 use crate::error::EngineError;
-use crate::prepared::spelled;
+use crate::offer::spelled;
 use sw_context::Context;
 use tx_history::{Entry, Event};
 use tx_slots::{ReplyKind, Slot, no_change};

@@ -3,7 +3,7 @@ use Rattle.tx_plant.specs.declared.turn.Turn.TheVariants as turn
 use Rattle.cli_step.proofs.Adding.{adds_then, idle_ends, idle_text, told_text}
 use Rattle.cli_step.specs.Auto.{Quietly, Steps}
 use Rattle.cli_step.specs.Doing.{point_of}
-use Rattle.cli_step.specs.Said.{said, whole_line}
+use Rattle.cli_step.specs.TurnLines.{turn_line, whole_line}
 use Rattle.cli_step.proofs.auto.auto_step.Goals as goal
 
 pub returns-then-is_idle-clause-round : goal.returns-then-is_idle-clause-round
@@ -28,12 +28,12 @@ returns-clause-round g c =
     let o = c.in_ok-outcome.outcome in
     let idle = sym c.is_idle.ensures ∙ c.if-is_idle.false in
     let world = c.do_turn.new.plant.running.engine in
-    let line = rw c.engine.ensures at c.in_ok-say.ensures.line in (
+    let line = rw c.engine.ensures at c.in_ok-push_turn.ensures.line in (
       o,
       sym c.is_accepted.ensures,
       adds_then (Quietly (turn.Write None)) (Steps o) p w q (string_bytes c.args.text.now) (string_bytes c.quiet_turn.new.text)
-          (string_bytes c.say.new.text) c.in_ok-quiet_turn.ensures.quietly (
-            whole_line (said world 0 o),
+          (string_bytes c.push_turn.new.text) c.in_ok-quiet_turn.ensures.quietly (
+            whole_line (turn_line world 0 o),
             (c.in_ok-outcome.ensures.does, told_text world o idle),
             line,
           ),

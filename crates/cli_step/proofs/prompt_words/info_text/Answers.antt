@@ -2,7 +2,7 @@ use Rattle.std.proofs.Common.{◌∙◌, ◌++◌, Some, ap, string_bytes, sym}
 use Rattle.tx_trace.specs.Trace.{Text}
 use Rattle.cli_step.proofs.Sessions.{each_more}
 use Rattle.cli_step.specs.PromptWords.{session_line}
-use Rattle.cli_step.specs.Said.{whole_line}
+use Rattle.cli_step.specs.TurnLines.{whole_line}
 use Rattle.cli_step.proofs.prompt_words.info_text.Goals as goal
 
 pub loop-s-preserved : goal.loop-s-preserved

@@ -2,7 +2,7 @@ use Rattle.std.proofs.Common.{◌∙◌, ◌++◌, Option, ap, string_bytes, sym
 use Rattle.tx_trace.specs.Trace.{Text}
 use Rattle.cli_step.proofs.Sessions.{each_more}
 use Rattle.cli_step.specs.PromptWords.{step_line}
-use Rattle.cli_step.specs.Said.{whole_line}
+use Rattle.cli_step.specs.TurnLines.{whole_line}
 use Rattle.cli_step.proofs.prompt_words.step_lines.Goals as goal
 
 pub loop-s-preserved : goal.loop-s-preserved

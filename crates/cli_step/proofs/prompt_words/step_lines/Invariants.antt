@@ -1,6 +1,6 @@
 use Rattle.std.proofs.Common.{◌≡◌, string_bytes}
 use Rattle.cli_step.specs.PromptWords.{each_session, step_line}
-use Rattle.cli_step.specs.Said.{whole_line}
+use Rattle.cli_step.specs.TurnLines.{whole_line}
 use Rattle.cli_step.proofs.prompt_words.step_lines.Given as goal
 
 abbrev pub invariant-loop-s : goal.invariant-loop-s

@@ -8,7 +8,7 @@ use Rattle.iso_msg.proofs.storage.get.Goals as goal
 pub bounds-fields-i : goal.bounds-fields-i
 bounds-fields-i c = omega (
   arith,
-  (removes_at (pairs c.args.fields.now) c.args.number c.in-Ok.i (sym c.place.ensures ∙ c.in-Ok.is)).below,
+  (removes_at (pairs c.args.fields.now) c.args.number c.in-Ok.i (sym c.index_of.ensures ∙ c.in-Ok.is)).below,
   length-map c.args.fields.now pair,
 )
 
@@ -17,11 +17,11 @@ offset_bounds-fields-i c = omega (arith, bounds-fields-i c)
 
 pub returns-in-Ok-clause-value : goal.returns-in-Ok-clause-value
 returns-in-Ok-clause-value c = ap Some c.deref.ensures.value ∙ value_found c.args.fields.now c.args.number c.in-Ok.i c.index-fields-i.result
-    (sym c.place.ensures ∙ c.in-Ok.is)
+    (sym c.index_of.ensures ∙ c.in-Ok.is)
 
 pub returns-in-Ok-clause-fits : goal.returns-in-Ok-clause-fits
 returns-in-Ok-clause-fits c = value_fits 1 c.args.number c.deref.result.now (pairs c.args.fields.now) c.requires
-    (sym (ap Some c.deref.ensures.value ∙ value_found c.args.fields.now c.args.number c.in-Ok.i c.index-fields-i.result (sym c.place.ensures ∙ c.in-Ok.is)))
+    (sym (ap Some c.deref.ensures.value ∙ value_found c.args.fields.now c.args.number c.in-Ok.i c.index-fields-i.result (sym c.index_of.ensures ∙ c.in-Ok.is)))
 
 pub returns-in-Err-clause-value : goal.returns-in-Err-clause-value
-returns-in-Err-clause-value c = sym (missing_value 1 (pairs c.args.fields.now) c.args.number c.in-Err.field-0 c.requires (sym c.place.ensures ∙ c.in-Err.is)).0
+returns-in-Err-clause-value c = sym (missing_value 1 (pairs c.args.fields.now) c.args.number c.in-Err.field-0 c.requires (sym c.index_of.ensures ∙ c.in-Err.is)).0

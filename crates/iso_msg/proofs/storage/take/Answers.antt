@@ -13,7 +13,7 @@ pub remove-field-requires : goal.remove-field-requires
 remove-field-requires c = omega (
   arith,
   (removes_at (pairs c.args.fields.now.items) c.args.number c.in-Ok.i
-      (place_is c.args.number c.args.fields.now.items _ _ _ c.deref.ensures.value c.place.ensures c.in-Ok.is)).below,
+      (place_is c.args.number c.args.fields.now.items _ _ _ c.deref.ensures.value c.index_of.ensures c.in-Ok.is)).below,
   length-map c.args.fields.now.items pair,
   c.args.fields.now.ok.0,
 )
@@ -21,7 +21,7 @@ remove-field-requires c = omega (
 pub returns-in-Ok-clause-value : goal.returns-in-Ok-clause-value
 returns-in-Ok-clause-value c =
     let fs = c.args.fields.now.items in
-    let s = removes_at (pairs fs) c.args.number c.in-Ok.i (place_is c.args.number c.args.fields.now.items _ _ _ c.deref.ensures.value c.place.ensures
+    let s = removes_at (pairs fs) c.args.number c.in-Ok.i (place_is c.args.number c.args.fields.now.items _ _ _ c.deref.ensures.value c.index_of.ensures
     c.in-Ok.is) in
     let within : c.in-Ok.i < length fs = omega (arith, s.below, length-map fs pair) in
     let e : get_or (pairs fs) c.in-Ok.i (pair c.remove-field.result) ≡ pair c.remove-field.result =
@@ -32,13 +32,13 @@ pub returns-in-Ok-clause-others : goal.returns-in-Ok-clause-others
 returns-in-Ok-clause-others c =
     let fs = c.args.fields.now.items in
     ap (λ (x : List Field). pairs x) c.remove-field.ensures.items ∙ map-remove fs c.in-Ok.i
-    ∙ sym (removes_at (pairs fs) c.args.number c.in-Ok.i (place_is c.args.number c.args.fields.now.items _ _ _ c.deref.ensures.value c.place.ensures
+    ∙ sym (removes_at (pairs fs) c.args.number c.in-Ok.i (place_is c.args.number c.args.fields.now.items _ _ _ c.deref.ensures.value c.index_of.ensures
     c.in-Ok.is)).others
 
 pub returns-in-Err-clause-value : goal.returns-in-Err-clause-value
 returns-in-Err-clause-value c = sym (missing_value 1 (pairs c.args.fields.now.items) c.args.number c.in-Err.field-0 c.requires
-    (place_is c.args.number c.args.fields.now.items _ _ _ c.deref.ensures.value c.place.ensures c.in-Err.is)).0
+    (place_is c.args.number c.args.fields.now.items _ _ _ c.deref.ensures.value c.index_of.ensures c.in-Err.is)).0
 
 pub returns-in-Err-clause-others : goal.returns-in-Err-clause-others
 returns-in-Err-clause-others c = sym (missing_value 1 (pairs c.args.fields.now.items) c.args.number c.in-Err.field-0 c.requires
-    (place_is c.args.number c.args.fields.now.items _ _ _ c.deref.ensures.value c.place.ensures c.in-Err.is)).1
+    (place_is c.args.number c.args.fields.now.items _ _ _ c.deref.ensures.value c.index_of.ensures c.in-Err.is)).1

@@ -11,7 +11,7 @@ returns g c = λ types os p start keeps. (
   start,
   (refl, λ id. refl),
   record {
-    place = keeps.place;
+    where_is = keeps.where_is;
     seated = keeps.seated;
     waits = keeps.waits;
     ended = λ id x e. none_found _ id x e;

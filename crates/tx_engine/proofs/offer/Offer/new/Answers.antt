@@ -1,6 +1,6 @@
 use Rattle.std.proofs.Common.{◌∙◌, subst, sym, arith, Result, Ok, Err, IfOk, IsErr}
 use Rattle.sw_context.specs.Spelling.{IsSpelled}
-use Rattle.tx_engine.proofs.prepared.Offer.new.Goals as goal
+use Rattle.tx_engine.proofs.offer.Offer.new.Goals as goal
 
 failed : {A E : Type 0} (r : Result A E) (P : A → Type 0) → IsErr r → IfOk r P
 failed (Ok a) P is_err = grind (arith, is_err)

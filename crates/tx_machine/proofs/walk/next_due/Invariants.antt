@@ -3,7 +3,7 @@ use Rattle.std.specs.List.{All}
 use Rattle.flow_asm.specs.Steps.{stages}
 use Rattle.tx_machine.specs.Table.{settled}
 use Rattle.tx_machine.specs.Position.{rest_of, IsFrame, left_at, stack_left}
-use Rattle.tx_machine.proofs.walk.settle.Given as goal
+use Rattle.tx_machine.proofs.walk.next_due.Given as goal
 
 -- there is as much to do as at the start
 abbrev pub invariant-loop-stack : goal.invariant-loop-stack

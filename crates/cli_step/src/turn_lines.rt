@@ -3,7 +3,8 @@
 ghost use Rattle.std.specs.Prelude.{◌≡◌, ◌++◌, IfOk, OnErr, OnOk, option_map, string_bytes};
 ghost use Rattle.tx_trace.specs.Follow.{Follows};
 ghost use Rattle.cli_step.specs.Doing.{IsAhead};
-ghost use Rattle.cli_step.specs.Said.{held_line, refusal_name, said, told, where_line, whole_line};
+ghost use Rattle.cli_step.specs.TurnLines.{held_line, outcome_line, refusal_name, turn_line};
+ghost use Rattle.cli_step.specs.TurnLines.{where_line, whole_line};
 
 use crate::error::ActionError;
 use crate::places::{HeldText, WhereText};
@@ -76,13 +77,13 @@ pub fn where_line(alloc: Global, engine: &Engine, s: usize) -> Result<String, Al
 /// What `step` prints of a turn of this session that made no entry: a refusal, `idle S`, `unwritten S`,
 /// `held S NEXT`, `written MARK`, `restart UNFINISHED`, `cut NEXTID`. Empty for an entry, whose line is that of the
 /// trace.
-pub fn told(
+pub fn outcome_line(
     alloc: Global,
     engine: &Engine,
     s: usize,
     outcome: &Outcome,
 ) -> Result<String, AllocError>
-    ensures { IfOk result (λ line. string_bytes line ≡ told engine.now s outcome.now) }
+    ensures { IfOk result (λ line. string_bytes line ≡ outcome_line engine.now s outcome.now) }
 {
     match outcome {
         Outcome::Accepted(_) => Ok(String::new(alloc)),
@@ -110,7 +111,7 @@ pub fn told(
 
 // The line of what came of a turn of this session, without a line feed: of an entry its line in the
 // trace.
-fn said(
+fn turn_line(
     alloc: Global,
     engine: &Engine,
     tracer: &mut Tracer,
@@ -120,17 +121,17 @@ fn said(
     requires follows { Follows engine.now tracer.old }
     requires ahead { IsAhead tracer.old outcome.now }
     ensures line { IfOk result (λ line.
-        option_map string_bytes line ≡ said engine.now s outcome.now) }
+        option_map string_bytes line ≡ turn_line engine.now s outcome.now) }
     ensures follows { OnOk result (Follows engine.now tracer.new) }
 {
     match outcome {
         Outcome::Accepted(number) => tracer.line_at(alloc, engine, *number),
-        other => Ok(Some(told(alloc, engine, s, other)?)),
+        other => Ok(Some(outcome_line(alloc, engine, s, other)?)),
     }
 }
 
 /// Adds the line of what came of a turn of this session to a text.
-pub fn say(
+pub fn push_turn(
     alloc: Global,
     engine: &Engine,
     tracer: &mut Tracer,
@@ -141,10 +142,10 @@ pub fn say(
     requires follows { Follows engine.now tracer.old }
     requires ahead { IsAhead tracer.old outcome.now }
     ensures line { OnOk result (string_bytes text.new
-        ≡ string_bytes text.old ++ whole_line (said engine.now s outcome.now)) }
+        ≡ string_bytes text.old ++ whole_line (turn_line engine.now s outcome.now)) }
     ensures refused { OnErr result (string_bytes text.new ≡ string_bytes text.old) }
     ensures follows { OnOk result (Follows engine.now tracer.new) }
 {
-    let line = said(alloc, engine, tracer, s, outcome)?;
+    let line = turn_line(alloc, engine, tracer, s, outcome)?;
     Ok(push_line(text, line)?)
 }

@@ -33,32 +33,32 @@ refusal_name error.InUse = codes "InUse"
 refusal_name error.NotWritten = codes "NotWritten"
 
 -- where the transaction stands that the session holds
-abbrev pub place_of : World → ℕ → Option Place
-place_of w s = option_map place_at (at_of w s)
+abbrev pub place_now : World → ℕ → Option Place
+place_now w s = option_map place_at (at_of w s)
 
 -- the line of a held call
 abbrev pub held_line : World → ℕ → Text
-held_line w s = option_map_or (held_text w.flow s) (place_of w s) (codes "idle " ++ decimal s)
+held_line w s = option_map_or (held_text w.flow s) (place_now w s) (codes "idle " ++ decimal s)
 
 -- what came of a turn of this session that is not an entry
-abbrev pub told : World → ℕ → Outcome → Text
-told w s (outcome.Accepted n) = []
-told w s (outcome.Refused e) = codes "refused " ++ refusal_name e
-told w s outcome.Idle = codes "idle " ++ decimal s
-told w s outcome.Unwritten = codes "unwritten " ++ decimal s
-told w s (outcome.Held call) = held_line w s
-told w s (outcome.Written n) = codes "written " ++ decimal n
-told w s (outcome.Restarted n) = codes "restart " ++ decimal n
-told w s (outcome.Cut n) = codes "cut " ++ decimal n
+abbrev pub outcome_line : World → ℕ → Outcome → Text
+outcome_line w s (outcome.Accepted n) = []
+outcome_line w s (outcome.Refused e) = codes "refused " ++ refusal_name e
+outcome_line w s outcome.Idle = codes "idle " ++ decimal s
+outcome_line w s outcome.Unwritten = codes "unwritten " ++ decimal s
+outcome_line w s (outcome.Held call) = held_line w s
+outcome_line w s (outcome.Written n) = codes "written " ++ decimal n
+outcome_line w s (outcome.Restarted n) = codes "restart " ++ decimal n
+outcome_line w s (outcome.Cut n) = codes "cut " ++ decimal n
 
 -- the line of what came of it: of an entry its line in the trace
-abbrev pub said : World → ℕ → Outcome → Option Text
-said w s (outcome.Accepted n) = line_in w n
-said w s o = Some (told w s o)
+abbrev pub turn_line : World → ℕ → Outcome → Option Text
+turn_line w s (outcome.Accepted n) = line_in w n
+turn_line w s o = Some (outcome_line w s o)
 
 -- the line of `where S`
 abbrev pub where_line : World → ℕ → Text
-where_line w s = option_map_or (where_text w.flow) (place_of w s) (codes "idle " ++ decimal s)
+where_line w s = option_map_or (where_text w.flow) (place_now w s) (codes "idle " ++ decimal s)
 
 -- a line with its line feed, where there is one
 abbrev pub whole_line : Option Text → Text

@@ -2,7 +2,7 @@ use Rattle.std.proofs.Common.{arith}
 use Rattle.std.proofs.lemmas.Bool.Decides.{nat_tests}
 use Rattle.tx_plant.specs.Core.{core}
 use Rattle.tx_pool.proofs.Ends.{since_entries, since_sessions}
-use Rattle.tx_pool.proofs.ending.settle.Goals as goal
+use Rattle.tx_pool.proofs.ending.take_back.Goals as goal
 
 pub close_sessions-receipts-requires-clause-room : goal.close_sessions-receipts-requires-clause-room
 close_sessions-receipts-requires-clause-room g c =

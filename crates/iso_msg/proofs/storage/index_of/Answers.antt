@@ -2,7 +2,7 @@ use Rattle.std.proofs.Common.{rules}
 use Rattle.std.proofs.lemmas.List.Sorted.{answers_always}
 use Rattle.iso_msg.specs.declared.field.Field.{Field}
 use Rattle.iso_msg.proofs.FieldSearch.{searched}
-use Rattle.iso_msg.proofs.storage.place.Goals as goal
+use Rattle.iso_msg.proofs.storage.index_of.Goals as goal
 
 -- the closure gives a field's number
 pub returns : goal.returns
