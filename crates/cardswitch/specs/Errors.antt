@@ -1,5 +1,5 @@
 -- The errors that end a run, and the program's exit statuses.
-use Rattle.std.specs.Prelude.{ℕ}
+use Rattle.std.specs.Prelude.{Bool, ℕ, false, true}
 use Rattle.cli_decode.specs.declared.error.StreamError.{StreamError}
 use Rattle.cli_decode.specs.declared.error.StreamError.TheVariants as stream
 use Rattle.cli_encode.specs.declared.error.EncodeError.{EncodeError}
@@ -29,6 +29,11 @@ run_status (Serve (serve.Journal cause)) = 3
 run_status (JournalFile path (fault.Read e)) = 1
 run_status (JournalFile path cause) = 3
 run_status _ = 1
+
+-- whether the journal refused while it was in use
+abbrev pub is_of_journal : RunError → Bool
+is_of_journal (Serve (serve.Journal cause)) = true
+is_of_journal _ = false
 
 -- what the errors of the parts become: out of memory is reported as such, and all else is carried
 abbrev pub error_of_read : ReadError → RunError

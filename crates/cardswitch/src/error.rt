@@ -2,7 +2,8 @@
 ghost use Rattle.std.specs.Prelude.{◌≡◌};
 ghost use Rattle.cardswitch.specs.Errors.{error_of_encode, error_of_flows, error_of_read, error_of_serve};
 ghost use Rattle.cardswitch.specs.Errors.{error_of_step};
-ghost use Rattle.cardswitch.specs.Errors.{error_of_setup, error_of_stream, error_of_write, run_status};
+ghost use Rattle.cardswitch.specs.Errors.{error_of_setup, error_of_stream, error_of_write};
+ghost use Rattle.cardswitch.specs.Errors.{is_of_journal, run_status};
 ghost use Rattle.cardswitch.specs.declared.error.RunError.TheVariants.{OutOfMemory};
 
 use cli_decode::StreamError;
@@ -105,7 +106,9 @@ impl fmt::Debug for RunError {
 
 impl RunError {
     /// Whether the journal refused while it was in use.
-    pub fn is_of_journal(&self) -> bool {
+    pub fn is_of_journal(&self) -> bool
+        ensures { result ≡ is_of_journal self.now }
+    {
         matches!(self, RunError::Serve(ServeError::Journal(_)))
     }
 

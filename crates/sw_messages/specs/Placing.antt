@@ -5,15 +5,15 @@ use Rattle.iso_msg.specs.Messages.{Fields, value_at, with_value}
 use Rattle.iso_msg.specs.Values.{refusal}
 
 -- a value put where its field takes it
-abbrev pub placed : ℕ → Option (List ℕ) → Fields → Fields
-placed n None fields = fields
-placed n (Some value) fields =
+abbrev pub with_field : ℕ → Option (List ℕ) → Fields → Fields
+with_field n None fields = fields
+with_field n (Some value) fields =
     if is_none (refusal n value) then with_value n value fields else fields
 
 -- the fields with these numbers that are there
 abbrev pub copied : List ℕ → Fields → Fields → Fields
 copied [] from to = to
-copied (n ∷ ns) from to = copied ns from (placed n (value_at n from) to)
+copied (n ∷ ns) from to = copied ns from (with_field n (value_at n from) to)
 
 -- with a part in the place of as many from there on
 abbrev pub put_at : ℕ → List ℕ → List ℕ → List ℕ
