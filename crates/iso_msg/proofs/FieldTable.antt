@@ -29,7 +29,8 @@ rows_are : list_all (λ (r : FieldRow). is_row r.0 r.2) rows ≡ true
 unfolding rows
 rows_are = refl
 
-row_is : (rs : List FieldRow) (n : ℕ) (d : Definition) → list_all (λ (r : FieldRow). is_row r.0 r.2) rs ≡ true → definition_in n rs ≡ Some d → is_row n d.form ≡ true
+row_is : (rs : List FieldRow) (n : ℕ) (d : Definition) → list_all (λ (r : FieldRow). is_row r.0 r.2) rs ≡ true → definition_in n rs ≡ Some d
+    → is_row n d.form ≡ true
 row_is [] n d h e = absurd cc
 row_is (r ∷ rs) n d h e =
     let p = and_both (is_row r.0 r.2) (list_all (λ (r : FieldRow). is_row r.0 r.2) rs) h in

@@ -24,4 +24,5 @@ returns-in-Ok-clause-fits c = value_fits 1 c.args.number c.deref.result.now (pai
     (sym (ap Some c.deref.ensures.value ∙ value_found c.args.fields.now c.args.number c.in-Ok.i c.index-fields-i.result (sym c.index_of.ensures ∙ c.in-Ok.is)))
 
 pub returns-in-Err-clause-value : goal.returns-in-Err-clause-value
-returns-in-Err-clause-value c = sym (missing_value 1 (pairs c.args.fields.now) c.args.number c.in-Err.field-0 c.requires (sym c.index_of.ensures ∙ c.in-Err.is)).0
+returns-in-Err-clause-value c =
+    sym (missing_value 1 (pairs c.args.fields.now) c.args.number c.in-Err.field-0 c.requires (sym c.index_of.ensures ∙ c.in-Err.is)).0
