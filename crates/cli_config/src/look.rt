@@ -66,7 +66,8 @@ pub(crate) fn flag_at(table: &Table, key: Key) -> Option<bool>
 
 /// The table at a key.
 pub(crate) fn table_at(table: &Table, key: Key) -> Option<&Table>
-    ensures { option_map (λ t. table_view t.now) result ≡ spec.table_at key (table_view table.now) }
+    ensures { option_map (λ t. table_view t.now) result
+        ≡ spec.table_at key (table_view table.now) }
 {
     match value_at(table, key) {
         Some(value) => value.as_table(),

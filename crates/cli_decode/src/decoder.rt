@@ -36,7 +36,8 @@ fn push_frames(
     messages: &[Vec<u8>],
 ) -> Result<bool, AllocError>
     ensures text { OnOk result (first + length messages.now < 2 ^ 64
-        → text.new.items ≡ text.old.items ++ frames_text masking first (messages_of messages.now)) }
+        → text.new.items
+        ≡ text.old.items ++ frames_text masking first (messages_of messages.now)) }
     ensures refused { IfOk result (λ b. b ≡ list_any is_refused (messages_of messages.now)) }
 {
     let mut refused = false;

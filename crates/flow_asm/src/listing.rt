@@ -73,7 +73,8 @@ fn list_groups(
     steps: &[Step],
     starts: &[GroupStart],
 ) -> Result<Vec<Group>, AllocError>
-    ensures { IfOk result (λ groups. groups.items ≡ map (group_of parts.now steps.now) starts.now) }
+    ensures { IfOk result
+        (λ groups. groups.items ≡ map (group_of parts.now steps.now) starts.now) }
 {
     let mut groups = Vec::new(alloc);
     for start in starts {

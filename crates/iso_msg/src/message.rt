@@ -65,7 +65,10 @@ impl Message {
     /// table, in the order of `MessageError`, and out of memory where the table has none.
     pub fn set(&mut self, alloc: Global, number: u8, value: &[u8]) -> Result<(), MessageError>
         ensures ok { OnOk result (self.new
-            ≡ record { mti = self.old.mti; fields = with_value number value.now self.old.fields }) }
+            ≡ record {
+              mti = self.old.mti;
+              fields = with_value number value.now self.old.fields;
+            }) }
         ensures taken { OnOk result (refusal number value.now ≡ None) }
         ensures refused { IfErr result (λ e. IsRefusal e number value.now) }
         ensures err { OnErr result (self.new ≡ self.old) }

@@ -40,7 +40,8 @@ pub fn items_are_of_their_holders()
         → own_items f v (Event.Chose s t ∷ past) id
         ≡ (if is_id (holds f v past s) id then Choice t ∷ own_items f v past id
         else own_items f v past id) }
-    ensures told { (f : Flow) (v : Start) (past : List Event) (s : ℕ) (a : Option (List ℕ)) (id : ℕ)
+    ensures told { (f : Flow) (v : Start) (past : List Event)
+        (s : ℕ) (a : Option (List ℕ)) (id : ℕ)
         → IsAccepted f v past (Event.Told s a)
         → own_items f v (Event.Told s a ∷ past) id
         ≡ (if is_id (holds f v past s) id then Told a ∷ own_items f v past id

@@ -159,7 +159,8 @@ impl Machine {
         requires { IsSound code.now self.now }
         ensures due { result ≡ due_of code.now (tx_state code.now self.now) }
         ensures reply { IsReplyDue result (tx_state code.now self.now) }
-        ensures participant { IfSome (participant_of result) (λ p. p < length (parts_of code.now)) }
+        ensures participant { IfSome (participant_of result)
+            (λ p. p < length (parts_of code.now)) }
         ensures few { length (parts_of code.now) ≤ 16384 }
     {
         let _participants = code.participants();
@@ -170,7 +171,8 @@ impl Machine {
     fn next_call(&self, code: &Code) -> Due
         requires { IsSound code.now self.now }
         ensures due { result ≡ due_of code.now (tx_state code.now self.now) }
-        ensures participant { IfSome (participant_of result) (λ p. p < length (parts_of code.now)) }
+        ensures participant { IfSome (participant_of result)
+            (λ p. p < length (parts_of code.now)) }
     {
         match self.phase {
             Phase::Preparing => match look(code, self.step) {

@@ -125,12 +125,14 @@ pub fn table_words()
         then Some (told_row r (if is_committing r.phase then Committing else Undoing)) else None) }
     ensures recovery { (f : Flow) (r : Row) → r.told < length (listed r)
         → due f (reopen r)
-        ≡ outcome_due (recovers f (slice_index (listed r) r.told)) (slice_index (listed r) r.told) }
+        ≡ outcome_due (recovers f (slice_index (listed r) r.told))
+        (slice_index (listed r) r.told) }
 {}
 
 /// The due call, made by its station, with the reply that the station gave, is a call of the core.
 pub fn station_calls()
-    ensures { (f : Flow) (id : ℕ) (st : FullState) (call : Call) (r : Reply) (w : List ℕ) (m : Deed)
+    ensures { (f : Flow) (id : ℕ) (st : FullState) (call : Call) (r : Reply)
+        (w : List ℕ) (m : Deed)
         → station_call f id st (due_of f st.state) ≡ Some call
         → deed_of call.act call.participant st.state.told r ≡ Some m
         → Made (standing f st).due (with_context r w) (standing f st) m }

@@ -141,7 +141,8 @@ pub(crate) fn enter(
     after: Context,
 ) -> Result<(usize, Context), EngineError>
     requires { length seats.old.by_session.items ≡ engine.old.sessions }
-    ensures entered { IfOk result (λ r. Entered (core engine.old seats.old) s call.now reply.now r.1
+    ensures entered { IfOk result
+        (λ r. Entered (core engine.old seats.old) s call.now reply.now r.1
         after r.0 (core engine.new seats.new)) }
     ensures kept { OnErr result (core engine.new seats.new ≡ core engine.old seats.old) }
     ensures allowed { OnOk result

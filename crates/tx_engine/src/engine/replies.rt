@@ -82,7 +82,8 @@ impl Engine {
         byte: u8,
         context: &Context,
     ) -> Result<usize, EngineError>
-        ensures { Accepts EngineError.OutOfMemory (reply_refusal ReplyKind.Answer self.old s) result
+        ensures { Accepts EngineError.OutOfMemory
+            (reply_refusal ReplyKind.Answer self.old s) result
             (λ n. Recorded self.old (Event.Answered s byte (bytes_of context.now)) n self.new)
             (self.new ≡ self.old) }
     {
@@ -107,7 +108,8 @@ impl Engine {
     /// The selector that was due selected the groups that this text names. Answers the entry's
     /// number; refuses `NoSession`, `NotDue` and `HistoryFull`.
     pub fn chose(&mut self, alloc: Global, s: usize, text: &str) -> Result<usize, EngineError>
-        ensures { Accepts EngineError.OutOfMemory (reply_refusal ReplyKind.Choice self.old s) result
+        ensures { Accepts EngineError.OutOfMemory
+            (reply_refusal ReplyKind.Choice self.old s) result
             (λ n. Recorded self.old (Event.Chose s text.now) n self.new)
             (self.new ≡ self.old) }
     {
