@@ -121,7 +121,7 @@ static int numbers_of(const uint8_t *digits, int first, uint8_t *numbers, int co
     return count;
 }
 
-/* Why the field at the front is none, or NULL; the bytes move past it. */
+/* Why the field at the front is invalid, or NULL; the bytes move past it. */
 static const char *take_field(const uint8_t **bytes, size_t *left, struct field *field)
 {
     struct form form = FORMS[field->number];

@@ -1,6 +1,6 @@
 -- What `run` and `recover` have done, of their parts.
 -- for: requests::config_for, requests::answer_by, requests::answer_requests, requests::recover
-use Rattle.std.proofs.Common.{◌≡◌, ◌≤◌, ℕ, List, Option, Some, None, Result, Ok, Err, IfErr, IfOk, OnOk, Bor, arith, refl, sym, subst}
+use Rattle.std.proofs.Common.{◌≡◌, ◌≢◌, ◌≤◌, ℕ, List, Option, Some, None, Result, Ok, Err, IfErr, IfOk, OnOk, Bor, arith, refl, sym, subst}
 use Rattle.sqlite_trees.specs.declared.store.Store.{Ghosts}
 use Rattle.sqlite_trees.specs.declared.memory.MemStore.{MemStore}
 use Rattle.sqlite.specs.Steps.{over_memory}
@@ -13,17 +13,25 @@ use Rattle.cli_config.specs.declared.config.Config.{Config}
 use Rattle.cli_options.specs.declared.choice.RecoverOptions.{RecoverOptions}
 use Rattle.cli_options.specs.declared.choice.RunOptions.{RunOptions}
 use Rattle.cli_run.specs.Ran.{Printed}
+use Rattle.cli_run.specs.declared.error.ServeError.{ServeError}
+use Rattle.cli_run.specs.declared.error.ServeError.TheVariants as serve
 use Rattle.cli_run.specs.declared.setup.Setup.{Setup}
 use Rattle.cli_setup.specs.Plans.{IsSetUp, journal_of, limit_of, no_config, plain_setup}
+use Rattle.cardswitch.specs.Errors.{error_at}
 use Rattle.cardswitch.specs.Journals.{IsFound, IsNewJournal, IsOfFile}
-use Rattle.cardswitch.specs.Runs.{Answered, AnsweredBy, IfTaken, IsConfigAt, IsConfigFault, IsFlowFault, IsOpenFault, IsRecoverFault, IsRunFault, IsRunFaultBy}
-use Rattle.cardswitch.specs.Runs.{IsServeFault, Recovered, Served, sender_of_setup}
+use Rattle.cardswitch.specs.Runs.{Answered, AnsweredBy, IfTaken, IsConfigAt, IsConfigFault, IsFileFault, IsFlowFault, IsOpenFault, IsRecoverFault, IsRunFault}
+use Rattle.cardswitch.specs.Runs.{IsRunFaultBy, IsServeError, IsServeFault, Recovered, Served, ended_at, sender_of_setup}
 use Rattle.cardswitch.specs.declared.error.RunError.{RunError}
 use Rattle.cardswitch.specs.declared.error.RunError.TheVariants as error
 
 on_ok : {T E : Type 0} (P Q : Type 0) (r : Result T E) → (P → Q) → OnOk r P → OnOk r Q
 on_ok P Q (Ok x) f h = f h
 on_ok P Q (Err e) f h = h
+
+-- a run that is done is done over a file too
+done_at : (path : List ℕ) (P : Type 0) (r : Result (Unit {0}) RunError) → OnOk r P → OnOk (ended_at path r) P
+done_at path P (Ok done) h = h
+done_at path P (Err e) h = h
 
 -- of the flow and the configuration that were taken
 pub taken : {E : Type 0} (P : Flow → Config → Type 0) (code : Result Flow E) (config : Result Config E) (flow : Flow) (c : Config)
@@ -45,14 +53,15 @@ answered_over files flow o c setup j unread before after r set_up found h =
       served = served;
     }) h
 
-pub answered_by_file : {S C : Type 0} (files : Ghosts S) (flow : Flow) (o : RunOptions) (c : Config) (setup : Setup (IssuerLink C)) (path : List ℕ)
+pub answered_by_file : {S C : Type 0} (files : Ghosts S) (flow : Flow) (o : RunOptions) (c : Config) (setup : Setup (IssuerLink C)) (path named : List ℕ)
     (journal : Kept S) (unread before after : Option (List ℕ)) (r : Result (Unit {0}) RunError)
     → IsSetUp o c setup → Some path ≡ journal_of o c → IsOfFile files path journal
     → OnOk r (Served setup.threads flow setup.sessions (seen (kept files journal)) (sender_of_setup (plain_setup setup)) setup.advices unread before after)
-    → OnOk r (AnsweredBy files flow o c unread before after)
-answered_by_file files flow o c setup path journal unread before after r set_up named opened h =
-    answered_over files flow o c setup (seen (kept files journal)) unread before after r set_up
-    (subst (λ (x : Option (List ℕ)). IsFound files x (seen (kept files journal))) named (journal, opened, refl)) h
+    → OnOk (ended_at named r) (AnsweredBy files flow o c unread before after)
+answered_by_file files flow o c setup path named journal unread before after r set_up of_options opened h =
+    done_at named (AnsweredBy files flow o c unread before after) r
+    (answered_over files flow o c setup (seen (kept files journal)) unread before after r set_up
+    (subst (λ (x : Option (List ℕ)). IsFound files x (seen (kept files journal))) of_options (journal, opened, refl)) h)
 
 pub answered_in_memory : {S C : Type 0} (files : Ghosts S) (flow : Flow) (o : RunOptions) (c : Config) (setup : Setup (IssuerLink C))
     (journal : Kept MemStore) (unread before after : Option (List ℕ)) (r : Result (Unit {0}) RunError)
@@ -98,6 +107,7 @@ flow_refused o before after (error.ConfigFile path cause) fault same = absurd fa
 flow_refused o before after (error.Serve e) fault same = absurd fault
 flow_refused o before after (error.BadLimit n) fault same = absurd fault
 flow_refused o before after (error.JournalFile path cause) fault same = absurd fault
+flow_refused o before after (error.Journal path cause) fault same = absurd fault
 flow_refused o before after error.Refused fault same = absurd fault
 flow_refused o before after (error.Read e) fault same = absurd fault
 flow_refused o before after (error.Write e) fault same = absurd fault
@@ -112,6 +122,7 @@ config_refused o before after (error.FlowFile path cause) fault same = absurd fa
 config_refused o before after (error.Serve e) fault same = absurd fault
 config_refused o before after (error.BadLimit n) fault same = absurd fault
 config_refused o before after (error.JournalFile path cause) fault same = absurd fault
+config_refused o before after (error.Journal path cause) fault same = absurd fault
 config_refused o before after error.Refused fault same = absurd fault
 config_refused o before after (error.Read e) fault same = absurd fault
 config_refused o before after (error.Write e) fault same = absurd fault
@@ -124,6 +135,7 @@ run_refused : (o : RunOptions) (c : Config) (before after : Option (List ℕ)) (
 run_refused o c before after error.OutOfMemory stated fault = (c, stated, fault)
 run_refused o c before after (error.BadLimit n) stated fault = (c, stated, fault)
 run_refused o c before after (error.JournalFile path cause) stated fault = (c, stated, fault)
+run_refused o c before after (error.Journal path cause) stated fault = (c, stated, fault)
 run_refused o c before after (error.Serve e) stated fault = (c, stated, fault)
 run_refused o c before after (error.FlowFile path cause) stated fault = absurd fault
 run_refused o c before after (error.ConfigFile path cause) stated fault = absurd fault
@@ -150,51 +162,140 @@ refused (Ok f) (Err g) o before after (Err e) flow_fault config_fault stated ref
     config_refused o before after e (subst (IsConfigFault o.config) (same_error e g denies.0) config_fault) denies.1
 refused (Ok f) (Ok c) o before after (Err e) flow_fault config_fault stated refuses denies h = run_refused o c before after e stated h
 
-served_fault : (o : RunOptions) (c : Config) (before after : Option (List ℕ)) (e : RunError) → limit_of o c ≤ 999999999999999 → IsServeFault e →
-    IsRunFaultBy o c before after e
-served_fault o c before after (error.Serve e) limit h = (limit, h)
-served_fault o c before after error.OutOfMemory limit h = λ over. absurd (omega arith)
-served_fault o c before after (error.FlowFile path cause) limit h = absurd h
-served_fault o c before after (error.ConfigFile path cause) limit h = absurd h
-served_fault o c before after (error.BadLimit n) limit h = absurd h
-served_fault o c before after (error.JournalFile path cause) limit h = absurd h
-served_fault o c before after error.Refused limit h = absurd h
-served_fault o c before after (error.Read e) limit h = absurd h
-served_fault o c before after (error.Write e) limit h = absurd h
-served_fault o c before after (error.Step e) limit h = absurd h
-served_fault o c before after (error.Input e) limit h = absurd h
-served_fault o c before after (error.Text e) limit h = absurd h
+-- a journal in memory has no name
+serve_error : (journal : Option (List ℕ)) (e : ServeError) → journal ≡ None → e ≢ serve.OutOfMemory → IsServeError journal e
+serve_error journal (serve.Journal cause) none h = none
+serve_error journal serve.OutOfMemory none h = absurd (h refl)
+serve_error journal (serve.NoStation t) none h = tt
+serve_error journal (serve.DoubleStation t) none h = tt
+serve_error journal (serve.BadLinkName t) none h = tt
+serve_error journal (serve.BadSessions n) none h = tt
+serve_error journal (serve.Seating e) none h = tt
+serve_error journal (serve.Request n e) none h = tt
+serve_error journal (serve.Engine e) none h = tt
+serve_error journal (serve.Read e) none h = tt
+serve_error journal (serve.Write e) none h = tt
+serve_error journal serve.BadLength none h = tt
+serve_error journal (serve.Truncated n) none h = tt
+serve_error journal (serve.LongResponse n) none h = tt
+serve_error journal (serve.Pool e) none h = tt
+serve_error journal (serve.Mismatch n) none h = tt
+serve_error journal serve.Endless none h = tt
 
--- a run that is refused after its limit was taken
-pub refused_after : (o : RunOptions) (c : Config) (before after : Option (List ℕ)) (r : Result (Unit {0}) RunError)
-    → limit_of o c ≤ 999999999999999 → IfErr r IsServeFault → IfErr r (IsRunFaultBy o c before after)
-refused_after o c before after (Ok u) limit h = tt
-refused_after o c before after (Err e) limit h = served_fault o c before after e limit h
+served_fault : (o : RunOptions) (c : Config) (before after : Option (List ℕ)) (e : RunError) → limit_of o c ≤ 999999999999999
+    → journal_of o c ≡ None → IsServeFault e → IsRunFaultBy o c before after e
+served_fault o c before after (error.Serve e) limit none h = (limit, serve_error (journal_of o c) e none h)
+served_fault o c before after error.OutOfMemory limit none h = λ over. absurd (omega arith)
+served_fault o c before after (error.FlowFile path cause) limit none h = absurd h
+served_fault o c before after (error.ConfigFile path cause) limit none h = absurd h
+served_fault o c before after (error.BadLimit n) limit none h = absurd h
+served_fault o c before after (error.JournalFile path cause) limit none h = absurd h
+served_fault o c before after (error.Journal path cause) limit none h = absurd h
+served_fault o c before after error.Refused limit none h = absurd h
+served_fault o c before after (error.Read e) limit none h = absurd h
+served_fault o c before after (error.Write e) limit none h = absurd h
+served_fault o c before after (error.Step e) limit none h = absurd h
+served_fault o c before after (error.Input e) limit none h = absurd h
+served_fault o c before after (error.Text e) limit none h = absurd h
 
--- the journal's file is not opened
+-- a run over a journal in memory that is refused after its limit was taken
+pub refused_in_memory : (o : RunOptions) (c : Config) (before after : Option (List ℕ)) (r : Result (Unit {0}) RunError)
+    → limit_of o c ≤ 999999999999999 → None ≡ journal_of o c → IfErr r IsServeFault → IfErr r (IsRunFaultBy o c before after)
+refused_in_memory o c before after (Ok u) limit none h = tt
+refused_in_memory o c before after (Err e) limit none h = served_fault o c before after e limit (sym none) h
+
+-- a refusal of a journal in a file names the file
+error_in_file : (path : List ℕ) (before after : Option (List ℕ)) (e : ServeError) → e ≢ serve.OutOfMemory
+    → IsFileFault path before after (error_at path (error.Serve e))
+error_in_file path before after (serve.Journal cause) h = refl
+error_in_file path before after serve.OutOfMemory h = absurd (h refl)
+error_in_file path before after (serve.NoStation t) h = tt
+error_in_file path before after (serve.DoubleStation t) h = tt
+error_in_file path before after (serve.BadLinkName t) h = tt
+error_in_file path before after (serve.BadSessions n) h = tt
+error_in_file path before after (serve.Seating e) h = tt
+error_in_file path before after (serve.Request n e) h = tt
+error_in_file path before after (serve.Engine e) h = tt
+error_in_file path before after (serve.Read e) h = tt
+error_in_file path before after (serve.Write e) h = tt
+error_in_file path before after serve.BadLength h = tt
+error_in_file path before after (serve.Truncated n) h = tt
+error_in_file path before after (serve.LongResponse n) h = tt
+error_in_file path before after (serve.Pool e) h = tt
+error_in_file path before after (serve.Mismatch n) h = tt
+error_in_file path before after serve.Endless h = tt
+
+fault_in_file : (path : List ℕ) (before after : Option (List ℕ)) (e : RunError) → IsServeFault e → IsFileFault path before after (error_at path e)
+fault_in_file path before after (error.Serve e) h = error_in_file path before after e h
+fault_in_file path before after error.OutOfMemory h = tt
+fault_in_file path before after (error.FlowFile p cause) h = absurd h
+fault_in_file path before after (error.ConfigFile p cause) h = absurd h
+fault_in_file path before after (error.BadLimit n) h = absurd h
+fault_in_file path before after (error.JournalFile p cause) h = absurd h
+fault_in_file path before after (error.Journal p cause) h = absurd h
+fault_in_file path before after error.Refused h = absurd h
+fault_in_file path before after (error.Read e) h = absurd h
+fault_in_file path before after (error.Write e) h = absurd h
+fault_in_file path before after (error.Step e) h = absurd h
+fault_in_file path before after (error.Input e) h = absurd h
+fault_in_file path before after (error.Text e) h = absurd h
+
+-- the faults of a run over the journal in a file
+file_fault : (o : RunOptions) (c : Config) (path : List ℕ) (before after : Option (List ℕ)) (e : RunError)
+    → limit_of o c ≤ 999999999999999 → Some path ≡ journal_of o c → IsFileFault path before after e → IsRunFaultBy o c before after e
+file_fault o c path before after (error.JournalFile p cause) limit named h =
+    (limit, subst (λ (x : List ℕ). journal_of o c ≡ Some x) (sym h.0) (sym named), h.1)
+file_fault o c path before after (error.Journal p cause) limit named h =
+    (limit, subst (λ (x : List ℕ). journal_of o c ≡ Some x) (sym h) (sym named))
+file_fault o c path before after (error.Serve e) limit named h = (limit, subst (λ (x : Option (List ℕ)). IsServeError x e) named h)
+file_fault o c path before after error.OutOfMemory limit named h = λ over. absurd (omega arith)
+file_fault o c path before after (error.FlowFile p cause) limit named h = absurd h
+file_fault o c path before after (error.ConfigFile p cause) limit named h = absurd h
+file_fault o c path before after (error.BadLimit n) limit named h = absurd h
+file_fault o c path before after error.Refused limit named h = absurd h
+file_fault o c path before after (error.Read e) limit named h = absurd h
+file_fault o c path before after (error.Write e) limit named h = absurd h
+file_fault o c path before after (error.Step e) limit named h = absurd h
+file_fault o c path before after (error.Input e) limit named h = absurd h
+file_fault o c path before after (error.Text e) limit named h = absurd h
+
+-- a run over the journal in a file that is refused after its limit was taken
+pub refused_in_file : (o : RunOptions) (c : Config) (path : List ℕ) (before after : Option (List ℕ)) (r : Result (Unit {0}) RunError)
+    → limit_of o c ≤ 999999999999999 → Some path ≡ journal_of o c → IfErr r IsServeFault → IfErr (ended_at path r) (IsRunFaultBy o c before after)
+refused_in_file o c path before after (Ok u) limit named h = tt
+refused_in_file o c path before after (Err e) limit named h =
+    file_fault o c path before after (error_at path e) limit named (fault_in_file path before after e h)
+
+-- no journal is opened of the file, and nothing is written
+open_fault : (path : List ℕ) (before : Option (List ℕ)) (e : RunError) → IsOpenFault path e → IsFileFault path before before e
+open_fault path before (error.JournalFile p cause) h = (h, refl)
+open_fault path before error.OutOfMemory h = tt
+open_fault path before (error.Serve e) h = absurd h
+open_fault path before (error.Journal p cause) h = absurd h
+open_fault path before (error.FlowFile p cause) h = absurd h
+open_fault path before (error.ConfigFile p cause) h = absurd h
+open_fault path before (error.BadLimit n) h = absurd h
+open_fault path before error.Refused h = absurd h
+open_fault path before (error.Read e) h = absurd h
+open_fault path before (error.Write e) h = absurd h
+open_fault path before (error.Step e) h = absurd h
+open_fault path before (error.Input e) h = absurd h
+open_fault path before (error.Text e) h = absurd h
+
 pub unopened : (o : RunOptions) (c : Config) (path : List ℕ) (before after : Option (List ℕ)) (e : RunError)
     → limit_of o c ≤ 999999999999999 → Some path ≡ journal_of o c → after ≡ before → IsOpenFault path e → IsRunFaultBy o c before after e
-unopened o c path before after (error.JournalFile p cause) limit named same h =
-    (limit, subst (λ (x : List ℕ). journal_of o c ≡ Some x) (sym h) (sym named), same)
-unopened o c path before after (error.Serve e) limit named same h = (limit, h)
-unopened o c path before after error.OutOfMemory limit named same h = λ over. same
-unopened o c path before after (error.FlowFile q cause) limit named same h = absurd h
-unopened o c path before after (error.ConfigFile q cause) limit named same h = absurd h
-unopened o c path before after (error.BadLimit n) limit named same h = absurd h
-unopened o c path before after error.Refused limit named same h = absurd h
-unopened o c path before after (error.Read e) limit named same h = absurd h
-unopened o c path before after (error.Write e) limit named same h = absurd h
-unopened o c path before after (error.Step e) limit named same h = absurd h
-unopened o c path before after (error.Input e) limit named same h = absurd h
-unopened o c path before after (error.Text e) limit named same h = absurd h
+unopened o c path before after e limit named same h =
+    subst (λ (x : Option (List ℕ)). IsRunFaultBy o c before x e) (sym same) (file_fault o c path before before e limit named (open_fault path before e h))
 
-recover_fault : (o : RecoverOptions) (before after : Option (List ℕ)) (e : RunError) → IsServeFault e → IsRecoverFault o before after e
+recover_fault : (o : RecoverOptions) (before after : Option (List ℕ)) (e : RunError) → IsFileFault o.journal.now before after e
+    → IsRecoverFault o before after e
+recover_fault o before after (error.JournalFile p cause) h = h
+recover_fault o before after (error.Journal p cause) h = h
 recover_fault o before after (error.Serve e) h = h
 recover_fault o before after error.OutOfMemory h = tt
-recover_fault o before after (error.FlowFile path cause) h = absurd h
-recover_fault o before after (error.ConfigFile path cause) h = absurd h
+recover_fault o before after (error.FlowFile p cause) h = absurd h
+recover_fault o before after (error.ConfigFile p cause) h = absurd h
 recover_fault o before after (error.BadLimit n) h = absurd h
-recover_fault o before after (error.JournalFile path cause) h = absurd h
 recover_fault o before after error.Refused h = absurd h
 recover_fault o before after (error.Read e) h = absurd h
 recover_fault o before after (error.Write e) h = absurd h
@@ -202,19 +303,25 @@ recover_fault o before after (error.Step e) h = absurd h
 recover_fault o before after (error.Input e) h = absurd h
 recover_fault o before after (error.Text e) h = absurd h
 
--- a recovery that is refused once its journal is open
-pub unrecovered : (o : RecoverOptions) (before after : Option (List ℕ)) (r : Result (Unit {0}) RunError) → IfErr r IsServeFault →
-    IfErr r (IsRecoverFault o before after)
-unrecovered o before after (Ok u) h = tt
-unrecovered o before after (Err e) h = recover_fault o before after e h
+-- a recovery whose journal is not opened
+pub unfound : (o : RecoverOptions) (before : Option (List ℕ)) (e : RunError) → IsOpenFault o.journal.now e → IsRecoverFault o before before e
+unfound o before e h = recover_fault o before before e (open_fault o.journal.now before e h)
 
-pub recovered : {S : Type 0} (files : Ghosts S) (flow : Flow) (sessions : ℕ) (path : List ℕ) (journal : Kept S) (before after : Option (List ℕ))
+-- a recovery that is refused once its journal is open
+pub unrecovered : (o : RecoverOptions) (path : List ℕ) (before after : Option (List ℕ)) (r : Result (Unit {0}) RunError) → path ≡ o.journal.now
+    → IfErr r IsServeFault → IfErr (ended_at path r) (IsRecoverFault o before after)
+unrecovered o path before after (Ok u) same h = tt
+unrecovered o path before after (Err e) same h =
+    recover_fault o before after (error_at path e)
+    (subst (λ (x : List ℕ). IsFileFault x before after (error_at path e)) same (fault_in_file path before after e h))
+
+pub recovered : {S : Type 0} (files : Ghosts S) (flow : Flow) (sessions : ℕ) (path named : List ℕ) (journal : Kept S) (before after : Option (List ℕ))
     (r : Result (Unit {0}) RunError)
     → IsChecked flow → sessions ≡ 1 → IsOfFile files path journal
     → OnOk r (Printed flow sessions (seen (kept files journal)) before after)
-    → OnOk r ((f : Flow) × IsChecked f × Recovered files f path before after)
-recovered files flow sessions path journal before after r checked one opened h =
-    on_ok _ _ r (λ (printed : Printed flow sessions (seen (kept files journal)) before after). (
+    → OnOk (ended_at named r) ((f : Flow) × IsChecked f × Recovered files f path before after)
+recovered files flow sessions path named journal before after r checked one opened h =
+    done_at named _ r (on_ok _ _ r (λ (printed : Printed flow sessions (seen (kept files journal)) before after). (
       flow,
       checked,
       record {
@@ -222,4 +329,4 @@ recovered files flow sessions path journal before after r checked one opened h =
         found = (journal, opened, refl);
         printed = subst (λ (n : ℕ). Printed flow n (seen (kept files journal)) before after) one printed;
       },
-    )) h
+    )) h)

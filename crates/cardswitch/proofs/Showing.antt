@@ -12,9 +12,8 @@ use Rattle.journal_rows.specs.declared.error.BadRow.{BadRow}
 use Rattle.journal_copy.specs.declared.found.Found.{Found}
 use Rattle.journal_copy.specs.declared.rest.Rest.{Rest}
 use Rattle.tx_history.specs.declared.journal.JournalView.{JournalView}
+use Rattle.tx_journal.specs.declared.error.JournalError.{JournalError}
 use Rattle.tx_journal.specs.declared.error.JournalError.TheVariants as journal
-use Rattle.cli_run.specs.declared.error.ServeError.{ServeError}
-use Rattle.cli_run.specs.declared.error.ServeError.TheVariants as serve
 use Rattle.cardswitch.specs.Errors.{error_of_write}
 use Rattle.cardswitch.specs.Looking.{IsFoundFault, IsLookFault, IsLooked, IsRowFault, IsRowTold, IsSight}
 use Rattle.cardswitch.specs.Looking.{error_of_row, seen_text, shown_text, style_by}
@@ -24,32 +23,17 @@ use Rattle.cardswitch.specs.declared.error.RunError.{RunError}
 use Rattle.cardswitch.specs.declared.error.RunError.TheVariants as error
 
 -- a journal refused for a row at fault, and nothing is written
-row_untold : (o : JournalOptions) (before : Option (List ℕ)) (e : ServeError) → IsRowFault e → IsRowTold o before before e
-row_untold o before (serve.Journal (journal.BadRow bad)) h = (h, inl refl)
-row_untold o before (serve.Journal journal.OutOfMemory) h = absurd h
-row_untold o before (serve.Journal journal.Failed) h = absurd h
-row_untold o before (serve.Journal (journal.Store c)) h = absurd h
-row_untold o before (serve.NoStation t) h = absurd h
-row_untold o before (serve.DoubleStation t) h = absurd h
-row_untold o before (serve.BadLinkName t) h = absurd h
-row_untold o before (serve.BadSessions n) h = absurd h
-row_untold o before (serve.Seating e) h = absurd h
-row_untold o before (serve.Request n e) h = absurd h
-row_untold o before (serve.Engine e) h = absurd h
-row_untold o before (serve.Read e) h = absurd h
-row_untold o before (serve.Write e) h = absurd h
-row_untold o before serve.BadLength h = absurd h
-row_untold o before (serve.Truncated n) h = absurd h
-row_untold o before (serve.LongResponse n) h = absurd h
-row_untold o before (serve.Pool e) h = absurd h
-row_untold o before (serve.Mismatch n) h = absurd h
-row_untold o before serve.Endless h = absurd h
-row_untold o before serve.OutOfMemory h = absurd h
+row_untold : (o : JournalOptions) (before : Option (List ℕ)) (e : JournalError) → IsRowFault e → IsRowTold o before before e
+row_untold o before (journal.BadRow bad) h = (h, inl refl)
+row_untold o before journal.OutOfMemory h = absurd h
+row_untold o before journal.Failed h = absurd h
+row_untold o before (journal.Store c) h = absurd h
 
 -- no journal was found
 pub not_found : (o : JournalOptions) (before : Option (List ℕ)) (e : RunError) → IsFoundFault o.path.now e → IsLookFault o before before e
 not_found o before (error.JournalFile p cause) h = (h, refl)
-not_found o before (error.Serve e) h = row_untold o before e h
+not_found o before (error.Journal p cause) h = (h.0, row_untold o before cause h.1)
+not_found o before (error.Serve e) h = absurd h
 not_found o before error.OutOfMemory h = inl refl
 not_found o before (error.FlowFile p cause) h = absurd h
 not_found o before (error.BadLimit n) h = absurd h
@@ -76,12 +60,12 @@ whole o before after s found is sight written =
     (found.layout, found.view, copied, text)
 
 -- all was written beside rows at fault
-pub beside : (o : JournalOptions) (before after : Option (List ℕ)) (s : Sight) (bad : BadRow) (rest : Rest) → s ≡ Beside bad rest → IsSight s
-    → Appends before after (seen_text o s) → IsLookFault o before after (error_of_row bad)
-beside o before after s bad rest is sight written =
+pub beside : (o : JournalOptions) (path : List ℕ) (before after : Option (List ℕ)) (s : Sight) (bad : BadRow) (rest : Rest) → path ≡ o.path.now
+    → s ≡ Beside bad rest → IsSight s → Appends before after (seen_text o s) → IsLookFault o before after (error_of_row path bad)
+beside o path before after s bad rest same is sight written =
     let seen : IsSight (Beside bad rest) = subst (λ (s : Sight). IsSight s) is sight in
     let text : Appends before after (seen_text o (Beside bad rest)) = subst (λ (s : Sight). Appends before after (seen_text o s)) is written in
-    (seen.0, inr (seen.0, (rest, seen.1, text)))
+    (same, (seen.0, inr (seen.0, (rest, seen.1, text))))
 
 -- ---- what is printed, by the options
 

@@ -1,5 +1,5 @@
 -- The errors that end a run, and the program's exit statuses.
-use Rattle.std.specs.Prelude.{Bool, ℕ, false, true}
+use Rattle.std.specs.Prelude.{ℕ, List}
 use Rattle.cli_decode.specs.declared.error.StreamError.{StreamError}
 use Rattle.cli_decode.specs.declared.error.StreamError.TheVariants as stream
 use Rattle.cli_encode.specs.declared.error.EncodeError.{EncodeError}
@@ -16,7 +16,7 @@ use Rattle.cli_step.specs.declared.error.StepError.{StepError}
 use Rattle.cli_step.specs.declared.error.StepError.TheVariants as step
 use Rattle.cardswitch.specs.declared.error.JournalFault.TheVariants as fault
 use Rattle.cardswitch.specs.declared.error.RunError.{RunError}
-use Rattle.cardswitch.specs.declared.error.RunError.TheVariants.{BadLimit, Input, JournalFile, OutOfMemory}
+use Rattle.cardswitch.specs.declared.error.RunError.TheVariants.{BadLimit, Input, Journal, JournalFile, OutOfMemory}
 use Rattle.cardswitch.specs.declared.error.RunError.TheVariants.{Read, Serve, Step, Text, Write}
 use Rattle.cli_run.specs.declared.error.ServeError.{ServeError}
 use Rattle.cli_run.specs.declared.error.ServeError.TheVariants as serve
@@ -26,14 +26,15 @@ abbrev pub run_status : RunError → ℕ
 run_status OutOfMemory = 4
 run_status (Step (step.Journal line cause)) = 3
 run_status (Serve (serve.Journal cause)) = 3
+run_status (Journal path cause) = 3
 run_status (JournalFile path (fault.Read e)) = 1
 run_status (JournalFile path cause) = 3
 run_status _ = 1
 
--- whether the journal refused while it was in use
-abbrev pub is_of_journal : RunError → Bool
-is_of_journal (Serve (serve.Journal cause)) = true
-is_of_journal _ = false
+-- an error of a run over the journal in the file at a path: where the journal refused, with its path
+abbrev pub error_at : List ℕ → RunError → RunError
+error_at path (Serve (serve.Journal cause)) = Journal path cause
+error_at path e = e
 
 -- what the errors of the parts become: out of memory is reported as such, and all else is carried
 abbrev pub error_of_read : ReadError → RunError

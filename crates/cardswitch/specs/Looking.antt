@@ -2,6 +2,7 @@
 use Rattle.std.specs.Prelude.{◌≡◌, ◌⊎◌, ⊤, ℕ, Bool, true, false, List, [], Option, Some, None}
 use Rattle.std.specs.Io.KnownBytes.{Appends}
 use Rattle.tx_history.specs.declared.journal.JournalView.{JournalView}
+use Rattle.tx_journal.specs.declared.error.JournalError.{JournalError}
 use Rattle.tx_journal.specs.declared.error.JournalError.TheVariants as journal
 use Rattle.journal_rows.specs.declared.error.BadRow.{BadRow}
 use Rattle.journal_copy.specs.Copied.{HoldsFault, HoldsJournal, image_of}
@@ -15,8 +16,6 @@ use Rattle.cli_journal.specs.declared.form.Form.TheVariants.{Json, Text}
 use Rattle.cli_journal.specs.declared.form.Style.{Style}
 use Rattle.cli_journal.specs.Shown.{journal_in}
 use Rattle.cli_options.specs.declared.choice.JournalOptions.{JournalOptions}
-use Rattle.cli_run.specs.declared.error.ServeError.{ServeError}
-use Rattle.cli_run.specs.declared.error.ServeError.TheVariants as serve
 use Rattle.cardswitch.specs.declared.error.RunError.{RunError}
 use Rattle.cardswitch.specs.declared.looking.Sight.{Sight}
 use Rattle.cardswitch.specs.declared.looking.Sight.TheVariants.{Beside, Whole}
@@ -62,8 +61,8 @@ abbrev pub seen_text : JournalOptions → Sight → List ℕ
 seen_text o (Whole found) = shown_text o found.layout [] found.view
 seen_text o (Beside bad rest) = text_of o rest
 
-abbrev pub error_of_row : BadRow → RunError
-error_of_row bad = error.Serve (serve.Journal (journal.BadRow bad))
+abbrev pub error_of_row : List ℕ → BadRow → RunError
+error_of_row path bad = error.Journal path (journal.BadRow bad)
 
 -- the text of a journal without a row at fault was written
 abbrev pub IsLooked : JournalOptions → Option (List ℕ) → Option (List ℕ) → Type 0
@@ -82,20 +81,20 @@ IsLookedInPart o before after =
     (s : Sight) × IsSight s × AppendsBeginning before after (seen_text o s)
 
 -- a journal refuses for a row at fault alone
-abbrev pub IsRowFault : ServeError → Type 0
-IsRowFault (serve.Journal (journal.BadRow bad)) = IsCopyFault bad
+abbrev pub IsRowFault : JournalError → Type 0
+IsRowFault (journal.BadRow bad) = IsCopyFault bad
 IsRowFault _ = ⊥
 
 -- why there is no journal of the file at a path to show
 abbrev pub IsFoundFault : List ℕ → RunError → Type 0
 IsFoundFault path (error.JournalFile p cause) = p ≡ path
-IsFoundFault path (error.Serve e) = IsRowFault e
+IsFoundFault path (error.Journal p cause) = (p ≡ path) × IsRowFault cause
 IsFoundFault path error.OutOfMemory = ⊤
 IsFoundFault path _ = ⊥
 
 -- what is written where a row is at fault: nothing, or the text of all else
-abbrev pub IsRowTold : JournalOptions → Option (List ℕ) → Option (List ℕ) → ServeError → Type 0
-IsRowTold o before after (serve.Journal (journal.BadRow bad)) =
+abbrev pub IsRowTold : JournalOptions → Option (List ℕ) → Option (List ℕ) → JournalError → Type 0
+IsRowTold o before after (journal.BadRow bad) =
     IsCopyFault bad × ((after ≡ before) ⊎ IsLookedBeside o bad before after)
 IsRowTold o before after _ = ⊥
 
@@ -103,7 +102,7 @@ IsRowTold o before after _ = ⊥
 -- writing failed
 abbrev pub IsLookFault : JournalOptions → Option (List ℕ) → Option (List ℕ) → RunError → Type 0
 IsLookFault o before after (error.JournalFile p cause) = (p ≡ o.path.now) × (after ≡ before)
-IsLookFault o before after (error.Serve e) = IsRowTold o before after e
+IsLookFault o before after (error.Journal p cause) = (p ≡ o.path.now) × IsRowTold o before after cause
 IsLookFault o before after (error.Write e) = IsLookedInPart o before after
 IsLookFault o before after error.OutOfMemory = (after ≡ before) ⊎ IsLookedInPart o before after
 IsLookFault o before after _ = ⊥

@@ -1,6 +1,6 @@
 -- What `run` and `recover` have done, and why they end early. What a file holds no clause can say; the flow of a flow
 -- file is one that is checked.
-use Rattle.std.specs.Prelude.{◌≡◌, ◌≢◌, ◌<◌, ◌≤◌, ⊤, ℕ, Bool, List, Option, None, Some, Result, IfOk}
+use Rattle.std.specs.Prelude.{◌≡◌, ◌≢◌, ◌<◌, ◌≤◌, ⊤, ℕ, Bool, List, Option, None, Some, Result, Ok, Err, IfOk}
 use Rattle.std.specs.Borrow.{Bor}
 use Rattle.sqlite_trees.specs.declared.store.Store.{Ghosts}
 use Rattle.flow_model.specs.declared.flow.Flow.{Flow}
@@ -23,8 +23,10 @@ use Rattle.cli_run.specs.Rounds.{Round, RoundsFor}
 use Rattle.cli_run.specs.declared.standard_error.Form.{Form}
 use Rattle.cli_run.specs.declared.standard_error.Form.TheVariants as form
 use Rattle.cli_run.specs.declared.stream.StreamEnd.TheVariants.{Whole}
+use Rattle.cli_run.specs.declared.error.ServeError.{ServeError}
 use Rattle.cli_run.specs.declared.error.ServeError.TheVariants as serve
 use Rattle.cli_setup.specs.Plans.{PlainSetup, journal_of, limit_of, no_config, setup_of}
+use Rattle.cardswitch.specs.Errors.{error_at}
 use Rattle.cardswitch.specs.Journals.{IsFound, IsFoundAt}
 use Rattle.cardswitch.specs.declared.error.RunError.{RunError}
 use Rattle.cardswitch.specs.declared.error.RunError.TheVariants as error
@@ -109,15 +111,30 @@ IsServeFault (error.Serve e) = e ≢ serve.OutOfMemory
 IsServeFault error.OutOfMemory = ⊤
 IsServeFault _ = ⊥
 
+-- what became of a run over the journal in the file at a path: where the journal refused, its error names the file
+abbrev pub ended_at : List ℕ → Result (Unit {0}) RunError → Result (Unit {0}) RunError
+ended_at path (Ok done) = Ok done
+ended_at path (Err e) = Err (error_at path e)
+
+-- an error that names no journal: where the journal refused, it is in memory
+abbrev pub IsServeError : Option (List ℕ) → ServeError → Type 0
+IsServeError journal serve.OutOfMemory = ⊥
+IsServeError journal (serve.Journal cause) = journal ≡ None
+IsServeError journal _ = ⊤
+
 -- why there is no journal of the file at a path
 abbrev pub IsOpenFault : List ℕ → RunError → Type 0
 IsOpenFault path (error.JournalFile p cause) = p ≡ path
-IsOpenFault path e = IsServeFault e
+IsOpenFault path error.OutOfMemory = ⊤
+IsOpenFault path _ = ⊥
 
 -- the same, and of what is done with it; nothing is written where the file is not opened
 abbrev pub IsFileFault : List ℕ → Option (List ℕ) → Option (List ℕ) → RunError → Type 0
 IsFileFault path before after (error.JournalFile p cause) = (p ≡ path) × (after ≡ before)
-IsFileFault path before after e = IsServeFault e
+IsFileFault path before after (error.Journal p cause) = p ≡ path
+IsFileFault path before after (error.Serve e) = IsServeError (Some path) e
+IsFileFault path before after error.OutOfMemory = ⊤
+IsFileFault path before after _ = ⊥
 
 -- The faults of `run` by this configuration, the first of which it reports: its limit, its journal's file, and what is done
 -- with the journal. Nothing is written before that, nor under a limit that is too great.
@@ -126,7 +143,8 @@ IsRunFaultBy o c before after (error.BadLimit limit) =
     (limit ≡ limit_of o c) × (999999999999999 < limit) × (after ≡ before)
 IsRunFaultBy o c before after (error.JournalFile path cause) =
     (limit_of o c ≤ 999999999999999) × (journal_of o c ≡ Some path) × (after ≡ before)
-IsRunFaultBy o c before after (error.Serve e) = (limit_of o c ≤ 999999999999999) × (e ≢ serve.OutOfMemory)
+IsRunFaultBy o c before after (error.Journal path cause) = (limit_of o c ≤ 999999999999999) × (journal_of o c ≡ Some path)
+IsRunFaultBy o c before after (error.Serve e) = (limit_of o c ≤ 999999999999999) × IsServeError (journal_of o c) e
 IsRunFaultBy o c before after error.OutOfMemory = 999999999999999 < limit_of o c → after ≡ before
 IsRunFaultBy o c before after _ = ⊥
 

@@ -3,7 +3,7 @@ ghost use Rattle.std.specs.Prelude.{◌≡◌};
 ghost use Rattle.cardswitch.specs.Errors.{error_of_encode, error_of_flows, error_of_read, error_of_serve};
 ghost use Rattle.cardswitch.specs.Errors.{error_of_step};
 ghost use Rattle.cardswitch.specs.Errors.{error_of_setup, error_of_stream, error_of_write};
-ghost use Rattle.cardswitch.specs.Errors.{is_of_journal, run_status};
+ghost use Rattle.cardswitch.specs.Errors.{error_at, run_status};
 ghost use Rattle.cardswitch.specs.declared.error.RunError.TheVariants.{OutOfMemory};
 
 use cli_decode::StreamError;
@@ -68,9 +68,12 @@ pub enum RunError {
     /// it have run.
     #[error("{0}")]
     Step(StepError),
-    /// The requests of a run, its plant or its journal are refused. What came before is answered.
+    /// The requests of a run, its plant or its journal in memory are refused. What came before is answered.
     #[error("{0}")]
     Serve(ServeError),
+    /// The journal in the file at the path refused while it was in use, or has a row at fault.
+    #[error("{}: {cause}", .path.as_str())]
+    Journal { path: Text, cause: JournalError },
     /// What a card may spend is above the greatest limit.
     #[error("--limit: {0} is not 0 to 999999999999999")]
     BadLimit(u64),
@@ -105,11 +108,14 @@ impl fmt::Debug for RunError {
 }
 
 impl RunError {
-    /// Whether the journal refused while it was in use.
-    pub fn is_of_journal(&self) -> bool
-        ensures { result ≡ is_of_journal self.now }
+    /// This error of a run over the journal in the file at a path: where the journal refused, with its path.
+    pub fn over_file(self, path: Text) -> RunError
+        ensures { result ≡ error_at path self }
     {
-        matches!(self, RunError::Serve(ServeError::Journal(_)))
+        match self {
+            RunError::Serve(ServeError::Journal(cause)) => RunError::Journal { path, cause },
+            other => other,
+        }
     }
 
     /// The exit status of a run that ends with this error: 1 for a refused input and for failed reads
@@ -121,6 +127,7 @@ impl RunError {
             RunError::OutOfMemory => 4,
             RunError::Step(StepError::Journal { .. }) => 3,
             RunError::Serve(ServeError::Journal(_)) => 3,
+            RunError::Journal { .. } => 3,
             RunError::JournalFile {
                 cause: JournalFault::Read(_),
                 ..

@@ -14,12 +14,12 @@ use cli_decode::Masking;
 use cli_io::WriteError;
 use cli_journal::{Form, Style, show};
 use cli_options::choice::JournalOptions;
-use cli_run::ServeError;
 use journal_copy::{CopyError, Found, LookError, Rest, copy_files, look};
 use journal_rows::BadRow;
 use std::alloc::Global;
 use std::fs::Files;
 use std::io::Write;
+use sw_participant::Text;
 use tx_history::JournalView;
 use tx_journal::JournalError;
 
@@ -64,10 +64,11 @@ enum Sight {
 }
 
 // The error of a row at fault, as `run` reports it.
-fn bad_row(bad: BadRow) -> RunError
-    ensures { result ≡ error_of_row bad }
+fn bad_row(path: Text, bad: BadRow) -> RunError
+    ensures { result ≡ error_of_row path bad }
 {
-    RunError::Serve(ServeError::Journal(JournalError::BadRow(bad)))
+    let cause = JournalError::BadRow(bad);
+    RunError::Journal { path, cause }
 }
 
 // What is shown of a copy that holds no sound journal: of one with rows at fault all else.
@@ -81,7 +82,7 @@ fn in_part(alloc: Global, path: &str, error: LookError) -> Result<Sight, RunErro
         LookError::NotAJournal => Err(refusal(alloc, path, JournalFault::NotAJournal)),
         LookError::Database(error) => Err(refusal(alloc, path, JournalFault::Database(error))),
         LookError::OutOfMemory => Err(RunError::OutOfMemory),
-        LookError::BadRow { bad, rest: None } => Err(bad_row(bad)),
+        LookError::BadRow { bad, rest: None } => Err(bad_row(Text::from_str(alloc, path)?, bad)),
         LookError::BadRow {
             bad,
             rest: Some(rest),
@@ -155,10 +156,11 @@ pub fn look_into<F: Files, O: Write>(
     ensures failed { IfErr result
         (IsLookFault options.now (O.contents out.old) (O.contents out.new)) }
 {
+    let path = Text::from_str(alloc, options.path)?;
     let sight = sight_of(alloc, files, options.path)?;
     print(alloc, options, &sight, out)?;
     match sight {
         Sight::Whole(_) => Ok(()),
-        Sight::Beside { bad, .. } => Err(bad_row(bad)),
+        Sight::Beside { bad, .. } => Err(bad_row(path, bad)),
     }
 }

@@ -57,29 +57,16 @@ pub fn run<
 {
     match run_subcommand(options, threads, alloc, rt, input, out, err) {
         Ok(()) => 0,
-        Err(error) => report(journal_named(options), &error, err),
+        Err(error) => report(&error, err),
     }
 }
 
-// The path of the journal's file, where the command line names one.
-fn journal_named<'a>(options: &Options<'a>) -> Option<&'a str> {
-    match options {
-        Options::Run(options) => options.journal,
-        Options::Recover(options) => Some(options.journal),
-        Options::Journal(options) => Some(options.path),
-        _ => None,
-    }
-}
-
-/// Reports an error, and gives its exit status. The error of a journal gets its path, where that is known.
-fn report<E: Write>(journal: Option<&str>, error: &RunError, err: &mut E) -> u8
+/// Reports an error, and gives its exit status.
+fn report<E: Write>(error: &RunError, err: &mut E) -> u8
     ensures { result ≡ run_status error.now }
 {
     // Where standard error takes nothing the status still says it.
-    let _ = match journal {
-        Some(path) if error.is_of_journal() => writeln!(err, "cardswitch: {path}: {error}"),
-        _ => writeln!(err, "cardswitch: {error}"),
-    };
+    let _ = writeln!(err, "cardswitch: {error}");
     error.status()
 }
 
@@ -217,7 +204,7 @@ pub fn refuse<E: Write>(error: &OptionsError, shown: Result<(), WriteError>, err
     }
     match shown {
         Ok(()) => error.status(),
-        Err(fault) => report(None, &RunError::from(fault), err),
+        Err(fault) => report(&RunError::from(fault), err),
     }
 }
 
@@ -228,7 +215,7 @@ pub fn refuse_words<E: Write>(error: io::Error, err: &mut E) -> u8
     ensures no_text { (error_kind error ≢ ErrorKind.OutOfMemory) → result ≡ 2 }
 {
     match error.kind() {
-        ErrorKind::OutOfMemory => report(None, &RunError::OutOfMemory, err),
+        ErrorKind::OutOfMemory => report(&RunError::OutOfMemory, err),
         _ => {
             let _ = writeln!(err, "cardswitch: reading the command line: {error}");
             2

@@ -10,7 +10,7 @@ ghost use Rattle.cli_setup.specs.Plans.{limit_of, plain_setup};
 ghost use Rattle.cardswitch.specs.Runs.{Answered, AnsweredBy, IfTaken, IsConfigAt, IsConfigFault};
 ghost use Rattle.cardswitch.specs.Runs.{IsFlowFault, IsRecoverFault, IsRunFault, IsRunFaultBy};
 ghost use Rattle.cardswitch.specs.Runs.{IsServeFault, Recovered, Served, form_of, sender_of_setup};
-ghost use Rattle.cardswitch.specs.Runs.{wanted};
+ghost use Rattle.cardswitch.specs.Runs.{ended_at, wanted};
 
 use crate::error::RunError;
 use crate::flow_file::flow_at;
@@ -55,6 +55,16 @@ fn serve<S: Alter + Drop, T: Threads + Wait + Clock + Sync, R: Read + Drop, O: W
     let ended = run(threads, alloc, code, journal, setup, input, out, stderr);
     hosts.show(stderr);
     Ok(ended?.into_result()?)
+}
+
+// What became of a run over the journal in the file at a path: where the journal refused, its error names the file.
+fn in_file(path: Text, ended: Result<(), RunError>) -> Result<(), RunError>
+    ensures { result ≡ ended_at path ended }
+{
+    match ended {
+        Ok(()) => Ok(()),
+        Err(error) => Err(error.over_file(path)),
+    }
 }
 
 // The steps of the flow in the file at a path.
@@ -168,7 +178,8 @@ fn answer_by<
     match path {
         Some(path) => {
             let journal = open_file(alloc, rt, path.as_str())?;
-            serve(threads, alloc, setup, &code, journal, input, out, stderr)
+            let ended = serve(threads, alloc, setup, &code, journal, input, out, stderr);
+            in_file(path, ended)
         }
         None => {
             let journal = open_in_memory(alloc)?;
@@ -221,6 +232,7 @@ pub fn recover<T: Threads + Wait + Clock + Sync, O: Write>(
     let code = code_at(alloc, rt, options.flow)?;
     let config = config_for(alloc, rt, options.config)?;
     let setup = recovery(alloc, &config)?;
+    let path = Text::from_str(alloc, options.journal)?;
     let journal = open_file(alloc, rt, options.journal)?;
     let mut sink = std::io::sink();
     let mut stderr = StandardError {
@@ -232,5 +244,6 @@ pub fn recover<T: Threads + Wait + Clock + Sync, O: Write>(
     };
     let input: Option<Empty> = None;
     let stderr = &mut stderr;
-    serve(threads, alloc, setup, &code, journal, input, out, stderr)
+    let ended = serve(threads, alloc, setup, &code, journal, input, out, stderr);
+    in_file(path, ended)
 }

@@ -4,7 +4,7 @@ use Rattle.cardswitch.proofs.looking.look_into.Goals as goal
 
 pub returns-in_err-sight-clause-failed : goal.returns-in_err-sight-clause-failed
 returns-in_err-sight-clause-failed g c =
-    let error = err_from_is_err_and c.from_residual.result c.from_residual.ensures.1 in
+    let error = err_from_is_err_and c.from_residual-in_err-sight.result c.from_residual-in_err-sight.ensures.1 in
     rw (error.1, error.2) (not_found c.args.options.now _ c.in_err-sight.field-0.0 c.in_err-sight.ensures.failed)
 
 pub returns-in_err-print-clause-failed : goal.returns-in_err-print-clause-failed
@@ -12,7 +12,7 @@ returns-in_err-print-clause-failed g c =
     let error = err_from_is_err_and c.from_residual-in_err-print.result c.from_residual-in_err-print.ensures.1 in
     rw (error.1, error.2) (unwritten c.args.options.now _ _ c.in_ok-sight.sight c.in_err-print.field-0.0 c.in_ok-sight.ensures.sight c.print.ensures.beginning)
 
-pub returns-clause-failed : goal.returns-clause-failed
-returns-clause-failed g c =
-    rw c.bad_row.ensures (beside c.args.options.now _ _ c.in_ok-sight.sight c.in-Beside.bad c.in-Beside.rest c.in-Beside.is c.in_ok-sight.ensures.sight
-    c.in_ok-print.ensures.written)
+pub returns-in-Beside-clause-failed : goal.returns-in-Beside-clause-failed
+returns-in-Beside-clause-failed g c =
+    rw c.bad_row.ensures (beside c.args.options.now c.in_ok-path.path _ _ c.in_ok-sight.sight c.in-Beside.bad c.in-Beside.rest c.in_ok-path.ensures c.in-Beside.is
+    c.in_ok-sight.ensures.sight c.in_ok-print.ensures.written)
