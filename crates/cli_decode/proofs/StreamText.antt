@@ -107,7 +107,8 @@ module _ (k : Masking) where
       ]
 
   pub ended : (first r start w0 w1 : Option (List ℕ)) (reads : ℕ) (d : Decoder) (refused : Bool)
-      → IsSoFar k first r start w0 reads d → IsAtEnd r ⊎ (d.framer.failed ≡ true) → Appends w0 w1 (end_text d.framer) → refused ≡ (d.refused || is_cut d.framer)
+      → IsSoFar k first r start w0 reads d → IsAtEnd r ⊎ (d.framer.failed ≡ true) → Appends w0 w1 (end_text d.framer)
+      → refused ≡ (d.refused || is_cut d.framer)
       → IfSome first (λ bytes. (fs : List (List ℕ)) × (s : State) × Stream bytes fs s × Appends start w1 (stream_text k fs s) × (refused ≡ has_refusal fs s))
   ended None r start w0 w1 reads d refused h why wrote is = tt
   ended (Some xs) None start w0 w1 reads d refused h why wrote is = absurd h.consumed

@@ -78,7 +78,8 @@ same_text p q (inr e) = ap text_of e ∙ closed_text p
 counted_is : (text rest : List ℕ) (lines : ℕ) (e : Encoder) (h : IsSoFar text rest lines e) → lines ≡ count_by (λ b. b == 10) (text_of_lines h.read)
 counted_is text rest lines e h = h.counted ∙ sym (lines_counted h.read h.are_lines)
 
-pub up_to_line : (text rest line after : List ℕ) (lines : ℕ) (e e' : Encoder) → IsSoFar text rest lines e → line ++ 10 ∷ after ≡ rest → has_byte 10 line ≡ false
+pub up_to_line : (text rest line after : List ℕ) (lines : ℕ) (e e' : Encoder) → IsSoFar text rest lines e → line ++ 10 ∷ after ≡ rest
+    → has_byte 10 line ≡ false
     → length text < 2 ^ 63 → TakesBytes e line e' false → IsReadUpTo text lines e'
 up_to_line text rest line after lines e e' h cut clean small takes =
     let r = takes h.point h.at in

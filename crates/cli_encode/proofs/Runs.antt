@@ -46,7 +46,8 @@ feeds_in bytes = count_by (λ b. b == 10) bytes
 
 pub lines_append : (us vs : List PlainLine) → text_of_lines (us ++ vs) ≡ text_of_lines us ++ text_of_lines vs
 lines_append [] vs = refl
-lines_append (u ∷ us) vs = ap (λ (t : List ℕ). ended_line u ++ t) (lines_append us vs) ∙ sym (append_assoc (ended_line u) (text_of_lines us) (text_of_lines vs))
+lines_append (u ∷ us) vs = ap (λ (t : List ℕ). ended_line u ++ t) (lines_append us vs)
+    ∙ sym (append_assoc (ended_line u) (text_of_lines us) (text_of_lines vs))
 
 -- one line, and what follows it
 front : (l : PlainLine) (ls : List PlainLine) → text_of_lines (l ∷ ls) ≡ line_bytes l ++ 10 ∷ text_of_lines ls

@@ -251,7 +251,8 @@ pub serves_finished : (xs : List Pairs) (r : Round) (p e q : Point) (a b : Optio
 serves_finished xs r p e q a b k l leads f =
     let d = f.drains.drains in
     let rs = d.rounds in
-    let none : offered_in (rs ++ Trimmed ∷ []) ≡ [] = offered_append rs (Trimmed ∷ []) ∙ ap (λ (l : List Pairs). l ++ []) (retries_offer_none rs d.retries) in (
+    let none : offered_in (rs ++ Trimmed ∷ []) ≡ [] = offered_append rs (Trimmed ∷ [])
+    ∙ ap (λ (l : List Pairs). l ++ []) (retries_offer_none rs d.retries) in (
       r ∷ (rs ++ Trimmed ∷ []),
       (
         leads.offers (rs ++ Trimmed ∷ []) ∙ (ap (λ (l : List Pairs). xs ++ l) none ∙ append-nil xs),

@@ -1,6 +1,7 @@
 -- What is read of a stream of frames, and which of its messages are requests.
 -- for: stream::serve, stream::serve_messages, stream::Requests
-use Rattle.std.proofs.Common.{◌≡◌, ◌<◌, ◌≤◌, ℕ, ◌+◌, List, [], ◌∷◌, ◌++◌, length, map, take, drop, take-append-drop, get_or, Option, Result, Ok, Err, refl, sym}
+use Rattle.std.proofs.Common.{◌≡◌, ◌<◌, ◌≤◌, ℕ, ◌+◌, List, [], ◌∷◌, ◌++◌, length, map, take, drop, take-append-drop, get_or, Option}
+use Rattle.std.proofs.Common.{Result, Ok, Err, refl, sym}
 use Rattle.std.proofs.Common.{ap, arith, ◌∙◌, inl, append_assoc, append-nil}
 use Rattle.std.proofs.KnownBytes.{Consumes-kept, Consumes-nil, Consumes-trans}
 use Rattle.std.proofs.lemmas.List.{length-append, length-take-le, map-append, take_more}
@@ -20,7 +21,8 @@ use Rattle.cli_run.specs.Requests.{FramesIn, Reads, ReadsOn, if_read, readable, 
 
 -- requests
 
-pub is_request : (r : Result PlainMessage DecodeError) (m : PlainMessage) (bytes : List ℕ) → r ≡ Ok m → map request_of (if_read r bytes) ≡ request_of bytes ∷ []
+pub is_request : (r : Result PlainMessage DecodeError) (m : PlainMessage) (bytes : List ℕ) → r ≡ Ok m
+    → map request_of (if_read r bytes) ≡ request_of bytes ∷ []
 is_request r m bytes is = rw is refl
 
 pub is_none : (r : Result PlainMessage DecodeError) (e : DecodeError) (bytes : List ℕ) → r ≡ Err e → map request_of (if_read r bytes) ≡ []

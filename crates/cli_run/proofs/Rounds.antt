@@ -179,7 +179,8 @@ ready_again x o p w q bytes lines ready does c = record {
 }
 
 -- one completed transaction
-pub the_completed : (p q : Point) (a b : Option (List ℕ)) → Serves (Completed ∷ []) p a q b → (bytes : List ℕ) × (lines : List Line) × Completes p bytes lines q
+pub the_completed : (p q : Point) (a b : Option (List ℕ)) → Serves (Completed ∷ []) p a q b
+    → (bytes : List ℕ) × (lines : List Line) × Completes p bytes lines q
 the_completed p q a b s = by_goes s.goes where
   by_goes : Goes (Completed ∷ []) p s.bytes s.lines q → (bytes : List ℕ) × (lines : List Line) × Completes p bytes lines q
   by_goes (w, first, later, cut, others, completes, (none, nothing, same), all, these) = (first, cut, subst (Completes p first cut) (sym same) completes)

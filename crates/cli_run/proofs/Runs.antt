@@ -33,7 +33,8 @@ abbrev pub FirstRecovers : Point → Point → Type 0
 FirstRecovers p q = (f : Flow) (n : ℕ) (view : JournalView) (j : Seen) → IsMade f n view j p.plant → p.answered.last ≡ view.next_id - 1 → Recovers p q
 
 pub begun : (f : Flow) (n : ℕ) (view : JournalView) (j : Seen) (made : Whole) (first : ℕ) (id : Progress) (r : Point) → IsMade f n view j made →
-    first ≡ made.core.world.start.view.next_id → id ≡ begun_in made.core.world first → FirstRecovers (record { plant = made; answered = id }) r → Begins f n j r
+    first ≡ made.core.world.start.view.next_id → id ≡ begun_in made.core.world first → FirstRecovers (record { plant = made; answered = id }) r
+    → Begins f n j r
 begun f n view j made first id r is first_at before recovers =
     let answered : id ≡ begun_in made.core.world view.next_id = before ∙ ap (begun_in made.core.world) (first_is f n view j made first is first_at) in
     record {

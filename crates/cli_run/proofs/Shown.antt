@@ -72,7 +72,8 @@ reports_shown rounds k p q a b x y z r s = record {
 }
 
 -- after a batch
-pub batch_shown : (xs : List Pairs) (p q : Point) (a b : Option (List ℕ)) (x y z : Log) → AnswersAll xs p a x q b y → Tells [] 0 y z → AnswersAll xs p a x q b z
+pub batch_shown : (xs : List Pairs) (p q : Point) (a b : Option (List ℕ)) (x y z : Log) → AnswersAll xs p a x q b y → Tells [] 0 y z
+    → AnswersAll xs p a x q b z
 batch_shown xs p q a b x y z (rounds, answers, reports) s = (rounds, answers, reports_shown rounds 0 p q a b x y z reports s)
 
 -- what a write tells

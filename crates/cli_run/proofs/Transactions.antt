@@ -256,7 +256,8 @@ adds_own n p q own (inl same) = (None, same)
 adds_own n p q own (inr (l, x, there, more)) = (Some x, more ∙ ap (λ (i : ℕ). insert_entry nat_cmp p.ended i x) (own l there))
 
 stays : (p b q : Core) (n k : ℕ) (m : List Moved) (o : Outcome) → Seated p → recovering p.world.flow p.world.start p.world.past ≡ None →
-    taken p.world.start p.world.past 0 ≡ Some n → Stepped p 0 m (Ok o) b → IsEngine b.world → q ≡ record b { world = record b.world { mark = k } } → Stays n p q
+    taken p.world.start p.world.past 0 ≡ Some n → Stepped p 0 m (Ok o) b → IsEngine b.world → q ≡ record b { world = record b.world { mark = k } }
+    → Stays n p q
 stays p b q n k m o seated none took stepped engine is =
     let s = steps_of p b m (Ok o) stepped in
     let w = goes_on p.world b.world engine none s.enters in

@@ -1,6 +1,7 @@
 -- Lines that others follow: what is said of the first ones holds of all.
 -- (for the crates above, which read a script line by line)
-use Rattle.std.proofs.Common.{◌≡◌, ◌≢◌, ◌∙◌, ◌⊎◌, ◌||◌, ◌+◌, ◌≤◌, ◌<◌, ◌^◌, ◌++◌, ◌∷◌, [], ℕ, Bool, true, false, List, length, Option, None, Some, Ok, inl, inr}
+use Rattle.std.proofs.Common.{◌≡◌, ◌≢◌, ◌∙◌, ◌⊎◌, ◌||◌, ◌+◌, ◌≤◌, ◌<◌, ◌^◌, ◌++◌, ◌∷◌, [], ℕ, Bool, true, false, List, length, Option}
+use Rattle.std.proofs.Common.{None, Some, Ok, inl, inr}
 use Rattle.std.proofs.Common.{is_some, refl, sym, ap, arith, length-append, append-nil, subst}
 use Rattle.std.proofs.lemmas.List.Folds.{list_any-append}
 use Rattle.std.specs.List.{list_any}

@@ -86,7 +86,8 @@ impl LineError {
                 "empty, or a leading, trailing or doubled space; expected words separated by single spaces"
             }
             LineError::Command => {
-                "unknown command; expected retries, sessions, flow, answer, choose, advice, restore, offer, take, release, ack, break, clear, go, call, write, stop, cut, where, rest, saved, calls or auto"
+                "unknown command; expected retries, sessions, flow, answer, choose, advice, restore, offer, \
+                take, release, ack, break, clear, go, call, write, stop, cut, where, rest, saved, calls or auto"
             }
             LineError::Retries => { "missing or invalid number; usage: retries N" }
             LineError::Sessions => { "missing or invalid number; usage: sessions N" }

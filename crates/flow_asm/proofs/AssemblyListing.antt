@@ -117,7 +117,8 @@ listed_is f a c m =
     let groups : map (group_of a.parts a.steps) a.starts ≡ f.groups = ap (λ ps. map (group_of ps a.steps) a.starts) m.parts
     ∙ ap (λ ss. map (group_of (parts_of f) ss) a.starts) m.steps ∙ ap (map (group_of (parts_of f) (steps_of f))) m.starts ∙ groups_listed f [] f.groups
     0 (one_kind f c) refl refl in
-    ap (λ r. record { retries = r; groups = map (group_of a.parts a.steps) a.starts }) m.retries ∙ ap (λ gs. record { retries = f.retries; groups = gs }) groups
+    ap (λ r. record { retries = r; groups = map (group_of a.parts a.steps) a.starts }) m.retries
+    ∙ ap (λ gs. record { retries = f.retries; groups = gs }) groups
 
 pub is_assembly : (f : Flow) (a : Inside) → IsChecked f → Made f a → IsAssembly a
 is_assembly f a c m =

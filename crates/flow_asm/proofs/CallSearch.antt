@@ -16,7 +16,8 @@ use Rattle.flow_model.specs.declared.numbering.Part.{Part}
 use Rattle.flow_model.specs.Places.{parts_of, placed_entry, placed_from}
 use Rattle.flow_asm.specs.declared.code.GroupStart.{GroupStart}
 use Rattle.flow_asm.specs.declared.code.Step.{Step}
-use Rattle.flow_asm.specs.Steps.{Stage, AtCall, AtPick, first_step, groups_from, layout, stages, stages_of_entry, stages_of_group, starts_of, step_of, steps_of}
+use Rattle.flow_asm.specs.Steps.{Stage, AtCall, AtPick, first_step, groups_from, layout, stages, stages_of_entry, stages_of_group}
+use Rattle.flow_asm.specs.Steps.{starts_of, step_of, steps_of}
 use Rattle.flow_asm.specs.Places.{call_of, call_step, call_within, group_at, place_at, place_of}
 use Rattle.flow_asm.specs.CallSearch.{call_from}
 use Rattle.flow_asm.proofs.Stages.{first_at, group_front, group_past, length-starts}

@@ -25,7 +25,8 @@ record IsGroup (ps : List Part) (h : ℕ) (gs : List Group) (k : ℕ) (called : 
   name : group.name ≡ called
   placed_entries : group_at (groups_from ps h gs) k ≡ placed_from ps (h + k) 0 group.entries
 
-group_of : (f : Flow) (ps : List Part) (g h k : ℕ) (gs : List Group) (d : GroupStart) → k < length gs → IsGroup ps h gs k (get_or (starts_from f g gs) k d).name
+group_of : (f : Flow) (ps : List Part) (g h k : ℕ) (gs : List Group) (d : GroupStart) → k < length gs
+    → IsGroup ps h gs k (get_or (starts_from f g gs) k d).name
 group_of f ps g h k [] d l = absurd (omega (arith, l))
 group_of f ps g h zero (x ∷ gs) d l =
     record { group = x; cut = refl; name = refl; placed_entries = ap (λ n. placed_from ps n 0 x.entries) (let e : h ≡ h + 0 = omega arith in e) }

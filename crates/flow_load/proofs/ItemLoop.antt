@@ -73,7 +73,8 @@ ends form e front count k at bytes total lt h so_far = fails_through e (line_at 
     (λ is. stops form e front count k at bytes total lt is so_far) h
 
 pub is_done : {A : Type 0} (form : LoadError → List ℕ → Result (ℕ × A) LoadError) (front : List A) (count k at : ℕ) (bytes : List ℕ)
-    (total : Result (List A × List ℕ) LoadError) → count ≤ k → with_front front (items_at form (count - k) k (at + k) bytes) ≡ total → total ≡ Ok (front, bytes)
+    (total : Result (List A × List ℕ) LoadError) → count ≤ k → with_front front (items_at form (count - k) k (at + k) bytes) ≡ total
+    → total ≡ Ok (front, bytes)
 unfolding items_at
 is_done form front count k at bytes total le so_far =
     let n : count - k ≡ 0 = omega arith in

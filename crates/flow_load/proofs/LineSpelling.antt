@@ -127,7 +127,8 @@ number_at_ok e text y h =
     with_bind _ (word_at e text) (λ w. number_of e w.0 >>= λ n. Ok (n, w.1)) y (λ w is more.
     with_bind _ (number_of e w.0) (λ n. Ok (n, w.1)) y (λ m value last. done w m y is value last) more) h
   where
-    done : (w : Text × Text) (m : ℕ) (y : ℕ × Text) → word_at e text ≡ Ok w → number_of e w.0 ≡ Ok m → okay (m, w.1) ≡ Ok y → text ≡ then_word (decimal y.0) y.1
+    done : (w : Text × Text) (m : ℕ) (y : ℕ × Text) → word_at e text ≡ Ok w → number_of e w.0 ≡ Ok m → okay (m, w.1) ≡ Ok y
+        → text ≡ then_word (decimal y.0) y.1
     done w m y a b h =
         let same = same_pair (m, w.1) y h in
         word_at_ok e text w a ∙ ap (λ v. then_word v w.1) (number_of_ok e w.0 m b) ∙ ap (λ n. then_word (decimal n) w.1) same.0
@@ -145,7 +146,8 @@ name_at_ok e text y h =
     with_bind _ (name_of e w.0) (λ n. Ok (n, w.1)) y (λ n named last.
     let same = same_pair (n, w.1) y last in
     let whole = if_ok (is_name w.0) (Ok w.0) e n named in
-    word_at_ok e text w is ∙ ap (λ v. then_word v w.1) (same_value w.0 n whole.1) ∙ ap (λ v. then_word v w.1) same.0 ∙ ap (λ r. then_word y.0 r) same.1) more) h
+    word_at_ok e text w is ∙ ap (λ v. then_word v w.1) (same_value w.0 n whole.1) ∙ ap (λ v. then_word v w.1) same.0 ∙ ap (λ r. then_word y.0 r) same.1)
+    more) h
 
 find_ok : {A : Type 0} (p : A → Bool) (xs : List A) (y : A) → find p xs ≡ Some y → p y ≡ true
 find_ok p [] y h = absurd (cc)

@@ -12,7 +12,8 @@ use Rattle.flow_asm.specs.declared.code.Step.TheVariants.{Call, Pick, Return}
 use Rattle.flow_load.specs.Image.{Text}
 use Rattle.flow_load.specs.Reads.{◌>>=◌, found, fault_of, Fails}
 use Rattle.flow_load.specs.Words.{cut, kind_of, name_at, name_of, number, number_at, number_of, word_at, word_is}
-use Rattle.flow_load.specs.Forms.{ended, group_form, header_at, header_form, in_place, is_header, items_at, line_at, lines_in, part_form, step_form, step_named}
+use Rattle.flow_load.specs.Forms.{ended, group_form, header_at, header_form, in_place, is_header, items_at, line_at, lines_in, part_form}
+use Rattle.flow_load.specs.Forms.{step_form, step_named}
 use Rattle.flow_load.specs.Forms.{step_of}
 use Rattle.flow_load.specs.Load.{first_marked, line_fault, load_of, misversioned, version_fault}
 use Rattle.flow_load.specs.LookOver.{lines_over}

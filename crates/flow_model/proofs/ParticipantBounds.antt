@@ -17,7 +17,8 @@ use Rattle.flow_model.specs.declared.numbering.Part.{Part}
 use Rattle.flow_model.specs.declared.error.FlowError.{FlowError}
 use Rattle.flow_model.specs.declared.error.FlowError.TheVariants.{BadRetries, TooLarge}
 use Rattle.flow_model.specs.Check.{IsChecked, bad_retries, entries_in_all, first_fault, has_large_group, is_large, large, name_fault, size_fault}
-use Rattle.flow_model.specs.Places.{IsOfParticipant, add_new, all_entries, entries_named, entries_of, named_from, number_in, parts_from, parts_of, placed_entry}
+use Rattle.flow_model.specs.Places.{IsOfParticipant, add_new, all_entries, entries_named, entries_of, named_from, number_in, parts_from}
+use Rattle.flow_model.specs.Places.{parts_of, placed_entry}
 use Rattle.flow_model.specs.Places.{placed_from}
 use Rattle.flow_model.proofs.CheckedKinds.{In, in_left, in_right, left_none, right_none}
 use Rattle.flow_model.proofs.Numbers.{added_cases, knows}

@@ -51,7 +51,8 @@ unknown_above p k (e ∷ es) h b is =
           (λ o i. unknown_above p k es h.1 o i))
     ]
 
-first_is_lesser : (name : List ℕ) (rest : Option (List ℕ)) → ((o : List ℕ) → rest ≡ Some o → is_lt (slice_cmp nat_cmp o name) ≡ false) → lesser name rest ≡ name
+first_is_lesser : (name : List ℕ) (rest : Option (List ℕ)) → ((o : List ℕ) → rest ≡ Some o → is_lt (slice_cmp nat_cmp o name) ≡ false)
+    → lesser name rest ≡ name
 first_is_lesser name None f = refl
 first_is_lesser name (Some o) f = ap (λ (b : Bool). if b then o else name) (f o refl)
 

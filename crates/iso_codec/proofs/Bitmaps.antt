@@ -60,7 +60,8 @@ bits_between (c ∷ cs) n ns e =
     let b = both_some (nibble n) (hex_value c) (bits_at (n + 4) cs) ns e in
     let h : n + 4 + 4 * length cs ≡ n + 4 * suc (length cs) = omega arith in
     let rest = subst (λ m. Between (n + 4) m b.1) h (bits_between cs (n + 4) b.1 b.3) in
-    subst (λ xs. Between n (n + 4 * suc (length cs)) xs) b.4 (Between-append n (n + 4) (n + 4 * suc (length cs)) (nibble n b.0) b.1 (nibble_between n b.0) rest)
+    subst (λ xs. Between n (n + 4 * suc (length cs)) xs) b.4 (Between-append n (n + 4) (n + 4 * suc (length cs))
+    (nibble n b.0) b.1 (nibble_between n b.0) rest)
 
 bits_cons : (c d n : ℕ) (cs xs : List ℕ) → hex_value c ≡ Some d → bits_at (n + 4) cs ≡ Some xs → bits_at n (c ∷ cs) ≡ Some (nibble n d ++ xs)
 unfolding bits_at

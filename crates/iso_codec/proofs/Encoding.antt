@@ -288,7 +288,8 @@ same_digit : (all ns : List ℕ) (n : ℕ) → ((m : ℕ) → n ≤ m → has al
 same_digit all ns n h =
     rw (h n (omega arith), h (n + 1) (omega arith), h (n + 2) (omega arith), h (n + 3) (omega arith)) refl
 
-bits_same : (k n high : ℕ) (all ns : List ℕ) → n + 4 * k ≡ high → Between n high ns → ((m : ℕ) → n ≤ m → has all m ≡ has ns m) → bits_of n k ns ≡ bitmap all n k
+bits_same : (k n high : ℕ) (all ns : List ℕ) → n + 4 * k ≡ high → Between n high ns → ((m : ℕ) → n ≤ m → has all m ≡ has ns m)
+    → bits_of n k ns ≡ bitmap all n k
 unfolding bits_of bitmap
 bits_same zero n high all ns h b e = refl
 bits_same (suc k) n high all ns h b e =

@@ -58,7 +58,8 @@ module _ (fs : List Field) (n : ℕ) (a : AreFields 1 (pairs fs)) where
       ]
 
   -- a binary search by number finds the place
-  pub searched : (r : Result ℕ ℕ) → IsSearchInRange r (length fs) → IsBinarySearchResult (λ (f : Field). nat_cmp f.number n) fs r → r ≡ field_index n (pairs fs)
+  pub searched : (r : Result ℕ ℕ) → IsSearchInRange r (length fs) → IsBinarySearchResult (λ (f : Field). nat_cmp f.number n) fs r
+      → r ≡ field_index n (pairs fs)
   searched (Ok i) within equal = sym (place_at 1 fs n i a within (λ d. ranked _ n _ (sym (equal d))))
   searched (Err i) within parted =
       let q = parted comparisons_rise in

@@ -45,7 +45,8 @@ count_listed (r ∷ rows) (t ∷ ts) h = let rest = count_listed rows ts h.1 in 
 same_count : (one two : Schema) (db : Trees) → IsSound one db → IsSound two db → length one.tables ≡ length two.tables
 same_count one two db a b = sym (count_listed _ _ a.lists.listed.tables) ∙ count_listed _ _ b.lists.listed.tables
 
-layout_of : (db : Trees) (s : Schema) (layout : ℕ) (t : Tables) → IsSound s db → layout_by (length s.tables) ≡ Some layout → OpensAs db t → IsLayoutOf db layout
+layout_of : (db : Trees) (s : Schema) (layout : ℕ) (t : Tables) → IsSound s db → layout_by (length s.tables) ≡ Some layout → OpensAs db t
+    → IsLayoutOf db layout
 layout_of db s layout t sound is (inl o) =
     let seven : Some 2 ≡ Some layout = sym (ap layout_by (same_count s journal_schema db sound o.0)) ∙ is in
     let same : layout ≡ 2 = cc in

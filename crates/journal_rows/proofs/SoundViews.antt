@@ -29,7 +29,8 @@ use Rattle.journal_rows.specs.declared.layout.Layout.TheVariants.{Second}
 use Rattle.journal_rows.specs.Tables.{Tables, code}
 use Rattle.journal_rows.specs.Reads.{HaveNats, IsNat, IsOrdered, Stands, name_in, nat_at, nat_of, int_in, int_at, phase_of, read, row_of, waiting_of}
 use Rattle.journal_rows.specs.Reads.{members_of, members_in, advices_in, place_cmp, shown_meta, shown_part, shown_tx, shown_shelf, shown_advice}
-use Rattle.journal_rows.specs.Faults.{IsFaultIn, IsFirstBad, IsTx, ShelfFits, TxFits, are_placed, bad_meta, bad_part, bad_member, bad_advice, has_id, is_advice}
+use Rattle.journal_rows.specs.Faults.{IsFaultIn, IsFirstBad, IsTx, ShelfFits, TxFits, are_placed, bad_meta, bad_part, bad_member}
+use Rattle.journal_rows.specs.Faults.{bad_advice, has_id, is_advice}
 use Rattle.journal_rows.specs.Faults.{is_given, is_placed, is_within, names_nobody_or_one, orphan, suits, unplaced}
 use Rattle.journal_rows.proofs.ExactFaults.{MetaFits, four, least_none, meta_fits}
 use Rattle.journal_rows.proofs.KeyedLemmas.{cmp_nats, lt_nat}
@@ -80,7 +81,8 @@ look_has {A = A} f id (r ∷ rows) nats x h = go (nat_at r 0 == id) refl h (look
     go true e h more =
         let key : nat_at r 0 ≡ id = grind (arith, nat_tests) in
         let same : int_at r 0 ≡ pos id = ap int_in nats.0 ∙ ap pos key in
-        ap (λ i. int_eq i (pos id) || has_id (pos id) rows) same ∙ ap (λ b. b || has_id (pos id) rows) (Rattle.std.proofs.lemmas.Cmp.int_eq_equiv.refl (pos id))
+        ap (λ i. int_eq i (pos id) || has_id (pos id) rows) same ∙ ap (λ b. b || has_id (pos id) rows)
+        (Rattle.std.proofs.lemmas.Cmp.int_eq_equiv.refl (pos id))
     go false e h more = elim (int_eq (int_at r 0) (pos id)) as (λ b. (b || has_id (pos id) rows) ≡ true) [ true ↦ refl | false ↦ more h ]
 
 next_above : (a b : Row) → IsNat (column a 0) → IsNat (column b 0) → value_cmp (rowid a) (rowid b) ≡ Less → nat_at a 0 + 1 ≤ nat_at b 0

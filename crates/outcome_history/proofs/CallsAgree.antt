@@ -128,5 +128,6 @@ calls_if f v past s id o law h false e =
       call = own_call f id (state_of f v past id) (due_of f (state_of f v past id)) ∙ sym (due_new f v past id e);
     }
 
-pub calls_agree : (f : Flow) (v : Start) (past : List Event) (s id : ℕ) → IsOrdered v.view → IsLawful f v past → serves f v past s ≡ Some id → Calls f v past id
+pub calls_agree : (f : Flow) (v : Start) (past : List Event) (s id : ℕ) → IsOrdered v.view → IsLawful f v past → serves f v past s ≡ Some id
+    → Calls f v past id
 calls_agree f v past s id o law h = calls_if f v past s id o law h (nat_lt id v.view.next_id) refl

@@ -135,7 +135,8 @@ full_closed f v past id lt =
     let yes : (id == id) ≡ true = grind (arith, nat_tests) in
     rw (lt, yes) (close_journalled f (look id v.view.rows) (own_items f v past id) (restored f v past id))
 
-pub closed_other : (f : Flow) (v : Start) (past : List Event) (id j : ℕ) → (id == j) ≡ false → full_state f v past j ≡ full_state f v (event.Closed id ∷ past) j
+pub closed_other : (f : Flow) (v : Start) (past : List Event) (id j : ℕ) → (id == j) ≡ false
+    → full_state f v past j ≡ full_state f v (event.Closed id ∷ past) j
 closed_other f v past id j d = rw d refl
 
 -- a take

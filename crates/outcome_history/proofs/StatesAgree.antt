@@ -83,7 +83,8 @@ full_offered f v past c j o law =
 full_released : (f : Flow) (v : Start) (past : List Event) (j : ℕ) → IsOrdered v.view → IsLawful f v past →
     full_state f v past j ≡ full_state f v (Released ∷ past) j
 full_released f v past j o law =
-    let w = more_states f v past Released j refl (nat_lt j (next_id v past)) refl (λ lt. state_released f v past j o law (known_below j (next_id v past) lt)) in
+    let w = more_states f v past Released j refl (nat_lt j (next_id v past)) refl
+    (λ lt. state_released f v past j o law (known_below j (next_id v past) lt)) in
     ap (λ (s : Option FullState). if nat_lt j v.view.next_id then journalled f (look j v.view.rows) (is_closed past j) (own_items f v past j)
     (restored f v past j) else s) w
 

@@ -174,7 +174,8 @@ AreEntries-before (x ∷ xs) e ys are =
     (find-cons e.0 x xs (differ-back x.0 e.0 differ.0) rest.0, rest.1)
 
 -- the first of the entries that are left is taken, and goes last
-pub put-next : (xs : Pairs) (e : List ℕ × List ℕ) (ys : Pairs) → IsContext (xs ++ e ∷ ys) → (refusal xs e.0 e.1 ≡ None) × (with_value xs e.0 e.1 ≡ xs ++ e ∷ [])
+pub put-next : (xs : Pairs) (e : List ℕ × List ℕ) (ys : Pairs) → IsContext (xs ++ e ∷ ys)
+    → (refusal xs e.0 e.1 ≡ None) × (with_value xs e.0 e.1 ≡ xs ++ e ∷ [])
 unfolding refusal
 put-next xs e ys is =
     let before = AreEntries-before xs e ys is.1 in

@@ -1,6 +1,7 @@
 -- Frames one after the other.
 -- for: framer::Framer, walk::take_frames, pieces::read_pieces
-use Rattle.std.proofs.Common.{◌≡◌, cond, inl, inr, ℕ, ◌<◌, ◌≤◌, ◌+◌, Bool, true, false, List, [], ◌∷◌, ◌++◌, length, get_or, take, drop, Some, None, Result, Ok}
+use Rattle.std.proofs.Common.{◌≡◌, cond, inl, inr, ℕ, ◌<◌, ◌≤◌, ◌+◌, Bool, true, false, List, [], ◌∷◌, ◌++◌, length, get_or, take, drop}
+use Rattle.std.proofs.Common.{Some, None, Result, Ok}
 use Rattle.std.proofs.Common.{Err, refl, sym, ap, subst, ◌∙◌, append_assoc, arith}
 use Rattle.std.proofs.lemmas.List.{append-nil, take_more, length-drop, length-take, length-append, take-append-drop, take-append-le, take_at}
 use Rattle.std.proofs.Math.Seq.{take-add}

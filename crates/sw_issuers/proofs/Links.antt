@@ -1,6 +1,7 @@
 -- The first link of a group, by its place.
 -- for: sender::deliver_to, sender::Sender::send
-use Rattle.std.proofs.Common.{◌≡◌, ℕ, zero, suc, ◌+◌, ◌<◌, ◌≤◌, Bool, true, false, List, [], ◌∷◌, length, get_or, set, Some, Result, Ok, Err, IfOk, OnErr, refl}
+use Rattle.std.proofs.Common.{◌≡◌, ℕ, zero, suc, ◌+◌, ◌<◌, ◌≤◌, Bool, true, false, List, [], ◌∷◌, length, get_or, set, Some, Result, Ok}
+use Rattle.std.proofs.Common.{Err, IfOk, OnErr, refl}
 use Rattle.std.proofs.Common.{sym, ap, subst, ◌∙◌, arith}
 use Rattle.std.specs.Str.{bytes_eq}
 use Rattle.iso_msg.specs.Messages.{PlainMessage}

@@ -1,7 +1,8 @@
 -- Laws of chains, over any rules. They are the interface for a plant of boxed stations, whose kinds are no types of
 -- Rust, so that it cannot take the laws of `laws.rt`: it cites chain_append, chain_weaker, rule_at_same, chain_called.
 -- for: laws::chains_append, laws::chains_widen, laws::rules_widen, laws::types_decide, station::call_station
-use Rattle.std.proofs.Common.{◌≡◌, ℕ, zero, suc, ◌<◌, ◌+◌, ◌-◌, ◌^◌, ◌==◌, ◌++◌, Bool, true, false, List, [], ◌∷◌, length, get_or, map, min, Option, Some, None}
+use Rattle.std.proofs.Common.{◌≡◌, ℕ, zero, suc, ◌<◌, ◌+◌, ◌-◌, ◌^◌, ◌==◌, ◌++◌, Bool, true, false, List, [], ◌∷◌, length, get_or, map}
+use Rattle.std.proofs.Common.{min, Option, Some, None}
 use Rattle.std.proofs.Common.{refl, sym, ap, subst, arith, ◌∙◌, if◌then◌else◌, slice_set}
 use Rattle.std.proofs.lemmas.Bool.Decides.{nat_tests}
 use Rattle.std.proofs.lemmas.List.{map-set, get_or-map}
@@ -133,7 +134,8 @@ pub chain_append : {V : Type 0} (recovered : V → Contexts) (rule : ℕ → Rul
     Chain recovered rule ps mid n qs now → Chain recovered rule os live (m ++ n) qs now
 chain_append {V = V} recovered rule [] n os live ps mid qs now (e, f) d =
     chain_from recovered rule n os mid live qs now (λ id. sym (f id)) (subst (λ (a : List (List ℕ)). Chain recovered rule a mid n qs now) e d)
-chain_append recovered rule (Began i x ∷ m) n os live ps mid qs now (f, c) d = (f, chain_append recovered rule m n os (with_context live i x) ps mid qs now c d)
+chain_append recovered rule (Began i x ∷ m) n os live ps mid qs now (f, c) d =
+    (f, chain_append recovered rule m n os (with_context live i x) ps mid qs now c d)
 chain_append recovered rule (Called call place r ∷ m) n os live ps mid qs now (x, rs, y, l, h, c) d =
     (x, rs, y, l, h, chain_append recovered rule m n rs (with_context live call.id y) ps mid qs now c d)
 chain_append recovered rule (Stopped v ∷ m) n os live ps mid qs now c d = chain_append recovered rule m n os (recovered v) ps mid qs now c d

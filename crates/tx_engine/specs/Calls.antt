@@ -1,6 +1,7 @@
 -- Which calls the engine accepts, and what it answers.
 use Rattle.std.specs.Prelude.{if◌then◌else◌}
-use Rattle.std.specs.Prelude.{◌≡◌, ℕ, ◌+◌, ◌-◌, ◌<◌, ◌==◌, Bool, List, [], ◌∷◌, length, slice_get, option_map, Option, Some, None, is_some, nat_le, nat_lt, min}
+use Rattle.std.specs.Prelude.{◌≡◌, ℕ, ◌+◌, ◌-◌, ◌<◌, ◌==◌, Bool, List, [], ◌∷◌, length, slice_get, option_map, Option, Some, None, is_some}
+use Rattle.std.specs.Prelude.{nat_le, nat_lt, min}
 use Rattle.std.specs.Prelude.{not, ◌||◌, Result, Ok, Err, filter}
 use Rattle.std.specs.Map.{lookup}
 use Rattle.sw_base.specs.Refusals.{refused_if, first_of}

@@ -14,7 +14,8 @@ use Rattle.tx_history.specs.declared.event.Event.TheVariants.{Offered, Taken, An
 use Rattle.tx_history.specs.declared.journal.Waiting.{Waiting}
 use Rattle.tx_history.specs.declared.journal.Row.{Row}
 use Rattle.tx_history.specs.Keys.{Rising, look, gather, put_at}
-use Rattle.tx_history.specs.History.{Start, reopened_at, begun, first, state_with, next_id, ids, own_items, is_fresh, arrivals, shelved, shelved_in, shelved_at}
+use Rattle.tx_history.specs.History.{Start, reopened_at, begun, first, state_with, next_id, ids, own_items, is_fresh, arrivals, shelved}
+use Rattle.tx_history.specs.History.{shelved_in, shelved_at}
 use Rattle.tx_history.specs.History.{shelf_of, state_of}
 use Rattle.tx_history.specs.Journal.{written, IsLawful, row, row_at, old_row, journal, applied, Leads, change, no_change}
 use Rattle.tx_history.specs.Views.{IsOrdered}

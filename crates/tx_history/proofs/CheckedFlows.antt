@@ -29,7 +29,8 @@ entries_fit : (f : Flow) (g i n : ℕ) (es : List Entry) → first_at (bad_entry
     All (λ (s : PlacedEntry). IsNamed (name_of f s.participant)) (placed_from (parts_of f) g i es)
 entries_fit f g i n [] h k = All-nil (λ (s : PlacedEntry). IsNamed (name_of f s.participant))
 entries_fit f g i n (e ∷ es) h k =
-    let good : is_name e.participant ≡ true = named_if g (Some n) (is_name e.participant) (left_none (bad_entry g n e) (first_at (bad_entry g) (n + 1) es) h) in
+    let good : is_name e.participant ≡ true = named_if g (Some n) (is_name e.participant)
+    (left_none (bad_entry g n e) (first_at (bad_entry g) (n + 1) es) h) in
     let back : name_of f (number_in (parts_of f) e.participant) ≡ e.participant =
     name_back (parts_of f) e.participant (knows [] (all_entries f) e (k e (inl refl))) in
     All-cons (λ (s : PlacedEntry). IsNamed (name_of f s.participant)) (placed_entry (parts_of f) g i e) (placed_from (parts_of f) g (i + 1) es)

@@ -159,7 +159,8 @@ gather_look (x ∷ xs) n k rise =
 -- the key of what is found is among the rising ones
 look_within_if : {A : Type 0} (y : ℕ × A) (xs : List (ℕ × A)) (n m id : ℕ) (x : A) → Rising n m (y ∷ xs) → look id (y ∷ xs) ≡ Some x
     → (look id xs ≡ Some x → (y.0 + 1 ≤ id) × (id < m)) → (b : Bool) → (y.0 == id) ≡ b → (n ≤ id) × (id < m)
-look_within_if y xs n m id x rise h ih true e = let same : y.0 ≡ id = grind (arith, nat_tests) in let a = rise.0 in let b = rise.1 in (omega arith, omega arith)
+look_within_if y xs n m id x rise h ih true e = let same : y.0 ≡ id = grind (arith, nat_tests) in let a = rise.0 in let b = rise.1 in
+    (omega arith, omega arith)
 look_within_if y xs n m id x rise h ih false e =
     let rest : look id xs ≡ Some x = subst (λ (b : Bool). (if b then Some y.1 else look id xs) ≡ Some x) e h in
     let w = ih rest in

@@ -10,7 +10,8 @@ use Rattle.tx_machine.specs.Table.{next}
 use Rattle.tx_history.specs.declared.event.Event.{Event}
 use Rattle.tx_history.specs.declared.event.Event.TheVariants.{Offered, Taken, Answered, Chose, Told, Recovered, Released, Acked, Broke, Cleared, LetGo, Closed}
 use Rattle.tx_history.specs.declared.journal.Waiting.{Waiting}
-use Rattle.tx_history.specs.History.{Start, is_ended, takes, next_id, taken, is_id, or_taken, serves, own_items, recovering, arrivals, state_of, held_of, holds}
+use Rattle.tx_history.specs.History.{Start, is_ended, takes, next_id, taken, is_id, or_taken, serves, own_items, recovering, arrivals}
+use Rattle.tx_history.specs.History.{state_of, held_of, holds}
 use Rattle.tx_history.specs.History.{shelf_of}
 use Rattle.tx_history.specs.Journal.{IsLawful, IsAccepted}
 use Rattle.tx_history.specs.Views.{IsOrdered}
@@ -20,7 +21,8 @@ use Rattle.tx_history.proofs.GivenItems.{Gave, gave_answered, gave_chose, gave_t
 use Rattle.tx_history.proofs.Changes.{first_more}
 
 -- whom a session serves, and why
-pick_who : (s : ℕ) (b : Bool) → (s == 0) ≡ b → (o t : Option ℕ) (id : ℕ) → (if b then or_taken o t else t) ≡ Some id → ((o ≡ Some id) × (s ≡ 0)) ⊎ (t ≡ Some id)
+pick_who : (s : ℕ) (b : Bool) → (s == 0) ≡ b → (o t : Option ℕ) (id : ℕ) → (if b then or_taken o t else t) ≡ Some id
+    → ((o ≡ Some id) × (s ≡ 0)) ⊎ (t ≡ Some id)
 pick_who s true e None t id h = inr h
 pick_who s true e (Some k) t id h = let z : s ≡ 0 = grind (arith, nat_tests) in inl (h, z)
 pick_who s false e o t id h = inr h
@@ -52,7 +54,8 @@ taken_once v (LetGo u ∷ past) s t id h k = taken_once v past s t id h k
 taken_once v (Closed i ∷ past) s t id h k = taken_once v past s t id h k
 
 -- no two sessions serve the same transaction
-pub served_once : (f : Flow) (v : Start) (past : List Event) (s t id : ℕ) → IsOrdered v.view → serves f v past s ≡ Some id → serves f v past t ≡ Some id → s ≡ t
+pub served_once : (f : Flow) (v : Start) (past : List Event) (s t id : ℕ) → IsOrdered v.view → serves f v past s ≡ Some id → serves f v past t ≡ Some id
+    → s ≡ t
 served_once f v past s t id o h k = elim (serves_who f v past s id h) [
   | inl a ↦ elim (serves_who f v past t id k) [
     | inl b ↦ (let x = a.1 in let y = b.1 in omega arith)

@@ -16,7 +16,8 @@ use Rattle.tx_history.specs.declared.event.Change.{Change}
 use Rattle.tx_history.specs.declared.event.Entry.{Entry}
 use Rattle.tx_history.specs.Keys.{gather, look, put_by, put_some, put_new, put_place, place_lt}
 use Rattle.tx_machine.specs.Bounds.{after_newest}
-use Rattle.tx_history.specs.History.{Start, name_of, is_ended, reopened, next_id, ids, takes, own_items, serves, state_of, shelf, shelved, recovering, restores}
+use Rattle.tx_history.specs.History.{Start, name_of, is_ended, reopened, next_id, ids, takes, own_items, serves, state_of, shelf, shelved}
+use Rattle.tx_history.specs.History.{recovering, restores}
 use Rattle.tx_history.specs.History.{holds, is_held, arrivals, advice_place, put_advice}
 
 -- a transaction's row as the journal has it: participants by name

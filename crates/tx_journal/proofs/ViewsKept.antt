@@ -29,7 +29,8 @@ view_opened db v t (inl is) o = subst (λ (u : Tables). IsViewIn u v) (sym (open
 view_opened db v t (inr (inl is)) o =
     let stays = turned_from db is.0 is.1 in
     subst (λ (u : Tables). IsViewIn u v) (sym (opens_first db.trees t (first_sound db is.0) o)) (record { sound = stays.sound; reads = stays.same ∙ is.2 })
-view_opened db v t (inr (inr is)) o = subst (λ (u : Tables). IsViewIn u v) (sym (opens_empty db.trees t is.0 o)) (record { sound = new_fine; reads = sym is.1 })
+view_opened db v t (inr (inr is)) o = subst (λ (u : Tables). IsViewIn u v) (sym (opens_empty db.trees t is.0 o))
+    (record { sound = new_fine; reads = sym is.1 })
 
 -- of a database that has a view an opening is made
 opened_of : (db : Database) (v : JournalView) → IsViewOf db v → (t : Tables) × OpensAs db.trees t

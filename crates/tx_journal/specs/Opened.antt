@@ -21,7 +21,8 @@ blank_view = record { next_id = 1; rows = []; shelf = []; advices = [] }
 abbrev pub IsViewOf : Database → JournalView → Type 0
 IsViewOf db v =
     (IsJournal db × IsViewIn (tables_of db.trees) v)
-    ⊎ ((IsFirst db × IsFaultAs First (first_tables_of db.trees) None × (read (first_tables_of db.trees) ≡ v)) ⊎ (IsSound no_schema db.trees × (v ≡ blank_view)))
+    ⊎ ((IsFirst db × IsFaultAs First (first_tables_of db.trees) None × (read (first_tables_of db.trees) ≡ v))
+    ⊎ (IsSound no_schema db.trees × (v ≡ blank_view)))
 
 -- the journal's tables have the view, and so has whatever a stop leaves of them
 abbrev pub HasView : JournalState → JournalView → Type 0

@@ -58,7 +58,8 @@ record IsCut (f : Flow) (s : TxState) : Type 0 where
   opened : IsOpen f s
   more : (s.rest ≡ []) ⊎ (s.calls < 1000)
 
-cut_open : (f : Flow) (s : TxState) (ms : List Upcoming) (full : Bool) → s.rest ≡ ms → (full ≡ false → s.calls < 1000) → IsOpen f s → IsCut f (cut_at s ms full)
+cut_open : (f : Flow) (s : TxState) (ms : List Upcoming) (full : Bool) → s.rest ≡ ms → (full ≡ false → s.calls < 1000) → IsOpen f s
+    → IsCut f (cut_at s ms full)
 cut_open f s [] full r h o = record { opened = o; more = inl r }
 cut_open f s (m ∷ ms) false r h o = record { opened = o; more = inr (h refl) }
 cut_open f s (m ∷ ms) true r h o = record {

@@ -56,7 +56,8 @@ goes_in f xs top d new g gs e p q b h =
     let upcoming : stack_upcoming f xs ≡ frame_upcoming f t ++ below = ap (stack_upcoming f) whole ∙ stack_upcoming_top f (take top xs) t in
     let lefts : stack_left f xs ≡ frame_left f t + stack_left f (take top xs) = ap (stack_left f) whole ∙ stack_left_top f (take top xs) t in
     let put = set_top xs top new e in
-    let new_upcoming : stack_upcoming f (set xs top new) ≡ frame_upcoming f new ++ below = ap (stack_upcoming f) put ∙ stack_upcoming_top f (take top xs) new in
+    let new_upcoming : stack_upcoming f (set xs top new) ≡ frame_upcoming f new ++ below = ap (stack_upcoming f) put
+    ∙ stack_upcoming_top f (take top xs) new in
     let new_lefts : stack_left f (set xs top new) ≡ frame_left f new + stack_left f (take top xs) =
     ap (stack_left f) put ∙ stack_left_top f (take top xs) new in
     let old_frame : frame_upcoming f t ≡ es ++ (later ++ upcoming_at f t.back) = ap (λ ps. map Prepare (entries_in f ps) ++ upcoming_at f t.back) p

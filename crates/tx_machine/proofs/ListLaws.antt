@@ -11,7 +11,8 @@ use Rattle.flow_model.specs.declared.flow.Flow.{Flow}
 use Rattle.tx_machine.specs.declared.values.Item.{Item}
 use Rattle.tx_machine.specs.declared.values.Item.TheVariants.{Answer, Choice, Told}
 use Rattle.tx_machine.specs.Table.{TxState, Upcoming, Prepare, Select, next, after, is_due, is_open, prepares_next, selects_next, advanced, limited, cut_at}
-use Rattle.tx_machine.specs.Table.{decide_at, settled, is_aborting, after_byte, retry_after, joined_after, saved_after, entered, chosen, answered_at, chosen_at}
+use Rattle.tx_machine.specs.Table.{decide_at, settled, is_aborting, after_byte, retry_after, joined_after, saved_after, entered, chosen}
+use Rattle.tx_machine.specs.Table.{answered_at, chosen_at}
 use Rattle.tx_machine.specs.Table.{opening}
 use Rattle.tx_machine.specs.Lists.{is_lawful, saved_in, joined_in, calls_in, preparing, IsWhole, IsBounded}
 use Rattle.tx_machine.proofs.StepBounds.{unopened}

@@ -16,7 +16,8 @@ use Rattle.flow_asm.proofs.Stages.{front, group_front}
 use Rattle.flow_asm.proofs.StepOrder.{Goes, Picks, behind_call, behind_pick, goes_group, goes_within, picks_within}
 use Rattle.tx_machine.specs.declared.walk.Frame.{Frame}
 use Rattle.tx_machine.specs.Table.{Prepare, Select}
-use Rattle.tx_machine.specs.Position.{calls_of, upcoming_from, upcoming_at, left_from, left_at, IsAhead, frame_upcoming, stack_upcoming, frame_left, stack_left}
+use Rattle.tx_machine.specs.Position.{calls_of, upcoming_from, upcoming_at, left_from, left_at, IsAhead, frame_upcoming, stack_upcoming}
+use Rattle.tx_machine.specs.Position.{frame_left, stack_left}
 use Rattle.tx_machine.specs.Position.{IsCall, IsPick, IsReturn}
 
 goes_upcoming : (xs : List Stage) → Goes xs → upcoming_from xs ≡ calls_of xs

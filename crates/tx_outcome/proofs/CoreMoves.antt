@@ -338,7 +338,8 @@ opens_shut (Some r) X f h = f r refl h.2
 pub writes_took : (f : Flow) (hd : Head) (v : IdView) (l gone : List IdEvent) (kept : ℕ → Option FullReply) (calls : List PlantDeed) →
     IsCore f v (l ++ Took hd ∷ []) gone kept calls → IsCore f v l (Took hd ∷ gone) kept calls
 writes_took f hd v l gone kept calls k =
-    let was : (i : ℕ) → IdFits (nat_lt i (next_id v gone)) (standing_of f (at f v gone i)) (first (kept i) (given l i)) (trail_of i calls) (advice f v gone i) =
+    let was : (i : ℕ) → IdFits (nat_lt i (next_id v gone)) (standing_of f (at f v gone i)) (first (kept i) (given l i)) (trail_of i calls)
+    (advice f v gone i) =
     λ i. subst (λ (o : Option FullReply). IdFits (nat_lt i (next_id v gone)) (standing_of f (at f v gone i)) o (trail_of i calls) (advice f v gone i))
     (first_snoc l (Took hd) (kept i) i refl) (k.ones i) in
     record {

@@ -238,7 +238,8 @@ in_given f v None t id x l h = elim (t == 0) as (λ (b : Bool). t == 0 ≡ b →
       | false ↦ λ e. refl
     ] refl
 
-pub at_took : (f : Flow) (hd : Head) (v : IdView) (l : List IdEvent) (i : ℕ) → i < v.next_id → unfinished f (at f v (Took hd ∷ l) i) ≡ unfinished f (at f v l i)
+pub at_took : (f : Flow) (hd : Head) (v : IdView) (l : List IdEvent) (i : ℕ) → i < v.next_id
+    → unfinished f (at f v (Took hd ∷ l) i) ≡ unfinished f (at f v l i)
 at_took f hd v l i less = elim (next_id v l == i) as (λ (b : Bool). next_id v l == i ≡ b → unfinished f (if b then Some (begin f hd) else at f v l i)
     ≡ unfinished f (at f v l i)) [
       | true ↦ λ h. absurd (omega (arith, same_id (next_id v l) i h))

@@ -244,7 +244,8 @@ pub sound_at : (f : Flow) (st : FullState) (ph : Phase) (ms : List Upcoming) →
 sound_at f st Preparing [] o = sound_idle Undecided st.state.joined st.state.told st.restored (row_in st.opened Done Preparing st.state)
     (all_none st.state o.none (o.ended refl)) o.restored (row_own st.opened Done Preparing st.state o.opened)
 sound_at f st Preparing (table.Prepare e ∷ ms) o = sound_preparation Preparing st.state e.participant st.restored
-    (row_in st.opened (Prepare (spot_of f e)) Preparing st.state) refl o.none o.restored (row_own st.opened (Prepare (spot_of f e)) Preparing st.state o.opened)
+    (row_in st.opened (Prepare (spot_of f e)) Preparing st.state) refl o.none o.restored
+    (row_own st.opened (Prepare (spot_of f e)) Preparing st.state o.opened)
 sound_at f st Preparing (table.Select e ∷ ms) o = sound_selection Preparing st.state e.participant st.restored
     (row_in st.opened (Select (select_spot f e)) Preparing st.state) refl o.none o.restored
     (row_own st.opened (Select (select_spot f e)) Preparing st.state o.opened)
@@ -477,7 +478,8 @@ telling_choice f st false c tell p w is h = ended_silent f st c (Chosen w) h
 pub leads_answer : (f : Flow) (st : FullState) (b : ℕ) (c : List ℕ) (ph : Phase) (ms : List Upcoming) → st.state.phase ≡ ph → StateFitsIn ph ms st →
     answers (seen f st (due_at f st.state ph ms)) (Answer b c) ≡ true
     → StateFits (record st { state = table.answered_at st.state b c ms })
-    × Follows (seen f st (due_at f st.state ph ms)) (Answer b c) (standing_at f st ph ms) (standing f (record st { state = table.answered_at st.state b c ms }))
+    × Follows (seen f st (due_at f st.state ph ms)) (Answer b c) (standing_at f st ph ms)
+    (standing f (record st { state = table.answered_at st.state b c ms }))
 leads_answer f st b c Preparing [] is o h = absurd (grind (arith, h))
 leads_answer f st b c Preparing (table.Prepare e ∷ ms) is o h = answered st b c e ms (open_is st.state Preparing is refl) o
 leads_answer f st b c Preparing (table.Select e ∷ ms) is o h = absurd (grind (arith, h))

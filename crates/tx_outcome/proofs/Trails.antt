@@ -202,7 +202,8 @@ way_any Undecided t h k = (h, k)
 way_any ToCommit t h k = no_abort t h
 way_any ToAbort t h k = no_commit t h
 
-pub way_told : (m : Decision) (t : List Deed) (p n : ℕ) (a : Option (List ℕ)) → (m ≡ Undecided → ⊥) → GoesOneWay m t → GoesOneWay m (Told (commits m) p n a ∷ t)
+pub way_told : (m : Decision) (t : List Deed) (p n : ℕ) (a : Option (List ℕ)) → (m ≡ Undecided → ⊥) → GoesOneWay m t
+    → GoesOneWay m (Told (commits m) p n a ∷ t)
 way_told Undecided t p n a not w = absurd (not refl)
 way_told ToCommit t p n a not w = w
 way_told ToAbort t p n a not w = w
@@ -333,7 +334,8 @@ pub law_made : (d : DueCall) (x : FullReply) (m : Deed) (u : List Deed) (st : St
     → IdLaw (m ∷ u) true st.row advice
 law_made (Preparation p) (Answer b w) m u st advice is made g =
     subst (λ (m : Deed). IdLaw (m ∷ u) true st.row advice) (sym made) (law_preparation u st advice p b is g)
-law_made (Selection p) (Chosen w) m u st advice is made g = subst (λ (m : Deed). IdLaw (m ∷ u) true st.row advice) (sym made) (law_selection u st advice p is g)
+law_made (Selection p) (Chosen w) m u st advice is made g = subst (λ (m : Deed). IdLaw (m ∷ u) true st.row advice) (sym made)
+    (law_selection u st advice p is g)
 law_made (Telling p) (Advice a) m u st advice is made g = subst (λ (m : Deed). IdLaw (m ∷ u) true st.row advice) (sym made) (law_tell u st advice p a is g)
 law_made (Recovery p) Restored m u st advice is made g = subst (λ (m : Deed). IdLaw (m ∷ u) true st.row advice) (sym made) (law_recovery u st advice p is g)
 law_made _ _ m u st advice is made g = absurd made
@@ -569,7 +571,10 @@ reopened_good t known r st advice law o =
       afresh = λ n less not. let new : untold_in r.phase r.told n ≡ true = untold_from r.phase r.told n (omega (arith, f.told)) in grind (arith, new);
       quiet = λ n less. i.unadvised n (omega (arith, f.told));
       advised = law.advised;
-      reopened = λ q at. (sym f.phase ∙ ap (λ (r : Row). is_committing r.phase) (same_row r q at), reopened_not (is_committing r.phase) st.decision o.decision);
+      reopened = λ q at. (
+        sym f.phase ∙ ap (λ (r : Row). is_committing r.phase) (same_row r q at),
+        reopened_not (is_committing r.phase) st.decision o.decision,
+      );
       decided = law.decided;
     }
 

@@ -180,7 +180,8 @@ drove rule os cs [] p q j k ps ds c h ran leads linked =
 drove rule os cs (Offers b n ∷ ss) p q j k ps ds c h (w, ran, (allowed, rec, e), engine) leads linked =
     let d = drove rule os cs ss p w j k ps ds c h ran leads linked in
     let (x, is, spelled) = spelled_offer w.world b n q.world rec engine.lawful.spelled in
-    let recorded : Recorded w.world (event.Offered (bytes_of x)) n q.world = subst (λ (z : List ℕ). Recorded w.world (event.Offered z) n q.world) spelled rec in
+    let recorded : Recorded w.world (event.Offered (bytes_of x)) n q.world = subst
+    (λ (z : List ℕ). Recorded w.world (event.Offered z) n q.world) spelled rec in
     let one = turn_logged rule ps ds (turn.Offer x) w q.world w.seats w.waiting w.ended k (Ok (outcome.Accepted n)) (Ok (outcome.Accepted n)) refl refl
     (allowed, recorded) refl in
     drove_more rule os cs (turn.Offer x) (outcome.Accepted n) (record { core = p; journal = j }) ps ds (record { core = w; journal = k }) ps ds

@@ -38,7 +38,8 @@ pub drove_whole : {A : Type 0} {B : Type 0} {C : Type 0} (of : A → C) (to : B 
     (map (λ s. object (to s)) ts) (map counted ts) w
 drove_whole of to own object count counted ps qs ss ts v w a b c d drove =
     subst (λ r. Drove r (map (λ s. object (to s)) ss) (map counted ss) v (map (λ s. object (to s)) ts) (map counted ts) w) (same_rules of to own ps ss a)
-    (subst (λ os. Drove (rule_at (λ s. own (of s)) ps) os (map counted ss) v (map (λ s. object (to s)) ts) (map counted ts) w) (same_shown of to object ps ss a)
+    (subst (λ os. Drove (rule_at (λ s. own (of s)) ps) os (map counted ss) v (map (λ s. object (to s)) ts) (map counted ts) w)
+    (same_shown of to object ps ss a)
     (subst (λ cs. Drove (rule_at (λ s. own (of s)) ps) (map (λ s. object (of s)) ps) cs v (map (λ s. object (to s)) ts) (map counted ts) w) b
     (subst (λ os. Drove (rule_at (λ s. own (of s)) ps) (map (λ s. object (of s)) ps) (map count ps) v os (map counted ts) w)
     (sym (same_shown to of object ts qs c))

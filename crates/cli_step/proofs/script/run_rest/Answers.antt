@@ -43,4 +43,5 @@ returns-in_err-run_actions-clause-grown g c =
     let between = g.W.Write.contents old.out in
     let after = g.W.Write.contents c.run_actions.new.out in
     let error = err_from_is_err_and c.from_residual-in_err-run_actions.result c.from_residual-in_err-run_actions.ensures.1 in
-    rw error.1 (grows_then before between after old.invariant.grown (stopped_grows c.new-actions.result w between _ after c.in_err-run_actions.ensures.stopped))
+    rw error.1 (grows_then before between after old.invariant.grown
+    (stopped_grows c.new-actions.result w between _ after c.in_err-run_actions.ensures.stopped))

@@ -8,6 +8,7 @@ loop-preserved c = record {
   leaves = leaves_on c.args.layout (rows_of c.args.stored) (rows_of c.leave_out.new.stored) c.loop.stored _ _ _ _ _ _ c.view_of.result c.loop.left_out.items
       c.push.new.self.items c.in-Err-BadRow.bad
       c.rows.ensures.parts c.rows.ensures.meta c.rows.ensures.tx c.rows.ensures.members c.rows.ensures.shelf c.rows.ensures.advices
-      (rw (sym c.in-Err-BadRow.field-0-is) c.in-Err-BadRow.is) c.view_of.ensures.reading c.loop.invariant.leaves c.in-Ok-push.ensures.items c.leave_out.ensures;
+      (rw (sym c.in-Err-BadRow.field-0-is) c.in-Err-BadRow.is) c.view_of.ensures.reading c.loop.invariant.leaves
+      c.in-Ok-push.ensures.items c.leave_out.ensures;
   numbered = c.loop.invariant.numbered;
 }

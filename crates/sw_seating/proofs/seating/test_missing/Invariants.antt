@@ -5,4 +5,5 @@ use Rattle.sw_seating.specs.Seating.{HaveStations, names_of, part_names, double_
 use Rattle.sw_seating.proofs.seating.test_missing.Given as goal
 
 abbrev pub invariant-loop-number : goal.invariant-loop-number
-invariant-loop-number g l = first_at (no_station (names_of l.stations)) l.number (drop l.number l.parts) ≡ first_at (no_station (names_of l.stations)) 0 l.parts
+invariant-loop-number g l = first_at (no_station (names_of l.stations)) l.number (drop l.number l.parts)
+    ≡ first_at (no_station (names_of l.stations)) 0 l.parts

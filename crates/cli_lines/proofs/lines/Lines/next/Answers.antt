@@ -73,7 +73,8 @@ returns-then-not-branch-2-clause-room g c =
     let bounded = c.read_more.new.self.bounded in
     let spare = old.invariant.spare in
     rw (c.counted.ensures.piece, c.counted.ensures.pieces)
-    (within (λ line. line.items) c.counted.result c.give.new.line.items (room c.read_more.new.self) (room c.args.self.now) c.counted.ensures.line (omega arith))
+    (within (λ line. line.items) c.counted.result c.give.new.line.items (room c.read_more.new.self) (room c.args.self.now) c.counted.ensures.line
+    (omega arith))
 
 pub returns-clause-room : goal.returns-clause-room
 returns-clause-room g c =

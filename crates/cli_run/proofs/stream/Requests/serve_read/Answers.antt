@@ -8,11 +8,13 @@ use Rattle.cli_run.proofs.stream.Requests.serve_read.Goals as goal
 
 pub returns-in_err-cut_traced-clause-halts : goal.returns-in_err-cut_traced-clause-halts
 returns-in_err-cut_traced-clause-halts g c = on_err_of c.from_residual.result
-    (halts_unread false (g.R.Read.remaining c.args.input.now) c.args.self.now.framer (point_of g.S.Store c.args.switch.now) (g.O.Write.contents c.args.out.now))
+    (halts_unread false (g.R.Read.remaining c.args.input.now) c.args.self.now.framer (point_of g.S.Store c.args.switch.now)
+    (g.O.Write.contents c.args.out.now))
 
 pub returns-in_err-messages-clause-halts : goal.returns-in_err-messages-clause-halts
 returns-in_err-messages-clause-halts g c = on_err_of c.from_residual-in_err-messages.result
-    (halts_unread false (g.R.Read.remaining c.args.input.now) c.args.self.now.framer (point_of g.S.Store c.args.switch.now) (g.O.Write.contents c.args.out.now))
+    (halts_unread false (g.R.Read.remaining c.args.input.now) c.args.self.now.framer (point_of g.S.Store c.args.switch.now)
+    (g.O.Write.contents c.args.out.now))
 
 pub returns-in_err-serve_messages-clause-halts : goal.returns-in_err-serve_messages-clause-halts
 returns-in_err-serve_messages-clause-halts g c =

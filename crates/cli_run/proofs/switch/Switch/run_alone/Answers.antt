@@ -12,4 +12,5 @@ returns-clause-lone g c = on_ok c.serve_next.result (λ t. (t.0, record { outcom
 
 pub returns-clause-rests : goal.returns-clause-rests
 returns-clause-rests g c = on_both c.serve_next.result (λ t seated. lone_rests c.args.request t.0 _ _ c.requires.ready.rest
-    (record { outcome = _; offered = _; offers = c.in_ok-act.ensures.does; transacts = t.1 }) seated) c.serve_next.ensures.transacts c.serve_next.ensures.seated
+    (record { outcome = _; offered = _; offers = c.in_ok-act.ensures.does; transacts = t.1 }) seated)
+    c.serve_next.ensures.transacts c.serve_next.ensures.seated

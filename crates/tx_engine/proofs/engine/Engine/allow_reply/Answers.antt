@@ -46,7 +46,8 @@ returns c =
     let q = rw (← c.self.view_is) at c.next_of.ensures in
     let none = reply_refused u _ c.args.kind c.args.s _ c.self.view_is lt q
     ∙ (rw (← c.is_asked.ensures, c.if-not-is_asked.false, ← c.is_full.ensures, c.if-is_full.false) refl) in
-    let here : SlotIs u.flow u.start u.past c.args.s (Holding c.in-Holding.hold) = subst (λ (z : Slot). SlotIs u.flow u.start u.past c.args.s z) c.in-Holding.is
+    let here : SlotIs u.flow u.start u.past c.args.s (Holding c.in-Holding.hold) = subst
+    (λ (z : Slot). SlotIs u.flow u.start u.past c.args.s z) c.in-Holding.is
     (slot_there u.flow u.start u.past c.self.inside.slots.items c.args.s _ c.self.invariant.sessions lt c.index.ensures) in
     let q' = next_slot u c.self.inside.breaks.items c.self.inside.restored c.args.s (Holding c.in-Holding.hold) c.self.invariant.stops.1
     c.self.invariant.renewed here in
