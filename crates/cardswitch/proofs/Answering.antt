@@ -108,6 +108,7 @@ flow_refused o before after (error.Serve e) fault same = absurd fault
 flow_refused o before after (error.BadLimit n) fault same = absurd fault
 flow_refused o before after (error.JournalFile path cause) fault same = absurd fault
 flow_refused o before after (error.Journal path cause) fault same = absurd fault
+flow_refused o before after (error.Engine path cause) fault same = absurd fault
 flow_refused o before after error.Refused fault same = absurd fault
 flow_refused o before after (error.Read e) fault same = absurd fault
 flow_refused o before after (error.Write e) fault same = absurd fault
@@ -123,6 +124,7 @@ config_refused o before after (error.Serve e) fault same = absurd fault
 config_refused o before after (error.BadLimit n) fault same = absurd fault
 config_refused o before after (error.JournalFile path cause) fault same = absurd fault
 config_refused o before after (error.Journal path cause) fault same = absurd fault
+config_refused o before after (error.Engine path cause) fault same = absurd fault
 config_refused o before after error.Refused fault same = absurd fault
 config_refused o before after (error.Read e) fault same = absurd fault
 config_refused o before after (error.Write e) fault same = absurd fault
@@ -136,6 +138,7 @@ run_refused o c before after error.OutOfMemory stated fault = (c, stated, fault)
 run_refused o c before after (error.BadLimit n) stated fault = (c, stated, fault)
 run_refused o c before after (error.JournalFile path cause) stated fault = (c, stated, fault)
 run_refused o c before after (error.Journal path cause) stated fault = (c, stated, fault)
+run_refused o c before after (error.Engine path cause) stated fault = (c, stated, fault)
 run_refused o c before after (error.Serve e) stated fault = (c, stated, fault)
 run_refused o c before after (error.FlowFile path cause) stated fault = absurd fault
 run_refused o c before after (error.ConfigFile path cause) stated fault = absurd fault
@@ -150,7 +153,8 @@ same_error : (e f : RunError) → ◌≡◌ {A = Result (Unit {0}) RunError} (Er
 same_error e f same = cc
 
 -- the first fault of a run, of its flow file, of its configuration file, and of what these leave
-pub refused : (code : Result Flow RunError) (config : Result Config RunError) (o : RunOptions) (before after : Option (List ℕ)) (r : Result (Unit {0}) RunError)
+pub refused : (code : Result Flow RunError) (config : Result Config RunError) (o : RunOptions) (before after : Option (List ℕ))
+    (r : Result (Unit {0}) RunError)
     → IfErr code (IsFlowFault o.flow.now) → IfErr config (IsConfigFault o.config) → IfOk config (IsConfigAt o.config)
     → IfErr code (λ e. (r ≡ Err e) × (after ≡ before)) → IfOk code (λ f. IfErr config (λ e. (r ≡ Err e) × (after ≡ before)))
     → IfTaken code config (λ f c. IfErr r (IsRunFaultBy o c before after))
@@ -172,7 +176,7 @@ serve_error journal (serve.BadLinkName t) none h = tt
 serve_error journal (serve.BadSessions n) none h = tt
 serve_error journal (serve.Seating e) none h = tt
 serve_error journal (serve.Request n e) none h = tt
-serve_error journal (serve.Engine e) none h = tt
+serve_error journal (serve.Engine e) none h = none
 serve_error journal (serve.Read e) none h = tt
 serve_error journal (serve.Write e) none h = tt
 serve_error journal serve.BadLength none h = tt
@@ -191,6 +195,7 @@ served_fault o c before after (error.ConfigFile path cause) limit none h = absur
 served_fault o c before after (error.BadLimit n) limit none h = absurd h
 served_fault o c before after (error.JournalFile path cause) limit none h = absurd h
 served_fault o c before after (error.Journal path cause) limit none h = absurd h
+served_fault o c before after (error.Engine path cause) limit none h = absurd h
 served_fault o c before after error.Refused limit none h = absurd h
 served_fault o c before after (error.Read e) limit none h = absurd h
 served_fault o c before after (error.Write e) limit none h = absurd h
@@ -204,7 +209,7 @@ pub refused_in_memory : (o : RunOptions) (c : Config) (before after : Option (Li
 refused_in_memory o c before after (Ok u) limit none h = tt
 refused_in_memory o c before after (Err e) limit none h = served_fault o c before after e limit (sym none) h
 
--- a refusal of a journal in a file names the file
+-- a refusal of a journal in a file, or of the engine over it, names the file
 error_in_file : (path : List ℕ) (before after : Option (List ℕ)) (e : ServeError) → e ≢ serve.OutOfMemory
     → IsFileFault path before after (error_at path (error.Serve e))
 error_in_file path before after (serve.Journal cause) h = refl
@@ -215,7 +220,7 @@ error_in_file path before after (serve.BadLinkName t) h = tt
 error_in_file path before after (serve.BadSessions n) h = tt
 error_in_file path before after (serve.Seating e) h = tt
 error_in_file path before after (serve.Request n e) h = tt
-error_in_file path before after (serve.Engine e) h = tt
+error_in_file path before after (serve.Engine e) h = refl
 error_in_file path before after (serve.Read e) h = tt
 error_in_file path before after (serve.Write e) h = tt
 error_in_file path before after serve.BadLength h = tt
@@ -233,6 +238,7 @@ fault_in_file path before after (error.ConfigFile p cause) h = absurd h
 fault_in_file path before after (error.BadLimit n) h = absurd h
 fault_in_file path before after (error.JournalFile p cause) h = absurd h
 fault_in_file path before after (error.Journal p cause) h = absurd h
+fault_in_file path before after (error.Engine p cause) h = absurd h
 fault_in_file path before after error.Refused h = absurd h
 fault_in_file path before after (error.Read e) h = absurd h
 fault_in_file path before after (error.Write e) h = absurd h
@@ -246,6 +252,8 @@ file_fault : (o : RunOptions) (c : Config) (path : List ℕ) (before after : Opt
 file_fault o c path before after (error.JournalFile p cause) limit named h =
     (limit, subst (λ (x : List ℕ). journal_of o c ≡ Some x) (sym h.0) (sym named), h.1)
 file_fault o c path before after (error.Journal p cause) limit named h =
+    (limit, subst (λ (x : List ℕ). journal_of o c ≡ Some x) (sym h) (sym named))
+file_fault o c path before after (error.Engine p cause) limit named h =
     (limit, subst (λ (x : List ℕ). journal_of o c ≡ Some x) (sym h) (sym named))
 file_fault o c path before after (error.Serve e) limit named h = (limit, subst (λ (x : Option (List ℕ)). IsServeError x e) named h)
 file_fault o c path before after error.OutOfMemory limit named h = λ over. absurd (omega arith)
@@ -272,6 +280,7 @@ open_fault path before (error.JournalFile p cause) h = (h, refl)
 open_fault path before error.OutOfMemory h = tt
 open_fault path before (error.Serve e) h = absurd h
 open_fault path before (error.Journal p cause) h = absurd h
+open_fault path before (error.Engine p cause) h = absurd h
 open_fault path before (error.FlowFile p cause) h = absurd h
 open_fault path before (error.ConfigFile p cause) h = absurd h
 open_fault path before (error.BadLimit n) h = absurd h
@@ -291,6 +300,7 @@ recover_fault : (o : RecoverOptions) (before after : Option (List ℕ)) (e : Run
     → IsRecoverFault o before after e
 recover_fault o before after (error.JournalFile p cause) h = h
 recover_fault o before after (error.Journal p cause) h = h
+recover_fault o before after (error.Engine p cause) h = h
 recover_fault o before after (error.Serve e) h = h
 recover_fault o before after error.OutOfMemory h = tt
 recover_fault o before after (error.FlowFile p cause) h = absurd h

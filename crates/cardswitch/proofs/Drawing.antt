@@ -21,6 +21,7 @@ no_flow dot path before (error.BadLimit n) h = absurd h
 no_flow dot path before (error.ConfigFile p cause) h = absurd h
 no_flow dot path before (error.JournalFile p cause) h = absurd h
 no_flow dot path before (error.Journal p cause) h = absurd h
+no_flow dot path before (error.Engine p cause) h = absurd h
 no_flow dot path before error.Refused h = absurd h
 no_flow dot path before (error.Read e) h = absurd h
 no_flow dot path before (error.Write e) h = absurd h

@@ -33,6 +33,7 @@ row_untold o before (journal.Store c) h = absurd h
 pub not_found : (o : JournalOptions) (before : Option (List ℕ)) (e : RunError) → IsFoundFault o.path.now e → IsLookFault o before before e
 not_found o before (error.JournalFile p cause) h = (h, refl)
 not_found o before (error.Journal p cause) h = (h.0, row_untold o before cause h.1)
+not_found o before (error.Engine p cause) h = absurd h
 not_found o before (error.Serve e) h = absurd h
 not_found o before error.OutOfMemory h = inl refl
 not_found o before (error.FlowFile p cause) h = absurd h

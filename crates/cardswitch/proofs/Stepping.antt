@@ -49,6 +49,7 @@ flow_fault (Some path) before after (error.BadLimit n) h same = absurd h
 flow_fault (Some path) before after (error.ConfigFile p cause) h same = absurd h
 flow_fault (Some path) before after (error.JournalFile p cause) h same = absurd h
 flow_fault (Some path) before after (error.Journal p cause) h same = absurd h
+flow_fault (Some path) before after (error.Engine p cause) h same = absurd h
 flow_fault (Some path) before after error.Refused h same = absurd h
 flow_fault (Some path) before after (error.Read e) h same = absurd h
 flow_fault (Some path) before after (error.Write e) h same = absurd h
@@ -69,6 +70,7 @@ script_fault path before after (error.BadLimit n) h = absurd h
 script_fault path before after (error.ConfigFile p cause) h = absurd h
 script_fault path before after (error.JournalFile p cause) h = absurd h
 script_fault path before after (error.Journal p cause) h = absurd h
+script_fault path before after (error.Engine p cause) h = absurd h
 script_fault path before after error.Refused h = absurd h
 script_fault path before after (error.Serve e) h = absurd h
 script_fault path before after (error.Input e) h = absurd h
@@ -94,7 +96,8 @@ checked_file path (Err e) is = tt
 checked_file None (Ok file) is = subst (λ (f : Option Flow). IfSome f IsChecked) (sym is) tt
 checked_file (Some path) (Ok file) is = subst (λ (f : Option Flow). IfSome f IsChecked) (sym is.2) is.1
 
-pub prompted_over : (file : Result (Option Flow) RunError) (flow : Option Flow) (known unread : Option (List ℕ)) (out err out_after err_after : Option (List ℕ))
+pub prompted_over : (file : Result (Option Flow) RunError) (flow : Option Flow) (known unread : Option (List ℕ))
+    (out err out_after err_after : Option (List ℕ))
     → file ≡ Ok flow → known ≡ unread → IfSome known (λ input. IsPrompted flow input out err out_after err_after)
     → IfOk file (λ f. PromptsOver f unread out err out_after err_after)
 prompted_over file flow known unread out err out_after err_after took same ran =
@@ -129,6 +132,7 @@ file_session (Some path) (error.BadLimit n) h = tt
 file_session (Some path) (error.ConfigFile p cause) h = tt
 file_session (Some path) (error.JournalFile p cause) h = tt
 file_session (Some path) (error.Journal p cause) h = tt
+file_session (Some path) (error.Engine p cause) h = tt
 file_session (Some path) error.Refused h = tt
 file_session (Some path) (error.Read e) h = tt
 file_session (Some path) (error.Write e) h = tt

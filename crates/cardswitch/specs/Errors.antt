@@ -16,7 +16,7 @@ use Rattle.cli_step.specs.declared.error.StepError.{StepError}
 use Rattle.cli_step.specs.declared.error.StepError.TheVariants as step
 use Rattle.cardswitch.specs.declared.error.JournalFault.TheVariants as fault
 use Rattle.cardswitch.specs.declared.error.RunError.{RunError}
-use Rattle.cardswitch.specs.declared.error.RunError.TheVariants.{BadLimit, Input, Journal, JournalFile, OutOfMemory}
+use Rattle.cardswitch.specs.declared.error.RunError.TheVariants.{BadLimit, Engine, Input, Journal, JournalFile, OutOfMemory}
 use Rattle.cardswitch.specs.declared.error.RunError.TheVariants.{Read, Serve, Step, Text, Write}
 use Rattle.cli_run.specs.declared.error.ServeError.{ServeError}
 use Rattle.cli_run.specs.declared.error.ServeError.TheVariants as serve
@@ -31,9 +31,10 @@ run_status (JournalFile path (fault.Read e)) = 1
 run_status (JournalFile path cause) = 3
 run_status _ = 1
 
--- an error of a run over the journal in the file at a path: where the journal refused, with its path
+-- an error of a run over the journal in the file at a path: where the journal refused, or the engine over it, with its path
 abbrev pub error_at : List ℕ → RunError → RunError
 error_at path (Serve (serve.Journal cause)) = Journal path cause
+error_at path (Serve (serve.Engine cause)) = Engine path cause
 error_at path e = e
 
 -- what the errors of the parts become: out of memory is reported as such, and all else is carried

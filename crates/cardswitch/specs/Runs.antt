@@ -111,15 +111,16 @@ IsServeFault (error.Serve e) = e ≢ serve.OutOfMemory
 IsServeFault error.OutOfMemory = ⊤
 IsServeFault _ = ⊥
 
--- what became of a run over the journal in the file at a path: where the journal refused, its error names the file
+-- what became of a run over the journal in the file at a path: where the journal refused, or the engine, the error names the file
 abbrev pub ended_at : List ℕ → Result (Unit {0}) RunError → Result (Unit {0}) RunError
 ended_at path (Ok done) = Ok done
 ended_at path (Err e) = Err (error_at path e)
 
--- an error that names no journal: where the journal refused, it is in memory
+-- an error that names no journal: where the journal refused, or the engine, the journal is in memory
 abbrev pub IsServeError : Option (List ℕ) → ServeError → Type 0
 IsServeError journal serve.OutOfMemory = ⊥
 IsServeError journal (serve.Journal cause) = journal ≡ None
+IsServeError journal (serve.Engine cause) = journal ≡ None
 IsServeError journal _ = ⊤
 
 -- why there is no journal of the file at a path
@@ -132,6 +133,7 @@ IsOpenFault path _ = ⊥
 abbrev pub IsFileFault : List ℕ → Option (List ℕ) → Option (List ℕ) → RunError → Type 0
 IsFileFault path before after (error.JournalFile p cause) = (p ≡ path) × (after ≡ before)
 IsFileFault path before after (error.Journal p cause) = p ≡ path
+IsFileFault path before after (error.Engine p cause) = p ≡ path
 IsFileFault path before after (error.Serve e) = IsServeError (Some path) e
 IsFileFault path before after error.OutOfMemory = ⊤
 IsFileFault path before after _ = ⊥
@@ -144,6 +146,7 @@ IsRunFaultBy o c before after (error.BadLimit limit) =
 IsRunFaultBy o c before after (error.JournalFile path cause) =
     (limit_of o c ≤ 999999999999999) × (journal_of o c ≡ Some path) × (after ≡ before)
 IsRunFaultBy o c before after (error.Journal path cause) = (limit_of o c ≤ 999999999999999) × (journal_of o c ≡ Some path)
+IsRunFaultBy o c before after (error.Engine path cause) = (limit_of o c ≤ 999999999999999) × (journal_of o c ≡ Some path)
 IsRunFaultBy o c before after (error.Serve e) = (limit_of o c ≤ 999999999999999) × IsServeError (journal_of o c) e
 IsRunFaultBy o c before after error.OutOfMemory = 999999999999999 < limit_of o c → after ≡ before
 IsRunFaultBy o c before after _ = ⊥

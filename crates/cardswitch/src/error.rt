@@ -17,6 +17,7 @@ use std::alloc::{AllocError, AllocFailed};
 use std::{fmt, io};
 use sw_participant::Text;
 use thiserror::Error;
+use tx_engine::EngineError;
 use tx_journal::JournalError;
 
 /// Why a file is not taken as a journal. The text does not name the file.
@@ -74,6 +75,10 @@ pub enum RunError {
     /// The journal in the file at the path refused while it was in use, or has a row at fault.
     #[error("{}: {cause}", .path.as_str())]
     Journal { path: Text, cause: JournalError },
+    /// The engine refused the journal in the file at the path: it names a participant that the flow does not have,
+    /// or has no id left.
+    #[error("{}: {cause}", .path.as_str())]
+    Engine { path: Text, cause: EngineError },
     /// What a card may spend is above the greatest limit.
     #[error("--limit: {0} is not 0 to 999999999999999")]
     BadLimit(u64),
@@ -108,12 +113,14 @@ impl fmt::Debug for RunError {
 }
 
 impl RunError {
-    /// This error of a run over the journal in the file at a path: where the journal refused, with its path.
+    /// This error of a run over the journal in the file at a path: where the journal refused, or the engine over
+    /// it, with its path.
     pub fn over_file(self, path: Text) -> RunError
         ensures { result ≡ error_at path self }
     {
         match self {
             RunError::Serve(ServeError::Journal(cause)) => RunError::Journal { path, cause },
+            RunError::Serve(ServeError::Engine(cause)) => RunError::Engine { path, cause },
             other => other,
         }
     }

@@ -57,7 +57,8 @@ fn serve<S: Alter + Drop, T: Threads + Wait + Clock + Sync, R: Read + Drop, O: W
     Ok(ended?.into_result()?)
 }
 
-// What became of a run over the journal in the file at a path: where the journal refused, its error names the file.
+// What became of a run over the journal in the file at a path: where the journal refused, or the engine over it, the
+// error names the file.
 fn in_file(path: Text, ended: Result<(), RunError>) -> Result<(), RunError>
     ensures { result ≡ ended_at path ended }
 {

@@ -14,5 +14,6 @@ returns-in_err-print-clause-failed g c =
 
 pub returns-in-Beside-clause-failed : goal.returns-in-Beside-clause-failed
 returns-in-Beside-clause-failed g c =
-    rw c.bad_row.ensures (beside c.args.options.now c.in_ok-path.path _ _ c.in_ok-sight.sight c.in-Beside.bad c.in-Beside.rest c.in_ok-path.ensures c.in-Beside.is
+    rw c.bad_row.ensures (beside c.args.options.now c.in_ok-path.path _ _ c.in_ok-sight.sight c.in-Beside.bad c.in-Beside.rest
+    c.in_ok-path.ensures c.in-Beside.is
     c.in_ok-sight.ensures.sight c.in_ok-print.ensures.written)
