@@ -1,9 +1,9 @@
-# Completions of cardswitch for bash. Source this file, or lay it as `cardswitch` into bash-completion's folder of completions.
+# Completions of cardswitch for bash. Source this file, or install it as `cardswitch` in bash-completion's folder of completions.
 
 _cardswitch() {
     local word=${COMP_WORDS[COMP_CWORD]} before=${COMP_WORDS[COMP_CWORD - 1]} words= files=() sign=
     COMPREPLY=()
-    # bash takes the = of --flow=PATH for a word of its own.
+    # bash treats the = of --flow=PATH as a word of its own.
     if [[ $word == = ]]; then
         word= sign==
     elif [[ $before == = ]]; then

@@ -3,8 +3,8 @@
 
     host.py [--delay SECONDS]
 
-A frame is four digits of length and a message of ISO 8583:1987 in ASCII. An authorization (0100, 0101) is declined where the last two
-digits of its amount are 05, 51, 54 or 61, with that code; it gets no answer where they are 91; else it is approved, with its STAN as
+A frame is four digits of length and a message of ISO 8583:1987 in ASCII. An authorization (0100, 0101) is declined if the last two
+digits of its amount are 05, 51, 54 or 61, with that code. It gets no answer if they are 91. Otherwise it is approved, with its STAN as
 approval code. Each advice (0120, 0121, 0420, 0421) and each network test (0800, 0801) is accepted.
 """
 
@@ -51,7 +51,7 @@ def written(mti, fields):
 
 
 def answer(mti, fields):
-    """The frame that answers a message; none where there is no answer."""
+    """The frame that answers a message; empty if there is no answer."""
     told = {it: fields[it] for it in ECHOED if it in fields}
     ending = fields.get(4, b"")[-2:]
     if mti in (b"0100", b"0101"):

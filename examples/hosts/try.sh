@@ -29,8 +29,8 @@ start() {
 port=$((10000 + $$ % 10000 * 2))
 start alpha $port
 start beta $((port + 1))
-# A request that comes before its host is there is stood in for. So each host answers an echo test first. (To open an end of a named
-# pipe waits for the other one.)
+# A request that comes before its host is there is stood in for. So each host answers an echo test first. (Opening one end of a named
+# pipe waits for the other.)
 exec 6> alpha.to 7< alpha.from 8> beta.to 9< beta.from
 echo_test=00550800822000000000000004000000000000000102030405000001301
 printf %s $echo_test >&6 && head -c 61 <&7 > /dev/null || exit
