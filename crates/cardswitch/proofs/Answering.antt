@@ -1,5 +1,5 @@
 -- What `run` and `recover` have done, of their parts.
--- for: requests::config_for, requests::answer_by, requests::answer_requests, requests::recover
+-- for: requests::config_for, requests::answer_by, requests::answer_requests, requests::recover_by, requests::recover
 use Rattle.std.proofs.Common.{◌≡◌, ◌≢◌, ◌≤◌, ℕ, List, Option, Some, None, Result, Ok, Err, IfErr, IfOk, OnOk, Bor, arith, refl, sym, subst}
 use Rattle.sqlite_trees.specs.declared.store.Store.{Ghosts}
 use Rattle.sqlite_trees.specs.declared.memory.MemStore.{MemStore}
@@ -10,12 +10,15 @@ use Rattle.sw_hosts.specs.declared.issuer_link.IssuerLink.{IssuerLink}
 use Rattle.tx_journal.specs.Kept.{Kept, kept}
 use Rattle.tx_plant.specs.Plant.{Seen, seen}
 use Rattle.cli_config.specs.declared.config.Config.{Config}
+use Rattle.cli_flows.specs.declared.error.FlowsError.{FlowsError}
+use Rattle.cli_options.specs.CommandLine.{text_of}
 use Rattle.cli_options.specs.declared.choice.RecoverOptions.{RecoverOptions}
 use Rattle.cli_options.specs.declared.choice.RunOptions.{RunOptions}
 use Rattle.cli_run.specs.Ran.{Printed}
 use Rattle.cli_run.specs.declared.error.ServeError.{ServeError}
 use Rattle.cli_run.specs.declared.error.ServeError.TheVariants as serve
 use Rattle.cli_run.specs.declared.setup.Setup.{Setup}
+use Rattle.cli_setup.specs.declared.error.ConfigFileError.{ConfigFileError}
 use Rattle.cli_setup.specs.Plans.{IsSetUp, journal_of, limit_of, no_config, plain_setup}
 use Rattle.cardswitch.specs.Errors.{error_at}
 use Rattle.cardswitch.specs.Journals.{IsFound, IsNewJournal, IsOfFile}
@@ -100,37 +103,49 @@ none_stated : (path : Option (Bor (List ℕ))) → IsConfigAt path no_config
 none_stated None = refl
 none_stated (Some path) = tt
 
+-- a fault of the flow file is one of these
+flow_cases : (P : RunError → Type 0) (path : List ℕ) (e : RunError) → ((p : List ℕ) (cause : FlowsError) → p ≡ path → P (error.FlowFile p cause))
+    → P error.OutOfMemory → IsFlowFault path e → P e
+flow_cases P path (error.FlowFile p cause) file memory fault = file p cause fault
+flow_cases P path error.OutOfMemory file memory fault = memory
+flow_cases P path (error.ConfigFile p cause) file memory fault = absurd fault
+flow_cases P path (error.Serve e) file memory fault = absurd fault
+flow_cases P path (error.BadLimit n) file memory fault = absurd fault
+flow_cases P path (error.JournalFile p cause) file memory fault = absurd fault
+flow_cases P path (error.Journal p cause) file memory fault = absurd fault
+flow_cases P path (error.Engine p cause) file memory fault = absurd fault
+flow_cases P path error.Refused file memory fault = absurd fault
+flow_cases P path (error.Read e) file memory fault = absurd fault
+flow_cases P path (error.Write e) file memory fault = absurd fault
+flow_cases P path (error.Step e) file memory fault = absurd fault
+flow_cases P path (error.Input e) file memory fault = absurd fault
+flow_cases P path (error.Text e) file memory fault = absurd fault
+
+-- a fault of the configuration file is one of these
+config_cases : (P : RunError → Type 0) (path : Option (Bor (List ℕ))) (e : RunError)
+    → ((p : List ℕ) (cause : ConfigFileError) → text_of path ≡ Some p → P (error.ConfigFile p cause)) → P error.OutOfMemory → IsConfigFault path e → P e
+config_cases P path (error.ConfigFile p cause) file memory fault = file p cause fault
+config_cases P path error.OutOfMemory file memory fault = memory
+config_cases P path (error.FlowFile p cause) file memory fault = absurd fault
+config_cases P path (error.Serve e) file memory fault = absurd fault
+config_cases P path (error.BadLimit n) file memory fault = absurd fault
+config_cases P path (error.JournalFile p cause) file memory fault = absurd fault
+config_cases P path (error.Journal p cause) file memory fault = absurd fault
+config_cases P path (error.Engine p cause) file memory fault = absurd fault
+config_cases P path error.Refused file memory fault = absurd fault
+config_cases P path (error.Read e) file memory fault = absurd fault
+config_cases P path (error.Write e) file memory fault = absurd fault
+config_cases P path (error.Step e) file memory fault = absurd fault
+config_cases P path (error.Input e) file memory fault = absurd fault
+config_cases P path (error.Text e) file memory fault = absurd fault
+
 flow_refused : (o : RunOptions) (before after : Option (List ℕ)) (e : RunError) → IsFlowFault o.flow.now e → after ≡ before → IsRunFault o before after e
-flow_refused o before after (error.FlowFile path cause) fault same = (fault, same)
-flow_refused o before after error.OutOfMemory fault same = (no_config, none_stated o.config, λ over. same)
-flow_refused o before after (error.ConfigFile path cause) fault same = absurd fault
-flow_refused o before after (error.Serve e) fault same = absurd fault
-flow_refused o before after (error.BadLimit n) fault same = absurd fault
-flow_refused o before after (error.JournalFile path cause) fault same = absurd fault
-flow_refused o before after (error.Journal path cause) fault same = absurd fault
-flow_refused o before after (error.Engine path cause) fault same = absurd fault
-flow_refused o before after error.Refused fault same = absurd fault
-flow_refused o before after (error.Read e) fault same = absurd fault
-flow_refused o before after (error.Write e) fault same = absurd fault
-flow_refused o before after (error.Step e) fault same = absurd fault
-flow_refused o before after (error.Input e) fault same = absurd fault
-flow_refused o before after (error.Text e) fault same = absurd fault
+flow_refused o before after e fault same =
+    flow_cases (IsRunFault o before after) o.flow.now e (λ p cause is. (is, same)) (no_config, none_stated o.config, λ over. same) fault
 
 config_refused : (o : RunOptions) (before after : Option (List ℕ)) (e : RunError) → IsConfigFault o.config e → after ≡ before → IsRunFault o before after e
-config_refused o before after (error.ConfigFile path cause) fault same = (fault, same)
-config_refused o before after error.OutOfMemory fault same = (no_config, none_stated o.config, λ over. same)
-config_refused o before after (error.FlowFile path cause) fault same = absurd fault
-config_refused o before after (error.Serve e) fault same = absurd fault
-config_refused o before after (error.BadLimit n) fault same = absurd fault
-config_refused o before after (error.JournalFile path cause) fault same = absurd fault
-config_refused o before after (error.Journal path cause) fault same = absurd fault
-config_refused o before after (error.Engine path cause) fault same = absurd fault
-config_refused o before after error.Refused fault same = absurd fault
-config_refused o before after (error.Read e) fault same = absurd fault
-config_refused o before after (error.Write e) fault same = absurd fault
-config_refused o before after (error.Step e) fault same = absurd fault
-config_refused o before after (error.Input e) fault same = absurd fault
-config_refused o before after (error.Text e) fault same = absurd fault
+config_refused o before after e fault same =
+    config_cases (IsRunFault o before after) o.config e (λ p cause is. (is, same)) (no_config, none_stated o.config, λ over. same) fault
 
 run_refused : (o : RunOptions) (c : Config) (before after : Option (List ℕ)) (e : RunError) → IsConfigAt o.config c → IsRunFaultBy o c before after e →
     IsRunFault o before after e
@@ -313,30 +328,55 @@ recover_fault o before after (error.Step e) h = absurd h
 recover_fault o before after (error.Input e) h = absurd h
 recover_fault o before after (error.Text e) h = absurd h
 
--- a recovery whose journal is not opened
-pub unfound : (o : RecoverOptions) (before : Option (List ℕ)) (e : RunError) → IsOpenFault o.journal.now e → IsRecoverFault o before before e
-unfound o before e h = recover_fault o before before e (open_fault o.journal.now before e h)
+-- no journal is opened of the file that `recover` names, and nothing is written
+pub unfound : (path : List ℕ) (before after : Option (List ℕ)) (e : RunError) → after ≡ before → IsOpenFault path e → IsFileFault path before after e
+unfound path before after e same h =
+    subst (λ (x : Option (List ℕ)). IsFileFault path before x e) (sym same) (open_fault path before e h)
 
 -- a recovery that is refused once its journal is open
-pub unrecovered : (o : RecoverOptions) (path : List ℕ) (before after : Option (List ℕ)) (r : Result (Unit {0}) RunError) → path ≡ o.journal.now
-    → IfErr r IsServeFault → IfErr (ended_at path r) (IsRecoverFault o before after)
-unrecovered o path before after (Ok u) same h = tt
-unrecovered o path before after (Err e) same h =
-    recover_fault o before after (error_at path e)
-    (subst (λ (x : List ℕ). IsFileFault x before after (error_at path e)) same (fault_in_file path before after e h))
+pub unrecovered : (path named : List ℕ) (before after : Option (List ℕ)) (r : Result (Unit {0}) RunError) → named ≡ path
+    → IfErr r IsServeFault → IfErr (ended_at named r) (IsFileFault path before after)
+unrecovered path named before after (Ok u) same h = tt
+unrecovered path named before after (Err e) same h =
+    subst (λ (x : List ℕ). IsFileFault x before after (error_at named e)) same (fault_in_file named before after e h)
 
-pub recovered : {S : Type 0} (files : Ghosts S) (flow : Flow) (sessions : ℕ) (path named : List ℕ) (journal : Kept S) (before after : Option (List ℕ))
+pub recovered_by : {S : Type 0} (files : Ghosts S) (flow : Flow) (sessions : ℕ) (path named : List ℕ) (journal : Kept S) (before after : Option (List ℕ))
     (r : Result (Unit {0}) RunError)
-    → IsChecked flow → sessions ≡ 1 → IsOfFile files path journal
+    → sessions ≡ 1 → IsOfFile files path journal
     → OnOk r (Printed flow sessions (seen (kept files journal)) before after)
-    → OnOk (ended_at named r) ((f : Flow) × IsChecked f × Recovered files f path before after)
-recovered files flow sessions path named journal before after r checked one opened h =
-    done_at named _ r (on_ok _ _ r (λ (printed : Printed flow sessions (seen (kept files journal)) before after). (
-      flow,
-      checked,
-      record {
-        journal = seen (kept files journal);
-        found = (journal, opened, refl);
-        printed = subst (λ (n : ℕ). Printed flow n (seen (kept files journal)) before after) one printed;
-      },
-    )) h)
+    → OnOk (ended_at named r) (Recovered files flow path before after)
+recovered_by files flow sessions path named journal before after r one opened h =
+    done_at named _ r (on_ok _ _ r (λ (printed : Printed flow sessions (seen (kept files journal)) before after). record {
+      journal = seen (kept files journal);
+      found = (journal, opened, refl);
+      printed = subst (λ (n : ℕ). Printed flow n (seen (kept files journal)) before after) one printed;
+    }) h)
+
+-- the flow that was taken is checked, and the journal was recovered by it
+pub recovered : {S : Type 0} (files : Ghosts S) (code : Result Flow RunError) (config : Result Config RunError) (o : RecoverOptions)
+    (before after : Option (List ℕ)) (r : Result (Unit {0}) RunError)
+    → IfOk code (λ f. IsChecked f) → IfOk config (IsConfigAt o.config)
+    → IfErr code (λ e. (r ≡ Err e) × (after ≡ before)) → IfOk code (λ f. IfErr config (λ e. (r ≡ Err e) × (after ≡ before)))
+    → IfTaken code config (λ f c. OnOk r (Recovered files f o.journal.now before after))
+    → OnOk r ((f : Flow) × IsChecked f × Recovered files f o.journal.now before after)
+recovered files code config o before after r checked stated refuses denies h =
+    on_ok ((f : Flow) × IsChecked f × (c : Config) × IsConfigAt o.config c × Recovered files f o.journal.now before after) _ r
+    (λ all. (all.0, all.1, all.4))
+    (both (λ f. IsChecked f) (IsConfigAt o.config) (λ f c. Recovered files f o.journal.now before after) (after ≡ before) code config r checked stated refuses
+    denies h)
+
+-- the first fault of a recovery, of its flow file, of its configuration file, and of what these leave
+pub recovery_refused : (code : Result Flow RunError) (config : Result Config RunError) (o : RecoverOptions) (before after : Option (List ℕ))
+    (r : Result (Unit {0}) RunError)
+    → IfErr code (IsFlowFault o.flow.now) → IfErr config (IsConfigFault o.config)
+    → IfErr code (λ e. (r ≡ Err e) × (after ≡ before)) → IfOk code (λ f. IfErr config (λ e. (r ≡ Err e) × (after ≡ before)))
+    → IfTaken code config (λ f c. IfErr r (IsFileFault o.journal.now before after))
+    → IfErr r (IsRecoverFault o before after)
+recovery_refused code config o before after (Ok done) flow_fault config_fault refuses denies h = tt
+recovery_refused (Err f) config o before after (Err e) flow_fault config_fault refuses denies h =
+    flow_cases (IsRecoverFault o before after) o.flow.now e (λ p cause is. (is, refuses.1)) tt
+    (subst (IsFlowFault o.flow.now) (same_error e f refuses.0) flow_fault)
+recovery_refused (Ok f) (Err g) o before after (Err e) flow_fault config_fault refuses denies h =
+    config_cases (IsRecoverFault o before after) o.config e (λ p cause is. (is, denies.1)) tt
+    (subst (IsConfigFault o.config) (same_error e g denies.0) config_fault)
+recovery_refused (Ok f) (Ok c) o before after (Err e) flow_fault config_fault refuses denies h = recover_fault o before after e h

@@ -8,7 +8,7 @@ ghost use Rattle.tx_plant.specs.Plant.{seen};
 ghost use Rattle.cli_run.specs.Ran.{Printed};
 ghost use Rattle.cli_setup.specs.Plans.{limit_of, plain_setup};
 ghost use Rattle.cardswitch.specs.Runs.{Answered, AnsweredBy, IfTaken, IsConfigAt, IsConfigFault};
-ghost use Rattle.cardswitch.specs.Runs.{IsFlowFault, IsRecoverFault, IsRunFault, IsRunFaultBy};
+ghost use Rattle.cardswitch.specs.Runs.{IsFileFault, IsFlowFault, IsRecoverFault, IsRunFault, IsRunFaultBy};
 ghost use Rattle.cardswitch.specs.Runs.{IsServeFault, Recovered, Served, form_of, sender_of_setup};
 ghost use Rattle.cardswitch.specs.Runs.{ended_at, wanted};
 
@@ -216,6 +216,46 @@ pub fn answer_requests<
     answer_by(threads, alloc, rt, code, config, options, input, out, err)
 }
 
+// Finishes what the journal in the file at a path has unfinished, by a flow and a configuration. (Both come as what became of
+// their files, so that contracts can say whose fault is the first.)
+fn recover_by<T: Threads + Wait + Clock + Sync, O: Write>(
+    threads: &T,
+    alloc: Global,
+    rt: &HostRuntime,
+    code: Result<Code, RunError>,
+    config: Result<Config, RunError>,
+    path: &str,
+    out: &mut O,
+) -> Result<(), RunError>
+    ensures no_flow { IfErr code (λ e. (result ≡ Err e)
+        × (O.contents out.new ≡ O.contents out.old)) }
+    ensures no_config { IfOk code (λ _. IfErr config (λ e. (result ≡ Err e)
+        × (O.contents out.new ≡ O.contents out.old))) }
+    ensures recovered { IfTaken code config (λ flow _. OnOk result
+        (Recovered ⟦<FileStore<File> as Store>⟧ flow path.now
+        (O.contents out.old) (O.contents out.new))) }
+    ensures failed { IfTaken code config (λ _ _. IfErr result
+        (IsFileFault path.now (O.contents out.old) (O.contents out.new))) }
+{
+    let steps = code?;
+    let stated = config?;
+    let setup = recovery(alloc, &stated)?;
+    let named = Text::from_str(alloc, path)?;
+    let journal = open_file(alloc, rt, path)?;
+    let mut sink = std::io::sink();
+    let mut stderr = StandardError {
+        err: &mut sink,
+        trace: None,
+        lost: false,
+        stats: None,
+        passed: 0,
+    };
+    let input: Option<Empty> = None;
+    let stderr = &mut stderr;
+    let ended = serve(threads, alloc, setup, &steps, journal, input, out, stderr);
+    in_file(named, ended)
+}
+
 /// Finishes what the journal in a file has unfinished, and prints the lines.
 pub fn recover<T: Threads + Wait + Clock + Sync, O: Write>(
     threads: &T,
@@ -230,21 +270,7 @@ pub fn recover<T: Threads + Wait + Clock + Sync, O: Write>(
     ensures failed { IfErr result
         (IsRecoverFault options.now (O.contents out.old) (O.contents out.new)) }
 {
-    let code = code_at(alloc, rt, options.flow)?;
-    let config = config_for(alloc, rt, options.config)?;
-    let setup = recovery(alloc, &config)?;
-    let path = Text::from_str(alloc, options.journal)?;
-    let journal = open_file(alloc, rt, options.journal)?;
-    let mut sink = std::io::sink();
-    let mut stderr = StandardError {
-        err: &mut sink,
-        trace: None,
-        lost: false,
-        stats: None,
-        passed: 0,
-    };
-    let input: Option<Empty> = None;
-    let stderr = &mut stderr;
-    let ended = serve(threads, alloc, setup, &code, journal, input, out, stderr);
-    in_file(path, ended)
+    let code = code_at(alloc, rt, options.flow);
+    let config = config_for(alloc, rt, options.config);
+    recover_by(threads, alloc, rt, code, config, options.journal, out)
 }

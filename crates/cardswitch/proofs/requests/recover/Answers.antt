@@ -1,14 +1,12 @@
-use Rattle.std.proofs.Common.{ap}
-use Rattle.cli_setup.specs.Plans.{PlainSetup}
-use Rattle.cardswitch.proofs.Answering.{recovered, unrecovered}
+use Rattle.cardswitch.proofs.Answering.{recovered, recovery_refused}
 use Rattle.cardswitch.proofs.requests.recover.Goals as goal
 
 pub returns-clause-recovered : goal.returns-clause-recovered
-returns-clause-recovered g c = rw c.in_file.ensures (recovered _ c.in_ok-code.code c.in_ok-setup.setup.sessions
-    c.args.options.now.journal.now c.in_ok-path.path
-    c.in_ok-journal.journal _ _ c.serve-ended.result c.in_ok-code.ensures.checked (ap (λ (s : PlainSetup). s.sessions) c.in_ok-setup.ensures.set_up)
-    c.in_ok-journal.ensures.journal c.serve-ended.ensures.printed)
+returns-clause-recovered g c = recovered _ c.code_at-code.result c.config_for-config.result c.args.options.now _ _ c.recover_by.result
+    c.code_at-code.ensures.checked c.config_for-config.ensures.stated c.recover_by.ensures.no_flow c.recover_by.ensures.no_config
+    c.recover_by.ensures.recovered
 
 pub returns-clause-failed : goal.returns-clause-failed
-returns-clause-failed g c = rw c.in_file.ensures (unrecovered c.args.options.now c.in_ok-path.path _ _ c.serve-ended.result c.in_ok-path.ensures
-    c.serve-ended.ensures.failed)
+returns-clause-failed g c = recovery_refused c.code_at-code.result c.config_for-config.result c.args.options.now _ _ c.recover_by.result
+    c.code_at-code.ensures.failed c.config_for-config.ensures.failed c.recover_by.ensures.no_flow c.recover_by.ensures.no_config
+    c.recover_by.ensures.failed
