@@ -6,7 +6,7 @@ use Rattle.sw_book.specs.declared.item.Item.{Item}
 use Rattle.sw_book.specs.declared.item.Totals.{Totals}
 use Rattle.sw_book.specs.Items.{Items, id_of, total, used, reserved, totals_in}
 
--- no key stands twice
+-- no key occurs twice
 abbrev pub HaveOwnKeys : Items → Type 0
 HaveOwnKeys [] = Unit {0}
 HaveOwnKeys (e ∷ es) = (id_of e.1.key es ≡ None) × HaveOwnKeys es

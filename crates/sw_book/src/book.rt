@@ -78,7 +78,7 @@ impl Book {
         })
     }
 
-    /// What the card has spent. No card is over the limit, whatever calls were made.
+    /// What the card has spent. Whatever calls were made, no card is over the limit.
     pub fn used(&self, card: &Card) -> u64
         ensures value { result ≡ used card.now self.now.items }
         ensures within { IsWithinLimit self.now }
@@ -145,7 +145,7 @@ impl Book {
         Ok(())
     }
 
-    /// What was held under the id is spent. Answers whether it was held; it takes no memory.
+    /// Spends what is held under the id. Returns whether anything was held; it takes no memory.
     pub fn settle(&mut self, id: u64) -> bool
         ensures changed { result ≡ is_open_in id self.old.items }
         ensures settled { self.new ≡ with_items self.old (settled id self.old.items) }
@@ -171,8 +171,7 @@ impl Book {
         true
     }
 
-    /// What was held under the id is held no more. Answers whether it was held; it takes no
-    /// memory.
+    /// Frees what is held under the id. Returns whether anything was held; it takes no memory.
     pub fn release(&mut self, id: u64) -> bool
         ensures changed { result ≡ is_open_in id self.old.items }
         ensures released { self.new ≡ with_items self.old (released id self.old.items) }
@@ -200,8 +199,8 @@ impl Book {
         true
     }
 
-    /// What was spent under the key is given back, and the key stays taken. Answers whether it was
-    /// spent, so the same reversal again answers no; it takes no memory.
+    /// Gives back what was spent under the key, which stays taken. Returns whether anything was
+    /// spent, so the same reversal returns `false` the second time; it takes no memory.
     pub fn reverse(&mut self, key: &BookKey) -> bool
         ensures changed { result ≡ is_used_in key.now self.old.items }
         ensures reversed { self.new ≡ with_items self.old (reversed key.now self.old.items) }

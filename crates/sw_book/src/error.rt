@@ -5,16 +5,16 @@ use thiserror::Error;
 /// A refusal; nothing has changed.
 #[derive(Clone, Copy, Debug, PartialEq, Eq, Drop, Error)]
 pub enum BookError {
-    /// Memory was refused. All else about the call was right.
+    /// Memory was refused. Everything else about the call was right.
     #[error("out of memory")]
     OutOfMemory = 0,
-    /// The card would have more used and reserved than the limit.
+    /// What the card has used, what is held for it and this amount would together be over the limit.
     #[error("the card has no room under its limit for this amount")]
     OverLimit = 1,
     /// The amount has more than the twelve digits of field 4.
     #[error("the amount is too large: expected at most 999999999999")]
     AmountTooLarge = 2,
-    /// The id or the key is in the book.
+    /// The id or the key is in the book already.
     #[error("the book has this id or this key already")]
     Duplicate = 3,
     /// The limit of a new book is too large.

@@ -1,6 +1,7 @@
 //! What a book is about.
 
-/// A card: the digits of field 2, the primary account number, filled up with spaces after them.
+/// A card: the digits of field 2, the primary account number, with spaces after them up to 19
+/// places.
 #[derive(Clone, Copy, PartialEq, Eq, Hash)]
 pub struct Card {
     /// The 19 places.
@@ -31,7 +32,7 @@ pub enum State {
 pub struct Item {
     /// Whose it is.
     pub card: Card,
-    /// For which request.
+    /// The request that it is for.
     pub key: BookKey,
     /// How much, in the unit of field 4.
     pub amount: u64,

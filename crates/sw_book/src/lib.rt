@@ -4,13 +4,13 @@
 //! ids: an amount of a card under a key, which is open (held for a transaction that may commit),
 //! used, or reversed (spent and given back). Contracts see just that. Whatever calls were made,
 //! what a card has used and what is held for it together are never over the limit, and no key
-//! stands twice, that of a reversed item included.
+//! occurs twice, that of a reversed item included.
 //!
-//! - `Book::reserve` opens an item, or answers the first of its refusals and changes nothing.
+//! - `Book::reserve` opens an item, or reports the first of its refusals and changes nothing.
 //! - `Book::settle` turns an open item into a used one, `Book::release` takes an open one out, and
-//!   `Book::reverse` turns a used one into a reversed one; each answers whether there was one.
+//!   `Book::reverse` turns a used one into a reversed one; each returns whether there was one.
 //!
-//! The sums of a card are kept and not computed anew, so no call gets slower as items gather.
+//! The sums of a card are kept and not computed anew, so no call walks through the items.
 #![tactic(auto)]
 
 mod book;

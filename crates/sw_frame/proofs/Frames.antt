@@ -96,7 +96,7 @@ same-front (c ∷ a) (d ∷ b) x y l e =
 some-same : (x y : ℕ) → Some x ≡ Some y → x ≡ y
 some-same x y e = cc
 
--- a frame that stands at the front of bytes that go on
+-- a frame at the front of bytes, and what follows it
 one-frame : (a b f g x y : List ℕ) → Framed a f → Framed b g → a ++ x ≡ b ++ y → (f ≡ g) × (x ≡ y)
 one-frame a b f g x y p q e =
     let e2 : p.0 ++ (f ++ x) ≡ q.0 ++ (g ++ y) = sym (append_assoc p.0 f x) ∙ ap (λ (z : List ℕ). z ++ x) (sym p.1) ∙ e ∙ ap (λ (z : List ℕ). z ++ y) q.1

@@ -24,7 +24,7 @@ IsFrame message (Err TooLong) = 9999 < length message
 IsFrame message (Err OutOfMemory) = length message ≤ 9999
 IsFrame message (Err BadLength) = ⊥
 
--- what stands in a length's place at the front of the bytes
+-- what is found where a length is expected, at the front of the bytes
 abbrev pub IsLengthHeader : List ℕ → LengthHeader → Type 0
 IsLengthHeader bytes Short = length bytes < 4
 IsLengthHeader bytes Bad = IsBad bytes
@@ -40,11 +40,11 @@ abbrev pub IsHeld : Bool → List ℕ → Type 0
 IsHeld true held = held ≡ []
 IsHeld false held = IsPartial held
 
--- the message of the frame at the front of held bytes and so many of a piece
+-- the frame that held bytes and this many of a piece make
 abbrev pub first_frame : List ℕ → List ℕ → ℕ → List ℕ
 first_frame held piece missing = held ++ take missing piece
 
--- so many bytes of a piece make the first frame whole
+-- this many bytes of a piece make the first frame whole
 abbrev pub MakesWhole : List ℕ → List ℕ → ℕ → Type 0
 MakesWhole held piece missing = Framed (first_frame held piece missing) (drop 4 (first_frame held piece missing))
 
@@ -52,7 +52,7 @@ MakesWhole held piece missing = Framed (first_frame held piece missing) (drop 4 
 abbrev pub AddsFrames : List (List ℕ) → List ℕ → List (List ℕ) → Type 0
 AddsFrames earlier taken all = (text : List ℕ) → AreFramed text earlier → AreFramed (text ++ taken) all
 
--- the four bytes at the front, where there are so many
+-- the four bytes at the front, if there are that many
 abbrev pub IsFront : List ℕ → Option (List ℕ) → Type 0
 IsFront bytes None = length bytes < 4
 IsFront bytes (Some digits) = (4 ≤ length bytes) × (take 4 bytes ≡ digits)
@@ -62,8 +62,9 @@ abbrev pub IsFault : Bool → List ℕ → State → State → Type 0
 IsFault true bytes s t = t ≡ s
 IsFault false bytes s t = IsBad bytes × (t ≡ record { pending = []; failed = true })
 
--- What a framer in the state s answers to a piece, and the state after it. `BadLength` comes exactly where the framer
--- had failed or the bytes begin with no length; `OutOfMemory` only where `BadLength` doesn't, and it changes nothing.
+-- What a framer in the state s answers to a piece, and the state after it. `BadLength` is reported exactly where the
+-- framer had failed or the bytes begin with no length; `OutOfMemory` only where `BadLength` isn't, and it changes
+-- nothing.
 abbrev pub IsAnswer : State → List ℕ → Result (Vec (Vec ℕ)) FrameError → State → Type 0
 IsAnswer s piece (Ok out) t =
     (s.failed ≡ false) × Stream (s.pending ++ piece) (messages out.items) t × (IsBad (s.pending ++ piece) → ⊥)

@@ -6,12 +6,12 @@ ghost use Rattle.sw_frame.specs.Feeds.{IsFront, IsLengthHeader};
 
 use sw_base::decimal;
 
-/// What stands in a length's place.
+/// What is found where a length is expected.
 #[derive(Clone, Copy)]
 pub enum LengthHeader {
     /// Fewer than four bytes.
     Short,
-    /// Four bytes that aren't digits.
+    /// Four bytes that aren't all digits.
     Bad,
     /// Four digits, and the number of bytes that they spell.
     Length(u32),

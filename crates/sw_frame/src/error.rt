@@ -4,7 +4,7 @@ ghost use Rattle.sw_frame.specs.declared.error.FrameError.TheVariants.{OutOfMemo
 use std::alloc::{AllocError, AllocFailed};
 use thiserror::Error;
 
-/// Why a message has no frame, or a piece of a stream no answer.
+/// Why a message has no frame, or why a piece of a stream is refused.
 #[derive(Clone, Copy, Debug, PartialEq, Eq, Error)]
 pub enum FrameError {
     /// Memory was refused. Nothing has changed.
@@ -13,7 +13,7 @@ pub enum FrameError {
     /// The message has more bytes than four digits can count.
     #[error("the message is too long for a frame: expected at most 9999 bytes")]
     TooLong = 1,
-    /// Four bytes in a length's place aren't digits.
+    /// Four bytes where a length is expected aren't all digits.
     #[error("no frame begins here: expected four digits of length")]
     BadLength = 2,
 }

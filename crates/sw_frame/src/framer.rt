@@ -78,7 +78,7 @@ impl Model for Framer {
 }
 
 impl Framer {
-    /// A framer that was fed nothing. It takes no memory: `alloc` is where later bytes go.
+    /// A framer that was fed nothing yet. It takes no memory: `alloc` is where later bytes go.
     pub fn new(alloc: Global) -> Framer
         ensures { result ≡ blank }
     {
@@ -88,7 +88,7 @@ impl Framer {
         }
     }
 
-    /// Whether a length was met that isn't four digits.
+    /// Whether it has met a length that isn't four digits.
     pub fn failed(&self) -> bool
         ensures failed { result ≡ self.now.failed }
         ensures held { IsHeld self.now.failed self.now.pending }
@@ -103,10 +103,11 @@ impl Framer {
         &self.held
     }
 
-    /// Takes the next piece of the stream, and answers the messages of the frames that are whole now.
+    /// Takes the next piece of the stream, and returns the messages of the frames that are now whole.
     ///
-    /// `BadLength`, from the piece on in which four bytes in a length's place aren't digits; but that piece's
-    /// messages before them are answered first. `OutOfMemory` comes last, and changes nothing.
+    /// `BadLength` if the next frame's length isn't four digits, and for every piece after that. A piece with
+    /// whole frames before such a length returns their messages; the pieces after it are refused.
+    /// `OutOfMemory` comes last, and changes nothing.
     pub fn feed(&mut self, piece: &[u8]) -> Result<Vec<Vec<u8>>, FrameError>
         ensures answer { IsAnswer self.old piece.now result self.new }
         // However the stream was cut: the frames that were answered so far are those of the pieces joined.

@@ -1,9 +1,10 @@
 //! Frames of a stream of bytes: four ASCII digits of length, and that many bytes, which are a message.
 //!
 //! - `frame` gives the one frame of a message of at most 9,999 bytes.
-//! - A `Framer` is fed a stream in pieces, and answers the messages of the frames that are whole. However the stream
-//!   is cut: up to what is pending it is the frames answered so far, and no others (`feed`'s clause `so_far`, and
-//!   `read_pieces` for a whole list of pieces). A length that isn't four digits fails the framer for good.
+//! - A `Framer` is fed a stream in pieces, and returns the messages of the frames that are whole. However the
+//!   stream is cut, up to what is pending it is the frames of the messages returned so far, and no others
+//!   (`feed`'s clause `so_far`, and `read_pieces` for a whole list of pieces). A length that isn't four digits
+//!   fails the framer for good.
 #![tactic(auto)]
 
 mod digits;

@@ -37,7 +37,7 @@ pub fn read_pieces(alloc: Global, pieces: &[Vec<u8>]) -> Result<StreamReading, A
     Ok(reading)
 }
 
-/// A stream has its frames and no others.
+/// A stream is the frames of one list of messages only: a law, and the function does nothing.
 pub fn one_stream()
     ensures { HasOneReading }
 {}

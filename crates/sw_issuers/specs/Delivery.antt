@@ -11,7 +11,8 @@ is_accepted (Some m) = is_approved (value_at 39 m.fields)
 
 module _ (sends : Sending) (receives : Receiving) (starves : Starving) (refused : Type 0) where
   -- The advice is sent once, and a response with its key is waited for; one without a key is sent,
-  -- and no response is its. Bytes, key, the link's state before, the answer, the state after.
+  -- and no response counts as its own. Bytes, key, the link's state before, the answer, the state
+  -- after.
   abbrev pub Delivers : List ℕ → Option (List ℕ) → List ℕ → Bool → List ℕ → Type 0
   Delivers bytes None s accepted t = sends s bytes t × (accepted ≡ false)
   Delivers bytes (Some k) s accepted t =

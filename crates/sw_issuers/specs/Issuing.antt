@@ -11,8 +11,8 @@ use Rattle.sw_messages.specs.Requests.{message_of, is_authorization}
 use Rattle.sw_issuers.specs.declared.verdict.Verdict.{Verdict}
 use Rattle.sw_issuers.specs.declared.verdict.Verdict.TheVariants.{Approved, Refused, Silent}
 
--- what a response has from its request: card number, processing code, amount, date and time,
--- STAN, terminal, currency
+-- the fields that a response copies from its request: card number, processing code, amount, date
+-- and time, STAN, terminal, currency
 abbrev pub copied_numbers : List ℕ
 copied_numbers = 2 ∷ 3 ∷ 4 ∷ 7 ∷ 11 ∷ 41 ∷ 49 ∷ []
 

@@ -20,9 +20,9 @@ fn is_accepted(response: &Option<Message>) -> bool
     is_approved(message.get(39))
 }
 
-/// Sends an advice, which these are the bytes of, over a link, and tells whether a response with
-/// its key and response code 00 came within eight receives. Out of memory before the message is
-/// sent is the only refusal, and changes nothing; after it, out of memory counts as no response.
+/// Sends an advice, whose bytes these are, over a link, and returns whether a response with its key
+/// and response code 00 came within eight receives. Out of memory before the message is sent is the
+/// only refusal, and changes nothing; afterwards, out of memory counts as no response.
 pub fn deliver<M: Memory, L: Link>(
     alloc: Global,
     memory: &M,

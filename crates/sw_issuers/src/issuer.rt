@@ -14,12 +14,11 @@ use sw_messages::{copy_fields, put_field};
 use sw_participant::{Bytes, NoMemory};
 use sw_parts::Link;
 
-/// What a response has from its request.
+/// The fields that a response copies from its request.
 const COPIED: [u8; 7] = [2, 3, 4, 7, 11, 41, 49];
 
-/// A link to an issuer that is simulated. It decides an authorization by the last two digits of
-/// the amount, accepts every advice, and answers nothing else. A silent one answers nothing at
-/// all.
+/// A link to a simulated issuer. It decides an authorization by the last two digits of the amount,
+/// accepts every advice, and answers nothing else. A silent one answers nothing at all.
 pub struct Issuer {
     alloc: Global,
     silent: bool,
@@ -116,8 +115,8 @@ fn answer_of(alloc: Global, bytes: &[u8]) -> Result<Option<Bytes>, NoMemory>
 }
 
 impl Issuer {
-    /// An issuer with no answer that waits. It takes no memory: `alloc` is for the messages that
-    /// it reads and writes.
+    /// An issuer without answers that wait. It takes no memory: `alloc` is for the messages that it
+    /// reads and writes.
     pub fn new(alloc: Global, silent: bool) -> Issuer
         ensures { ⟦<Issuer as Link>⟧.state result ≡ shown_issuer silent [] }
     {
@@ -136,7 +135,7 @@ impl Link for Issuer {
 
     ghost receives = { λ s answer t. Receives s answer t };
 
-    // An answer takes its memory as the request is sent.
+    // An answer takes its memory when the request is sent.
     ghost starves = { λ s. ⊥ };
 
     fn send(&mut self, message: &[u8]) -> Result<(), NoMemory> {

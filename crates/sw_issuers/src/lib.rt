@@ -1,14 +1,14 @@
 //! The other side of the links: the simulated issuer, and the sending of stored advices.
 //!
 //! - [`Issuer`] is a [`sw_parts::Link`] that answers each request by a specified rule
-//!   (`specs/Issuing.antt`) in the order in which the requests were sent, or answers nothing at
-//!   all. It may be out of memory as a request is sent, and never as an answer is received.
+//!   (`specs/Issuing.antt`) in the order in which the requests were sent, or answers nothing at all.
+//!   It may run out of memory when a request is sent, but never when an answer is received.
 //! - [`Sender`] sends an advice once, over the link of the group that the route of the card number
-//!   names, and answers whether its issuer accepted it: a response with the advice's key and response
+//!   names, and returns whether its issuer accepted it: a response with the advice's key and response
 //!   code 00 came within eight receives (`specs/Delivery.antt`, `specs/Sending.antt`).
 //!
-//! That a message reaches an issuer, and that one which accepts an advice is heard, is up to the
-//! link: no contract says it of a link that is not simulated.
+//! Whether a message reaches an issuer, and whether an issuer that accepts an advice is heard, is up
+//! to the link: no contract promises either of a link that is not simulated.
 #![tactic(auto)]
 
 mod delivery;

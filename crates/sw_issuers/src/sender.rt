@@ -62,8 +62,8 @@ impl<L: Link, M: Memory> Model for Sender<L, M> {
 }
 
 impl<L: Link> Sender<L, Heap> {
-    /// By these routes, over these links. It takes no memory: `alloc` is for the messages that it
-    /// reads.
+    /// A sender by these routes, over these links. It takes no memory: `alloc` is for the messages
+    /// that it reads.
     pub fn new(
         alloc: Global,
         routes: Sequence<Routing>,
@@ -84,11 +84,12 @@ impl<L: Link> Sender<L, Heap> {
 }
 
 impl<L: Link, M: Memory> Sender<L, M> {
-    /// Sends an advice once, as a repeat where `repeat` says so (the last digit of its type is
-    /// then 1), and tells whether a response with its key and response code 00 came within eight
-    /// receives. Bytes that are not a message, a card number without a route and a group without a
-    /// link answer no, and nothing is sent. Out of memory before the message is sent is the only
-    /// refusal, and changes nothing; after it, out of memory counts as no response.
+    /// Sends an advice once, as a repeat if `repeat` says so (the last digit of its type is then
+    /// 1), and returns whether a response with its key and response code 00 came within eight
+    /// receives. For bytes that are not a message, a card number without a route and a group
+    /// without a link it returns `false`, and nothing is sent. Out of memory before the message is
+    /// sent is the only refusal, and changes nothing; afterwards, out of memory counts as no
+    /// response.
     pub fn send(&mut self, advice: &[u8], repeat: bool) -> Result<bool, NoMemory>
         ensures sent { IfOk result (λ accepted.
             SendsAdvice L.sends L.receives L.starves M.refused
@@ -116,7 +117,7 @@ impl<L: Link, M: Memory> Sender<L, M> {
     }
 }
 
-// The bytes of an advice, under the type of a repeat where it is one.
+// The bytes of an advice, under the type of a repeat if it is one.
 fn repeated(alloc: Global, advice: &[u8], repeat: bool) -> Result<Vec<u8>, AllocError>
     ensures { IfOk result (λ v. v.items ≡ repeated repeat advice.now) }
 {
@@ -127,7 +128,7 @@ fn repeated(alloc: Global, advice: &[u8], repeat: bool) -> Result<Vec<u8>, Alloc
     Ok(bytes)
 }
 
-// Over the first link of the group, where there is one.
+// Over the first link of the group, if there is one.
 fn deliver_to<M: Memory, L: Link>(
     alloc: Global,
     memory: &M,

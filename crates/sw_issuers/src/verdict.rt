@@ -14,7 +14,8 @@ pub enum Verdict {
     Silent,
 }
 
-/// By the last two digits of the amount: 05, 51, 54 and 61 are refused, 91 has no response.
+/// The verdict by the last two digits of the amount: 05, 51, 54 and 61 are refused, 91 gets no
+/// response.
 pub fn verdict_of(ending: &[u8]) -> Verdict
     ensures { result ≡ verdict_of ending.now }
 {

@@ -4,7 +4,7 @@ use Rattle.std.specs.Prelude.{Option, Some, None, is_none, if◌then◌else◌}
 use Rattle.iso_msg.specs.Messages.{Fields, value_at, with_value}
 use Rattle.iso_msg.specs.Values.{refusal}
 
--- a value put where its field takes it
+-- a value put, if its field takes it
 abbrev pub with_field : ℕ → Option (List ℕ) → Fields → Fields
 with_field n None fields = fields
 with_field n (Some value) fields =
@@ -15,6 +15,6 @@ abbrev pub copied : List ℕ → Fields → Fields → Fields
 copied [] from to = to
 copied (n ∷ ns) from to = copied ns from (with_field n (value_at n from) to)
 
--- with a part in the place of as many from there on
+-- with a part over as many places, from `at` on
 abbrev pub put_at : ℕ → List ℕ → List ℕ → List ℕ
 put_at at part places = take at places ++ (part ++ drop (length part) (drop at places))

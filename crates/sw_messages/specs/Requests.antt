@@ -28,7 +28,7 @@ message_of (Some bytes) = ok_of (read bytes)
 abbrev pub request_in : Pairs → Option PlainMessage
 request_in x = message_of (find (codes "request") x)
 
--- a context with a note; one that is full stays as it is
+-- a context with a note; one that does not take it stays as it is
 abbrev pub noted : Pairs → List ℕ → List ℕ → Pairs
 noted x name value = if is_none (refusal x name value) then with_value x name value else x
 

@@ -6,7 +6,7 @@ use Rattle.sw_messages.specs.declared.response_code.ResponseCode.{ResponseCode}
 use Rattle.sw_messages.specs.Placing.{with_field, copied}
 use Rattle.sw_messages.specs.Requests.{digits_of}
 
--- what a response has from its request
+-- the fields that a response copies from its request
 abbrev pub copied_numbers : List ℕ
 copied_numbers =
     2 ∷ 3 ∷ 4 ∷ 7 ∷ 11 ∷ 12 ∷ 13 ∷ 32 ∷ 37 ∷ 41 ∷ 42 ∷ 49 ∷ 70 ∷ 90 ∷ []
@@ -19,8 +19,8 @@ response_type mti = slice_index mti 0 ∷ slice_index mti 1 ∷ (slice_index mti
 abbrev pub is_response : List ℕ → Bool
 is_response mti = slice_index mti 2 % 2 == 1
 
--- the response to a request: the code that the transaction left, over the one that stands without
--- it; the approval code; the request's own fields
+-- the response to a request: the response code, which is the one that the transaction left, or else
+-- the default; the approval code; the request's own fields
 abbrev pub response_to : PlainMessage → ResponseCode → Pairs → PlainMessage
 response_to m default x = record {
   mti = response_type m.mti;

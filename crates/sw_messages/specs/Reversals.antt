@@ -4,7 +4,7 @@ use Rattle.std.specs.Prelude.{Option, Some, None}
 use Rattle.iso_msg.specs.Messages.{PlainMessage, value_at}
 use Rattle.sw_messages.specs.Placing.{with_field, copied}
 
--- a value with zeros in front of it, so that there are so many; all zeros where there is none
+-- a value with zeros in front of it, up to this many places; all zeros if there is no value
 abbrev pub zeros_before : ℕ → Option (List ℕ) → List ℕ
 zeros_before places None = replicate places 48
 zeros_before places (Some value) = replicate (places - length value) 48 ++ value
@@ -16,7 +16,7 @@ original_data m =
     (((m.mti ++ zeros_before 6 (value_at 11 m.fields)) ++ zeros_before 10 (value_at 7 m.fields))
     ++ zeros_before 11 (value_at 32 m.fields)) ++ zeros_before 11 (value_at 33 m.fields)
 
--- what a reversal has from its request
+-- the fields that a reversal copies from its request
 abbrev pub reversal_numbers : List ℕ
 reversal_numbers = 2 ∷ 3 ∷ 4 ∷ 7 ∷ 11 ∷ 12 ∷ 13 ∷ 32 ∷ 37 ∷ 41 ∷ 42 ∷ 49 ∷ []
 

@@ -11,8 +11,8 @@ use std::alloc::Global;
 use sw_context::Context;
 use sw_participant::{Bytes, NoMemory};
 
-/// The bytes of the authorization advice (0120): all fields of the request, with the approval
-/// code and the response code that the context has, where their fields take them.
+/// The bytes of the authorization advice (0120): all fields of the request, with the approval code
+/// and the response code that the context has, if their fields take them.
 pub fn authorization_advice(
     alloc: Global,
     request: &Message,

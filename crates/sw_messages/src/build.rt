@@ -1,4 +1,4 @@
-//! Messages that take over what another one has.
+//! Messages built from what another one has.
 
 ghost use Rattle.std.specs.Prelude.{◌≡◌, ◌+◌, ◌≤◌, length, IfOk, OnOk, option_map};
 ghost use Rattle.iso_codec.specs.Spelling.{spelling};
@@ -30,7 +30,7 @@ pub fn put_field(
     }
 }
 
-/// Copies fields that are there.
+/// Copies those of the numbered fields that are there.
 pub fn copy_fields(
     alloc: Global,
     numbers: &[u8],
@@ -48,7 +48,7 @@ pub fn copy_fields(
     Ok(())
 }
 
-/// Puts a part in the place of as many from there on.
+/// Overwrites as many places as the part has, from `at` on, with the part.
 pub fn put_part(places: &mut [u8], at: usize, part: &[u8])
     requires { at + length part.now ≤ length places.old }
     ensures { places.new ≡ put_at at part.now places.old }
@@ -56,12 +56,12 @@ pub fn put_part(places: &mut [u8], at: usize, part: &[u8])
     places[at..at + part.len()].copy_from_slice(part);
 }
 
-/// The bytes of a message under another type, which stands in the first four of them.
+/// The bytes of a message under another type, which is the first four of them.
 pub fn encode_as(alloc: Global, mti: &[u8; 4], message: &Message) -> Result<Vec<u8>, AllocError>
     ensures { IfOk result (λ v. v.items
         ≡ spelling (record { mti = mti.now; fields = message.now.fields })) }
 {
-    // The type is looked at for the proof alone: that it has four digits.
+    // The type is looked at only for the proof: that it has four digits.
     let _ = message.mti();
     let mut bytes = encode(alloc, message)?;
     put_part(&mut bytes, 0, mti);

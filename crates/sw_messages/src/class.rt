@@ -15,7 +15,7 @@ pub enum Class {
     NetworkManagement,
 }
 
-/// The class of a message type; the switch takes no request of another type.
+/// The class of a message type; `None` for a type of which the switch takes no requests.
 pub fn class_of(mti: &[u8]) -> Option<Class>
     ensures { result ≡ class_of mti.now }
 {

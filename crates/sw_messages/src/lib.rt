@@ -3,10 +3,11 @@
 //! - [`Class`] is what a request is for, by its message type; [`ResponseCode`] is its field 39.
 //!   [`fault_of`] says why a request is invalid, [`amount_of`] what the digits of field 4 spell.
 //! - A transaction's context carries the request as the entry `request`, which [`request_in`]
-//!   reads, and [`class_in`] looks over for what it is for. Notes stand beside it ([`note`]): `rc`
-//!   (response code), `auth` (approval code), `sent` and `late` (the request went to an issuer, and
-//!   its answer has not come), `standin` (the switch approved by itself) and `response`.
-//! - [`response_to`], [`reversal_of`], [`authorization_advice`] and [`reversal_advice`] make of a
+//!   reads, and of which [`class_in`] reads only what it is for. Notes are beside it ([`note`]):
+//!   `rc` (response code), `auth` (approval code), `sent` and `late` (the request went to an
+//!   issuer, and its answer has not come), `standin` (the switch approved by itself) and
+//!   `response`.
+//! - [`response_to`], [`reversal_of`], [`authorization_advice`] and [`reversal_advice`] make from a
 //!   request its response, its reversal, and the advices that issuers get later.
 //!
 //! `specs/` has each of them as a function of the message and the context.

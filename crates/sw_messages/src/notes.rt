@@ -1,4 +1,4 @@
-//! What is read in a context and noted in it.
+//! What is read from a context and noted in it.
 
 ghost use Rattle.std.specs.Prelude.{◌≡◌, IfOk, OnOk, OnErr};
 ghost use Rattle.sw_messages.specs.Requests.{class_in, request_in, noted, coded};
@@ -11,25 +11,25 @@ use std::alloc::Global;
 use sw_context::{Context, ContextError};
 use sw_participant::NoMemory;
 
-/// The entry of the request's bytes.
+/// The name of the entry with the request's bytes.
 pub const REQUEST: &str = "request";
 
-/// The entry of the response code.
+/// The name of the entry with the response code.
 pub const CODE: &str = "rc";
 
-/// The entry of the approval code.
+/// The name of the entry with the approval code.
 pub const APPROVAL: &str = "auth";
 
-/// The entry that tells that the request went to an issuer.
+/// The name of the entry that says that the request went to an issuer.
 pub const SENT: &str = "sent";
 
-/// The entry that tells that the issuer's answer has not come.
+/// The name of the entry that says that the issuer's answer has not come.
 pub const LATE: &str = "late";
 
-/// The entry that tells that the switch approved in the issuer's place.
+/// The name of the entry that says that the switch approved in the issuer's place.
 pub const STAND_IN: &str = "standin";
 
-/// The entry of the response's bytes.
+/// The name of the entry with the response's bytes.
 pub const RESPONSE: &str = "response";
 
 /// The request that a context carries, if it is readable.
@@ -46,7 +46,8 @@ pub fn request_in(alloc: Global, context: &Context) -> Result<Option<Message>, N
     }
 }
 
-/// What the request that a context carries is for, if it is readable and the switch takes its type. It takes no memory.
+/// What the request that a context carries is for, if it is readable and the switch takes its type. It takes no
+/// memory.
 pub fn class_in(context: &Context) -> Option<Class>
     ensures { result ≡ class_in context.now }
 {
@@ -59,7 +60,7 @@ pub fn class_in(context: &Context) -> Option<Class>
     }
 }
 
-/// Notes a value; a full context stays as it is.
+/// Notes a value; a context that does not take it stays as it is.
 pub fn note(context: &mut Context, name: &str, value: &[u8]) -> Result<(), NoMemory>
     ensures noted { OnOk result (context.new ≡ noted context.old name.now value.now) }
     ensures kept { OnErr result (context.new ≡ context.old) }

@@ -11,12 +11,12 @@ use std::alloc::Global;
 use sw_context::Context;
 use sw_participant::NoMemory;
 
-/// What a response has from its request.
+/// The fields that a response copies from its request.
 const COPIED: [u8; 14] = [2, 3, 4, 7, 11, 12, 13, 32, 37, 41, 42, 49, 70, 90];
 
-/// The response of this type to a request, by what the transaction left in its context: the code
-/// in `rc` is its field 39, and without one that its field takes it is `default`; the code in
-/// `auth` is its field 38.
+/// The response of this type to a request, by what the transaction left in its context. Field 39 is
+/// the code in `rc`, or `default` if there is none that the field takes; field 38 is the code in
+/// `auth`.
 pub fn response_to(
     alloc: Global,
     request: &Message,
@@ -35,7 +35,7 @@ pub fn response_to(
     Ok(response)
 }
 
-/// The type of the response to a message of this type; a response has none.
+/// The type of the response to a message of this type; `None` for a response.
 pub fn response_type(mti: &Mti) -> Option<Mti>
     ensures none { is_none result ≡ is_response mti.now }
     ensures some { IfSome result (λ t. t ≡ response_type mti.now) }

@@ -8,7 +8,7 @@ use iso_msg::{Message, Mti};
 use std::alloc::{AllocError, Global};
 use sw_participant::NoMemory;
 
-/// What a reversal has from its request.
+/// The fields that a reversal copies from its request.
 const COPIED: [u8; 12] = [2, 3, 4, 7, 11, 12, 13, 32, 37, 41, 42, 49];
 
 fn push_padded(out: &mut Vec<u8>, places: usize, value: Option<&[u8]>) -> Result<(), AllocError>

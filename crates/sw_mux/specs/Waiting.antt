@@ -31,7 +31,7 @@ without_all (k ∷ ks) es = without_all ks (without k.bytes es)
 abbrev pub is_due : ℕ → Key × ℕ → Bool
 is_due tick e = nat_le e.1 tick
 
--- the keys that are due, and what waits on without them
+-- the keys that are due, and what still waits without them
 abbrev pub due : ℕ → Waiting → List Key
 due tick es = map (λ e. e.0) (filter (is_due tick) es)
 

@@ -26,14 +26,14 @@ use std::marker::Model;
 pub enum Response {
     /// The response to the request with this key, which waits no more.
     Matched(Key, Message),
-    /// The response to nothing that waits.
+    /// A message that is the response to no waiting request.
     Unhandled(Message),
 }
 
 /// Requests that wait, with their deadlines. Contracts see them as a list in order of request.
 ///
-/// A deadline is a number that the caller chooses, as a tick of a clock or the number of a
-/// transaction; `expire` compares it and nothing else reads it.
+/// A deadline is a number that the caller chooses, such as a tick of a clock or the number of a
+/// transaction; only `expire` gives it a meaning.
 pub struct Mux {
     // The requests by number, the oldest first, and the number of each key: neither a response nor
     // a withdrawal moves the later ones. The keys by deadline and number: what is not due is
@@ -73,7 +73,8 @@ impl Model for Mux {
 }
 
 impl Mux {
-    /// With nothing that waits. It takes no memory: `alloc` is where later requests go.
+    /// A multiplexer in which nothing waits. It takes no memory: `alloc` is where later requests
+    /// go.
     pub fn new(alloc: Global) -> Mux
         ensures { result ≡ [] }
     {
@@ -85,15 +86,15 @@ impl Mux {
         }
     }
 
-    /// How many wait.
+    /// How many requests wait.
     pub fn waiting(&self) -> usize
         ensures { result ≡ length self.now }
     {
         self.requests.len()
     }
 
-    /// Lets a request wait, last of all, and answers its key. The refusals, in this order:
-    /// `NoKey` of a message without field 41 or field 11, `DuplicateKey` where the key waits,
+    /// Puts a request last among those that wait, and returns its key. The refusals, in this order:
+    /// `NoKey` if the message lacks field 41 or field 11, `DuplicateKey` if its key waits already,
     /// `OutOfMemory`.
     pub fn request(&mut self, message: &Message, deadline: u64) -> Result<Key, MuxError>
         ensures key { IfOk result (λ k. Some k.bytes ≡ key message.now) }
@@ -129,7 +130,7 @@ impl Mux {
         Ok(key)
     }
 
-    // Whether the key waited; it waits no more.
+    // Takes the key out, if it waits; whether it did.
     fn take(&mut self, key: &Key) -> bool
         ensures waited { result ≡ waits key.now.bytes self.old }
         ensures left { self.new ≡ without key.now.bytes self.old }
@@ -145,9 +146,9 @@ impl Mux {
         true
     }
 
-    /// Takes a message from the other side: `Matched` exactly where its key waits, which then
-    /// waits no more; a second response with the key is `Unhandled`. It takes no memory. A
-    /// message of a request's type has the request's own key, and is matched too.
+    /// Takes a message from the other side: `Matched` exactly if its key waits, which then waits no
+    /// more; a second response with the key is `Unhandled`. It takes no memory. A message of a
+    /// request's type has the request's own key, and is matched too.
     pub fn response(&mut self, message: Message) -> Response
         ensures { Answers message self.old result self.new }
     {
@@ -160,15 +161,15 @@ impl Mux {
         Response::Matched(key, message)
     }
 
-    /// Takes one key out, and changes nothing where it does not wait. It takes no memory.
+    /// Takes one key out, and changes nothing if it does not wait. It takes no memory.
     pub fn withdraw(&mut self, key: &Key)
         ensures { self.new ≡ without key.now.bytes self.old }
     {
         let _ = self.take(key);
     }
 
-    /// Takes out the keys with a deadline of at most `tick`, and answers them in order of
-    /// request. The only refusal is out of memory, after which all wait as before.
+    /// Takes out the keys with a deadline of at most `tick`, and returns them in order of request.
+    /// The only refusal is out of memory, after which all wait as before.
     pub fn expire(&mut self, alloc: Global, tick: u64) -> Result<Vec<Key>, AllocError>
         ensures due { IfOk result (λ ks. ks.items ≡ due tick self.old) }
         ensures later { OnOk result (self.new ≡ later tick self.old) }

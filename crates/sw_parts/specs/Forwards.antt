@@ -21,7 +21,7 @@ forward_byte None = passes
 forward_byte (Some m) = forward_answer (class_of m.mti)
 
 -- the advice of a request: an approval's where the switch approved by itself, whatever the request
--- is for, and else that of a reversal
+-- is for, and otherwise that of a reversal
 abbrev pub forwarded_class : Option Class → PlainMessage → Option (List ℕ)
 forwarded_class (Some Reversal) m = Some (spelling (reversal_advice m))
 forwarded_class _ m = None

@@ -28,7 +28,7 @@ abbrev pub has_key : List ℕ → Option (List ℕ) → Bool
 has_key k None = false
 has_key k (Some other) = bytes_eq k other
 
--- the message of these bytes, where it has the key
+-- the message of these bytes, if it has the key
 abbrev pub with_key : List ℕ → Option PlainMessage → Option PlainMessage
 with_key k None = None
 with_key k (Some m) = if has_key k (key m) then Some m else None
@@ -52,8 +52,8 @@ Came refused k None u r t later = Stops u r t
 Came refused k (Some bytes) u r t later =
     (refused × Stops u r t) ⊎ Taken (answer_in k bytes) u r t later
 
--- At most so many receives, until the answer with this key or none. Only where memory is refused,
--- to a receive or to read what came, do they end before.
+-- At most this many receives, until the answer with this key or none. They end earlier only where
+-- memory is refused, to a receive or to read what came.
 abbrev pub Hears : Receiving → Starving → Type 0 → ℕ → List ℕ
     → List ℕ → Option PlainMessage → List ℕ → Type 0
 Hears receives starves refused zero k s r t = Stops s r t

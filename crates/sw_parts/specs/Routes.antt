@@ -14,7 +14,7 @@ use Rattle.sw_messages.specs.Requests.{request_in, class_of}
 use Rattle.sw_parts.specs.declared.route.Routing.{Routing}
 use Rattle.sw_parts.specs.Checks.{Decided}
 
--- the one of two with the longer prefix, the first where they are equally long
+-- the one of two with the longer prefix, or the first if they are equally long
 abbrev pub longer : Option Routing → Option Routing → Option Routing
 longer None later = later
 longer (Some r) None = Some r
@@ -24,8 +24,8 @@ longer (Some r) (Some q) =
 abbrev pub if_prefix : List ℕ → Routing → Option Routing
 if_prefix card r = if starts_with nat_eq card r.prefix then Some r else None
 
--- of the routes whose prefix the card number begins with the one with the longest, the first of
--- equally long ones
+-- of the routes whose prefix the card number begins with, the one with the longest prefix, or the
+-- first of equally long ones
 abbrev pub route_for : List ℕ → List Routing → Option Routing
 route_for card [] = None
 route_for card (r ∷ rs) = longer (if_prefix card r) (route_for card rs)
@@ -67,8 +67,8 @@ abbrev pub group_by : Option PlainMessage → List Routing → List ℕ
 group_by None rs = []
 group_by (Some m) rs = group_class (class_of m.mti) m rs
 
--- the group that is selected: of an authorization on which nobody has decided that of its route,
--- else none
+-- the group that is selected: that of its route, for an authorization on which nobody has decided;
+-- otherwise none
 abbrev pub chosen_group : List Routing → Pairs → List ℕ
 chosen_group rs x = if is_none (find (codes "rc") x) then group_by (request_in x) rs else []
 

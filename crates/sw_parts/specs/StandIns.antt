@@ -1,4 +1,4 @@
--- What the switch decides by itself where the issuer's answer is late.
+-- What the switch decides by itself if the issuer's answer is late.
 use Rattle.std.specs.Prelude.{◌≡◌, ℕ, Bool, false, true, ◌&&◌, nat_le, List, drop, ◌++◌}
 use Rattle.std.specs.Prelude.{Option, Some, None, is_some, is_none, codes}
 use Rattle.iso_msg.specs.Messages.{PlainMessage, value_at}

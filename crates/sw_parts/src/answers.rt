@@ -10,7 +10,7 @@ use sw_participant::NoMemory;
 /// PREPARED, NO_JOIN and READONLY: the participant is ready without joining, and has nothing to save.
 pub const PASSES: u8 = 0xc1;
 
-/// NO_JOIN alone: the participant refuses without joining.
+/// Only NO_JOIN: the participant refuses without joining.
 pub const REFUSES: u8 = 0x40;
 
 /// PREPARED and NO_JOIN: the participant is ready without joining.
@@ -20,7 +20,7 @@ pub const LEAVES_NOTES: u8 = 0x41;
 /// save.
 pub const JOINS: u8 = 0x81;
 
-/// The answer where this is wrong with a request, if anything is: the response code is noted then.
+/// The answer to a request with this fault, if it has one. The fault's response code is noted.
 pub fn decide(fault: Option<ResponseCode>, context: &mut Context) -> Result<u8, NoMemory>
     ensures decided { IfOk result (λ byte. Decided fault context.old byte context.new) }
     ensures kept { OnErr result (context.new ≡ context.old) }

@@ -24,7 +24,8 @@ impl Drop for CheckFields {
 }
 
 impl CheckFields {
-    /// It keeps nothing, and takes no memory: `alloc` is for the messages that it reads.
+    /// A participant that keeps nothing. It takes no memory: `alloc` is for the messages that it
+    /// reads.
     pub fn new(alloc: Global) -> CheckFields
         ensures { ⟦<CheckFields as Unjoined>⟧.object result ≡ [] }
     {

@@ -13,9 +13,9 @@ use sw_context::Context;
 use sw_messages::{Class, STAND_IN, authorization_advice, class_of, request_in, reversal_advice};
 use sw_participant::{AdviceResult, Bytes, NoMemory, Participant, Text};
 
-/// Stores what issuers are notified of later: at commit an authorization advice (0120) of what
-/// the switch approved by itself, with the approval code and the response code, and else a
-/// reversal advice (0420) of each reversal.
+/// Gives what issuers are notified of later, to be stored: at commit an authorization advice (0120)
+/// of what the switch approved by itself, with the approval code and the response code, and
+/// otherwise a reversal advice (0420) of each reversal.
 pub struct Forward {
     alloc: Global,
 }
@@ -60,8 +60,8 @@ fn forwarded(
 }
 
 impl Forward {
-    /// It keeps nothing, and takes no memory: `alloc` is for the messages that it reads and
-    /// writes.
+    /// A participant that keeps nothing. It takes no memory: `alloc` is for the messages that it
+    /// reads and writes.
     pub fn new(alloc: Global) -> Forward
         ensures { ⟦<Forward as Participant>⟧.object result ≡ [] }
     {

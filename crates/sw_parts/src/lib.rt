@@ -3,17 +3,17 @@
 //! They read the request of a transaction's context and leave notes for one another beside it, as
 //! `sw_messages` has them.
 //!
-//! - [`CheckFields`] refuses invalid requests, [`Limits`] holds, spends and gives back the
-//!   amounts of cards, [`Route`] chooses the group that asks the issuer, [`QueryIssuer`] asks it
-//!   over a [`Link`]. The first message with the request's key within eight receives is the answer
-//!   ([`hear`]); it is lost only where [`Memory`] is refused.
-//! - [`StandIn`] decides where the issuer's answer is late, [`Reverse`] and [`Forward`] give the
+//! - [`CheckFields`] refuses invalid requests, [`Limits`] holds, spends and gives back the amounts
+//!   of cards, [`Route`] chooses the group that asks the issuer, [`QueryIssuer`] asks it over a
+//!   [`Link`]. The first message with the request's key within eight receives is the answer
+//!   ([`hear`]); it is lost only if [`Memory`] is refused.
+//! - [`StandIn`] decides if the issuer's answer is late, [`Reverse`] and [`Forward`] give the
 //!   advices that are stored for the issuer, [`Respond`] writes the response.
 //!
-//! Each states for each call of a participant what it may do, as a relation in `specs/`. What is
-//! not named there does nothing: a preparation answers that the participant is ready and does not
-//! join, an outcome has no effect. Those that never join are [`Unjoined`](sw_participant::Unjoined),
-//! and [`Bystander`](sw_participant::Bystander) makes participants of them. A participant that is
+//! Each states what each call of a participant may do, as a relation in `specs/`. What is not named
+//! there does nothing: a preparation answers that the participant is ready and does not join, and an
+//! outcome has no effect. Those that never join are [`Unjoined`](sw_participant::Unjoined), and
+//! [`Bystander`](sw_participant::Bystander) makes participants of them. A participant that is
 //! refused memory has changed nothing.
 #![tactic(auto)]
 

@@ -154,7 +154,7 @@ fn give_back(book: &mut Book, request: &Option<Message>)
     }
 }
 
-// Of an authorization only the type is looked at, so that it takes no memory.
+// Of an authorization only the type is looked at, so that its commit takes no memory.
 fn commit_book(alloc: Global, book: &mut Book, id: u64, context: &Context) -> Result<(), NoMemory>
     ensures committed { OnOk result (book.new ≡ committed id context.now book.old) }
     ensures kept { OnErr result (book.new ≡ book.old) }
@@ -173,7 +173,7 @@ fn commit_book(alloc: Global, book: &mut Book, id: u64, context: &Context) -> Re
 }
 
 impl Limits {
-    /// With this book.
+    /// A participant that keeps this book.
     pub fn new(alloc: Global, book: Book) -> Limits
         ensures { ⟦<Limits as Participant>⟧.object result ≡ shown_book book }
     {

@@ -1,4 +1,4 @@
-//! Memory for what comes after a request is sent.
+//! Memory for what is done after a request was sent.
 
 ghost use Rattle.std.specs.Prelude.{◌≡◌, Some, IfOk, OnOk, OnErr};
 ghost use Rattle.sw_messages.specs.Requests.{message_of, noted};
@@ -10,8 +10,8 @@ use sw_context::Context;
 use sw_messages::note;
 use sw_participant::NoMemory;
 
-/// Memory to read messages and to note what they say. What is generic in it can claim that memory
-/// was refused only where one of these calls was.
+/// Memory to read messages and to note what they say. Code that is generic in it can promise that
+/// memory was refused only if one of these calls refused it.
 pub trait Memory: Drop {
     /// Memory was refused.
     ghost refused: { Type 0 };
@@ -21,7 +21,7 @@ pub trait Memory: Drop {
         ensures read { IfOk result (λ m. m ≡ message_of (Some bytes.now)) }
         ensures refused { OnErr result refused };
 
-    /// Notes a value; a full context stays as it is.
+    /// Notes a value; a context that does not take it stays as it is.
     fn note(&self, context: &mut Context, name: &str, value: &[u8]) -> Result<(), NoMemory>
         ensures noted { OnOk result (context.new ≡ noted context.old name.now value.now) }
         ensures refused { OnErr result refused };
@@ -40,7 +40,7 @@ impl Drop for Heap {
 }
 
 impl Heap {
-    /// It takes no memory.
+    /// The memory of `alloc`, of which none is taken yet.
     pub fn new(alloc: Global) -> Heap {
         Heap { alloc }
     }

@@ -20,7 +20,7 @@ use sw_messages::{
 use sw_mux::{Key, Mux, MuxError, Response};
 use sw_participant::{NoMemory, Text, Unjoined};
 
-/// The message of these bytes, where it has the key that waits.
+/// The message of these bytes, if it has the key that waits.
 fn answer_in<M: Memory>(
     memory: &M,
     mux: &mut Mux,
@@ -74,7 +74,7 @@ pub fn hear<M: Memory, L: Link>(
     None
 }
 
-/// Notes that the request is sent and its answer is late.
+/// Notes that the request was sent and that its answer is late.
 fn asking(context: &Context) -> Result<Context, NoMemory>
     ensures { IfOk result (λ x. x ≡ asking context.now) }
 {
@@ -114,7 +114,7 @@ fn approves(answer: &Message) -> bool
 }
 
 /// The byte and the context after what was heard. The context comes twice: an answer is noted in
-/// one of them, and the other stays for where memory is refused.
+/// one of them, and the other is kept in case memory is refused.
 fn conclude<M: Memory>(
     memory: &M,
     asked: Context,
@@ -166,7 +166,7 @@ fn ask<M: Memory, L: Link>(
     Ok(byte)
 }
 
-/// Asks for a request, if it is an authorization.
+/// Asks the issuer about a request, if it is an authorization.
 fn query<M: Memory, L: Link>(
     alloc: Global,
     memory: &M,
@@ -213,7 +213,7 @@ fn bytes_in(alloc: Global, context: &Context) -> Result<Vec<u8>, NoMemory>
     }
 }
 
-/// Asks an issuer over a link. It is generic in its memory, so that what it states holds of any.
+/// Asks an issuer over a link. It is generic in its memory, so that what it states holds for any.
 pub struct QueryIssuer<L: Link, M: Memory = Heap> {
     alloc: Global,
     memory: M,
@@ -236,7 +236,7 @@ impl<L: Link + Drop, M: Memory + Drop> Drop for QueryIssuer<L, M> {
 }
 
 impl<L: Link> QueryIssuer<L, Heap> {
-    /// Over this link.
+    /// A participant that asks over this link.
     pub fn new(alloc: Global, link: L) -> QueryIssuer<L, Heap>
         ensures { ⟦<QueryIssuer<L, Heap> as Unjoined>⟧.object result ≡ L.state link }
     {

@@ -13,10 +13,10 @@ use sw_context::Context;
 use sw_messages::{RESPONSE, ResponseCode, note, request_in, response_to, response_type};
 use sw_participant::{NoMemory, Text, Unjoined};
 
-/// Writes the response to the request of a context. The code in `rc` is its field 39, and without
-/// one it is 00 where the transaction prepares and 96 where it aborts; the code in `auth` is its
-/// field 38. A code that its field does not take counts as absent. An unreadable message and one of
-/// a response's type get no response.
+/// Writes the response to the request of a context. Field 39 is the code in `rc`, or without one 00
+/// if the transaction prepares and 96 if it aborts; field 38 is the code in `auth`. A code that its
+/// field does not take counts as absent. An unreadable message and one of a response's type get no
+/// response.
 pub struct Respond {
     alloc: Global,
 }
@@ -49,7 +49,8 @@ fn write_response(
 }
 
 impl Respond {
-    /// It keeps nothing, and takes no memory: `alloc` is for the messages that it writes.
+    /// A participant that keeps nothing. It takes no memory: `alloc` is for the messages that it
+    /// writes.
     pub fn new(alloc: Global) -> Respond
         ensures { ⟦<Respond as Unjoined>⟧.object result ≡ [] }
     {

@@ -15,10 +15,10 @@ use sw_context::Context;
 use sw_messages::{CODE, Class, LATE, SENT, class_of, is_approved, request_in, reversal_of};
 use sw_participant::{AdviceResult, Bytes, NoMemory, Participant, Text};
 
-/// Gives the reversal (0420) of an authorization that an issuer may have approved and the switch
-/// did not end so: at commit where the issuer's answer is late, at abort where the request was
-/// sent and its answer is late or was an approval, and at any abort after a restart, when the
-/// context may lack the notes.
+/// Gives the reversal (0420) of an authorization that an issuer may have approved, if the
+/// transaction did not end with that approval: at commit if the issuer's answer is late, at abort
+/// if the request was sent and its answer is late or was an approval, and at any abort after a
+/// restart, since the context may then lack the notes.
 pub struct Reverse {
     alloc: Global,
 }
@@ -67,8 +67,8 @@ fn answer(request: &Option<Message>) -> u8
 }
 
 impl Reverse {
-    /// It keeps nothing, and takes no memory: `alloc` is for the messages that it reads and
-    /// writes.
+    /// A participant that keeps nothing. It takes no memory: `alloc` is for the messages that it
+    /// reads and writes.
     pub fn new(alloc: Global) -> Reverse
         ensures { ⟦<Reverse as Participant>⟧.object result ≡ [] }
     {

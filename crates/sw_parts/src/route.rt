@@ -14,7 +14,8 @@ use sw_context::Context;
 use sw_messages::{CODE, Class, ResponseCode, class_of, request_in};
 use sw_participant::{NoMemory, Sequence, Text, Unjoined};
 
-/// The cards whose numbers begin with a prefix are asked for by a group of the flow.
+/// A route: the group of the flow that asks the issuer of the cards whose numbers begin with a
+/// prefix.
 pub struct Routing {
     /// The first digits of the card numbers.
     pub prefix: Text,
@@ -33,7 +34,7 @@ impl Drop for Routing {
 }
 
 impl Routing {
-    /// A second one that says the same; the only refusal is out of memory.
+    /// A copy of the route; the only refusal is out of memory.
     pub fn copy(&self) -> Result<Routing, AllocError>
         ensures { IfOk result (λ routing. routing ≡ self.now) }
     {
@@ -44,9 +45,8 @@ impl Routing {
     }
 }
 
-/// Chooses the group that asks the issuer of a card: that of the longest prefix of the card
-/// number. An authorization whose card has none of the prefixes is refused with 91, issuer
-/// inoperative.
+/// Chooses the group that asks the issuer of a card: that of the longest prefix of the card number.
+/// An authorization whose card has none of the prefixes is refused with 91, issuer inoperative.
 pub struct Route {
     alloc: Global,
     routes: Sequence<Routing>,
@@ -62,7 +62,7 @@ impl Drop for Route {
     }
 }
 
-/// The one of two with the longer prefix, the first where they are equally long.
+/// The one of two with the longer prefix, or the first if they are equally long.
 fn longer<'a>(first: Option<&'a Routing>, second: Option<&'a Routing>) -> Option<&'a Routing>
     ensures { option_map (λ r. r.now) result
         ≡ longer (option_map (λ r. r.now) first.entry) (option_map (λ r. r.now) second.entry) }
@@ -140,7 +140,8 @@ fn chosen<'a>(request: &Option<Message>, routes: &'a [Routing]) -> &'a str
 }
 
 impl Route {
-    /// By these routes. It takes no memory: `alloc` is for the messages that it reads.
+    /// A participant that chooses by these routes. It takes no memory: `alloc` is for the messages
+    /// that it reads.
     pub fn new(alloc: Global, routes: Sequence<Routing>) -> Route
         ensures { ⟦<Route as Unjoined>⟧.object result ≡ shown_routes routes }
     {

@@ -1,4 +1,4 @@
-//! What the switch decides where the issuer's answer is late.
+//! What the switch decides if the issuer's answer is late.
 
 ghost use Rattle.std.specs.Prelude.{◌≡◌, ◌≤◌, ◌∷◌, ℕ, [], length, IfOk, OnOk, OnErr};
 ghost use Rattle.sw_base.specs.Digits.{number_of};
@@ -15,9 +15,9 @@ use sw_messages::{
 };
 use sw_participant::{NoMemory, Text, Unjoined};
 
-/// Decides in the place of an issuer whose answer is late: an amount up to the greatest one is
-/// approved, with an approval code of `SI` and the last four digits of the STAN, and any other
-/// one refused with 91, issuer inoperative.
+/// Decides in place of an issuer whose answer is late: an amount up to the greatest one is
+/// approved, with an approval code of `SI` and the last four digits of the STAN, and any other is
+/// refused with 91, issuer inoperative.
 pub struct StandIn {
     alloc: Global,
     /// The greatest amount that it approves, in minor units.
@@ -103,8 +103,8 @@ fn stand_in(most: u64, request: &Option<Message>, context: &mut Context) -> Resu
 }
 
 impl StandIn {
-    /// Which approves amounts up to this one, in minor units. It takes no memory: `alloc` is for
-    /// the messages that it reads.
+    /// A participant that approves amounts up to this one, in minor units. It takes no memory:
+    /// `alloc` is for the messages that it reads.
     pub fn new(alloc: Global, most: u64) -> StandIn
         ensures { ⟦<StandIn as Unjoined>⟧.object result ≡ most ∷ [] }
     {

@@ -27,7 +27,7 @@ pub record Tally : Type 0 where
 abbrev pub no_tally : Tally
 no_tally = record { requests = 0; approved = 0; declined = []; stand_ins = 0; reversals = 0; delivered = 0 }
 
--- one more; a count of 64 bits that is full stays
+-- one more; a count of 64 bits that is full stays as it is
 abbrev pub more : ℕ → ℕ
 more n = min (n + 1) (2 ^ 64 - 1)
 
@@ -45,7 +45,7 @@ count_of code cs = unwrap_or (lookup (is_at (code_cmp code)) cs) 0
 abbrev pub with_declined : List ℕ → Tally → Tally
 with_declined code t = record t { declined = insert_entry code_cmp t.declined code (more (count_of code t.declined)) }
 
--- a response is approved where its code is 00, and else declined with its code
+-- a response is approved if its code is 00, and otherwise declined with its code
 abbrev pub with_code : Option (List ℕ) → Tally → Tally
 with_code None t = t
 with_code (Some code) t = if bytes_eq code (codes "00") then record t { approved = more t.approved } else with_declined code t
@@ -66,7 +66,7 @@ is_of_reversal (Some NetworkManagement) = false
 abbrev pub is_reversal : Pairs → Bool
 is_reversal x = is_of_reversal (class_in x)
 
--- The context of one transaction more: its request, the code of its response, whether the switch stood in, whether it
+-- The context of one more transaction: its request, the code of its response, whether the switch stood in, whether it
 -- was a reversal.
 abbrev pub with_context : Pairs → Tally → Tally
 with_context x t =
@@ -82,6 +82,6 @@ abbrev pub tallied : Tally → List (ℕ × Pairs) → Tally
 tallied t [] = t
 tallied t (e ∷ es) = tallied (with_context e.1 t) es
 
--- one advice more that its issuer accepted
+-- one more advice that its issuer accepted
 abbrev pub with_delivered : Tally → Tally
 with_delivered t = record t { delivered = more t.delivered }

@@ -14,7 +14,7 @@ use sw_messages::{Class, RESPONSE, STAND_IN, class_in};
 /// A response code: the two characters of field 39.
 pub(crate) type Code = [u8; 2];
 
-/// How requests were answered. A count that is full, at `u64::MAX`, stays.
+/// How requests were answered. A count that has come to `u64::MAX` stays there.
 pub struct Counts {
     pub(crate) requests: u64,
     pub(crate) approved: u64,
@@ -53,7 +53,7 @@ impl Model for Counts {
     } };
 }
 
-// The response code of the response that a context has; `None` where it has no response, or one without a code.
+// The response code of the response that a context has; `None` if it has no response, or one without a code.
 fn code_in(alloc: Global, context: &Context) -> Result<Option<Code>, AllocError>
     ensures { IfOk result (λ code. code ≡ code_of context.now) }
 {
@@ -86,7 +86,7 @@ fn is_reversal(context: &Context) -> bool
     matches!(class_in(context), Some(Class::Reversal))
 }
 
-// One more where a test says so.
+// One more if a test says so.
 fn one_more(count: u64, more: bool) -> u64
     ensures { result ≡ one_more more count }
 {

@@ -16,7 +16,7 @@ pub struct Beside {
     pub passed: u64,
     /// How many advices were stored.
     pub stored: u64,
-    /// How long it took so far.
+    /// How long the run has taken so far.
     pub milliseconds: u64,
 }
 
@@ -35,7 +35,7 @@ fn add_declined(
     text.extend_from_slice(number.as_bytes())
 }
 
-// The codes rising, each with its count.
+// The codes in rising order, each with its count.
 fn declined_text(alloc: Global, declined: &BTreeMap<Code, u64>) -> Result<Vec<u8>, AllocError>
     ensures { IfOk result (λ text. text.items ≡ declined_text declined.now.entries) }
 {
@@ -90,8 +90,8 @@ fn time_text(alloc: Global, milliseconds: u64, rate: u128) -> Result<String, All
 }
 
 impl Counts {
-    /// The line of the numbers of a run, with its line feed: each member as `NAME=NUMBER`, in a fixed order, and of
-    /// the declined requests one for each code, the codes rising. Out of memory is the only error.
+    /// The line of the numbers of a run, with its line feed: each member as `NAME=NUMBER`, in a fixed order, and
+    /// for the declined requests one member for each code, in rising order. Out of memory is the only error.
     pub fn line(&self, alloc: Global, beside: Beside) -> Result<Vec<u8>, AllocError>
         ensures { IfOk result (λ line. line.items
             ≡ stats_line (numbers self.now beside) beside.milliseconds) }
