@@ -1,4 +1,4 @@
--- The items of a box, oldest first: the first that passes a test, those after it, and how many stand
+-- The items of a box, oldest first: the first that passes a test, those after it, and how many come
 -- before it.
 use Rattle.std.specs.Prelude.{ℕ, ◌+◌, ◌-◌, Bool, List, [], ◌∷◌, length, drop, Option, Some, None, if◌then◌else◌}
 
@@ -16,6 +16,6 @@ module _ {A : Type 0} where
   before_first passes [] = 0
   before_first passes (x ∷ xs) = if passes x then 0 else (before_first passes xs + 1)
 
-  -- the newest ones, so many at most
+  -- the newest ones, at most this many
   abbrev pub newest : ℕ → List A → List A
   newest most items = drop (length items - most) items

@@ -15,7 +15,7 @@ abbrev pub echoes : Option PlainMessage → Bool
 echoes None = false
 echoes (Some m) = is_echo_answer m
 
--- an answer to an echo test, or else a message by its key, or none
+-- an answer to an echo test, or another message that has a key, or neither
 abbrev pub IsCame : List ℕ → Came → Type 0
 IsCame bytes Echo = echoes (message_of (Some bytes)) ≡ true
 IsCame bytes (Keyed r) = (echoes (message_of (Some bytes)) ≡ false) × (r.bytes.items ≡ bytes)

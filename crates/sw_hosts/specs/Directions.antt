@@ -15,7 +15,7 @@ abbrev pub is_due : Option Moment → ℕ → Bool
 is_due None now = true
 is_due (Some last) now = nat_le 1000000 (now - last.micros)
 
--- only one that is closed is ordered to be opened
+-- only a closed one is ordered to be opened
 abbrev pub is_ordered : DirectionState → Option Moment → ℕ → Bool
 is_ordered Closed last now = is_due last now
 is_ordered Opening last now = false

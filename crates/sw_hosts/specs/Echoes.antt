@@ -15,7 +15,7 @@ abbrev pub stamp_of : Date → ℕ → List ℕ
 stamp_of date time =
     two_digits date.month ++ two_digits date.day ++ two_digits (time / 3600) ++ two_digits (time / 60 % 60) ++ two_digits (time % 60)
 
--- of so many seconds since 1970
+-- of this many seconds since the start of 1970
 abbrev pub IsStamp : ℕ → List ℕ → Type 0
 IsStamp seconds stamp =
     (date : Date) × (epoch_day date ≡ pos (seconds / 86400 % 2932897)) × (stamp ≡ stamp_of date (seconds % 86400))

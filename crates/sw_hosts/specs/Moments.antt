@@ -8,7 +8,7 @@ use Rattle.sw_hosts.specs.declared.moment.Moment.{Moment}
 abbrev pub end_of_time : ℕ
 end_of_time = 18446744073709551615
 
--- so much later; the last moment of all, where that is later still
+-- that much later; the last moment of all, where it would be later still
 abbrev pub later : ℕ → Duration → ℕ
 later micros time = min (micros + as_nanos time / 1000) end_of_time
 

@@ -22,7 +22,8 @@ pause_by Open now heard retry = Stays
 abbrev pub pause_by_tests : Moment → ℕ → HostTimes → PauseChange
 pause_by_tests now heard times = if tests_silence times then Begins (record { until = now; heard = heard }) else Stays
 
--- A host is silent while nothing was read from it since its pause began. It is tested from the moment on up to which that lasts at least.
+-- A host is silent while nothing was read from it since its pause began. It is tested from the moment up to which the pause lasts at
+-- least.
 abbrev pub tested_from : Option Pause → ℕ → HostTimes → Option Moment
 tested_from None heard times = None
 tested_from (Some p) heard times = if p.heard == heard && tests_silence times then Some p.until else None

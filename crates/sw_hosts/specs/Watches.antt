@@ -1,4 +1,4 @@
--- What the thread that writes to a host does where no frame waits.
+-- What the thread that writes to a host does when no frame waits.
 use Rattle.std.specs.Prelude.{ℕ, ◌+◌, ◌==◌, max, min, nat_le, Option, Some, None, if◌then◌else◌}
 use Rattle.std.specs.Duration.{as_nanos}
 use Rattle.std.specs.declared.time.Duration.{Duration}
@@ -23,11 +23,11 @@ abbrev pub tests_with : Option EchoTests → ℕ → ℕ → Duration → EchoTe
 tests_with None now heard timeout = record { deadline = record { micros = later now timeout }; heard = heard; count = 1 }
 tests_with (Some tests) now heard timeout = record tests { count = min (tests.count + 1) 18446744073709551615 }
 
--- so long after the last frame; never, where it is 0
+-- that long after the last frame; never, if it is 0
 abbrev pub due : Watch → Duration → Option Moment
 due w echo = if as_nanos echo == 0 then None else Some (record { micros = later w.written.micros echo })
 
--- from a moment on, and so long after the last echo test
+-- from a moment on, and that long after the last echo test
 abbrev pub again : Option Moment → Moment → Duration → Moment
 again None from retry = from
 again (Some tested) from retry = record { micros = max from.micros (later tested.micros retry) }
@@ -40,7 +40,7 @@ next_by (Some from) tests w times = Some (due_in_silence w from times.retry)
 next_by None (Some tests) w times = None
 next_by None None w times = due w times.echo
 
--- A host that is tested from a moment on gets another echo test again and again. Else it gets one where it gets nothing else, and none
+-- A host that is tested from a moment on gets one echo test after another. Any other gets one when it gets nothing else, and none
 -- while an earlier one is unanswered.
 abbrev pub next_test : Watch → ℕ → Option Moment → HostTimes → Option Moment
 next_test w heard tested_from times = next_by tested_from (unanswered w heard) w times

@@ -1,4 +1,4 @@
-//! What was lost between a host and its links, not sent and not answered.
+//! What was lost between a host and its links, what was not sent and what was not answered.
 
 ghost use Rattle.std.specs.Prelude.{◌≡◌, IfOk, string_bytes};
 ghost use Rattle.sw_hosts.specs.HostLine.{asked_text, host_line, lost_text};
@@ -6,16 +6,18 @@ ghost use Rattle.sw_hosts.specs.HostLine.{asked_text, host_line, lost_text};
 use std::alloc::{AllocError, Global};
 use std::sync::atomic::{AtomicU64, Ordering};
 
-/// What was lost between a host and its links, not sent and not answered, since the host was started.
+/// What was lost between a host and its links, what was not sent and what was not answered, since the
+/// host was started.
 #[derive(Clone, Copy, Debug, PartialEq, Eq)]
 pub struct Counts {
-    /// Messages that came when no link waited for them, or no longer.
+    /// Messages that came when no link waited for them, or none did any more.
     pub late: u64,
-    /// Messages that could not be read, or have no key; also those for which there was no memory.
+    /// Messages that could not be read or have no key, and those for which there was no memory.
     pub unreadable: u64,
-    /// Frames that were taken to be sent, and not written: too late, or the host closed its end.
+    /// Frames that were taken to be sent, and not written: they were too late, or the direction was
+    /// closed first.
     pub dropped: u64,
-    /// Messages that were not sent, since the host was paused.
+    /// Messages that were not sent, because the host was paused.
     pub unasked: u64,
     /// Echo tests that were written.
     pub tests: u64,
@@ -52,7 +54,7 @@ impl Counts {
     }
 }
 
-/// The counts, as threads add to them.
+/// The counts while threads add to them.
 #[derive(Drop)]
 pub struct Counters {
     late: AtomicU64,

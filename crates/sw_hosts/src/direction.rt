@@ -10,13 +10,13 @@ use std::sync::Wait;
 use std::sync::atomic::{AtomicU64, Ordering};
 use std::time::Duration;
 
-/// How long after an order to open a direction the next one may come, in microseconds.
+/// How soon after an order to open a direction the next one may come, in microseconds.
 const BETWEEN_ORDERS: u64 = 1_000_000;
 
 /// Whether a direction of a host is open.
 #[derive(Clone, Copy, PartialEq, Eq)]
 pub enum DirectionState {
-    /// It is not, and nobody tries to open it.
+    /// It is not open, and nobody tries to open it.
     Closed,
     /// Its thread was ordered to open it, and has not done so yet.
     Opening,
@@ -47,7 +47,7 @@ impl DirectionState {
     }
 }
 
-/// Whether a direction may be ordered to be opened, where it was last ordered then.
+/// Whether a direction that was last ordered to be opened at `last` may be ordered again.
 fn is_due(last: Option<Moment>, now: Moment) -> bool
     ensures { result ≡ is_due last now.micros }
 {
@@ -57,15 +57,15 @@ fn is_due(last: Option<Moment>, now: Moment) -> bool
     }
 }
 
-/// Whether an order has a direction opened: one that is closed, and may be ordered again.
+/// Whether an order opens a direction: one that is closed, and may be ordered again.
 fn is_ordered(state: DirectionState, last: Option<Moment>, now: Moment) -> bool
     ensures { result ≡ is_ordered state last now.micros }
 {
     state == DirectionState::Closed && is_due(last, now)
 }
 
-/// From when on a closed direction is ordered without a message, where it was last ordered then: while the host is
-/// tested, and a second after that order.
+/// The moment from which a closed direction that was last ordered at `last` is ordered without a message: while
+/// the host is tested, and a second after that order.
 fn opened_from(tested_from: Option<Moment>, last: Option<Moment>) -> Option<Moment>
     ensures { result ≡ opened_from tested_from last }
 {
@@ -78,13 +78,13 @@ fn opened_from(tested_from: Option<Moment>, last: Option<Moment>) -> Option<Mome
     }))
 }
 
-/// One direction of a host. Links order it to be opened; one thread opens it, uses it and closes
-/// it. An order, and whatever else the thread is to look at, rings its bell: the thread reads the
-/// bell before it looks, and sleeps only while it is unchanged, so that no ring is lost.
+/// One direction of a host. Links order it to be opened; one thread opens it, uses it and closes it. An order, and
+/// whatever else the thread has to look at, rings its bell: the thread reads the bell before it looks, and sleeps
+/// only while the bell is unchanged, so that no ring is lost.
 #[derive(Drop)]
 pub struct Direction {
     state: AtomicU64,
-    /// When the last order came; none before the first.
+    /// When the last order came; `None` before the first.
     ordered: SharedMoment,
     /// How often it was rung.
     bell: AtomicU64,
@@ -105,18 +105,18 @@ impl Direction {
         DirectionState::of_word(self.state.load(Ordering::SeqCst))
     }
 
-    /// Its thread alone sets it.
+    /// Sets its state; only its thread does so.
     pub fn set(&self, state: DirectionState) {
         self.state.store(state.word(), Ordering::SeqCst);
     }
 
-    /// Orders the direction to be opened, where it is closed and the last order came a second ago or
-    /// longer. Whether the order was given.
+    /// Orders the direction to be opened, if it is closed and the last order came at least a second ago. Returns
+    /// whether the order was given.
     pub fn order(&self, now: Moment) -> bool {
         if !is_ordered(self.state(), self.ordered.get(), now) {
             return false;
         }
-        // Of several links that order it at once one does.
+        // If several links order it at once, one of them does.
         let is_first = self.exchange(DirectionState::Closed, DirectionState::Opening);
         if is_first {
             self.ordered.set(Some(now));
@@ -125,12 +125,13 @@ impl Direction {
         is_first
     }
 
-    /// From when on it is ordered without a message, where it is closed and the host is tested from then on.
+    /// The moment from which it is ordered without a message, if it is closed and the host is tested from
+    /// `tested_from` on.
     pub fn opened_from(&self, tested_from: Option<Moment>) -> Option<Moment> {
         opened_from(tested_from, self.ordered.get())
     }
 
-    // Sets the state where it is this one; whether it was.
+    // Sets the state to `to` if it is `from`; whether it was.
     fn exchange(&self, from: DirectionState, to: DirectionState) -> bool {
         let (from, to) = (from.word(), to.word());
         self.state
@@ -143,7 +144,7 @@ impl Direction {
         self.ordered.set(Some(now));
     }
 
-    /// Has the direction's thread look again.
+    /// Makes the direction's thread look again.
     pub fn ring(&self) {
         self.bell.fetch_add(1, Ordering::SeqCst);
         self.bell.wake_one();
@@ -154,12 +155,12 @@ impl Direction {
         self.bell.load(Ordering::SeqCst)
     }
 
-    /// Sleeps until the bell has rung more often than so.
+    /// Sleeps until the bell has rung more than `rings` times.
     pub fn sleep<R: Wait>(&self, rt: &R, rings: u64) {
         self.bell.park(rt, (rings & 0xffff_ffff) as u32);
     }
 
-    /// Sleeps until the bell has rung more often than so, or the time has passed.
+    /// Sleeps until the bell has rung more than `rings` times, or the time has passed.
     pub fn sleep_for<R: Wait>(&self, rt: &R, rings: u64, time: Duration) {
         self.bell
             .park_timeout(rt, (rings & 0xffff_ffff) as u32, time);

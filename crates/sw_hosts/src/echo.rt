@@ -1,4 +1,4 @@
-//! Echo tests: network management requests (0800) of a host that nothing is asked.
+//! Echo tests: network management requests (0800) to a host that gets nothing else or is silent.
 
 ghost use Rattle.std.specs.Prelude.{◌≡◌, ◌+◌, ◌*◌, ◌/◌, ◌%◌, ◌<◌, length, pos, IfOk, Some};
 ghost use Rattle.jiff_core.specs.Date.{epoch_day};
@@ -18,7 +18,8 @@ const DAY: u64 = 86_400;
 /// The days from 1970-01-01 to 9999-12-31.
 const DAYS: u64 = 2_932_897;
 
-// The date after so many seconds since 1970; after the year 9999 the dates from 1970 on come again.
+// The date this many seconds after the start of 1970; after the year 9999 the dates begin again with
+// 1970.
 fn date_of(seconds: u64) -> Date
     ensures { epoch_day result ≡ pos (seconds / 86400 % 2932897) }
 {
@@ -66,7 +67,7 @@ fn stan_digits(stan: u32) -> [u8; 6]
     ]
 }
 
-// The message, by its fields 7 and 11. They fit the table of fields, so that out of memory is the only
+// The message, by its fields 7 and 11. They fit the table of fields, so out of memory is the only
 // refusal.
 fn message_of(alloc: Global, stamp: &[u8], stan: &[u8]) -> Result<Message, MessageError>
     ensures { IfOk result (λ message. message ≡ echo_message stamp.now stan.now) }
@@ -78,7 +79,7 @@ fn message_of(alloc: Global, stamp: &[u8], stan: &[u8]) -> Result<Message, Messa
     Ok(message)
 }
 
-/// The frame of an echo test that is made so many seconds after 1970, with a STAN.
+/// The frame of an echo test that is made this many seconds after the start of 1970, with this STAN.
 pub fn echo_frame(alloc: Global, seconds: u64, stan: u32) -> Result<Vec<u8>, NoMemory>
     requires { stan < 1000000 }
     ensures { IfOk result (λ bytes. IsEcho seconds stan bytes.items) }

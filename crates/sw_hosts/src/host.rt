@@ -17,9 +17,9 @@ use std::time::Clock;
 
 /// An issuer's host, which is reached over a direction to it and one from it.
 ///
-/// Two threads of its own open them, write and read; neither is ever joined. What still waits there
-/// when the program ends is cut off, and nothing of it is owed: a frame was sent once it was
-/// written, and of an answer that was not taken no promise was made.
+/// Two threads of its own open them, write and read; neither is ever joined. What still waits in them
+/// when the program ends is lost, and nothing of it is owed: a frame counts as sent only once it was
+/// written, and nothing is promised of an answer that no link took.
 pub struct Host {
     alloc: Global,
     pub(crate) shared: Arc<Shared>,
@@ -37,7 +37,7 @@ impl Drop for Host {
 
 impl Host {
     /// Starts the threads of a host, with both directions closed: the first message that is sent has
-    /// them opened. Refused where no memory or no thread is to be had.
+    /// them opened. It is refused if no memory or no thread can be had.
     pub fn start<
         R: Threads + Wait + Clock + Clone + Drop + Send + 'static,
         W: OpenWriter + Send + 'static,
@@ -76,7 +76,7 @@ impl Host {
         Ok(HostLink::new(self.alloc, way))
     }
 
-    /// What was lost, not sent and not answered, so far.
+    /// What was lost, not sent and not answered so far.
     pub fn counts(&self) -> Counts {
         self.shared.counters.counts()
     }

@@ -25,7 +25,7 @@ impl HostCounts {
         HostCounts { shared }
     }
 
-    /// What was lost, not sent and not answered, so far.
+    /// What was lost, not sent and not answered so far.
     pub fn counts(&self) -> Counts {
         self.shared.counters.counts()
     }

@@ -40,7 +40,7 @@ impl<C: Clock + Drop> Drop for HostWay<C> {
     }
 }
 
-// The lock, where it is to be had in time.
+// The lock, if it can be had in time.
 fn locked<'a, T, C: Clock>(clock: &C, mutex: &'a Mutex<T>) -> Option<MutexGuard<'a, T>> {
     let deadline = Moment::now(clock).after(Duration::from_millis(LOCKING));
     let mut naps = Naps::new();
@@ -78,7 +78,7 @@ impl<C: Clock + Drop> HostWay<C> {
         }
     }
 
-    // Has the directions opened that are closed, and waits for them, but not for long.
+    // Has the closed directions opened, and waits for them, but not for long.
     fn open(&self, now: Moment) {
         let shared = &self.shared;
         if !shared.order(now) {
@@ -96,7 +96,7 @@ impl<C: Clock + Drop> HostWay<C> {
         }
     }
 
-    // Hands a frame to the thread that writes; whether it takes it.
+    // Hands a frame to the thread that writes; whether it took the frame.
     fn hand_over(&self, frame: Frame) -> bool {
         if self.shared.to.state() != DirectionState::Open {
             return false;

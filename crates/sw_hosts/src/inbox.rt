@@ -34,7 +34,7 @@ impl Inbox {
         })
     }
 
-    // Drops the oldest message where 64 wait; whether one was.
+    // Drops the oldest message if 64 wait; whether one was dropped.
     fn make_room(&mut self) -> bool
         ensures left { self.new.held ≡ newest 63 self.old.held }
         ensures dropped { result ≡ nat_le 64 (length self.old.held) }
@@ -46,7 +46,8 @@ impl Inbox {
         is_full
     }
 
-    /// Puts a message last. Where 64 messages wait the oldest of them is dropped; whether one was.
+    /// Puts a message last. If 64 messages wait already, the oldest of them is dropped; returns
+    /// whether one was.
     pub fn put(&mut self, message: Received) -> bool
         ensures put { self.new.held ≡ newest 63 self.old.held ++ message ∷ [] }
         ensures dropped { result ≡ nat_le 64 (length self.old.held) }
@@ -56,8 +57,8 @@ impl Inbox {
         is_dropped
     }
 
-    /// Takes the first message with the key. Those before it are dropped; all of them are, where none
-    /// has the key.
+    /// Takes the first message with the key. Those before it are dropped; if none has the key, all
+    /// are.
     pub fn take(&mut self, key: &Key) -> Found<Received>
         ensures keyed { IfSome result.item (λ m. m.key.bytes ≡ key.now.bytes) }
         ensures taken { result.item ≡ first_of (has_key key.now.bytes) self.old.held }
@@ -67,7 +68,7 @@ impl Inbox {
         self.held.take_first(key)
     }
 
-    /// Drops all messages, and tells how many there were.
+    /// Drops all messages, and returns how many there were.
     pub fn clear(&mut self) -> u64
         ensures count { result ≡ length self.old.held }
         ensures empty { self.new.held ≡ [] }

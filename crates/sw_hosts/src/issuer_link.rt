@@ -31,7 +31,7 @@ impl<C: Clock + Drop> Drop for IssuerLink<C> {
 }
 
 impl<C: Clock + Drop> IssuerLink<C> {
-    /// The counts of the issuer's host; none where it is simulated.
+    /// The counts of the issuer's host; `None` if the issuer is simulated.
     pub fn host_counts(&self) -> Result<Option<HostCounts>, AllocError>
         ensures { IfOk result (λ counts. is_some counts ≡ has_host self.now) }
     {

@@ -15,15 +15,15 @@ use sw_parts::Link;
 
 /// A link to a host.
 ///
-/// It waits without a handle for that: it sleeps and looks again, for a millisecond at most. So
-/// a call takes no longer than the host's timeout, and some milliseconds, whatever the host does.
+/// It waits without a handle to wait with: it sleeps, for a millisecond at most, and looks again. So a call
+/// takes no longer than the host's timeout and a few hundred milliseconds, whatever the host does.
 ///
-/// - `send` refuses out of memory before anything is sent, and then nothing has changed. Where
-///   the host cannot be reached, or is paused, it answers `Ok`, and the message has reached nobody. Where a
-///   direction is closed it has it opened, at most once a second, and waits up to 100 milliseconds for it.
-/// - `receive` answers the first message with the key of the message that was sent last. It answers
-///   none at once where that message reached nobody or has no key, once a direction is closed, and
-///   from the deadline on, which is the host's timeout after the sending. It takes no memory.
+/// - `send` refuses out of memory before anything is sent, and then nothing has changed. If the host cannot
+///   be reached, or is paused, it returns `Ok`, and the message has reached nobody. If a direction is
+///   closed it has it opened, at most once a second, and waits up to 100 milliseconds for it.
+/// - `receive` returns the first message with the key of the message that was sent last. It returns `None`
+///   at once if that message reached nobody or has no key, once a direction is closed, and from the
+///   deadline on, which is the host's timeout after the sending. It takes no memory.
 ///
 /// Contracts see no state of a link: nothing can be promised of what comes over a wire, and the
 /// receiver compares the key again.

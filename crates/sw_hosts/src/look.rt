@@ -35,8 +35,8 @@ pub fn is_closed(to: DirectionState, from: DirectionState) -> bool
 }
 
 impl Look {
-    /// What is seen before the deadline. Whether a direction is closed is to be asked before the inbox is
-    /// looked into: what the host sent before it closed is there by then.
+    /// What is seen before the deadline. Whether a direction is closed has to be asked before the inbox
+    /// is looked into: what the host sent before it closed is there by then.
     pub fn of(is_closed: bool, found: Option<Vec<u8>>) -> Look
         ensures { result ≡ look_of is_closed found }
     {

@@ -23,7 +23,7 @@ impl Moment {
     /// The last moment there is.
     pub const LAST: Moment = Moment { micros: u64::MAX };
 
-    /// The moment that it is now. Where the clock cannot be read it is past every deadline.
+    /// The moment that it is now. If the clock cannot be read, it is past every deadline.
     pub fn now(clock: &impl Clock) -> Moment {
         match clock.monotonic() {
             Ok(time) => Moment {
@@ -33,7 +33,7 @@ impl Moment {
         }
     }
 
-    /// The moment that is so much later; the last moment there is, where none is.
+    /// The moment that much later, or the last moment there is.
     pub fn after(self, time: Duration) -> Moment
         ensures { result.micros ≡ later self.micros time }
     {
@@ -42,7 +42,7 @@ impl Moment {
         }
     }
 
-    /// This moment, or that one where it is later.
+    /// This moment, or the other if that is later.
     pub fn or_later(self, other: Moment) -> Moment
         ensures { result.micros ≡ max self.micros other.micros }
     {
@@ -51,7 +51,7 @@ impl Moment {
         }
     }
 
-    /// This moment, or that one where it is earlier.
+    /// This moment, or the other if that is earlier.
     pub fn or_earlier(self, other: Moment) -> Moment
         ensures { result.micros ≡ min self.micros other.micros }
     {
@@ -60,7 +60,7 @@ impl Moment {
         }
     }
 
-    /// How long it is until a later moment; no time, where that has come.
+    /// How long it is until a later moment; no time if that has come.
     pub fn until(self, later: Moment) -> Duration
         ensures { as_nanos result ≡ (later.micros - self.micros) * 1000 }
     {

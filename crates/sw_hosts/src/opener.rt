@@ -6,7 +6,7 @@ use std::fs::{File, OpenOptions};
 use std::io::{self, Read, Write};
 use std::rt::Files;
 
-/// Opens the direction to a host, each time that it is ordered to.
+/// Opens the direction to a host, each time it is ordered to.
 pub trait OpenWriter: Drop {
     /// Where the frames are written.
     type Writer: Write + Drop + Send + 'static;
@@ -15,7 +15,7 @@ pub trait OpenWriter: Drop {
     fn open(&mut self) -> io::Result<Self::Writer>;
 }
 
-/// Opens the direction from a host, each time that it is ordered to.
+/// Opens the direction from a host, each time it is ordered to.
 pub trait OpenReader: Drop {
     /// Where the frames are read.
     type Reader: Read + Drop + Send + 'static;
@@ -24,8 +24,7 @@ pub trait OpenReader: Drop {
     fn open(&mut self) -> io::Result<Self::Reader>;
 }
 
-/// A path that is opened for writing, as a named pipe. Nothing is created there, and nothing cut
-/// off.
+/// A path that is opened for writing, such as a named pipe. It is neither created nor truncated.
 #[derive(Drop)]
 pub struct WritePath<R: Files<File = File> + Drop> {
     rt: R,
@@ -33,7 +32,7 @@ pub struct WritePath<R: Files<File = File> + Drop> {
 }
 
 impl<R: Files<File = File> + Drop> WritePath<R> {
-    /// This path.
+    /// An opener of this path.
     pub fn new(rt: R, path: String) -> WritePath<R>
         ensures { result.path ≡ path }
     {
@@ -51,7 +50,7 @@ impl<R: Files<File = File> + Drop> OpenWriter for WritePath<R> {
     }
 }
 
-/// A path that is opened for reading, as a named pipe.
+/// A path that is opened for reading, such as a named pipe.
 #[derive(Drop)]
 pub struct ReadPath<R: Files<File = File> + Drop> {
     rt: R,
@@ -59,7 +58,7 @@ pub struct ReadPath<R: Files<File = File> + Drop> {
 }
 
 impl<R: Files<File = File> + Drop> ReadPath<R> {
-    /// This path.
+    /// An opener of this path.
     pub fn new(rt: R, path: String) -> ReadPath<R>
         ensures { result.path ≡ path }
     {

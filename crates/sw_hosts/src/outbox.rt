@@ -34,8 +34,8 @@ impl Outbox {
         })
     }
 
-    /// Puts a frame last, where fewer than 64 wait; whether there was room. Else it is dropped, and
-    /// nothing has changed.
+    /// Puts a frame last if fewer than 64 wait; returns whether there was room. Otherwise the frame is
+    /// dropped, and nothing has changed.
     pub fn put(&mut self, frame: Frame) -> bool
         ensures room { result ≡ not (nat_le 64 (length self.old.held)) }
         ensures put { self.new.held ≡ (if result then self.old.held ++ frame ∷ []
@@ -48,8 +48,8 @@ impl Outbox {
         true
     }
 
-    /// Takes the first frame whose deadline has not come by now. Those before it are dropped; all of them
-    /// are, where each is too late.
+    /// Takes the first frame whose deadline has not come by now. Those before it are dropped; if every
+    /// frame is too late, all are.
     pub fn next(&mut self, now: Moment) -> Found<Frame>
         ensures taken { result.item ≡ first_of (is_timely now.micros) self.old.held }
         ensures left { self.new.held ≡ after_first (is_timely now.micros) self.old.held }
@@ -58,7 +58,7 @@ impl Outbox {
         self.held.take_first(&now)
     }
 
-    /// Drops all frames, and tells how many there were.
+    /// Drops all frames, and returns how many there were.
     pub fn clear(&mut self) -> u64
         ensures count { result ≡ length self.old.held }
         ensures empty { self.new.held ≡ [] }

@@ -46,7 +46,7 @@ impl Outgoing {
     }
 }
 
-// The frame of a message; none where it is too long for one.
+// The frame of a message; `None` if it is too long for one.
 fn frame_of(alloc: Global, message: &[u8]) -> Result<Option<Vec<u8>>, NoMemory>
     ensures { IfOk result (λ frame. IsFrameOf message.now frame) }
 {
@@ -57,8 +57,8 @@ fn frame_of(alloc: Global, message: &[u8]) -> Result<Option<Vec<u8>>, NoMemory>
     }
 }
 
-/// What a message becomes, of which nobody waits for the answer from the deadline on; nothing where it
-/// is too long for a frame.
+/// What a message becomes when it is sent, if nobody waits for its answer from the deadline on; `None`
+/// if it is too long for a frame.
 pub fn outgoing_of(
     alloc: Global,
     message: &[u8],

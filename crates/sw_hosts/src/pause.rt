@@ -11,7 +11,7 @@ use std::time::Duration;
 /// The pause of a host that did not answer in time: it is not asked.
 #[derive(Clone, Copy)]
 pub struct Pause {
-    /// Up to when it lasts at least.
+    /// The moment up to which it lasts at least.
     pub until: Moment,
     /// How often something had been read from the host when it began.
     pub heard: u64,
@@ -43,7 +43,7 @@ pub fn pause_by(look: &Look, now: Moment, heard: u64, retry: Duration) -> PauseC
     }
 }
 
-/// What echo tests that were not answered in time make of the pause: where a silent host is tested, one begins
+/// What echo tests that were not answered in time make of the pause: if silent hosts are tested, one begins
 /// that lasts until something is read.
 pub fn pause_by_tests(now: Moment, heard: u64, times: &HostTimes) -> PauseChange
     ensures { result ≡ pause_by_tests now heard times.now }
@@ -55,7 +55,7 @@ pub fn pause_by_tests(now: Moment, heard: u64, times: &HostTimes) -> PauseChange
     }
 }
 
-/// From when on a host is tested, where it is silent: nothing was read from it since its pause began.
+/// The moment from which a host is tested, if it is silent: nothing was read from it since its pause began.
 pub fn tested_from(pause: Option<Pause>, heard: u64, times: &HostTimes) -> Option<Moment>
     ensures { result ≡ tested_from pause heard times.now }
 {

@@ -24,7 +24,7 @@ impl Drop for Received {
     }
 }
 
-/// The message that these are the bytes of; none where they are not a message.
+/// The message whose bytes these are; `None` if they are not a message.
 pub fn read_message(alloc: Global, bytes: &[u8]) -> Result<Option<Message>, NoMemory>
     ensures { IfOk result (λ message. message ≡ message_of (Some bytes.now)) }
 {
@@ -35,8 +35,8 @@ pub fn read_message(alloc: Global, bytes: &[u8]) -> Result<Option<Message>, NoMe
     }
 }
 
-/// The key of the message that these are the bytes of; none where they are not a message, or one
-/// without a key.
+/// The key of the message whose bytes these are; `None` if they are not a message, or one without a
+/// key.
 pub fn key_in(alloc: Global, bytes: &[u8]) -> Result<Option<Key>, NoMemory>
     ensures { IfOk result (λ key. option_map (λ k. k.bytes) key ≡ key_in bytes.now) }
 {

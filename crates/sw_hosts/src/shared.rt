@@ -21,9 +21,9 @@ use std::sync::{Mutex, Wait};
 /// while something is read, written or opened.
 pub struct Shared {
     pub times: HostTimes,
-    /// To the host, and its thread, which writes.
+    /// The direction to the host; its thread writes.
     pub to: Direction,
-    /// From the host, and its thread, which reads.
+    /// The direction from the host; its thread reads.
     pub from: Direction,
     pub inbox: Mutex<Inbox>,
     pub outbox: Mutex<Outbox>,
@@ -50,7 +50,7 @@ impl Drop for Shared {
 }
 
 impl Shared {
-    /// Both directions are closed, and both boxes empty.
+    /// With both directions closed, and both boxes empty.
     pub fn new(alloc: Global, times: HostTimes) -> Result<Shared, AllocError>
         ensures { IfOk result (λ shared. shared.times ≡ times) }
     {
@@ -71,7 +71,7 @@ impl Shared {
         is_paused(self.pause.get(), now, self.heard(), &self.times)
     }
 
-    /// From when on the host is tested, where it is silent and something was read from it so often.
+    /// The moment from which the host is tested, if it is silent and something was read from it `heard` times.
     pub fn tested_from(&self, heard: u64) -> Option<Moment> {
         tested_from(self.pause.get(), heard, &self.times)
     }
@@ -93,20 +93,21 @@ impl Shared {
         self.change_pause(pause_by(look, now, self.heard(), self.times.retry));
     }
 
-    /// So many echo tests were not answered in time, where something was read from the host so often.
+    /// Notes that this many echo tests were not answered in time, when something had been read from the host
+    /// `heard` times.
     pub fn give_up(&self, tests: u64, now: Moment, heard: u64) {
         self.counters.add_unanswered(tests);
         self.change_pause(pause_by_tests(now, heard, &self.times));
         self.to.put_off(now);
     }
 
-    /// Orders both directions to be opened, as far as they are closed.
+    /// Orders both directions to be opened, as far as they are closed. Returns whether an order was given.
     pub fn order(&self, now: Moment) -> bool {
         let (to, from) = (self.to.order(now), self.from.order(now));
         to || from
     }
 
-    /// Something was read from the host.
+    /// Notes that something was read from the host.
     pub fn hear(&self) {
         self.heard.fetch_add(1, Ordering::SeqCst);
     }
@@ -129,7 +130,7 @@ impl Shared {
         self.counters.add_dropped(count);
     }
 
-    /// Puts a message that came into the inbox, where it has a key. The answer to an echo test is dropped.
+    /// Puts a message that came into the inbox, if it has a key. The answer to an echo test is dropped.
     pub fn deliver<R: Wait>(&self, rt: &R, alloc: Global, bytes: Vec<u8>) {
         match came_in(alloc, bytes) {
             Ok(Came::Echo) => {}

@@ -24,7 +24,7 @@ fn moment_in(word: u64) -> Option<Moment>
     }
 }
 
-/// A moment that threads share, or none. What another thread has put there no contract says.
+/// A moment that threads share, or none. No contract says what another thread has put there.
 #[derive(Drop)]
 pub struct SharedMoment {
     word: AtomicU64,

@@ -4,7 +4,7 @@ use crate::pause::Pause;
 use crate::shared_moment::SharedMoment;
 use std::sync::atomic::{AtomicU64, Ordering};
 
-/// A pause, or none. What another thread has put there no contract says.
+/// A pause, or none. No contract says what another thread has put there.
 ///
 /// It is two words, of which `heard` is written first and read last. Whoever reads while one pause follows another
 /// may see the earlier `until`, and then the host gets an echo test too early.

@@ -29,7 +29,7 @@ pub struct HostThread<'a, R: Wait> {
 }
 
 impl<R: Wait + Clock> HostThread<'_, R> {
-    /// Writes frames to the host, each time that this direction is opened, until it is closed.
+    /// Writes frames to the host each time this direction is opened, until it is closed.
     pub fn keep_writing<W: OpenWriter>(&self, opener: W) {
         let mut opener = opener;
         let mut watch = Watch::new();
@@ -75,8 +75,8 @@ impl<R: Wait + Clock> HostThread<'_, R> {
         }
     }
 
-    // Writes the next frame, or else does what is due; whether the direction stays open. The bell is read
-    // first, so that a frame that is put while the outbox is looked into ends the sleep at once.
+    // Writes the next frame, or else does what is due; whether the direction stays open. The bell is read first,
+    // so that a frame that is put while the outbox is looked into ends the sleep at once.
     fn take_turn<W: Write>(&self, watch: &mut Watch, writer: &mut W) -> bool {
         let shared = self.shared;
         let (rings, heard) = (shared.to.rings(), shared.heard());
@@ -98,8 +98,8 @@ impl<R: Wait + Clock> HostThread<'_, R> {
         true
     }
 
-    // Writes an echo test, where there is memory for one; whether the direction stays open. The answer of a silent host
-    // needs the other direction, which no message orders.
+    // Writes an echo test, if there is memory for one; whether the direction stays open. The answer of a silent
+    // host needs the other direction, which no message orders.
     fn write_test<W: Write>(&self, watch: &mut Watch, writer: &mut W) -> bool {
         let shared = self.shared;
         let (now, heard) = (Moment::now(self.rt), shared.heard());
@@ -123,7 +123,7 @@ impl<R: Wait + Clock> HostThread<'_, R> {
     }
 }
 
-// The seconds since 1970; none where the clock cannot be read.
+// The seconds since the start of 1970; 0 if the clock cannot be read.
 fn seconds(clock: &impl Clock) -> u64 {
     match clock.since_1970() {
         Ok(time) => time.as_secs(),
@@ -131,7 +131,7 @@ fn seconds(clock: &impl Clock) -> u64 {
     }
 }
 
-// Writes a frame, and counts it where it was not written whole; whether it was.
+// Writes a frame, and counts it as dropped if it was not written whole; whether it was.
 fn write_counted<W: Write>(shared: &Shared, writer: &mut W, bytes: &[u8]) -> bool
     ensures { result ≡ true → Appends (W.contents writer.old) (W.contents writer.new) bytes.now }
 {
@@ -152,7 +152,7 @@ fn write_whole<W: Write>(writer: &mut W, bytes: &[u8]) -> io::Result<()>
 }
 
 impl<R: Wait> HostThread<'_, R> {
-    /// Reads messages from the host, each time that this direction is opened, until it is closed.
+    /// Reads messages from the host each time this direction is opened, until it is closed.
     pub fn keep_reading<I: OpenReader>(&self, opener: I) {
         let mut opener = opener;
         for _ in self.rt.forever() {
@@ -186,7 +186,7 @@ impl<R: Wait> HostThread<'_, R> {
                 return;
             };
             self.deliver_all(messages);
-            // Frames that came before a bad length are given all the same.
+            // Frames that came before a bad length are delivered all the same.
             if framer.failed() {
                 return;
             }

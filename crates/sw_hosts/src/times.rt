@@ -10,7 +10,8 @@ use std::time::Duration;
 pub struct HostTimes {
     /// How long the answer to a message is waited for.
     pub timeout: Duration,
-    /// How long a host that did not answer in time is not asked at least. With 0 it is asked again at once.
+    /// For how long at least a host that did not answer in time is not asked. With 0 it is asked again at
+    /// once.
     pub retry: Duration,
     /// After how long without a frame the host gets an echo test. With 0 it gets none.
     pub echo: Duration,
@@ -18,7 +19,7 @@ pub struct HostTimes {
 
 impl HostTimes {
     /// Whether a silent host is asked again only once something was read from it, and gets echo tests until
-    /// then: where neither `retry` nor `echo` is 0.
+    /// then: if neither `retry` nor `echo` is 0.
     pub fn tests_silence(&self) -> bool
         ensures { result ≡ tests_silence self.now }
     {

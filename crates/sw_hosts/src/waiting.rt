@@ -1,4 +1,4 @@
-//! A box of what waits, of which both boxes of a host are made.
+//! A box of what waits, from which both boxes of a host are made.
 
 ghost use Rattle.std.specs.Prelude.{◌≡◌, ◌≤◌, ◌<◌, ◌∷◌, ◌++◌, [], List, Bool, drop, length};
 ghost use Rattle.std.specs.Prelude.{nat_le, IfOk, IfSome, IsTrue};
@@ -21,7 +21,7 @@ pub trait Picks<T> {
         ensures { result ≡ picks self.now item.now };
 }
 
-/// What waits, oldest first, 64 at most. It takes all its memory as it is made.
+/// What waits, oldest first, 64 at most. It takes all its memory when it is made.
 ///
 /// Contracts see the list of what waits.
 pub struct Waiting<T> {
@@ -67,7 +67,7 @@ impl<T: Drop> Waiting<T> {
         self.held.len() >= PLACES
     }
 
-    /// Puts one last, where fewer than 64 wait.
+    /// Puts one last; fewer than 64 may be waiting.
     pub fn put(&mut self, item: T)
         requires { length self.old < 64 }
         ensures { self.new ≡ self.old ++ item ∷ [] }
@@ -84,8 +84,8 @@ impl<T: Drop> Waiting<T> {
         let _ = self.held.pop_front();
     }
 
-    /// Takes the first that is looked for. Those before it are dropped; all of them are, where none
-    /// is looked for.
+    /// Takes the first that is looked for. Those before it are dropped; if none is looked for, all
+    /// are.
     pub fn take_first<P: Picks<T>>(&mut self, wanted: &P) -> Found<T>
         ensures picked { IfSome result.item (λ item. IsTrue (P.picks wanted.now item)) }
         ensures taken { result.item ≡ first_of (P.picks wanted.now) self.old }
@@ -108,7 +108,7 @@ impl<T: Drop> Waiting<T> {
         }
     }
 
-    /// Drops all, and tells how many there were.
+    /// Drops all, and returns how many there were.
     pub fn clear(&mut self) -> u64
         ensures count { result ≡ length self.old }
         ensures empty { self.new ≡ [] }

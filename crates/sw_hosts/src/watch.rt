@@ -17,7 +17,7 @@ pub struct EchoTests {
     pub deadline: Moment,
     /// How often something had been read from the host when they were written.
     pub heard: u64,
-    /// How many they are.
+    /// How many there are.
     pub count: u64,
 }
 
@@ -28,20 +28,20 @@ pub struct Watch {
     pub written: Moment,
     /// The last echo tests that it wrote, since the direction was opened.
     pub tests: Option<EchoTests>,
-    /// When it wrote the last echo test, also before the direction was opened.
+    /// When it wrote the last echo test, which may be before the direction was opened.
     pub tested: Option<Moment>,
     /// The STAN of the last echo test; 0 before the first.
     pub stan: u32,
 }
 
-/// What the thread does where no frame waits.
+/// What the thread does when no frame waits.
 #[derive(Clone, Copy)]
 pub enum Duty {
-    /// It sleeps, up to that moment at most.
+    /// It sleeps, at most up to that moment.
     Rests(Moment),
     /// It writes an echo test.
     Tests,
-    /// It gives the host up, since no answer to so many echo tests came in time.
+    /// It gives the host up, even if a frame waits, since no answer to this many echo tests came in time.
     GivesUp(u64),
 }
 
@@ -56,7 +56,7 @@ impl Watch {
         }
     }
 
-    /// The direction was opened.
+    /// Notes that the direction was opened.
     pub fn opened(&mut self, now: Moment)
         ensures { self.new ≡ record self.old { written = now; tests = None } }
     {
@@ -64,14 +64,14 @@ impl Watch {
         self.tests = None;
     }
 
-    /// A frame was written.
+    /// Notes that a frame was written.
     pub fn wrote(&mut self, now: Moment)
         ensures { self.new ≡ record self.old { written = now } }
     {
         self.written = now;
     }
 
-    /// An echo test was written, when something had been read from the host so often.
+    /// Notes that an echo test was written, when something had been read from the host `heard` times.
     pub fn tested(&mut self, now: Moment, heard: u64, timeout: Duration)
         ensures { self.new ≡ record self.old {
           written = now;
@@ -114,7 +114,7 @@ impl Watch {
         }
     }
 
-    // When the next echo test is due where the host is not silent, and gets any.
+    // When the next echo test is due if the host is not silent, and gets any.
     fn due(&self, echo: Duration) -> Option<Moment>
         ensures { result ≡ due self.now echo }
     {
@@ -125,7 +125,7 @@ impl Watch {
         }
     }
 
-    // When the next echo test is due where the host is silent, and tested from a moment on.
+    // When the next echo test is due if the host is silent, and tested from a moment on.
     fn due_in_silence(&self, from: Moment, retry: Duration) -> Moment
         ensures { result ≡ due_in_silence self.now from retry }
     {
@@ -135,7 +135,7 @@ impl Watch {
         }
     }
 
-    // When the next echo test is due. Where the host is not silent, an unanswered one is waited for.
+    // When the next echo test is due. If the host is not silent, an unanswered one is waited for.
     fn next_test(
         &self,
         heard: u64,
@@ -151,8 +151,8 @@ impl Watch {
         }
     }
 
-    /// What is to be done now, where something was read from the host so often, and it is tested from a moment on
-    /// where it is silent.
+    /// What is to be done now. Something was read from the host `heard` times; if it is silent, it is tested from
+    /// `tested_from` on.
     pub fn duty(
         &self,
         now: Moment,
@@ -171,7 +171,7 @@ impl Watch {
     }
 }
 
-// Whether the next echo test is due now; else the thread sleeps up to that, or up to an earlier deadline.
+// Whether the next echo test is due now; otherwise the thread sleeps until it is, or until an earlier deadline.
 fn rest_or_test(next_test: Option<Moment>, deadline: Moment, now: Moment) -> Duty
     ensures { result ≡ rest_or_test next_test deadline now.micros }
 {

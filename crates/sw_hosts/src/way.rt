@@ -13,8 +13,8 @@ use crate::outgoing::{Awaited, outgoing_of};
 use std::alloc::Global;
 use sw_participant::NoMemory;
 
-/// The way to a host and back. What is done over it is proved of every way: of the threads of a host
-/// no contract says anything.
+/// The way to a host and back. What is done over it is proved for every way: no contract says anything of
+/// the threads of a host.
 pub trait Way {
     /// The moment that it gives, in microseconds.
     ghost dates: { Self → ℕ → Type 0 };
@@ -25,15 +25,15 @@ pub trait Way {
     /// What its look of that number showed of an answer that is waited for.
     ghost shows: { Self → Awaited → ℕ → Look → Type 0 };
 
-    /// From when on nobody waits for the answer to a message that is sent now.
+    /// The moment from which nobody waits for the answer to a message that is sent now.
     fn deadline(&self) -> Moment
         ensures { dates self.now result.micros };
 
-    /// Hands a frame to the host's thread; whether it is on its way.
+    /// Hands a frame to the host's thread; returns whether the frame is on its way.
     fn send(&self, frame: Frame) -> bool
         ensures { takes self.now frame result };
 
-    /// Looks for an answer. The looks for one answer are numbered from 0, for contracts alone.
+    /// Looks for an answer. The looks for one answer are numbered from 0, for contracts only.
     fn look(&self, awaited: &Awaited, number: u64) -> Look
         ensures shown { shows self.now awaited.now number result }
         ensures keyed { AnswersLook awaited.now result };
@@ -81,7 +81,7 @@ fn look_over<W: Way>(way: &W, awaited: &Awaited) -> Look
     way.look(awaited, u64::MAX)
 }
 
-/// Waits for an answer; none where nothing is waited for.
+/// Waits for an answer; `None` if none is waited for, or none comes.
 pub fn receive_over<W: Way>(way: &W, awaited: Option<Awaited>) -> Option<Vec<u8>>
     ensures received { ReceivesOver (W.shows way.now) awaited result }
     ensures keyed { IfSome result (λ v. AnswersTo awaited v.items) }

@@ -10,7 +10,7 @@ use std::thread;
 use std::time::{Duration, Instant};
 use sw_parts::Link;
 
-/// Opens nothing, and counts how often it was to.
+/// Opens nothing, and counts how often it was asked to.
 #[derive(Drop)]
 struct Nowhere {
     asked: Arc<AtomicU64>,

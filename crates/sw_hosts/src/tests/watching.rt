@@ -65,7 +65,7 @@ fn a_silent_host_is_not_asked(rt: HostRuntime) -> Result<(), Fail> {
     Ok(())
 }
 
-// Echo tests of a silent host, each second, and an answer to a message within so many seconds.
+// Echo tests of a silent host each second, and this many seconds for the answer to a message.
 fn tested(timeout: u64, echo: u64) -> HostTimes {
     HostTimes {
         retry: Duration::from_secs(1),

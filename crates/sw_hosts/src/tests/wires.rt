@@ -32,7 +32,7 @@ pub struct Wired {
     pub from: PipeReader,
 }
 
-/// So many seconds for each answer, no pause and no echo tests.
+/// This many seconds for each answer, no pause and no echo tests.
 pub fn seconds(timeout: u64) -> HostTimes {
     HostTimes {
         timeout: Duration::from_secs(timeout),
@@ -46,8 +46,8 @@ fn path_of(alloc: Global, end: &impl AsRawFd) -> Result<String, AllocError> {
     format!(in alloc; "/proc/self/fd/{number}")
 }
 
-// Has both directions opened before a test begins: a message waits for that for 100 milliseconds alone,
-// and a machine may be busy for longer.
+// Has both directions opened before a test begins: a message waits for that for only 100 milliseconds, and a
+// machine may be busy for longer.
 fn open<C: Clock>(clock: &C, shared: &Shared) {
     let now = Moment::now(clock);
     let _ = (shared.to.order(now), shared.from.order(now));
@@ -60,8 +60,8 @@ fn open<C: Clock>(clock: &C, shared: &Shared) {
     }
 }
 
-/// A host over two open pipes, each of which it opens again as often as it likes. The runtime comes twice: once for its
-/// threads, and once for its files, of which a thread can only take a type that is named.
+/// A host over two open pipes, each of which it opens again as often as it likes. The runtime comes twice: once
+/// for its threads, and once for its files, whose type has to be named for a thread to take it.
 pub fn wire_up<R: Threads + Wait + Clock + Copy + Send + 'static>(
     rt: R,
     files: HostRuntime,
