@@ -138,7 +138,7 @@ if_there : {A B : Type 0} (o : Option A) (x : B) (P : B → Type 0) → P x → 
 if_there None x P h = tt
 if_there (Some d) x P h = h
 
--- a table that a key has, where it has one, and it is without a fault
+-- the table at a key, if there is one, is without a fault
 only_table : (p : Section) (P : Option Members → Type 0) → P None → ((ms : Members) → table_fault (record { section = p; number = 0 }) ms ≡ None →
     P (Some ms)) → (o : Option Data)
     → first_at (fault_in p) 0 (tables_if o) ≡ None → P (option_and_then as_table o)

@@ -20,11 +20,11 @@ use Rattle.cli_config.specs.declared.keys.Key.TheVariants as key
 use Rattle.cli_config.specs.Tables.{flag_at, number_at, table_at, tables_of, text_at, value_at}
 use Rattle.cli_config.specs.Faults.{first_fault}
 
--- a text at a key, where one stands there
+-- a text at a key, if there is one
 abbrev pub text_if : Key → Members → Option (List ℕ)
 text_if k ms = option_map (λ d. text_at k ms) (value_at k ms)
 
--- where the file does not say, a query waits ten seconds, a host that did not answer is asked again at once, and there are no
+-- if the file does not say, a query waits ten seconds, a host that did not answer is asked again at once, and there are no
 -- echo tests
 abbrev pub times_of : Members → times.WireTimes
 times_of ms = record {
@@ -70,7 +70,7 @@ limits_of top = limits_in (table_at key.Limits top)
 abbrev pub run_of : Members → run.RunTable
 run_of top = run_in (table_at key.Run top)
 
--- the hosts and the routes, where the file has their key
+-- the hosts and the routes, if the file has their key
 abbrev pub hosts_of : Members → Option (List host.Host)
 hosts_of top = option_map (λ d. map host_of (tables_of section.Host top)) (value_at key.Host top)
 
@@ -109,8 +109,8 @@ Gives (Err (Table e)) told = told ≡ Err e
 abbrev pub IsConfigFile : config.Config → List ℕ → Type 0
 IsConfigFile c text = reading text ≡ Some (Ok c)
 
--- What a refusal says of a text: nothing where memory ran out, else its first fault. That a text is not
--- TOML comes with a span of it.
+-- What a refusal says of a text: nothing if memory ran out, otherwise its first fault. That a text is not TOML comes with a
+-- span of it.
 abbrev pub Refuses : List ℕ → ConfigError → Type 0
 Refuses text OutOfMemory = ⊤
 Refuses text (Toml t) = (parse_document text ≡ None) × IsWithin text t

@@ -91,7 +91,7 @@ abbrev pub where_it_stands : Members → Option Key → Option Key
 where_it_stands ms None = None
 where_it_stands ms (Some k) = if stands ms k then Some k else None
 
--- the key that a key excludes, where it stands
+-- the key that a key excludes, if it is there
 abbrev pub excluded_in : Members → Key → Option Key
 excluded_in ms k = where_it_stands ms (excluded k)
 

@@ -5,9 +5,9 @@ use sw_participant::{Sequence, Text};
 /// A configuration. `None` is what the file leaves to the program.
 #[derive(Drop)]
 pub struct Config {
-    /// The hosts in the file's order; no two have one name.
+    /// The hosts in the file's order; no two have the same name.
     pub hosts: Option<Sequence<Host>>,
-    /// The routes in the file's order; no two have one prefix.
+    /// The routes in the file's order; no two have the same prefix.
     pub routes: Option<Sequence<Route>>,
     pub limits: Limits,
     pub run: RunTable,
@@ -48,10 +48,11 @@ pub enum Wire {
 pub struct WireTimes {
     /// How many milliseconds a query waits for its answer, 1 to 600,000.
     pub timeout_ms: u64,
-    /// For how many milliseconds a host that did not answer in time is not asked, at most 3,600,000; 0: it
-    /// is asked again at once.
+    /// For how many milliseconds a host that did not answer in time is not asked, at most 3,600,000; with
+    /// 0 it is asked again at once.
     pub retry_ms: u64,
-    /// After how many seconds without a frame the host gets an echo test, at most 86,400; 0: it gets none.
+    /// After how many seconds without a frame the host gets an echo test, at most 86,400; with 0 it gets
+    /// none.
     pub echo_s: u64,
 }
 
@@ -92,7 +93,7 @@ impl Drop for Route {
 pub struct Limits {
     /// What a card may spend, at most 999,999,999,999,999.
     pub per_card: Option<u64>,
-    /// Up to which amount the switch approves in a silent issuer's place, at most 999,999,999,999.
+    /// The greatest amount that the switch approves in a silent issuer's place, at most 999,999,999,999.
     pub stand_in: Option<u64>,
 }
 

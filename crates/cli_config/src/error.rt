@@ -30,10 +30,10 @@ pub enum TableError {
     /// The table lacks the key; of several the least.
     #[error("{}: key {} is missing: expected {}{}", .1, .0, .0.wants(), or_excluded(*.0))]
     Missing(Key, TablePath),
-    /// What stands at the key may not stand there; of several such keys the least.
+    /// The key has a value that it may not have; of several such keys the least.
     #[error("{}: key {} has a bad value: expected {}; found {}", .1, .0, .0.wants(), .2)]
     BadValue(Key, TablePath, Found),
-    /// The first key stands beside the second, which it excludes; of several such keys the least.
+    /// The first key excludes the second, and both are there; of several such keys the least.
     #[error("{}: key {} excludes {}: expected one of them", .2, .0, .1)]
     Excludes(Key, Key, TablePath),
     /// An earlier table of the array has the same string at the key.
@@ -41,7 +41,7 @@ pub enum TableError {
     Double(Key, TablePath, Text),
 }
 
-/// What stands at a key: a string, an integer or a boolean itself, and the kind of every other value.
+/// What was found at a key: a string, an integer or a boolean itself, or the kind of any other value.
 #[derive(Drop)]
 pub enum Found {
     Text(Text),
@@ -67,7 +67,7 @@ fn keys_in(section: Section) -> Known {
     Known { section }
 }
 
-/// For a message the key that a table may have in place of one that is missing.
+/// For a message, the key that a table may have in place of one that is missing.
 #[derive(Drop)]
 struct Instead {
     key: Key,

@@ -120,7 +120,7 @@ fn stands(table: &Table, key: Key) -> bool
     value_at(table, key).is_some()
 }
 
-// The key that a key excludes, where it stands.
+// The key that a key excludes, if it is there.
 fn excluded(table: &Table, key: Key) -> Option<Key>
     ensures { result ≡ spec.excluded_in (table_view table.now) key }
 {

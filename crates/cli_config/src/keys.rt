@@ -1,4 +1,4 @@
-//! The tables of a configuration file and the keys that stand in them.
+//! The tables of a configuration file and the keys that they have.
 
 ghost use Rattle.std.specs.Prelude.{◌≡◌};
 ghost use Rattle.cli_config.specs.Keys as spec;
@@ -52,16 +52,16 @@ pub enum Key {
     Threads,
 }
 
-/// What may stand at a key.
+/// What values a key may have.
 #[derive(Clone, Copy, PartialEq, Eq)]
 pub enum Want {
     /// An array whose members are all tables, written inline or by headers; it may be empty.
     Tables,
     /// A table, written inline or by a header.
     Table,
-    /// A string of 1 to so many bytes of `a-z A-Z 0-9 _ - .`.
+    /// A string of 1 to this many bytes of `a-z A-Z 0-9 _ - .`.
     Name(usize),
-    /// A string of 1 to so many decimal digits.
+    /// A string of 1 to this many decimal digits.
     Digits(usize),
     /// A string that is not empty.
     Path,
@@ -87,7 +87,7 @@ impl Section {
         ]
     }
 
-    /// The key of the top table at which the section stands; the top table itself has none.
+    /// The key of the top table under which the section is; `None` for the top table itself.
     pub(crate) fn key(self) -> Option<Key>
         ensures { result ≡ spec.key_of self }
     {
@@ -150,7 +150,7 @@ impl Key {
         }
     }
 
-    /// What may stand at it.
+    /// What values it may have.
     pub fn wants(self) -> Want
         ensures { result ≡ spec.wants self }
     {

@@ -21,10 +21,10 @@
 //! ```
 //!
 //! Every table may be absent, and so may most keys: a [`Config`] says `None` of what the file leaves
-//! to the program. [`Key`] says what may stand at each key.
+//! to the program. [`Key`] says what values each key may have.
 //!
-//! Promised here: [`read_config`] answers exactly the configuration that a text states, or its first
-//! fault, with the key and the table that it stands in. The faults come in this order:
+//! Promised here: [`read_config`] returns exactly the configuration that a text states, or its first
+//! fault, with its key and its table. The faults come in this order:
 //!
 //! 1. The text is not TOML.
 //! 2. A table has a fault of its own: the top table, then each host, each route, `limits`, `run`. In a

@@ -18,7 +18,7 @@ pub(crate) fn value_at(table: &Table, key: Key) -> Option<&Value>
     table.get(key.as_str())
 }
 
-/// The string at a key, or an empty one if no string stands there.
+/// The string at a key, or an empty one if there is no string.
 pub(crate) fn text_at(table: &Table, key: Key) -> &str
     ensures { result.now ≡ spec.text_at key (table_view table.now) }
 {
@@ -41,7 +41,7 @@ fn whole(number: i64) -> Option<u64>
     }
 }
 
-/// The number at a key, or `None` if no number or a negative one stands there.
+/// The number at a key, or `None` if there is no number or a negative one.
 pub(crate) fn number_at(table: &Table, key: Key) -> Option<u64>
     ensures { result ≡ spec.number_at key (table_view table.now) }
 {

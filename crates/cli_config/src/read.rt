@@ -15,7 +15,7 @@ use std::alloc::{AllocError, Global};
 use sw_participant::{Sequence, Text};
 use toml::{Table, Value};
 
-/// How long a query waits for its answer where the file does not say, in milliseconds.
+/// How long a query waits for its answer if the file does not say, in milliseconds.
 const TIMEOUT_MS: u64 = 10_000;
 
 fn text_of(alloc: Global, table: &Table, key: Key) -> Result<Text, AllocError>
@@ -184,7 +184,7 @@ fn read_document(alloc: Global, top: &Table) -> Result<Config, ConfigError>
 /// The configuration that a configuration file states.
 ///
 /// The crate's page has the order of the faults. An integer of more than 64 bits is not TOML.
-/// `OutOfMemory` comes only where an allocation failed.
+/// `OutOfMemory` is reported only if an allocation failed.
 #[tactic(auto, unfolding(crate::specs::ConfigFile::reading))]
 pub fn read_config(alloc: Global, text: &str) -> Result<Config, ConfigError>
     ensures config { IfOk result (λ c. spec.IsConfigFile c text.now) }

@@ -1,4 +1,4 @@
-//! Why a reading or a writing ends early.
+//! Why a reading or a writing ended early.
 ghost use Rattle.std.specs.Prelude.{◌≡◌};
 ghost use Rattle.cli_io.specs.Errors.{IsReadErrorOf, IsWriteErrorOf};
 ghost use Rattle.cli_io.specs.declared.error.ReadError.TheVariants as read;
@@ -8,7 +8,7 @@ use std::alloc::AllocError;
 use std::io::{self, ErrorKind};
 use thiserror::Error;
 
-/// Why a reading ends before its input does. What was read before stands.
+/// Why a reading ended before its input did. What was read before stays valid.
 #[derive(Debug, Drop, Error)]
 pub enum ReadError {
     /// A read of the input failed.
@@ -41,7 +41,8 @@ impl From<AllocError> for ReadError {
     }
 }
 
-/// Why bytes were not written. A beginning of them was.
+/// Why bytes were not written, or not flushed. A beginning of them was written: none of them, some,
+/// or all.
 #[derive(Debug, Drop, Error)]
 pub enum WriteError {
     /// A write or a flush of the output failed.

@@ -4,7 +4,7 @@ ghost use Rattle.std.specs.Prelude.{◌≤◌};
 use crate::error::ReadError;
 use std::io::{self, ErrorKind, Read};
 
-/// How many reads an input is given. One that has not ended by then never may.
+/// How many reads an input is given. One that has not ended by then may never end.
 pub const MAX_READS: u32 = 1_048_576;
 
 /// A reader whose reads are counted and bounded.
@@ -42,10 +42,11 @@ impl<R: Read> Input<R> {
         self.reader.read(buf)
     }
 
-    /// Reads the next bytes into `buf`, and gives their number, 0 only at the end of the input. A
-    /// read that was interrupted is made again, and counts.
+    /// Reads the next bytes into `buf`, and returns their number, which is 0 only at the end of the
+    /// input. A read that was interrupted is made again, and counts.
     ///
-    /// `TooManyReads` comes at once where the reads are spent; what was read before stands.
+    /// `TooManyReads` is reported at once if the reads are used up; what was read before stays
+    /// valid.
     pub fn read_piece(&mut self, buf: &mut [u8]) -> Result<usize, ReadError>
         requires { 0 < length buf.old }
         ensures piece { IfOk result (λ n. Consumes (unread R.remaining self.old)

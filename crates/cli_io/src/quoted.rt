@@ -10,7 +10,7 @@ use std::marker::Model;
 const MAX_BYTES: usize = 40;
 
 /// Some bytes between quotation marks: the first 40, each that is not printable ASCII as a full stop,
-/// and ` ..` after them where some were left out. Takes no memory. Contracts see what is printed.
+/// and ` ..` after the marks if some were left out. Takes no memory. Contracts see what is printed.
 #[derive(Debug, Drop)]
 pub struct Quoted {
     kept: [u8; 40],

@@ -6,10 +6,10 @@ ghost use Rattle.cli_io.specs.Written.{AppendsBeginning};
 use crate::error::WriteError;
 use std::io::{self, ErrorKind, Write};
 
-// A writer that is interrupted so often is given up.
+// After this many writes a writer that keeps being interrupted is given up.
 const MOST_WRITES: u64 = u64::MAX;
 
-// Writes some of the bytes, none where it was interrupted; how many.
+// Writes some of the bytes, none if it was interrupted; how many.
 fn write_some<W: Write>(out: &mut W, bytes: &[u8]) -> Result<usize, WriteError>
     ensures within { IfOk result (λ n. n ≤ length bytes.now) }
     ensures written { IfOk result (λ n.
@@ -24,8 +24,8 @@ fn write_some<W: Write>(out: &mut W, bytes: &[u8]) -> Result<usize, WriteError>
     }
 }
 
-/// Writes all bytes. After an error a beginning of them is written. (The library's `write_all` does not
-/// say what is written then.)
+/// Writes all bytes. After an error a beginning of them was written. (The library's `write_all` does
+/// not say what was written then.)
 pub fn write_whole<W: Write>(out: &mut W, bytes: &[u8]) -> Result<(), WriteError>
     ensures written { OnOk result (Appends (W.contents out.old) (W.contents out.new) bytes.now) }
     ensures beginning { AppendsBeginning (W.contents out.old) (W.contents out.new) bytes.now }
@@ -40,7 +40,7 @@ pub fn write_whole<W: Write>(out: &mut W, bytes: &[u8]) -> Result<(), WriteError
     Err(WriteError::from(io::Error::from(ErrorKind::TimedOut)))
 }
 
-/// Writes all bytes, and what the writer has kept back. After an error a beginning of the bytes is
+/// Writes all bytes, and what the writer has kept back. After an error a beginning of the bytes was
 /// written.
 pub fn write_out<W: Write>(out: &mut W, bytes: &[u8]) -> Result<(), WriteError>
     ensures written { OnOk result (Appends (W.contents out.old) (W.contents out.new) bytes.now) }

@@ -8,6 +8,6 @@ is_line_feed b = b == 10
 abbrev pub has_line_feed : List ℕ → Bool
 has_line_feed bytes = nat_lt (position_or_len is_line_feed bytes) (length bytes)
 
--- up to the first line feed and with it, or all where there is none; `after_first` says what follows
+-- up to the first line feed and with it, or all if there is none; `after_first` says what follows
 abbrev pub first_line : List ℕ → List ℕ
 first_line bytes = take (position_or_len is_line_feed bytes + 1) bytes

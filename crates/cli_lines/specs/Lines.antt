@@ -24,16 +24,18 @@ lines_given lines = lines.count
 abbrev pub reads_for : {R : Type 0} → Lines R → ℕ
 reads_for lines = reads_made lines.input
 
--- at most so many bytes are still given: those of the pieces that may be read, and what is left of the last one
+-- at most this many bytes are still to be given: those of the pieces that may be read, and what is left of the
+-- last one
 abbrev pub room : {R : Type 0} → Lines R → ℕ
 room lines = 4096 * (1048576 - lines.pieces) + length (left lines.piece)
 
--- that there were too many reads is reported where all that an input may make were made, or gave a piece
+-- that there were too many reads is reported once all the reads that an input may make were made, or as many
+-- pieces were read
 abbrev pub IsSpent : {R : Type 0} → Lines R → ReadError → Type 0
 IsSpent lines TooManyReads = (reads_for lines ≡ 1048576) ⊎ (lines.pieces ≡ 1048576)
 IsSpent lines _ = ⊤
 
--- of the bytes that are to come the first line is given, and then the others are to come; at their end none is
+-- the first line of the bytes that are to come is given, and the others are then to come; at their end none is
 abbrev pub IsNextLine : Option (List ℕ) → Option (List ℕ) → Option (List ℕ) → Type 0
 IsNextLine None new line = ⊤
 IsNextLine (Some bytes) new None = (bytes ≡ []) × (new ≡ Some [])

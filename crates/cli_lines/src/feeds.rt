@@ -3,7 +3,7 @@ ghost use Rattle.std.specs.Prelude.{◌≡◌, ◌≤◌, length};
 ghost use Rattle.std.specs.List.{position_or_len};
 ghost use Rattle.cli_lines.specs.Feeds.{is_line_feed};
 
-/// Where the first line feed stands, or the length where there is none.
+/// The index of the first line feed, or the length if there is none.
 pub fn line_end(bytes: &[u8]) -> usize
     ensures place { result ≡ position_or_len is_line_feed bytes.now }
     ensures within { result ≤ length bytes.now }

@@ -2,7 +2,7 @@
 //!
 //! Promised here:
 //! - [`Lines::next`] gives the bytes of the reader line by line, each with its line feed, and none only at their
-//!   end; a line that is read already is given without a read;
+//!   end; a line that was read already is given without a read;
 //! - lines are counted, and their number and length are small enough to be added.
 #![tactic(auto)]
 

@@ -9,11 +9,11 @@ use std::io::Read;
 /// How many bytes are read at once.
 const PIECE: usize = 4096;
 
-/// The lines of an input. Each is given once it is read, before any byte after it is waited for.
+/// The lines of an input. Each is given as soon as it was read, before any byte after it is waited for.
 #[derive(Drop)]
 pub struct Lines<R> {
     input: Input<R>,
-    /// What was read, and is not given.
+    /// What was read and not given yet.
     piece: Piece,
     /// How many pieces were read.
     pieces: u32,
@@ -33,7 +33,7 @@ impl<R: Read> Lines<R> {
     ghost use Rattle.cli_lines.specs.Lines.{reads_for, room, to_come};
     ghost use Rattle.cli_lines.specs.Pieces.{left};
 
-    /// The lines of an input of which none is given yet.
+    /// The lines of an input, of which none was given yet.
     pub fn new(alloc: Global, input: Input<R>) -> Lines<R>
         ensures to_come { to_come R.remaining result ≡ unread R.remaining input }
         ensures count { lines_given result ≡ 0 }
@@ -53,7 +53,7 @@ impl<R: Read> Lines<R> {
         self.count
     }
 
-    // Reads the next piece where nothing is left of the last one; whether there is one.
+    // Reads the next piece, when nothing is left of the last one; whether there is one.
     fn read_more(&mut self, alloc: Global) -> Result<bool, ReadError>
         requires { left self.old.piece ≡ [] }
         ensures same { IfOk result (λ _. Keeps (to_come R.remaining self.old)
@@ -95,7 +95,7 @@ impl<R: Read> Lines<R> {
     }
 
     /// The next line, with its line feed, which the last one may lack; `None` at the end of the input. A line
-    /// that is read already is given without a read.
+    /// that was read already is given without a read.
     ///
     /// After an error the line that was begun is lost.
     pub fn next(&mut self, alloc: Global) -> Result<Option<Vec<u8>>, ReadError>

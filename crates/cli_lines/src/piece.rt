@@ -25,8 +25,8 @@ impl Piece {
         Piece { bytes, given: 0 }
     }
 
-    /// Adds the bytes that are left up to the first line feed, and with it, to a line, or all of them
-    /// where there is none; whether there is one.
+    /// Adds to a line the bytes that are left, up to the first line feed and with it, or all of them
+    /// if there is none; returns whether there is one.
     pub fn give(&mut self, line: &mut Vec<u8>) -> Result<bool, AllocError>
         ensures gives { OnOk result (line.new.items ≡ line.old.items
             ++ first_line (left self.old)) }

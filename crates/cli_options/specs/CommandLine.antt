@@ -129,7 +129,7 @@ trace_in (Some word) =
     else if bytes_eq word (codes "json") then Some (Some form.Json) else None
 
 -- The lines of numbers that are wanted: without `--stats` none; with `end` one at the end; with a number above 0 also one after
--- every so many requests.
+-- every group of that many requests.
 abbrev pub every : ℕ → Option StatsLines
 every n = if nat_lt 0 n then Some (Every n) else None
 
@@ -177,7 +177,7 @@ AreOptionsAt name rows (Recover o) = (name ≡ codes "recover") × AreRecoverOpt
 AreOptionsAt name rows (Journal o) = (name ≡ codes "journal") × AreJournalOptions rows o
 AreOptionsAt name rows (Run o) = (name ≡ codes "run") × AreRunOptions rows o
 
--- the same options where standard input is a terminal or not
+-- the same options, by whether standard input is a terminal
 abbrev pub at_terminal : Bool → Options → Options
 at_terminal is_terminal (Step flow prompt) = Step flow (prompt || is_terminal)
 at_terminal is_terminal o = o

@@ -6,8 +6,8 @@ ghost use Rattle.cli_options.specs.CommandLine.{at_terminal};
 /// A subcommand with what it was given.
 #[derive(Clone, Copy)]
 pub enum Options<'a> {
-    /// `step`: a script of transactions comes from standard input. With `--flow` its flow is that of
-    /// the flow file at this path. With `--prompt` each line is asked for by a prompt.
+    /// `step`: a script of transactions comes from standard input. With `--flow` its flow is that of the flow file
+    /// at this path. With `--prompt` each line is asked for with a prompt.
     Step { flow: Option<&'a str>, prompt: bool },
     /// `asm`: a flow file from standard input is printed as the image of its steps.
     Asm,
@@ -31,7 +31,8 @@ pub enum Options<'a> {
 }
 
 impl<'a> Options<'a> {
-    /// The same options where standard input is a terminal or not: on a terminal `step` prompts without its flag too.
+    /// The same options, once it is known whether standard input is a terminal: on one `step` prompts without its
+    /// flag too.
     pub fn at_terminal(self, is_terminal: bool) -> Options<'a>
         ensures { result ≡ at_terminal is_terminal self.entry }
     {
@@ -74,11 +75,11 @@ pub struct RunOptions<'a> {
     pub flow: &'a str,
     /// The path of the configuration file, if there is one.
     pub config: Option<&'a str>,
-    /// The path of the journal's file, where it is given.
+    /// The path of the journal's file, if it is given.
     pub journal: Option<&'a str>,
-    /// How many sessions the engine has, where it is given.
+    /// How many sessions the engine has, if it is given.
     pub sessions: Option<u64>,
-    /// What a card may spend, in minor units of its currency, where it is given.
+    /// What a card may spend, in minor units of its currency, if it is given.
     pub limit: Option<u64>,
     /// Whether the sessions run as threads.
     pub threads: bool,
@@ -103,6 +104,6 @@ pub enum StatsLines {
     Off,
     /// One at the end.
     AtEnd,
-    /// One after every so many requests, at least 1, and one at the end.
+    /// One after every group of this many requests, at least 1, and one at the end.
     Every(u64),
 }

@@ -15,13 +15,14 @@ use std::alloc::Global;
 use std::convert::AsStr;
 use sw_base::read_number;
 
-/// Numbers of options are below it.
+/// Numbers of options are below this.
 const BOUND: u64 = 1 << 63;
 
 /// The options that the words ask for. The first word is the program's name, as in `env::args`.
 ///
 /// Refused are words that the table of subcommands does not have, which the error's text quotes, too
-/// many or too few of them, and a wish for help or the version, whose text the error then carries.
+/// many or too few of them, bad values, and a wish for help or the version, whose text the error
+/// then carries.
 pub fn options<'a, S: AsStr>(alloc: Global, words: &'a [S]) -> Result<Options<'a>, OptionsError>
     ensures answers { IfOk result (AreOptionsOf (map S.text words.entry.now)) }
     ensures accepts { OnOk result (IsAccepted (map S.text words.entry.now)) }
@@ -35,7 +36,7 @@ pub fn options<'a, S: AsStr>(alloc: Global, words: &'a [S]) -> Result<Options<'a
     options_at(name, found)
 }
 
-/// The text after `--name`; `None` where the option was not given.
+/// The text after `--name`; `None` if the option was not given.
 fn text_at<'a>(matches: &ArgMatches<'a>, name: &str) -> Option<&'a str>
     ensures { text_of result ≡ first_of name.now (rows_of (found_of matches.now)) }
 {
@@ -52,7 +53,7 @@ fn is_set(text: Option<&str>) -> bool
     }
 }
 
-/// The number of the option `--name`; `None` where it was not given.
+/// The number of the option `--name`; `None` if it was not given.
 fn number_in(name: &'static str, text: Option<&str>) -> Result<Option<u64>, OptionsError>
     ensures found { IfOk result (λ n. number_in (text_of text.entry) ≡ Some n) }
     ensures refused { IfErr result (λ e. IsBadNumber e × (number_in (text_of text.entry) ≡ None)) }
@@ -91,7 +92,7 @@ fn stats_in(text: Option<&str>) -> Result<StatsLines, OptionsError>
     }
 }
 
-/// The form of the trace, by the value of `--trace`; `None` where it was not given.
+/// The form of the trace, by the value of `--trace`; `None` if it was not given.
 fn trace_in(text: Option<&str>) -> Result<Option<TraceForm>, OptionsError>
     ensures found { IfOk result (λ form. trace_in (text_of text.entry) ≡ Some form) }
     ensures refused { IfErr result (λ e. IsBadForm e × (trace_in (text_of text.entry) ≡ None)) }

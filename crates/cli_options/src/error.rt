@@ -42,7 +42,7 @@ impl fmt::Debug for OptionsError {
 }
 
 impl OptionsError {
-    /// The program's exit status: 0 where the text is the help or the version, 2 for a bad command
+    /// The program's exit status: 0 if the text is the help or the version, 2 for a bad command
     /// line, 4 for out of memory.
     pub fn status(&self) -> u8
         ensures { result ≡ status_of self.now }

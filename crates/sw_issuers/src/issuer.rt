@@ -115,7 +115,7 @@ fn answer_of(alloc: Global, bytes: &[u8]) -> Result<Option<Bytes>, NoMemory>
 }
 
 impl Issuer {
-    /// An issuer without answers that wait. It takes no memory: `alloc` is for the messages that it
+    /// An issuer with no answers waiting. It takes no memory: `alloc` is for the messages that it
     /// reads and writes.
     pub fn new(alloc: Global, silent: bool) -> Issuer
         ensures { ⟦<Issuer as Link>⟧.state result ≡ shown_issuer silent [] }
