@@ -57,7 +57,8 @@ fn fault_in(class: Class, message: &Message) -> Option<ResponseCode>
 
 /// Why a request is refused at once, if it is: an unreadable one is a format error, one of
 /// another message type an invalid transaction, one that lacks a field that its class needs a
-/// format error; then come a card number under 12 digits and an amount of 0.
+/// format error; then come a card number under 12 digits, of authorizations only, and an amount
+/// of 0.
 pub fn fault_of(request: &Option<Message>) -> Option<ResponseCode>
     ensures { result ≡ fault_of request.now }
 {
