@@ -103,6 +103,7 @@ impl<R: Wait + Clock> HostThread<'_, R> {
     fn write_test<W: Write>(&self, watch: &mut Watch, writer: &mut W) -> bool {
         let shared = self.shared;
         let (now, heard) = (Moment::now(self.rt), shared.heard());
+        let before = watch.tests;
         watch.tested(now, heard, shared.times.timeout);
         if shared.tested_from(heard).is_some() {
             let _ = shared.from.order(now);
@@ -116,7 +117,9 @@ impl<R: Wait + Clock> HostThread<'_, R> {
                 is_written
             }
             Err(_) => {
-                watch.opened(now);
+                // No test was written. The next one comes when it would come after this one, and those before it
+                // still wait for their answer.
+                watch.tests = before;
                 true
             }
         }
