@@ -1,4 +1,4 @@
--- What `run` and `recover` have done, of their parts.
+-- What `run` and `recover` have done, from their parts.
 -- for: requests::config_for, requests::answer_by, requests::answer_requests, requests::recover_by, requests::recover
 use Rattle.std.proofs.Common.{◌≡◌, ◌≢◌, ◌≤◌, ℕ, List, Option, Some, None, Result, Ok, Err, IfErr, IfOk, OnOk, Bor, arith, refl, sym, subst}
 use Rattle.sqlite_trees.specs.declared.store.Store.{Ghosts}

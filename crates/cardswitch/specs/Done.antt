@@ -73,7 +73,7 @@ IsDecodeError mask unread written written_now (error.Write e) = ⊤
 IsDecodeError mask unread written written_now error.OutOfMemory = ⊤
 IsDecodeError mask unread written written_now _ = ⊥
 
--- why a text is refused: it is the text of no messages, and the frames before the refused line are written
+-- why a text is refused: it is not a text of messages, and the frames before the refused line are written
 abbrev pub IsEncodeFault : Option (List ℕ) → Option (List ℕ) → Option (List ℕ) → RunError → Type 0
 IsEncodeFault unread written written_now (error.Text e) =
     IfSome unread (λ bytes. IsRefusal bytes e.line written written_now)

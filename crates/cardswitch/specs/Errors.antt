@@ -37,7 +37,7 @@ error_at path (Serve (serve.Journal cause)) = Journal path cause
 error_at path (Serve (serve.Engine cause)) = Engine path cause
 error_at path e = e
 
--- what the errors of the parts become: out of memory is reported as such, and all else is carried
+-- what the errors of the parts become: out of memory is reported as such, and every other error is carried over
 abbrev pub error_of_read : ReadError → RunError
 error_of_read read.OutOfMemory = OutOfMemory
 error_of_read e = Read e

@@ -21,12 +21,12 @@ use Rattle.cardswitch.specs.declared.looking.Sight.{Sight}
 use Rattle.cardswitch.specs.declared.looking.Sight.TheVariants.{Beside, Whole}
 use Rattle.cardswitch.specs.declared.error.RunError.TheVariants as error
 
--- all is masked but with `--clear`
+-- everything is masked, except with `--clear`
 abbrev pub masking_by : Bool → Masking
 masking_by true = Off
 masking_by false = On
 
--- lines of JSON with `--json`, else of text
+-- lines of JSON with `--json`, otherwise of text
 abbrev pub form_by : Bool → Form
 form_by true = Json
 form_by false = Text
@@ -48,7 +48,7 @@ pub record IsCopied (layout : ℕ) (view : JournalView) : Type 0 where
 abbrev pub IsCopyFault : BadRow → Type 0
 IsCopyFault bad = (db : List ℕ) × (log : List ℕ) × HoldsFault (image_of db log) bad
 
--- a copy of a journal is shown whole where no row is at fault; else the first one is known, and the journal without such
+-- a copy of a journal is shown whole where no row is at fault; otherwise the first one is known, and the journal without such
 -- rows is shown
 abbrev pub IsSight : Sight → Type 0
 IsSight (Whole found) = IsCopied found.layout found.view
@@ -80,7 +80,7 @@ abbrev pub IsLookedInPart : JournalOptions → Option (List ℕ) → Option (Lis
 IsLookedInPart o before after =
     (s : Sight) × IsSight s × AppendsBeginning before after (seen_text o s)
 
--- a journal refuses for a row at fault alone
+-- a journal refuses only for a row at fault
 abbrev pub IsRowFault : JournalError → Type 0
 IsRowFault (journal.BadRow bad) = IsCopyFault bad
 IsRowFault _ = ⊥
@@ -92,7 +92,7 @@ IsFoundFault path (error.Journal p cause) = (p ≡ path) × IsRowFault cause
 IsFoundFault path error.OutOfMemory = ⊤
 IsFoundFault path _ = ⊥
 
--- what is written where a row is at fault: nothing, or the text of all else
+-- what is written where a row is at fault: nothing, or the text of everything else
 abbrev pub IsRowTold : JournalOptions → Option (List ℕ) → Option (List ℕ) → JournalError → Type 0
 IsRowTold o before after (journal.BadRow bad) =
     IsCopyFault bad × ((after ≡ before) ⊎ IsLookedBeside o bad before after)

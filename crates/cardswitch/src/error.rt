@@ -32,16 +32,16 @@ pub enum JournalFault {
     /// Another program has it open.
     #[error("in use by another program")]
     InUse,
-    /// It is another file than a journal's.
+    /// It is not a journal's file.
     #[error("not a journal of cardswitch")]
     NotAJournal,
-    /// It is another database than a journal's, or its disk refuses it: the store does not say which.
+    /// It is a database but not a journal's, or its disk refuses it: the store does not say which.
     #[error("not a journal of cardswitch, or its disk refuses it")]
     Refused,
-    /// It is refused as a journal otherwise.
+    /// It is refused as a journal for another reason.
     #[error("{0}")]
     Journal(JournalError),
-    /// Its copy was not of one moment, each time that it was read.
+    /// It changed each time that it was copied, so that no copy was of one moment.
     #[error("changed while it was read; try again")]
     Changed,
     /// It could not be read to its end.
@@ -113,8 +113,8 @@ impl fmt::Debug for RunError {
 }
 
 impl RunError {
-    /// This error of a run over the journal in the file at a path: where the journal refused, or the engine over
-    /// it, with its path.
+    /// This error of a run over the journal in the file at a path: if the journal refused, or the engine over it,
+    /// the error with the path.
     pub fn over_file(self, path: Text) -> RunError
         ensures { result ≡ error_at path self }
     {
@@ -125,8 +125,8 @@ impl RunError {
         }
     }
 
-    /// The exit status of a run that ends with this error: 1 for a refused input and for failed reads
-    /// and writes, 3 where a journal refused, 4 where memory ran out.
+    /// The exit status of a run that ends with this error: 1 for a refused input and for failed reads and writes,
+    /// 3 if a journal refused, 4 if memory ran out.
     pub fn status(&self) -> u8
         ensures { result ≡ run_status self.now }
     {

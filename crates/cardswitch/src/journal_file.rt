@@ -4,8 +4,8 @@ use std::alloc::Global;
 use std::fs::{self, File};
 use std::io::{self, Read, Write};
 
-/// The bytes of a page of a new journal. Its rows are short, and a commit writes each page that it changes whole, so
-/// that larger ones would be written for little.
+/// The size of a page of a new journal, in bytes. Its rows are short, and a commit writes each page that it
+/// changes whole, so with larger pages much would be written for little.
 const PAGE: u64 = 512;
 
 /// The first page of a database without tables, up to the zeros with which it ends, as SQLite's file format has it: the
@@ -22,8 +22,8 @@ const EMPTY: &[u8] = b"SQLite format 3\x00\
 /// The bytes with which a database begins.
 const HEADER: &[u8; 16] = b"SQLite format 3\x00";
 
-/// Whether a file that is not empty begins otherwise than a database, and no log of changes is beside it, from which
-/// the database could still be made. The store would lay a log beside it before it refuses it.
+/// Whether a file is not empty, does not begin as a database does, and has no log of changes beside it from which
+/// the database could still be made. The store would make a log beside such a file before refusing it.
 pub fn is_foreign(rt: &HostRuntime, alloc: Global, path: &str) -> io::Result<bool> {
     let mut first = [0u8; 16];
     let count = File::open(rt, path)?.read(&mut first)?;
@@ -34,7 +34,7 @@ pub fn is_foreign(rt: &HostRuntime, alloc: Global, path: &str) -> io::Result<boo
     Ok(!fs::exists(rt, log.as_str())?)
 }
 
-// Writes a database without tables, where no file is.
+// Writes a database without tables at a path where no file is.
 fn write_empty(rt: &HostRuntime, path: &str) -> io::Result<()> {
     let mut file = File::create_new(rt, path)?;
     file.write_all(EMPTY)?;
@@ -42,11 +42,12 @@ fn write_empty(rt: &HostRuntime, path: &str) -> io::Result<()> {
     file.sync_all()
 }
 
-/// Makes the file of a journal without tables at a path where nothing is. It is written beside that path and linked
-/// there whole, so that no process finds a part of it, and a file that another process made meanwhile is kept.
+/// Makes a journal's file, without tables, at a path where nothing is. It is written beside that path and then
+/// linked there whole, so that no process finds a part of it, and a file that another process has made in the
+/// meantime is kept.
 ///
-/// Where none is made, as where `PATH-new` exists already, which stays as it is, the journal is
-/// made as it is opened, with pages of the library's size.
+/// If none is made, for example because `PATH-new` exists already (which stays as it is), the journal is made when
+/// it is opened, with pages of the library's size.
 pub fn lay(rt: &HostRuntime, alloc: Global, path: &str) -> io::Result<()> {
     if path == ":memory:" || path.starts_with("file:") || fs::exists(rt, path)? {
         return Ok(());

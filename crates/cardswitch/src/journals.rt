@@ -50,7 +50,8 @@ fn open<S: Alter + Drop>(alloc: Global, conn: Connection<S>) -> Result<Journal<S
     }
 }
 
-// Why the library does not open a file: the system's own cause, where reading its beginning or laying it met one.
+// Why the library does not open a file: the system's own cause, if reading the file's beginning or making the file
+// met one.
 fn fault_of(error: Error, read: io::Result<bool>, laid: io::Result<()>) -> JournalFault {
     if let Error::SqliteFailure(ErrorCode::DatabaseBusy) = error {
         return JournalFault::InUse;
@@ -72,7 +73,7 @@ pub fn refusal(alloc: Global, path: &str, cause: JournalFault) -> RunError
     }
 }
 
-/// Opens the journal of the file at a path. Where no file is, one is made.
+/// Opens the journal of the file at a path. If there is no file, one is made.
 pub fn open_file(
     alloc: Global,
     rt: &HostRuntime,
@@ -85,7 +86,7 @@ pub fn open_file(
     if let Ok(true) = read {
         return Err(refusal(alloc, path, JournalFault::NotAJournal));
     }
-    // Where no file was laid, the journal is made as it is opened.
+    // If no file was made here, the journal is made when it is opened.
     let laid = lay(rt, alloc, path);
     match Connection::open(rt, path) {
         Ok(conn) => open_at(alloc, path, conn),

@@ -56,7 +56,8 @@ fn uncopied(alloc: Global, path: &str, error: CopyError) -> RunError
     }
 }
 
-/// What is shown of a journal: all of it, or, where rows are at fault, the first of them and all else.
+/// What is shown of a journal: all of it, or, if rows are at fault, the first of them and everything but those
+/// rows.
 #[derive(Drop)]
 enum Sight {
     Whole(Found),
@@ -71,7 +72,7 @@ fn bad_row(path: Text, bad: BadRow) -> RunError
     RunError::Journal { path, cause }
 }
 
-// What is shown of a copy that holds no sound journal: of one with rows at fault all else.
+// What is shown of a copy that holds no sound journal: if rows are at fault, everything else.
 fn in_part(alloc: Global, path: &str, error: LookError) -> Result<Sight, RunError>
     requires bad { IfBadRow IsCopyFault error }
     requires rest { IfRest error }
@@ -105,7 +106,7 @@ fn sight_of<F: Files>(alloc: Global, files: &F, path: &str) -> Result<Sight, Run
     }
 }
 
-// Writes what is printed of a journal without these rows at fault, after an error a beginning of it.
+// Writes what is printed of a journal without these rows at fault; after an error, a beginning of it.
 fn print_rows<O: Write>(
     alloc: Global,
     options: &JournalOptions<'_>,
@@ -144,8 +145,8 @@ fn print<O: Write>(
     }
 }
 
-/// Prints what the journal of the file at a path holds, and changes nothing. Of a journal with rows
-/// at fault it prints all else, and refuses the first of them.
+/// Prints what the journal of the file at a path holds, and changes nothing. If rows of the journal are at fault,
+/// it prints everything else, and reports the first of them as an error.
 pub fn look_into<F: Files, O: Write>(
     alloc: Global,
     files: &F,

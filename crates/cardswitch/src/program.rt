@@ -31,9 +31,9 @@ use std::sync::Wait;
 use std::thread::Threads;
 use std::time::Clock;
 
-/// Runs a subcommand, and gives the exit status: 0 where it is done, or else that of the error, which
-/// is reported. What it prints goes to `out`, and the error's text to `err`. Files that the options name
-/// are opened through `rt`, and sessions run as threads by `threads`.
+/// Runs a subcommand, and gives the exit status: 0 if it is done, and otherwise that of the error, which is
+/// reported. What it prints goes to `out`, and the error's text to `err`. Files that the options name are opened
+/// through `rt`, and sessions run as threads by `threads`.
 pub fn run<
     T: Threads + Wait + Clock + Sync + Clone + Drop + Send + 'static,
     R: Read + Drop,
@@ -65,12 +65,12 @@ pub fn run<
 fn report<E: Write>(error: &RunError, err: &mut E) -> u8
     ensures { result ≡ run_status error.now }
 {
-    // Where standard error takes nothing the status still says it.
+    // If standard error takes nothing, the status still tells of the error.
     let _ = writeln!(err, "cardswitch: {error}");
     error.status()
 }
 
-// `asm` with this program's errors (apart, so that the proof of `run_subcommand` has its clauses alone).
+// `asm` with this program's errors (apart, so that the proof of `run_subcommand` has only its clauses).
 fn asm<R: Read + Drop, O: Write>(alloc: Global, input: R, out: &mut O) -> Result<(), RunError>
     ensures done { OnOk result (IsAssembled
         (R.remaining input) (O.contents out.old) (O.contents out.new)) }
@@ -80,7 +80,7 @@ fn asm<R: Read + Drop, O: Write>(alloc: Global, input: R, out: &mut O) -> Result
     Ok(cli_flows::asm(alloc, input, out)?)
 }
 
-// The same of `list`.
+// The same for `list`.
 fn list<R: Read + Drop, O: Write>(alloc: Global, input: R, out: &mut O) -> Result<(), RunError>
     ensures done { OnOk result (IsListed
         (R.remaining input) (O.contents out.old) (O.contents out.new)) }
@@ -96,7 +96,7 @@ fn form_of(dot: bool) -> Form
     if dot { Form::Dot } else { Form::Mermaid }
 }
 
-// Writes the picture of the flow in the flow file at a path, after an error a beginning of it.
+// Writes the picture of the flow in the flow file at a path; after an error, a beginning of it.
 fn graph<O: Write>(
     alloc: Global,
     rt: &HostRuntime,
@@ -177,8 +177,8 @@ fn run_subcommand<
     }
 }
 
-/// Writes help or the version to `out`, where the words ask for one: `text`, which is that of the error. After a
-/// failed write a beginning of it is written. Of words that are refused nothing is written.
+/// Writes help or the version to `out`, if the words of the command line ask for one: `text`, which is the text of
+/// the error. After a failed write, a beginning of it is written. If the words are refused, nothing is written.
 pub fn show<O: Write>(error: &OptionsError, text: &str, out: &mut O) -> Result<(), WriteError>
     ensures asked { status_of error.now ≡ 0
         → IsShown text.now (O.contents out.old) (O.contents out.new) result }
@@ -191,14 +191,15 @@ pub fn show<O: Write>(error: &OptionsError, text: &str, out: &mut O) -> Result<(
     write_out(out, text.as_bytes())
 }
 
-/// Gives the exit status of words that give no options. For help and the version that is 0, or the status of the
-/// failed write where `shown` is one, and `err` gets its text. `err` also gets why other words are refused.
+/// Gives the exit status for words that give no options. For help and the version that is 0, or, if `shown` is a
+/// failed write, the status of that, and its text goes to `err`. If the words are refused, the reason goes to
+/// `err`.
 pub fn refuse<E: Write>(error: &OptionsError, shown: Result<(), WriteError>, err: &mut E) -> u8
     ensures status { result ≡ refused_status error.now shown }
     ensures quiet { result ≡ 0 → Keeps (E.contents err.old) (E.contents err.new) }
 {
     if error.use_stderr() {
-        // Where standard error takes nothing the status still says it.
+        // If standard error takes nothing, the status still tells of the error.
         let _ = write!(err, "{error}");
         return error.status();
     }
@@ -208,8 +209,8 @@ pub fn refuse<E: Write>(error: &OptionsError, shown: Result<(), WriteError>, err
     }
 }
 
-/// Reports that the words of the command line could not be read, and gives the exit status: 4 where memory ran out,
-/// and else 2, since they are not text.
+/// Reports that the words of the command line could not be read, and gives the exit status: 4 if memory ran out,
+/// and otherwise 2, since they are not text.
 pub fn refuse_words<E: Write>(error: io::Error, err: &mut E) -> u8
     ensures memory { error_kind error ≡ ErrorKind.OutOfMemory → result ≡ 4 }
     ensures no_text { (error_kind error ≢ ErrorKind.OutOfMemory) → result ≡ 2 }

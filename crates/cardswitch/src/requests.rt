@@ -32,7 +32,7 @@ use std::time::Clock;
 use sw_participant::Text;
 use tx_journal::Journal;
 
-// Runs over a journal. Then the lines of the hosts are written, where the numbers of the run are wanted.
+// Runs over a journal. Then the lines of the hosts are written, if the numbers of the run are wanted.
 fn serve<S: Alter + Drop, T: Threads + Wait + Clock + Sync, R: Read + Drop, O: Write, E: Write>(
     threads: &T,
     alloc: Global,
@@ -57,7 +57,7 @@ fn serve<S: Alter + Drop, T: Threads + Wait + Clock + Sync, R: Read + Drop, O: W
     Ok(ended?.into_result()?)
 }
 
-// What became of a run over the journal in the file at a path: where the journal refused, or the engine over it, the
+// What became of a run over the journal in the file at a path: if the journal refused, or the engine over it, the
 // error names the file.
 fn in_file(path: Text, ended: Result<(), RunError>) -> Result<(), RunError>
     ensures { result ≡ ended_at path ended }
@@ -116,7 +116,7 @@ fn stats_by<C: Clock>(rt: &C, lines: StatsLines) -> Option<Stats>
     }
 }
 
-// Where a run writes beside its responses: the trace and the numbers, where the options want them.
+// Where a run writes besides its responses: the trace and the numbers, if the options want them.
 fn stderr_by<'a, C: Clock, E>(
     rt: &C,
     options: &RunOptions<'_>,
@@ -139,8 +139,8 @@ fn stderr_by<'a, C: Clock, E>(
     }
 }
 
-// Answers the requests of an input by a flow and a configuration. (Both come as what became of their files, so that
-// contracts can say whose fault is the first.)
+// Answers the requests of an input by a flow and a configuration. (Each is given as the result of reading its
+// file, so that contracts can say which file's fault is reported first.)
 fn answer_by<
     R: Read + Drop,
     O: Write,
@@ -256,7 +256,7 @@ fn recover_by<T: Threads + Wait + Clock + Sync, O: Write>(
     in_file(named, ended)
 }
 
-/// Finishes what the journal in a file has unfinished, and prints the lines.
+/// Finishes what the journal in a file has unfinished, and prints the lines of the history.
 pub fn recover<T: Threads + Wait + Clock + Sync, O: Write>(
     threads: &T,
     alloc: Global,

@@ -27,8 +27,8 @@ fn file_flow(alloc: Global, rt: &HostRuntime, path: Option<&str>) -> Result<Opti
     }
 }
 
-// Runs the script of an input, each line before the next one is read. (The flow comes as what became of its file, so
-// that contracts can say that its fault is the first.)
+// Runs the script of an input, each line before the next one is read. (The flow is given as the result of reading
+// its file, so that contracts can say that its fault is reported first.)
 fn step_over<R: Read + Drop, O: Write>(
     alloc: Global,
     file: Result<Option<Flow>, RunError>,
@@ -64,7 +64,8 @@ fn step_script<R: Read + Drop, O: Write>(
     step_over(alloc, file, input, out)
 }
 
-// Answers the lines of an input at a prompt. (The flow comes as what became of its file, as in `step_over`.)
+// Answers the lines of an input at a prompt. (The flow is given as the result of reading its file, as in
+// `step_over`.)
 fn prompt_over<R: Read + Drop, O: Write, E: Write>(
     alloc: Global,
     file: Result<Option<Flow>, RunError>,

@@ -43,7 +43,7 @@ advances_none step x = record {
   advisor = refl;
 }
 
--- rounds more
+-- further rounds
 abbrev advances_serves : (step : AdviceStep) (rs ss : List Round) (x y : Stage) (q : Point) (c : Option (List ℕ)) → Advances step rs x y →
     Serves ss y.point y.out q c → Advances step (rs ++ ss) x (stage y.advisor q c)
 advances_serves step rs ss x y q c a s = record {

@@ -73,7 +73,7 @@ one_frame o r text is framed = rw is (text, [], sym (append-nil text), framed, r
 pub no_frame : (o : Option (List ℕ)) → o ≡ None → AreFramed [] (with_response o [])
 no_frame o is = rw is refl
 
--- the frame of one context's response more
+-- the frame of one more context's response
 pub framed_more : (text framed : List ℕ) (es : List (ℕ × Pairs)) (e : ℕ × Pairs) → AreFramed text (responses es) →
     AreFramed framed (with_response (response e.1) []) → AreFramed (text ++ framed) (responses (es ++ e ∷ []))
 framed_more text framed es e h k = subst (AreFramed (text ++ framed)) (sym (responses_more es e))

@@ -34,7 +34,7 @@ as_last form ls l =
 same_line : (x y : List ℕ) → ◌≡◌ {A = Option (List ℕ)} (Some x) (Some y) → x ≡ y
 same_line x y e = cc
 
--- one line more
+-- one more line
 pub lines_next : (form : Form) (f : Flow) (v : Start) (past : List Event) (n : ℕ) (text : List ℕ) → n < length past →
     at_number (line_as form f v) past (n + 1) ≡ Some text
     → all_as form f v (earlier (n + 1) past) ≡ all_as form f v (earlier n past) ++ (text ++ 10 ∷ [])

@@ -31,7 +31,7 @@ pub for_serves : (threads : Bool) (frames : List (List ℕ)) (p q : Point) (a b 
     ServesFor threads (requests frames) p a q b
 for_serves threads frames p q a b k l s = (s.rounds, s.answers, s.reports.serves)
 
--- one message more
+-- one more message
 pub message_more : (list : List (Vec ℕ)) (i : ℕ) (m : Vec ℕ) (bytes : List ℕ) (p q r : Point) (a b c : Option (List ℕ)) (x y z : Log) → i < length list →
     m ≡ get_or list i m → bytes ≡ m.items
     → Reports (answering (requests (messages (take i list)))) (passed_over (messages (take i list))) p a x q b y →

@@ -30,7 +30,7 @@ use Rattle.cli_run.specs.Advices.{one_delivered}
 use Rattle.cli_run.specs.Rounds.{Does, IsDone, IsEmptied, MayCut}
 use Rattle.cli_run.proofs.Doings.{did, entries_length, unraised}
 
--- the world is another, and all else of the plant's core is the same
+-- the world is another, and the rest of the plant's core is the same
 pub record Apart (p q : Point) : Type 0 where
   pub core : q.plant.core ≡ record p.plant.core { world = world_at q }
   pub answered : q.answered ≡ p.answered

@@ -191,7 +191,7 @@ pub answering_append : (xs ys : List Pairs) → answering (xs ++ ys) ≡ answeri
 answering_append [] ys = refl
 answering_append (x ∷ xs) ys = ap (λ (l : List Round). Offered x ∷ Completed ∷ l) (answering_append xs ys)
 
--- what was written meanwhile
+-- what was written to standard error
 
 pub reports_none : (p : Point) (o : Option (List ℕ)) (l : Log) → Reports [] 0 p o l p o l
 reports_none p o l = record { serves = serves_none p o; tells = tells_none l }
@@ -222,7 +222,7 @@ pub reports_both : (ds bs : List Round) (m n k : ℕ) (p q r : Point) (a b c : O
     Reports bs n q b y r c z → Reports (ds ++ bs) k p a x r c z
 reports_both ds bs m n k p q r a b c x y z is s t = subst (λ (i : ℕ). Reports (ds ++ bs) i p a x r c z) (sym is) (reports_then ds bs m n p q r a b c x y z s t)
 
--- the queue and the shelf are emptied by and by
+-- the queue and the shelf are emptied, round by round
 
 pub retries_append : (ds bs : List Round) → AllByRecursion IsRetry ds → AllByRecursion IsRetry bs → AllByRecursion IsRetry (ds ++ bs)
 retries_append [] bs h k = k

@@ -1,4 +1,4 @@
--- A whole run of its parts.
+-- A whole run, from its parts.
 -- for: serving::Over::run
 use Rattle.std.proofs.Common.{◌≡◌, ℕ, ◌-◌, Bool, List, ◌++◌, Option, Result, Ok, Err, ap, refl, sym, subst, ◌∙◌}
 use Rattle.std.specs.Prelude.{IfOk, OnOk}
@@ -23,7 +23,7 @@ use Rattle.cli_run.proofs.Tracing.{lines_before, lines_then}
 use Rattle.cli_run.specs.Rounds.{IsEmptied, Recovers, Round}
 use Rattle.cli_run.proofs.Recoveries.{made_view}
 
--- the id from which on a run's own transactions are
+-- the id of a run's first own transaction
 pub first_is : (f : Flow) (n : ℕ) (view : JournalView) (j : Seen) (p : Whole) (first : ℕ) → IsMade f n view j p → first ≡ p.core.world.start.view.next_id →
     first ≡ view.next_id
 first_is f n view j p first made is = is ∙ ap (λ (v : JournalView). v.next_id) (made_view f n view j p made)
@@ -57,7 +57,7 @@ begun_next f n view j made first id r is first_at before recovers = refl
 abbrev pub ServesTold : AdviceStep → List Round → Point → Option (List ℕ) → Option (List ℕ) → ℕ → Log → Log → PlainAdvisor → Type 0
 ServesTold step rounds r a b n k l advisor = (s : ServesAll step rounds r advisor a b) × TellsAll (all_lines s) n s.end k l
 
--- what sends the advices of a run, by the id that the engine tells
+-- what sends the advices of a run, by the id that the engine gives
 pub advisor_is : (f : Flow) (n : ℕ) (view : JournalView) (j : Seen) (made : Whole) (first : ℕ) (advisor : PlainAdvisor) (sender : PlainSender) (most : ℕ) →
     IsMade f n view j made → first ≡ made.core.world.start.view.next_id → advisor ≡ begun_advisor sender most first
     → advisor ≡ begun_advisor sender most view.next_id

@@ -263,7 +263,7 @@ passed_over_next list i m bytes lt at is =
     let one : passed_over (m.items ∷ []) ≡ if_passed (read bytes) = add-zero (if_passed (read m.items)) ∙ ap (λ (l : List ℕ). if_passed (read l)) (sym is) in
     whole ∙ ap (λ (k : ℕ). passed_over (messages (take i list)) + k) one
 
--- of one message more
+-- of one more message
 pub passed_more : (list : List (Vec ℕ)) (i : ℕ) (m : Vec ℕ) (bytes : List ℕ) (a b c : Log) → i < length list → m ≡ get_or list i m → bytes ≡ m.items →
     Tells [] (passed_over (messages (take i list))) a b → Tells [] (if_passed (read bytes)) b c
     → Tells [] (passed_over (messages (take (i + 1) list))) a c

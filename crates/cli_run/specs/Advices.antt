@@ -14,8 +14,8 @@ use Rattle.cli_run.specs.Traces.{Log, Tells}
 abbrev pub AdviceStep : Type 1
 AdviceStep = List ℕ → Bool → SenderStep
 
--- What sends the advices of a run. `most` is how many it sends between two reads at most; `first` is the id of the run's first
--- own transaction; `last` is the last advice that was sent in the run, by its transaction's id and its place.
+-- What sends the advices of a run. `most` is the most that it sends between two reads; `first` is the id of the run's first own
+-- transaction; `last` is the last advice that was sent in the run, by its transaction's id and its place.
 pub record PlainAdvisor : Type 0 where
   pub sender : PlainSender
   pub most : ℕ
@@ -31,7 +31,7 @@ abbrev pub is_up_to : ℕ × ℕ → Option (ℕ × ℕ) → Bool
 is_up_to a None = false
 is_up_to a (Some l) = nat_lt a.0 l.0 || (a.0 == l.0) && nat_le a.1 l.1
 
--- An advice is a repeat where an earlier run may have sent it, since it has a transaction of that run, or this one has.
+-- An advice is a repeat if an earlier run may have sent it, since its transaction is of such a run, or if this run has sent it.
 abbrev pub is_repeat : PlainAdvisor → ℕ × ℕ → Bool
 is_repeat s a = nat_lt a.0 s.first || is_up_to a s.last
 
@@ -55,7 +55,7 @@ pub record Sends (step : AdviceStep) (a : (ℕ × ℕ) × List ℕ) (s : PlainAd
   pub noted : t ≡ record s { sender = t.sender; last = last_with s a.0 }
   pub acks : Acks accepted a.0 p q
 
--- The switch is at rest. Queue and shelf are empty where they were.
+-- The switch is at rest. Queue and shelf are empty if they were before.
 pub record StaysAtRest (p q : Point) : Type 0 where
   pub rest : IsAtRest q
   pub emptied : IsEmptied (world_at p) → IsEmptied (world_at q)
@@ -69,7 +69,7 @@ SendsAll step (a ∷ more) s p t q = (u : PlainAdvisor) × (w : Point) × Sends 
 abbrev pub stored_at : Point → List ((ℕ × ℕ) × List ℕ)
 stored_at p = advices (world_at p).flow (world_at p).start (world_at p).past
 
--- between two reads: the first of the stored advices are sent, at most so many; then the history may be cut
+-- between two reads: the first of the stored advices are sent, at most `most` of them; then the history may be cut
 pub record Between (step : AdviceStep) (s : PlainAdvisor) (p : Point) (lines : List Line) (t : PlainAdvisor) (q : Point) : Type 0 where
   pub sent : Point
   pub sends : SendsAll step (take s.most (stored_at p)) s p t sent

@@ -7,14 +7,14 @@ use Rattle.tx_plant.specs.Plant.{Seen, Whole}
 use Rattle.tx_plant.specs.Steps.{Moved}
 use Rattle.plant_outcome.specs.Lives.{AllDriven, Drive, HoldsOf, IsLife, Life, all_calls}
 
--- calls of `drive` lead from a new plant to its last state, and of all calls the outcome law holds
+-- calls of `drive` lead from a new plant to its last state, and the outcome law holds of all calls
 pub record Keeps (f : Flow) (view : JournalView) (made : Whole) (calls : List PlantDeed) (end : Whole) : Type 0 where
   pub drives : List Drive
   pub moves : List Moved
   pub driven : AllDriven drives moves made end
   pub holds : HoldsOf (all_calls f moves view calls) end
 
--- the life of a plant: opened on this journal and view, and left so
+-- the life of a plant: opened on this journal and view, and left in this state
 pub record IsLifeOf (f : Flow) (sessions : ℕ) (found : Seen) (view : JournalView) (end : Whole) (l : Life) : Type 0 where
   pub is_life : IsLife f l
   pub sessions_are : l.sessions ≡ sessions

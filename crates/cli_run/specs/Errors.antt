@@ -24,7 +24,7 @@ use Rattle.cli_run.specs.declared.error.ServeError.TheVariants.{OutOfMemory, Poo
 use Rattle.cli_run.specs.declared.stream.StreamEnd.{StreamEnd}
 use Rattle.cli_run.specs.declared.stream.StreamEnd.TheVariants.{Whole, BadLength, Truncated, Unread}
 
--- out of memory is an error of its own, and all else is carried
+-- out of memory is an error of its own, and every other error is carried over
 abbrev pub error_of_engine : EngineError → ServeError
 error_of_engine engine.OutOfMemory = OutOfMemory
 error_of_engine e = Engine e
@@ -37,7 +37,7 @@ abbrev pub error_of_write : WriteError → ServeError
 error_of_write write.OutOfMemory = OutOfMemory
 error_of_write e = Write e
 
--- of a journal out of memory is carried too: it is the journal that refused
+-- a journal's out of memory is carried over too: it is the journal that refused
 abbrev pub error_of_plant : PlantError → ServeError
 error_of_plant (plant.Engine e) = error_of_engine e
 error_of_plant (plant.Journal e) = Journal e
@@ -58,7 +58,7 @@ IsDouble names place OutOfMemory = ⊤
 IsDouble names place (Seating e) = slice_get names place ≡ None
 IsDouble names place _ = ⊥
 
--- why no plant was made of stations with these names, and so many sessions
+-- why no plant was made of stations with these names, and this many sessions
 abbrev pub IsCause : Flow → List (List ℕ) → ℕ → PlantError → ServeError → Type 0
 IsCause f names sessions (plant.Seating (seating.NoStation n)) e = IsNoStation f n e
 IsCause f names sessions (plant.Seating (seating.DoubleStation place)) e = IsDouble names place e

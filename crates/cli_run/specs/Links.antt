@@ -16,7 +16,7 @@ sender_with state routes links = record { routes = routes; links = link_states s
 abbrev pub switch_routes : List Routing
 switch_routes = routing (codes "4") (codes "alpha") ∷ routing (codes "5") (codes "beta") ∷ routing (codes "55") (codes "alpha") ∷ []
 
--- by these routes, over links that are shown so
+-- by these routes, over links with these states
 abbrev pub sender_of : List ℕ → List ℕ → PlainSender
 sender_of alpha beta = record { routes = switch_routes; links = (codes "alpha", alpha) ∷ (codes "beta", beta) ∷ [] }
 

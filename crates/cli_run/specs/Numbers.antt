@@ -16,6 +16,6 @@ begun_in w first = record { last = first - 1; counts = no_tally; found = length 
 abbrev pub given_since : Point → ℕ
 given_since p = min (length (stored_at p) + p.answered.counts.delivered) (2 ^ 64 - 1) - p.answered.found
 
--- where so many messages were passed over
+-- the numbers at a point, if this many messages were passed over
 abbrev pub numbers_at : Point → ℕ → Numbers
 numbers_at p passed = record { tally = p.answered.counts; passed = passed; stored = given_since p }

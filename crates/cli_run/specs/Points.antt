@@ -93,11 +93,11 @@ abbrev pub response_of : Option Pairs → List (List ℕ)
 response_of None = []
 response_of (Some x) = with_response (response x) []
 
--- a history of so many entries is cut between two transactions
+-- a history of this many entries is cut between two transactions
 abbrev pub is_long : World → Bool
 is_long w = nat_le 524288 (length w.past)
 
--- Between two transactions: no session holds one, every entry is written, every response is given, and that of no transaction
+-- Between two transactions: no session holds one, every entry is written, every response is given, and none is of a transaction
 -- to come.
 pub record IsAtRest (p : Point) : Type 0 where
   pub seated : Seated p.plant.core

@@ -14,11 +14,11 @@ use Rattle.cli_run.specs.Advices.{AdviceStep, PlainAdvisor, SendsAll, begun_advi
 use Rattle.cli_run.specs.Legs.{Advances, Stage, lines_of, stage}
 use Rattle.cli_run.specs.Numbers.{begun_in}
 
--- a new plant, of which no response of the journal's own transactions is given, and nothing is counted
+-- a new plant: responses of the journal's own transactions are not to be given, and nothing is counted
 abbrev pub made_at : Whole → JournalView → Point
 made_at made view = record { plant = made; answered = begun_in made.core.world view.next_id }
 
--- The first of a run: a plant is made on the view of the journal, and recovers.
+-- The beginning of a run: a plant is made on the view of the journal, and recovers.
 pub record Begins (f : Flow) (sessions : ℕ) (j : Seen) (p : Point) : Type 0 where
   pub view : JournalView
   pub made : Whole
@@ -62,7 +62,7 @@ pub record Closes (step : AdviceStep) (p : Point) (advisor : PlainAdvisor) (befo
   pub rest : IsAtRest q
   pub emptied : IsEmptied (world_at q)
 
--- A run with an input: it recovers first. Between two reads it sends at most so many stored advices.
+-- A run with an input: it recovers first. Between two reads it sends at most `most` stored advices.
 pub record Ran (f : Flow) (sessions : ℕ) (j : Seen) (step : AdviceStep) (sender : PlainSender) (most : ℕ) (rounds : List Round)
     (before after : Option (List ℕ)) : Type 0 where
   pub recovered : Point

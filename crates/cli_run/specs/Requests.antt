@@ -38,12 +38,12 @@ pub record Reads (before left : Option (List ℕ)) (frames : List (List ℕ)) (s
   pub consumes : Consumes before left taken
   pub stream : Stream taken frames s
 
--- a piece has these frames more, whatever came before it
+-- a piece has these further frames, whatever came before it
 abbrev pub FramesIn : List ℕ → List (List ℕ) → State → State → Type 0
 FramesIn piece more s t =
     (before : List ℕ) (frames : List (List ℕ)) → Stream before frames s → Stream (before ++ piece) (frames ++ more) t
 
--- these frames more were read
+-- these further frames were read
 abbrev pub ReadsOn : Option (List ℕ) → State → List (List ℕ) → Option (List ℕ) → State → Type 0
 ReadsOn left s more then t =
     (before : Option (List ℕ)) (frames : List (List ℕ)) → Reads before left frames s → Reads before then (frames ++ more) t

@@ -22,7 +22,7 @@ use Rattle.cli_run.specs.Lines.{Line, lines_in}
 use Rattle.cli_run.specs.Points.{IsAllWritten, IsAtRest, IsIdle, IsReady, Point, all_answered, ended_at, is_long, next_at, response_of, responses, unanswered}
 use Rattle.cli_run.specs.Points.{with_ended, world_at}
 
--- calls of `drive`, one after the other; no response is given meanwhile
+-- calls of `drive`, one after the other; no response is given in between
 pub record Acts (drives : List Drive) (p q : Point) : Type 0 where
   pub moved : List Moved
   pub driven : AllDriven drives moved p.plant q.plant
@@ -171,7 +171,7 @@ abbrev pub RoundsFor : Bool → List Pairs → List Round → Type 0
 RoundsFor false requests rounds = untrimmed rounds ≡ answering requests
 RoundsFor true requests rounds = (offered_in rounds ≡ requests) × AllByRecursion IsOfBatches rounds
 
--- of batches that were not all run, those that are to come stand after them
+-- rounds on the way to that: with threads, batches of the last requests may be missing
 abbrev pub RoundsToward : Bool → List Pairs → List Round → Type 0
 RoundsToward false requests rounds = untrimmed rounds ≡ answering requests
 RoundsToward true requests rounds = (later : List Pairs) × (requests ≡ offered_in rounds ++ later) × AllByRecursion IsOfBatches rounds
@@ -193,7 +193,7 @@ pub record Drains (p : Point) (before : Option (List ℕ)) (q : Point) (after : 
   pub rest : IsAtRest q
   pub emptied : IsEmptied (world_at q)
 
--- A recovery: turns that write and step session 0 alone. Then nothing is to recover, and nothing waits in the queue.
+-- A recovery: turns that only write or step session 0. Then nothing is left to recover, and nothing waits in the queue.
 pub record Recovers (p q : Point) : Type 0 where
   pub turns : List Turn
   pub outcomes : List Outcome

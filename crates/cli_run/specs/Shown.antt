@@ -29,12 +29,12 @@ abbrev pub every_of : Option Stats → Option ℕ
 every_of None = None
 every_of (Some s) = s.every
 
--- a multiple of that number lies above so many requests, and not above so many
+-- a multiple of that number lies above `before`, and not above `now`
 abbrev pub is_due : Option ℕ → ℕ → ℕ → Bool
 is_due None before now = false
 is_due (Some n) before now = nat_lt 0 n && nat_lt (before / n) (now / n)
 
--- the line was shown where it is due since so many requests were answered
+-- the line was shown, if it has come due since `before` requests were answered
 abbrev pub ShowsIf : Bool → Numbers → Log → Log → Type 0
 ShowsIf true numbers a b = Shows numbers a b
 ShowsIf false numbers a b = b ≡ a

@@ -45,11 +45,11 @@ IsOfNext (Batched xs ∷ rounds) p text = (text ≡ []) ⊎ AnswersBatch xs p te
 IsOfNext (Alone x ∷ rounds) p text = (text ≡ []) ⊎ AnswersLone x p text
 IsOfNext rounds p text = text ≡ []
 
--- of the responses that were to be given a beginning is written
+-- a beginning of the responses that were to be given is written
 abbrev pub GivesSome : Point → Option (List ℕ) → Option (List ℕ) → Type 0
 GivesSome p before after = (text : List ℕ) × ((text ≡ []) ⊎ AreFramed text (responses (unanswered p))) × AppendsBeginning before after text
 
--- The first of these rounds were done, and all that they give is written; of what the next one was to give a beginning is.
+-- The first of these rounds were done, and all that they give is written, and then a beginning of what the next one was to give.
 pub record Halts (rounds : List Round) (p : Point) (before after : Option (List ℕ)) : Type 0 where
   pub done : List Round
   pub rest : List Round
@@ -71,12 +71,12 @@ pub record BeginsWith (input : Option (List ℕ)) (frames : List (List ℕ)) : T
   pub state : State
   pub reads : Reads input left frames state
 
--- of an input read so far, requests more were answered up to an error
+-- of an input read so far, further requests were answered, up to an error
 abbrev pub HaltsOn : Bool → Option (List ℕ) → State → Point → Option (List ℕ) → Option (List ℕ) → Type 0
 HaltsOn threads left s p before after = (input : Option (List ℕ)) (frames : List (List ℕ)) → Reads input left frames s
     → (more : List (List ℕ)) × BeginsWith input (frames ++ more) × HaltsToward threads (requests more) p before after
 
--- the first of these requests were answered, with advices sent between them, and of the others some, up to an error
+-- the first of these requests were answered, with advices sent between them, and some of the others, up to an error
 pub record HaltsLater (step : AdviceStep) (threads : Bool) (all : List Pairs) (x : Stage) (after : Option (List ℕ)) : Type 0 where
   pub first : List Pairs
   pub later : List Pairs

@@ -64,7 +64,7 @@ counted_in (Counted numbers milliseconds ∷ ps) = 1 + counted_in ps
 abbrev pub IsQuiet : Bool → List Piece → Type 0
 IsQuiet stats ps = stats ≡ false → counted_in ps ≡ 0
 
--- these lines of the trace were added, all and in this order, the lines of so many messages that are passed over, and lines of
+-- these lines of the trace were added, all and in this order, the lines of this many messages that are passed over, and lines of
 -- numbers where they are wanted
 pub record Adds (stats : Bool) (lines : List ℕ) (passed : ℕ) (before after : Option (List ℕ)) : Type 0 where
   pub pieces : List Piece
@@ -106,8 +106,8 @@ abbrev pub if_wanted : Option Form → List Line → List ℕ
 if_wanted (Some form) lines = written_as form lines
 if_wanted None lines = []
 
--- these lines of the trace were written, in the form in which it is wanted, if it is, and so many messages that are passed over, which
--- are counted: all is written, or, where a write failed, beginnings of these pieces
+-- these lines of the trace were written, in the form in which it is wanted, if it is, and those of this many messages that are passed
+-- over, which are counted: all is written, or, where a write failed, beginnings of these pieces
 pub record Tells (lines : List Line) (passed : ℕ) (a b : Log) : Type 0 where
   pub wanted : b.wanted ≡ a.wanted
   pub stats : b.stats ≡ a.stats
@@ -135,7 +135,7 @@ pub record Cuts (p : Point) (a : Log) (q : Point) (b : Log) : Type 0 where
   pub cuts : MayCut p lines q
   pub tells : Tells lines 0 a b
 
--- rounds were done, and the lines of the entries that were cut were written, beside so many messages that are passed over
+-- rounds were done, and the lines of the entries that were cut were written, and those of this many messages that are passed over
 pub record Reports (rounds : List Round) (passed : ℕ) (p : Point) (before : Option (List ℕ)) (a : Log) (q : Point) (after : Option (List ℕ))
     (b : Log) : Type 0 where
   pub serves : Serves rounds p before q after

@@ -54,7 +54,7 @@ fn advices_of(alloc: Global, engine: &Engine) -> Result<Vec<Stored>, AllocError>
     Ok(list)
 }
 
-// The oldest advices, at most so many. The others are not looked at.
+// The oldest advices, at most `most` of them. The others are not looked at.
 fn oldest_advices(alloc: Global, engine: &Engine, most: usize) -> Result<Vec<Stored>, AllocError>
     ensures { IfOk result (λ list. map plain list.items
         ≡ take most (advices engine.now.flow engine.now.start engine.now.past)) }
@@ -110,7 +110,7 @@ impl<L: Link> Model for Advisor<L> {
     } };
 }
 
-// Whether the advice comes no later than that one, ids and places rising.
+// Whether the advice comes no later than `last`, in the order of ids and then places.
 fn is_up_to(stored: &Stored, last: Option<Sent>) -> bool
     ensures { result ≡ is_up_to (stored_id stored.now) (option_map (λ l. (l.id, l.place)) last) }
 {
@@ -121,7 +121,8 @@ fn is_up_to(stored: &Stored, last: Option<Sent>) -> bool
 }
 
 impl<L: Link> Advisor<L> {
-    /// For a run whose first own transaction has this id, and that sends at most so many advices between two reads.
+    /// For a run whose first own transaction has the id `first`, and that sends at most `most` advices between two
+    /// reads.
     pub(crate) fn new(sender: Sender<L>, most: usize, first: u64) -> Advisor<L>
         ensures { result ≡ begun_advisor sender most first }
     {
@@ -133,7 +134,7 @@ impl<L: Link> Advisor<L> {
         }
     }
 
-    // How many advices it sends between two reads at most.
+    // The most advices that it sends between two reads.
     fn most(&self) -> usize
         ensures { result ≡ self.now.most }
     {
@@ -169,7 +170,7 @@ impl<L: Link> Advisor<L> {
         self.sender.send(stored.advice.as_slice(), is_repeat)
     }
 
-    // Sends an advice, as a repeat where it may have been sent before; whether it was accepted.
+    // Sends an advice, as a repeat if it may have been sent before. Returns whether it was accepted.
     fn send(&mut self, stored: &Stored) -> Result<bool, NoMemory>
         ensures sent { IfOk result (λ accepted.
             SendsAdvice L.sends L.receives L.starves (Unit {0})
@@ -187,7 +188,7 @@ impl<L: Link> Advisor<L> {
     }
 }
 
-// Sends an advice, and drops and counts it where its issuer accepts it.
+// Sends an advice, and drops and counts it if its issuer accepts it.
 fn send_advice<S: Alter, L: Link>(
     alloc: Global,
     switch: &mut Switch<S>,
@@ -234,7 +235,7 @@ fn send_each<S: Alter, L: Link>(
     Ok(())
 }
 
-/// Sends each stored advice once, ids and places rising, and drops those that their issuers accept.
+/// Sends each stored advice once, in the order of ids and places, and drops those that their issuers accept.
 pub(crate) fn send_advices<S: Alter, L: Link>(
     alloc: Global,
     switch: &mut Switch<S>,
@@ -252,8 +253,8 @@ pub(crate) fn send_advices<S: Alter, L: Link>(
     send_each(alloc, switch, advisor, &list)
 }
 
-/// Sends the oldest stored advices between two reads, at most as many as the advisor may; those that are accepted are
-/// dropped. The history is cut then, where it is long or its lines are wanted.
+/// Sends the oldest stored advices between two reads, at most as many as the advisor may; those that are accepted
+/// are dropped. Then the history is cut, if it is long or its lines are wanted.
 pub(crate) fn send_between<S: Alter, L: Link, E: Write>(
     alloc: Global,
     switch: &mut Switch<S>,

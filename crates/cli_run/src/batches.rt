@@ -69,7 +69,7 @@ impl<S: Alter + Drop> Switch<S> {
         self.finish(alloc, out, stderr)
     }
 
-    // Answers requests that came at once: two or more as one batch, and one alone. Where it ends with an
+    // Answers requests that came at once: two or more as one batch, and a single one alone. If it ends with an
     // error, the lines of the history are written all the same, unless a batch was given up.
     fn answer_batch<T: Threads + Wait + Sync, O: Write, E: Write>(
         self,
@@ -148,8 +148,8 @@ fn requests_in<E: Write>(
     Ok(found)
 }
 
-// Answers the requests among some messages, in batches. After each the numbers of the run are written where
-// that is due.
+// Answers the requests among some messages, in batches. After each batch the numbers of the run are written, if
+// they are due.
 fn answer_batches<S: Alter + Drop, T: Threads + Wait + Clock + Sync, O: Write, E: Write>(
     rt: &T,
     alloc: Global,

@@ -55,7 +55,7 @@ pub fn default_queried<L: Link>(
     Ok(links)
 }
 
-/// The links of stored advices, of the groups `alpha` and `beta`.
+/// The links that stored advices go over, for the groups `alpha` and `beta`.
 pub fn default_advised<L: Link>(
     alloc: Global,
     alpha: L,

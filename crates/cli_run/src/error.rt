@@ -24,25 +24,25 @@ pub enum ServeError {
     #[error("unknown participant {}; the switch has check, limits, route, reverse, standin, forward, respond, \
         and query_NAME for each link", .0.as_str())]
     NoStation(Text),
-    /// Two links have one name, so that this participant would be there twice.
+    /// Two links have the same name, so that this participant would be there twice.
     #[error("two links have the participant {}; expected links of different names", .0.as_str())]
     DoubleStation(Text),
     /// A link has this name.
     #[error("bad link name {}; expected at most 26 bytes of a-z A-Z 0-9 _ - .", .0.as_str())]
     BadLinkName(Text),
-    /// The stations do not suit the flow, by a place that neither has. No run ends so.
+    /// The stations do not suit the flow, at a place that neither of them has. No run ends with this error.
     #[error("{0}")]
     Seating(SeatingError),
-    /// The message of this number makes no context. No message does so.
+    /// The message of this number cannot be put in a context. No message causes this error.
     #[error("message {0}: {1}")]
     Request(u64, ContextError),
-    /// The engine may not have so many sessions.
+    /// The engine cannot have this many sessions.
     #[error("--sessions: {0} is not 1 to 16")]
     BadSessions(usize),
-    /// The engine refused a turn.
+    /// The engine refused to be opened on the journal, or refused a turn.
     #[error("the engine refused: {0}")]
     Engine(EngineError),
-    /// The journal refused, out of memory too.
+    /// The journal refused, also for out of memory.
     #[error("{0}")]
     Journal(JournalError),
     /// The input could not be read to its end.
@@ -51,10 +51,10 @@ pub enum ServeError {
     /// The output could not be written.
     #[error("standard output: cannot write: {0}")]
     Write(WriteError),
-    /// Four bytes in a length's place are not digits.
+    /// Four bytes in the place of a length are not digits.
     #[error("standard input: bad frame length; expected four digits")]
     BadLength,
-    /// The input ends within a frame, so many bytes after its beginning.
+    /// The input ends within a frame, this many bytes after the beginning of the frame.
     #[error("standard input: ends within a frame; found {0} bytes of it")]
     Truncated(usize),
     /// The response of this transaction does not fit a frame.
@@ -63,11 +63,11 @@ pub enum ServeError {
     /// The pool did not run.
     #[error("the pool did not run: {0}")]
     Pool(Early),
-    /// This entry of the history contradicts what a thread recorded of it.
+    /// The first entry of the history that contradicts what a thread recorded, or the number after the last entry.
     #[error("entry {0} of the history was not recorded by a thread")]
     Mismatch(usize),
-    /// A transaction took more steps than one has, or came back from the shelf more often than it may. No
-    /// transaction does.
+    /// A transaction took more steps than a transaction has, or came back from the shelf more often than it may.
+    /// No transaction does.
     #[error("a transaction did not end within the steps that one has")]
     Endless,
     /// No memory was left.
@@ -86,7 +86,7 @@ impl From<EngineError> for ServeError {
     }
 }
 
-// Out of memory stays the journal's own refusal.
+// Out of memory remains the journal's own refusal.
 impl From<JournalError> for ServeError {
     ghost from_gives = { λ e f. f ≡ serve.Journal e };
 

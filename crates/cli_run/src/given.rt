@@ -35,8 +35,8 @@ fn add_frame(
     }
 }
 
-/// The frames of the responses of the transactions with ids above this one, ids rising. `LongResponse` where
-/// one has more than the 9,999 bytes of a frame.
+/// The frames of the responses of the transactions with ids above this one, ids rising. `LongResponse` if a
+/// response is longer than the 9,999 bytes that a frame may have.
 pub(crate) fn text_above(
     alloc: Global,
     ended: &BTreeMap<u64, Context>,
@@ -66,7 +66,7 @@ pub(crate) fn count_above(
     Ok(())
 }
 
-/// The greatest id, if it is above this one.
+/// The greatest id of the transactions that ended, or this one if that is not above it.
 pub(crate) fn last_above(ended: &BTreeMap<u64, Context>, id: u64) -> u64
     ensures { result ≡ last_id id (above id ended.now.entries) }
 {

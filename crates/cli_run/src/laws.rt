@@ -15,11 +15,11 @@ ghost use Rattle.cli_run.specs.Rounds.{Round};
 use plant_outcome::plants_keep_the_law;
 use sw_parts::Link;
 
-/// The outcome law of every run that ends without an error, with threads or without, over links of any
-/// type: where it holds of the calls made before, and of the view that the run's plant was made on, it
-/// holds of all calls with those of the run, and of the journal that the run leaves. So it is where the
-/// run recovers alone. A run is a life of a plant, as `plant_outcome::stops_keep_the_law` speaks of them.
-/// The disk has to have returned what was written.
+/// Every run that ends without an error keeps the outcome law, with threads or without, over links of any type: if
+/// the law holds of the calls made before, and of the view that the run's plant was made on, it holds of these
+/// calls together with those of the run, and of the journal that the run leaves. The same is true of a run that
+/// only recovers. A run is a life of a plant in the sense of `plant_outcome::stops_keep_the_law`. The disk has to
+/// have returned what was written.
 pub fn runs_keep_the_law<L: Link>()
     ensures ran { (f : Flow) (n : ℕ) (j : Seen) (sender : PlainSender) (most : ℕ)
         (rounds : List Round) (before after : Option (List ℕ)) (calls : List PlantDeed)

@@ -1,12 +1,11 @@
-//! `run`: requests in frames to responses in frames, one transaction after the other.
+//! `run`: answers requests in frames with responses in frames, one transaction after the other or in batches.
 //!
-//! [`run`] makes a plant of the switch's participants over a journal. It recovers what the journal has
-//! unfinished, then answers each request as it comes: its response is written and flushed once the last
-//! entry of its transaction is written. After the last request the shelf is released and drained, and the
-//! stored advices are sent to the issuers. Where they are wanted, lines with the numbers of the run go to
-//! standard error.
+//! [`run`] makes a plant of the switch's participants over a journal. It recovers what the journal has unfinished,
+//! then answers each request as it comes: its response is written and flushed once the last entry of its
+//! transaction is written. After the last request the shelf is released and drained, and the stored advices are
+//! sent to the issuers. If they are wanted, lines with the numbers of the run go to standard error.
 //!
-//! The links, the routes and the limits come from the caller ([`Setup`]); [`default_routes`] and its like are
+//! The links, the routes and the limits come from the caller ([`Setup`]); [`default_routes`] and the like are
 //! those of the switch without a configuration.
 #![tactic(auto)]
 

@@ -1,4 +1,4 @@
-//! How far the answers of a run are.
+//! How far a run has come with its answers.
 
 ghost use Rattle.std.specs.Prelude.{◌≡◌};
 ghost use Rattle.cli_run.specs.Numbers.{begun_in};
@@ -29,7 +29,7 @@ impl Drop for Progress {
 }
 
 impl Progress {
-    /// Before the first transaction of a run, which has this id.
+    /// The progress before the first transaction of a run, which has the id `first`.
     pub(crate) fn begin(alloc: Global, engine: &Engine, first: u64) -> Progress
         ensures { result ≡ begun_in engine.now first }
     {

@@ -45,7 +45,7 @@ use tx_engine::Engine;
 use tx_journal::Journal;
 use tx_plant::{Plant, Turn};
 
-/// More rounds than there are: each release takes one of at most 100 tries.
+/// More rounds than there can be: each release uses up one of at most 100 tries.
 const MAX_ROUNDS: u64 = u64::MAX;
 
 impl<S: Alter> Switch<S> {
@@ -64,7 +64,8 @@ impl<S: Alter> Switch<S> {
         }
     }
 
-    /// Runs what waits in the queue, and moves the shelf there where nothing does, until nothing is on the shelf.
+    /// Runs what waits in the queue; when nothing waits there, moves the shelf to the queue. Ends when nothing is
+    /// on the shelf either.
     pub(crate) fn drain<O: Write, E: Write>(
         &mut self,
         alloc: Global,
@@ -91,7 +92,7 @@ impl<S: Alter> Switch<S> {
         Err(ServeError::Endless)
     }
 
-    // Answers the requests of an input and what is on the shelf, and sends the stored advices.
+    // Answers the requests of an input, runs what is on the shelf, and sends the stored advices.
     fn serve_to_end<C: Clock, L: Link, R: Read + Drop, O: Write, E: Write>(
         &mut self,
         rt: &C,
@@ -147,9 +148,9 @@ impl<S: Alter> Switch<S> {
 }
 
 impl<S: Alter + Drop> Switch<S> {
-    // Answers the requests of an input in batches, each run by all sessions at once, then what is on the
-    // shelf, and sends the stored advices. The lines of the trace are written after each batch, and at the end, the
-    // numbers of the run last.
+    // Answers the requests of an input in batches, each run by all sessions at once, then runs what is on the
+    // shelf, and sends the stored advices. The lines of the trace are written after each batch and at the end; the
+    // numbers of the run come last.
     fn serve_together<
         T: Threads + Wait + Clock + Sync,
         L: Link,
@@ -207,7 +208,7 @@ fn print<O: Write>(alloc: Global, engine: &Engine, out: &mut O) -> Result<(), Se
     Ok(())
 }
 
-// The error of what was served comes before that of the trace.
+// An error of what was served is reported before one of the trace.
 fn end_of(
     served: Result<StreamEnd, ServeError>,
     traced: Result<(), ServeError>,
@@ -221,7 +222,7 @@ fn end_of(
     Ok(end)
 }
 
-// What a run takes beside the stations, as one value: where a station is not made, only one value is dropped.
+// What a run takes besides the stations, as one value: if a station is not made, only one value is dropped.
 struct Over<S: Alter, R: Read, L: Link> {
     journal: Journal<S>,
     input: Option<R>,
@@ -309,25 +310,27 @@ fn boxed<P: Unjoined>(alloc: Global, participant: P) -> Result<Box<Bystander<P>>
     Ok(Box::new(alloc, Bystander::new(participant))?)
 }
 
-/// Recovers what the journal has unfinished. Without an input the lines of that are printed, and that is all.
-/// Else it answers the requests of an input as they come, then what is on the shelf, and sends the stored
-/// advices. Between two reads of the input it sends the oldest of them, at most as many as the setup says. An
-/// advice that may have been sent before, in this run or an earlier one, is sent as a repeat.
+/// Recovers what the journal has unfinished. Without an input, it prints the lines of that, and does nothing more.
+/// Otherwise it answers the requests of the input as they come, then runs what is on the shelf, and sends the
+/// stored advices. Between two reads of the input it sends the oldest of them, at most as many as the setup says.
+/// An advice that may have been sent before, in this run or an earlier one, is sent as a repeat.
 ///
-/// The lines of the trace of a transaction are written before the next request is offered, the rest at the end,
-/// also where it ends early. Where the stream of frames is refused, what came before is answered, and all is done.
+/// The lines of the trace of a transaction are written before the next request is offered, and the rest at the
+/// end, even if the run ends early. If the stream of frames is refused, what came before is answered, and the run
+/// then ends as it would after a whole input.
 ///
 /// With threads the requests are answered in batches of those that have come, at most 256 at once; the lines
 /// of the trace are written after each batch. Those of a batch that was given up are lost.
 ///
-/// The numbers of the run, where `stderr` wants them, are written after each so many requests, with threads after a
-/// batch, and last.
+/// If `stderr` wants the numbers of the run, they are written each time that many more requests are answered (with
+/// threads, after the batch in which this happens), and at the end.
 ///
 /// A failed write to standard error is not an error of the run: its result is as if all had been written there.
 ///
-/// The switch has seven participants, and one more for each link that is queried. Refused are, before anything is
-/// done: the first link whose name makes no participant's name (`BadLinkName`), then the first participant of the
-/// flow that the switch does not have (`NoStation`), then the first name that two links have (`DoubleStation`).
+/// The switch has seven participants, and one more for each link that is queried. Before anything is done, these
+/// are refused, in this order: the first link whose name does not give a participant's name (`BadLinkName`), the
+/// first participant of the flow that the switch does not have (`NoStation`), and the first name that two links
+/// have (`DoubleStation`).
 ///
 /// The stations are made here; no caller has one of them.
 pub fn run<S: Alter + Drop, T: Threads + Wait + Clock + Sync, R: Read + Drop, O: Write, E: Write>(
@@ -378,7 +381,7 @@ pub fn run<S: Alter + Drop, T: Threads + Wait + Clock + Sync, R: Read + Drop, O:
         sessions,
         threads,
     };
-    // (All at once: with a return for each, each would prove how all else is dropped.)
+    // (All at once: with a return for each, each would prove how everything else is dropped.)
     let (Ok(check), Ok(limits), Ok(route), Ok(reverse)) = (
         boxed(alloc, CheckFields::new(alloc)),
         Box::new(alloc, Limits::new(alloc, book)),

@@ -30,17 +30,18 @@ pub struct Setup<L: Link> {
     pub book: Book,
     /// The greatest amount that the switch approves in an issuer's place, in minor units.
     pub stand_in: u64,
-    /// The groups of the flow that the issuers of cards are asked by, of requests and of stored advices.
+    /// Which group of the flow asks the issuer of a card, by the beginning of the card's number: for requests and
+    /// for stored advices.
     pub routes: Sequence<Routing>,
     /// The links that authorizations go over: for each the switch has a participant `query_NAME`.
     pub queried: Vec<NamedLink<L>>,
     /// The links that stored advices go over, by the group of the card's route.
     pub advised: Vec<GroupLink<L>>,
-    /// How many stored advices are sent between two reads of the input at most. 0: none before the input has ended.
+    /// The most stored advices that are sent between two reads of the input. 0: none before the input has ended.
     pub advices: usize,
     /// How many sessions the engine has, 1 to 16.
     pub sessions: usize,
-    /// Whether the sessions run as threads. Without, session 0 runs each transaction.
+    /// Whether the sessions run as threads. If not, session 0 runs each transaction.
     pub threads: bool,
 }
 

@@ -23,18 +23,18 @@ use tx_trace::Tracer;
 #[derive(Clone, Copy)]
 pub enum Form {
     Text,
-    /// A line is an object of JSON.
+    /// Each line is a JSON object.
     Json,
 }
 
 /// Standard error, to which a run writes a line for each message that is passed over, the trace and the numbers.
-/// Where a write fails the run goes on, and its result is as if all had been written.
+/// If a write fails, the run goes on, and its result is as if all had been written.
 #[derive(Drop)]
 pub struct StandardError<'a, E> {
     pub err: &'a mut E,
     /// In which form the lines of the trace are wanted, if they are.
     pub trace: Option<Form>,
-    /// Whether a write failed: what was to be written then is not, or not all of it.
+    /// Whether a write failed: what was to be written then is missing, or part of it is.
     pub lost: bool,
     /// The lines of numbers that are wanted.
     pub stats: Option<Stats>,
@@ -72,8 +72,8 @@ impl<'a, E: Write> StandardError<'a, E> {
         }
     }
 
-    /// Writes the lines of all entries of the engine's history, if a trace is wanted. Out of memory is the
-    /// only error. Then no trace is wanted any more, so that no line is written twice.
+    /// Writes the lines of all entries of the engine's history, if a trace is wanted. Out of memory is the only
+    /// error; after it, no trace is wanted any more, so that no line is written twice.
     pub(crate) fn trace(&mut self, alloc: Global, engine: &Engine) -> Result<(), ServeError>
         ensures tells { OnOk result (Tells (lines_in engine.now) 0
             (log_of E.contents self.old) (log_of E.contents self.new)) }
@@ -89,7 +89,7 @@ impl<'a, E: Write> StandardError<'a, E> {
                 Ok(())
             }
             Err(error) => {
-                // What was written of the lines is not written again as the run ends.
+                // The lines that were written are not written again when the run ends.
                 self.trace = None;
                 Err(error)
             }
@@ -107,7 +107,7 @@ fn write_line<W: Write>(out: &mut W, line: &[u8]) -> Result<(), WriteError>
     write_whole(out, b"\n")
 }
 
-// The next line in this form; none where the tracer has gone through all entries.
+// The next line in this form, or none once the tracer has gone through all entries.
 fn next_line(
     alloc: Global,
     engine: &Engine,

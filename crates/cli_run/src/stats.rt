@@ -15,17 +15,17 @@ use std::io::Write;
 use std::time::{Clock, Instant};
 use sw_stats::{Beside, Counts};
 
-/// Which lines of numbers a run writes: one at its end, and more where `every` is given.
+/// Which lines of numbers a run writes: one at its end, and more if `every` is given.
 #[derive(Clone, Copy)]
 pub struct Stats {
-    /// After how many requests a line is written too.
+    /// A line is also written each time this many more requests are answered.
     pub every: Option<u64>,
-    /// When the run began; `None` where the clock could not be read, and then the lines say 0 seconds.
+    /// When the run began; `None` if the clock could not be read: then the lines say 0 seconds.
     pub started: Option<Instant>,
 }
 
 impl Stats {
-    /// Of a run that begins now.
+    /// The lines of a run that begins now.
     pub fn begin<C: Clock>(rt: &C, every: Option<u64>) -> Stats
         ensures { result.every ≡ every }
     {
@@ -51,7 +51,7 @@ impl Stats {
 }
 
 impl<'a, E: Write> StandardError<'a, E> {
-    // Whether a line is due after so many requests, where so many were answered before.
+    // Whether a line is due once `now` requests are answered, if `before` of them were answered earlier.
     fn is_due(&self, before: u64, now: u64) -> bool
         ensures { result ≡ is_due (every_of self.now.stats) before now }
     {
@@ -66,8 +66,8 @@ impl<'a, E: Write> StandardError<'a, E> {
         }
     }
 
-    // Writes the numbers of a run, where they are wanted. Where memory is refused the line is lost, as where
-    // a write fails.
+    // Writes the numbers of a run, if they are wanted. If memory is refused, the line is lost, as when a write
+    // fails.
     fn show<C: Clock>(&mut self, rt: &C, alloc: Global, counts: &Counts, stored: u64)
         ensures { Shows
             (record { tally = counts.now; passed = self.old.passed; stored = stored })
@@ -102,8 +102,8 @@ impl<S: Alter> Switch<S> {
         all.saturating_sub(self.answered.found)
     }
 
-    /// Writes the numbers of the run so far, where they are wanted. Where standard error takes nothing, or memory
-    /// is refused, the line is lost, and nothing else changes.
+    /// Writes the numbers of the run so far, if they are wanted. If standard error takes nothing, or memory is
+    /// refused, the line is lost, and nothing else changes.
     pub(crate) fn show<C: Clock, E: Write>(
         &self,
         rt: &C,
@@ -116,7 +116,7 @@ impl<S: Alter> Switch<S> {
         stderr.show(rt, alloc, &self.answered.counts, self.given_since());
     }
 
-    /// Writes them where a line is due, since so many requests were answered.
+    /// Writes the numbers, if a line has become due since `before` requests were answered.
     #[tactic(auto, using(crate::proofs::Tracing::tells_none))]
     pub(crate) fn show_since<C: Clock, E: Write>(
         &self,

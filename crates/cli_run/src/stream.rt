@@ -39,16 +39,16 @@ pub(crate) const PIECE: usize = 65_536;
 pub enum StreamEnd {
     /// After a whole frame, or before the first.
     Whole,
-    /// Four bytes in a length's place were not digits.
+    /// Four bytes in the place of a length were not digits.
     BadLength,
-    /// Within a frame, of which so many bytes came.
+    /// Within a frame, of which this many bytes came.
     Truncated(usize),
-    /// It could not be read on.
+    /// It could not be read any further.
     Unread(ReadError),
 }
 
 impl StreamEnd {
-    /// An error where the stream was refused.
+    /// An error, unless the stream ended whole.
     pub fn into_result(self) -> Result<(), ServeError>
         ensures { result ≡ result_of self }
     {
@@ -63,7 +63,7 @@ impl StreamEnd {
 
 /// What one read of a stream gave.
 pub(crate) struct Piece {
-    /// The messages that are whole since.
+    /// The messages that it completed.
     pub(crate) messages: Vec<Vec<u8>>,
     /// How the stream ended, if it did.
     pub(crate) end: Option<StreamEnd>,
@@ -109,7 +109,7 @@ pub(crate) fn request_in<E: Write>(
     ensures tells { OnOk result (Tells [] (if_passed (read message.now))
         (log_of E.contents stderr.old) (log_of E.contents stderr.new)) }
 {
-    // A message that can be read is looked over here, and decoded where its fields are looked at.
+    // A message that can be read is only checked here; it is decoded where its fields are needed.
     if type_in(message).is_some() {
         return Ok(Some(context_of(alloc, number, message)?));
     }
@@ -123,7 +123,7 @@ pub(crate) fn request_in<E: Write>(
     }
 }
 
-// Answers a message, if it can be read, and writes the numbers of the run where that is due.
+// Answers a message, if it can be read, and writes the numbers of the run, if they are due.
 fn serve<S: Alter, C: Clock, O: Write, E: Write>(
     rt: &C,
     alloc: Global,
@@ -188,7 +188,7 @@ impl Requests {
         }
     }
 
-    // The messages that a piece makes whole.
+    // The messages that a piece completes.
     fn feed(&mut self, alloc: Global, piece: &[u8]) -> Result<Vec<Vec<u8>>, ServeError>
         ensures { IfOk result (λ list.
             FramesIn piece.now (messages list.items) self.old.framer self.new.framer) }
@@ -201,7 +201,7 @@ impl Requests {
         }
     }
 
-    // How the stream ended, where a read gave so many bytes last, if it did.
+    // How the stream ended, if it did, after a read that gave `count` bytes.
     fn end_after(&self, count: usize) -> Option<StreamEnd>
         ensures ends { (left : Option (List ℕ)) → (count ≡ 0 → IsAtEnd left)
             → IfSome result (λ end. EndsAs end self.now.framer left) }
@@ -252,8 +252,8 @@ impl Requests {
         Ok(Piece { messages, end })
     }
 
-    // Reads once, and answers the messages that are whole then; the lines of the trace are written before.
-    // Its result is how the stream ended, if it did.
+    // Writes the lines of the trace, reads once, and answers the messages that this completes. Returns how the
+    // stream ended, if it did.
     fn serve_read<S: Alter, C: Clock, R: Read, O: Write, E: Write>(
         &mut self,
         rt: &C,

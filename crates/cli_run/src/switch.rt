@@ -30,12 +30,12 @@ use tx_intake::Listed;
 use tx_plant::{Outcome, Plant, Turn};
 use tx_pool::{Open, Pool};
 
-/// A history of so many entries is cut between two transactions. Contracts know the bound, half of what a
-/// history may have, and not this number, which keeps a long run small.
+/// A history of this many entries is cut between two transactions. Contracts do not know this number, which keeps
+/// a long run small, but only a bound: half of what a history may have.
 const MANY_ENTRIES: usize = 8_192;
 
-// From how many entries on a history is cut between two transactions. With the trace it is cut each time: so
-// all lines of a transaction are written before the next one is offered, each once.
+// From how many entries on a history is cut between two transactions. With the trace it is cut each time, so that
+// all lines of a transaction are written, each once, before the next one is offered.
 fn entries_kept(trace: Option<Form>) -> usize
     ensures bound { result ≤ 524288 }
     ensures live { is_some trace ≡ true → result ≡ 1 }
@@ -43,14 +43,14 @@ fn entries_kept(trace: Option<Form>) -> usize
     if trace.is_some() { 1 } else { MANY_ENTRIES }
 }
 
-/// The most requests of a batch, and the places of its intake.
+/// The most requests of a batch, and the capacity of its intake.
 pub(crate) const MAX_BATCH: usize = 256;
 
 /// More steps than a transaction has: 1,000 answers and choices, then as many tolds.
 const MAX_STEPS: usize = 2_002;
 
-/// The plant of the switch over a journal, driven by session 0. After each of its calls all entries are
-/// written, unless it is refused.
+/// The plant of the switch over a journal, driven by session 0, except for batches. After each of its calls all
+/// entries are written, unless it is refused.
 pub(crate) struct Switch<S: Alter> {
     pub(crate) plant: Plant<S>,
     /// Which responses were given, and what was counted.
@@ -67,7 +67,8 @@ impl<S: Alter + Drop> Drop for Switch<S> {
 }
 
 impl<S: Alter + Drop> Switch<S> {
-    /// Runs the requests as a batch, all sessions at once. A batch that is given up takes the switch with it.
+    /// Runs the requests as a batch, by all sessions at once. If the batch is given up, the switch is lost with
+    /// it.
     pub(crate) fn run_together<T: Threads + Wait + Sync>(
         self,
         rt: &T,
@@ -150,8 +151,8 @@ impl<S: Alter> Switch<S> {
         self.serve_next(alloc)
     }
 
-    /// Writes the responses that were not given, those of transactions that ended since, and counts them. Then
-    /// the contexts of all that ended are dropped, so that a long run keeps none of them.
+    /// Writes the responses that were not given yet, those of the transactions that ended since, and counts them.
+    /// Then the contexts of all transactions that ended are dropped, so that a long run keeps none of them.
     pub(crate) fn give<O: Write>(&mut self, alloc: Global, out: &mut O) -> Result<(), ServeError>
         requires rests { RestsGiven (point_of S.Store self.old) }
         ensures gives { OnOk result ((text : List ℕ)
@@ -172,8 +173,8 @@ impl<S: Alter> Switch<S> {
         Ok(())
     }
 
-    // Cuts a history between two transactions, where it is long or its lines are wanted; these are written
-    // before. With the trace no line is left to write then.
+    // Cuts a history between two transactions, if it is long or its lines are wanted; these are written first.
+    // With the trace, no line is then left to write.
     fn cut_between<E: Write>(
         &mut self,
         alloc: Global,
@@ -197,15 +198,15 @@ impl<S: Alter> Switch<S> {
         match self.act(alloc, Turn::Cut) {
             Ok(_) => Ok(()),
             Err(error) => {
-                // Its lines are written, and none is written again as the run ends.
+                // Its lines are written, and none of them is written again when the run ends.
                 stderr.trace = None;
                 Err(error)
             }
         }
     }
 
-    /// Cuts a history whose lines are wanted, or that is long; these are written before. So lines of the trace
-    /// are written before an input is waited for.
+    /// Cuts a history that is long or whose lines are wanted; these are written first. So the lines of the trace
+    /// are written before the run waits for input.
     pub(crate) fn cut_traced<E: Write>(
         &mut self,
         alloc: Global,
@@ -223,7 +224,7 @@ impl<S: Alter> Switch<S> {
     }
 
     /// Runs the transaction of the queue's first context to its end, and writes its response; then the lines of
-    /// the trace so far, where it is wanted.
+    /// the trace so far, if it is wanted.
     pub(crate) fn answer_next<O: Write, E: Write>(
         &mut self,
         alloc: Global,
@@ -244,8 +245,8 @@ impl<S: Alter> Switch<S> {
         self.cut_between(alloc, stderr)
     }
 
-    /// Runs the transaction of a request to its end, and writes its response; then the lines of the trace so
-    /// far, where it is wanted.
+    /// Runs the transaction of a request to its end, and writes its response; then the lines of the trace so far,
+    /// if it is wanted.
     pub(crate) fn answer<O: Write, E: Write>(
         &mut self,
         alloc: Global,

@@ -11,7 +11,7 @@ use sw_seating::SeatingError;
 use tx_engine::EngineError;
 use tx_plant::PlantError;
 
-// The participant without a station, by its name.
+// The error for the participant of this number, which has no station.
 fn no_station(alloc: Global, code: &Code, number: usize) -> ServeError
     ensures { IsNoStation code.now number result }
 {
@@ -24,7 +24,7 @@ fn no_station(alloc: Global, code: &Code, number: usize) -> ServeError
     }
 }
 
-// The station at this place, which has the name of an earlier one.
+// The error for the station at this place, which has the name of an earlier one.
 fn double_station(alloc: Global, stations: &[Station], place: usize) -> ServeError
     ensures { IsDouble (names_of stations.now) place result }
 {
@@ -37,7 +37,7 @@ fn double_station(alloc: Global, stations: &[Station], place: usize) -> ServeErr
     }
 }
 
-/// Why no plant was made of these stations, with so many sessions.
+/// Why no plant was made of these stations, with this many sessions.
 pub(crate) fn cause_of(
     alloc: Global,
     code: &Code,

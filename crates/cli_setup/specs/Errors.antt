@@ -1,4 +1,4 @@
--- Why a configuration file is not taken. Out of memory is reported as such, and all else is carried.
+-- Why a configuration file is not taken. Out of memory is reported as such, and every other error is carried over.
 use Rattle.std.specs.Prelude.{⊤, ℕ, List, Option, IfSome}
 use Rattle.std.specs.Str.{IsUtf8}
 use Rattle.cli_io.specs.declared.error.ReadError.{ReadError}
@@ -25,7 +25,7 @@ RefusesBytes bytes (NotText e) = ¬ (IsUtf8 bytes)
 RefusesBytes bytes (InConfig e) = Refuses bytes e
 RefusesBytes bytes _ = ⊥
 
--- The same of bytes that are read, where they are known: a fault of them is reported only where they have it, and else the
+-- The same of bytes that are read, where they are known: a fault of them is reported only where they have it; otherwise the
 -- reading or the memory failed.
 abbrev pub RefusesConfig : Option (List ℕ) → ConfigFileError → Type 0
 RefusesConfig unread (NotText e) = IfSome unread (λ bytes. RefusesBytes bytes (NotText e))

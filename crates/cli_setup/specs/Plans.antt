@@ -1,4 +1,4 @@
--- What a run is set up with: the options of the command line come first, then the configuration, then what the program has itself.
+-- What a run is set up with: the options of the command line come first, then the configuration, then the program's own values.
 use Rattle.std.specs.Prelude.{◌≡◌, ◌<◌, ◌≤◌, ⊤, ℕ, Bool, false, ◌||◌, List, [], ◌∷◌, map, Option, None, unwrap_or, codes}
 use Rattle.std.specs.Option.{option_map_or, option_or}
 use Rattle.sw_parts.specs.declared.route.Routing.{Routing}
@@ -94,8 +94,8 @@ plain_setup s = record {
 }
 
 -- By options and a configuration: a new book, which may have its limit and has nothing in it; the routes; for each host a link
--- that authorizations go over, and one of stored advices; how many advices are sent between two reads; and so many sessions, as
--- threads or not.
+-- that authorizations go over, and one that stored advices go over; how many advices are sent between two reads; and how many
+-- sessions there are, as threads or not.
 abbrev pub setup_of : RunOptions → Config → PlainSetup
 setup_of o c = record {
   book = record { limit = limit_of o c; items = [] };

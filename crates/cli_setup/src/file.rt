@@ -54,7 +54,8 @@ pub(crate) fn config_from<R: Read + Drop>(
     config_in(alloc, bytes.as_slice())
 }
 
-/// The configuration of the file at a path; without one it states nothing. What a file holds no contract can say.
+/// The configuration of the file at a path; without a path it states nothing. No contract can say what a file
+/// holds.
 pub fn config_at<F: Files>(
     alloc: Global,
     files: &F,

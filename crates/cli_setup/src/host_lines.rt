@@ -59,7 +59,7 @@ impl HostLines {
         Ok(HostLines { alloc, hosts })
     }
 
-    // A line with the counts of each host so far.
+    // A line for each host, with its counts so far.
     fn lines(&self) -> Result<String, AllocError>
         ensures { IfOk result (λ text.
             AreHostLines (map (λ h. h.name) self.now.hosts.items) (string_bytes text)) }
@@ -72,8 +72,8 @@ impl HostLines {
         Ok(lines)
     }
 
-    /// Writes a line with the counts of each host so far, where the numbers of the run are wanted. Where standard
-    /// error does not take all of them, or memory is refused, the lines are lost.
+    /// Writes a line for each host with its counts so far, if the numbers of the run are wanted. If standard error
+    /// does not take them all, or memory is refused, lines are lost.
     pub fn show<E: Write>(&self, stderr: &mut StandardError<'_, E>)
         ensures { ShowsHosts (map (λ h. h.name) self.now.hosts.items)
             (log_of E.contents stderr.old) (log_of E.contents stderr.new) }

@@ -17,7 +17,7 @@ use std::time::Clock;
 use sw_book::Book;
 use sw_participant::Text;
 
-/// What a card may spend in one run, in minor units, where nothing states it.
+/// What a card may spend in one run, in minor units, if nothing states it.
 const LIMIT: u64 = 10_000;
 
 /// The greatest limit of a book. (`Book::new` promises only that it takes every smaller one.)
@@ -85,8 +85,8 @@ fn book(alloc: Global, limit: u64) -> Result<Book, SetupError>
     }
 }
 
-/// What a run is set up with by its options and its configuration. The threads of its hosts are started here.
-/// `BadLimit` comes first, where what a card may spend is over 999,999,999,999,999 minor units.
+/// What a run is set up with by its options and its configuration. The threads of its hosts are started here. If
+/// what a card may spend is over 999,999,999,999,999 minor units, `BadLimit` is reported before any other error.
 pub fn setup<T: Threads + Wait + Clock + Clone + Drop + Send + 'static>(
     threads_of_hosts: &T,
     alloc: Global,
@@ -114,8 +114,8 @@ pub fn setup<T: Threads + Wait + Clock + Clone + Drop + Send + 'static>(
     })
 }
 
-/// What a recovery is set up with: a session, and the participants of the configuration's hosts over links that nothing
-/// is sent on, since a recovery asks no host and sends no advice.
+/// What a recovery is set up with: one session, and the participants of the configuration's hosts over links that
+/// nothing is sent on, since a recovery asks no host and sends no advice.
 pub fn recovery(alloc: Global, config: &Config) -> Result<Setup<SwitchLink>, SetupError>
     ensures set_up { IfOk result (λ setup. plain_setup setup ≡ recovery_of config.now) }
     ensures refused { IfErr result (λ e. e ≡ OutOfMemory) }
