@@ -81,7 +81,7 @@ fn run_all(
     Ok(())
 }
 
-/// Runs so many transactions, one after the other.
+/// Runs `count` transactions, one after the other.
 pub fn run(alloc: Global, count: u64) -> Result<(), &'static str> {
     let code = code_of_two(alloc)?;
     let context = request(alloc)?;

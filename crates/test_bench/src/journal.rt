@@ -51,7 +51,7 @@ fn entry(alloc: Global, n: u64) -> Result<Entry, AllocError>
     })
 }
 
-// So many entries, from the n-th on.
+// `count` entries, from entry `from` on.
 fn entries(alloc: Global, from: u64, count: u64) -> Result<Vec<Entry>, AllocError>
     requires { from + count < 1000000000 }
     ensures { IfOk result (λ list. All IsEntrySmall list.items) }
@@ -63,7 +63,7 @@ fn entries(alloc: Global, from: u64, count: u64) -> Result<Vec<Entry>, AllocErro
     Ok(list)
 }
 
-/// What is written: so many commits of so many entries each.
+/// What is written: how many commits, and how many entries in each.
 #[derive(Clone, Copy)]
 pub struct Load {
     pub commits: u64,

@@ -1,14 +1,14 @@
 //! The switch's parts, for bench/*.py to time. Without words it does nothing.
 //!
-//! `test_bench journal PATH COMMITS ENTRIES` makes so many commits of so many entries each in a journal in
-//! the file at the path, or in memory where the path is `memory`.
+//! `test_bench journal PATH COMMITS ENTRIES` makes COMMITS commits of ENTRIES entries each in a journal in the
+//! file at the path, or in memory if the path is `memory`.
 //!
-//! `test_bench engine COUNT` runs so many transactions of two participants, one after the other, six entries
-//! each, with every entry written before the next call.
+//! `test_bench engine COUNT` runs COUNT transactions of two participants, one after the other, six entries each,
+//! with every entry written before the next call.
 //!
-//! `test_bench mux WHAT KEYS ROUNDS` lets so many keys wait, and then, so many times, lets one more wait and
-//! takes the response to the oldest. WHAT is `mux`, or `map`: a hash map of keys as it is used without a
-//! multiplexer, or `ticks`: a multiplexer in which the oldest comes to its deadline instead.
+//! `test_bench mux WHAT KEYS ROUNDS` lets KEYS keys wait, and then, ROUNDS times, lets one more wait and takes the
+//! response to the oldest. WHAT is `mux`, or `map`: a hash map of keys as it is used without a multiplexer, or
+//! `ticks`: a multiplexer in which the oldest comes to its deadline instead.
 #![tactic(auto)]
 
 mod engine;

@@ -11,7 +11,7 @@ const REQUEST: &[u8] = b"01000020000000800000000000TERM0001";
 
 const RESPONSE: &[u8] = b"01100020000000800000000000TERM0001";
 
-/// What has the keys that wait.
+/// What holds the keys that wait.
 #[derive(Drop)]
 enum Waiting {
     Mux(Mux),
@@ -37,7 +37,7 @@ impl Waiting {
         }
     }
 
-    // The message comes back.
+    // Takes a response, and hands its message back.
     fn response(&mut self, message: Message) -> Result<Message, &'static str> {
         match self {
             Waiting::Mux(mux) => match mux.response(message) {
@@ -79,7 +79,7 @@ fn digits(number: u64) -> [u8; 6] {
     digits
 }
 
-// So many messages of a type, with STANs from 0 on.
+// `count` messages of a type, with STANs from 0 on.
 fn messages(alloc: Global, bytes: &[u8], count: u64) -> Result<VecDeque<Message>, &'static str> {
     let mut list = VecDeque::new(alloc);
     for number in 0..count {
@@ -164,7 +164,7 @@ fn run_ticks(alloc: Global, keys: u64, rounds: u64) -> Result<(), &'static str> 
     Ok(())
 }
 
-/// Lets so many keys wait, and one more so many times.
+/// Lets `keys` keys wait, and one more `rounds` times.
 pub fn run(alloc: Global, what: &str, keys: u64, rounds: u64) -> Result<(), &'static str> {
     match what {
         "mux" => run_matched(alloc, Waiting::Mux(Mux::new(alloc)), keys, rounds),

@@ -1,4 +1,4 @@
-//! Runs that may be refused memory, and what goes on where one was given up.
+//! Runs that may be refused memory, and what goes on after one was given up.
 
 ghost use Rattle.tx_plant.specs.Plant.{IsEngine};
 
@@ -18,7 +18,7 @@ use tx_pool::{Early, Fault, Gate, Late, Pool, PoolError};
 /// How often something is tried again: a test refuses one request for memory, or all from one on.
 pub const TRIES: usize = 1_000;
 
-/// What a run came to.
+/// What became of a run.
 #[derive(Drop)]
 pub enum End {
     Done(Plant<MemStore>),
@@ -35,7 +35,7 @@ fn is_memory(cause: &Fault) -> bool {
     }
 }
 
-// What a run left that was refused memory.
+// What was left by a run that was refused memory.
 fn left(alloc: Global, late: Late<MemStore>) -> Result<End, TestError> {
     let Late {
         cause,
@@ -60,7 +60,7 @@ fn offers_again(alloc: Global, count: usize) -> Result<Listed, TestError> {
     Err(TestError::OutOfMemory(AllocError))
 }
 
-/// Runs a plant over so many offers; again where memory is refused before the run begins.
+/// Runs a plant over this many offers, and again if memory is refused before the run begins.
 pub fn run_again<G: Gate + Sync, R: Threads + Wait + Sync>(
     rt: &R,
     alloc: Global,

@@ -99,7 +99,7 @@ fn all_lines(
 }
 
 /// Writes whether a run was given up, the trace of the last plant's history, its stations' counts, and the calls
-/// that were made. Where memory is refused the lines are made again.
+/// that were made. If memory is refused, the lines are made again.
 pub fn write_again<W: Write>(
     alloc: Global,
     code: &Code,

@@ -1,11 +1,10 @@
 //! A pool under replies drawn at random, for tests/pool.py. Without words it does nothing.
 //!
-//! `test_pool FLOW SESSIONS OFFERS CAPACITY SEED` makes a plant of the flow in the file FLOW over a
-//! journal in memory, with so many sessions, and participants that draw their replies
-//! (`sw_chance`), each from a generator of its own that begins with SEED and the participant's
-//! number. It runs the sessions as threads over so many offers, with an intake of CAPACITY places;
-//! then, as long as contexts are on the shelf, it acknowledges all advices, releases the shelf, and
-//! runs the sessions again without an offer.
+//! `test_pool FLOW SESSIONS OFFERS CAPACITY SEED` makes a plant of the flow in the file FLOW over a journal in
+//! memory, with SESSIONS sessions, and participants that draw their replies (`sw_chance`), each from a generator
+//! of its own that begins with SEED and the participant's number. It runs the sessions as threads over OFFERS
+//! offers, with an intake of CAPACITY places; then, as long as contexts are on the shelf, it acknowledges all
+//! advices, releases the shelf, and runs the sessions again without an offer.
 //!
 //! Offer K of them, from 0, is the context `offer` = K in decimal digits. It prints
 //!
@@ -16,10 +15,10 @@
 //! - of each call, in the order in which they were made, `called S ID CALL NAME`,
 //! - of each transaction that is done `ended ID NAME=HEX ..`, the context that it ended with.
 //!
-//! `test_pool again FLOW SESSIONS OFFERS SEED` runs such a plant over so many offers, for tests that refuse it
-//! memory, and then over as many again. Where memory is refused before the first run it begins anew; where a run is
-//! given up, a new plant is made on what it left and recovers, and `given up` is printed. It prints the lines of the
-//! trace of the last plant, the stations' counts, and the calls that threads made, as above.
+//! `test_pool again FLOW SESSIONS OFFERS SEED` runs such a plant over OFFERS offers, for tests that refuse it
+//! memory, and then over as many again. If memory is refused before the first run, it begins anew; if a run is
+//! given up, a new plant is made on what it left and recovers, and `given up` is printed. It prints the lines of
+//! the trace of the last plant, the stations' counts, and the calls that threads made, as above.
 #![tactic(auto)]
 
 mod again;
@@ -45,7 +44,7 @@ use sw_participant::{Station, Text};
 use tx_plant::Plant;
 use watch::Watch;
 
-/// What the words ask for, beside the flow.
+/// What the words ask for, besides the flow.
 #[derive(Clone, Copy)]
 struct Task {
     sessions: usize,
@@ -80,8 +79,7 @@ fn read_task(words: &[String]) -> Result<Task, TestError> {
     }
 }
 
-// The names of the flow's groups but `main`, which would select all of it again, and one that no
-// group has.
+// The names of the flow's groups except `main`, which would select all of it again, and one that no group has.
 fn names_of(alloc: Global, code: &Code) -> Result<Vec<Text>, TestError> {
     let mut names = Vec::new(alloc);
     names.push(Text::from_str(alloc, "nowhere")?)?;
@@ -130,9 +128,8 @@ fn play_again<R: Threads + Wait + Sync, W: Write>(
     write_again(alloc, code, &plant, was_given_up, calls.as_slice(), out)
 }
 
-// Makes a station for each participant of the flow, runs a plant of them as the task says, and
-// writes what it did. (It hands no station out, so that contracts know of every participant whose
-// it is.)
+// Makes a station for each participant of the flow, runs a plant of them as the task says, and writes what it did.
+// (It hands out no station, so that contracts know whose each participant is.)
 fn play<R: Threads + Wait + Sync, W: Write>(
     rt: &R,
     alloc: Global,
@@ -179,7 +176,7 @@ fn play_flow<R: Files + Threads + Wait + Sync, W: Write>(
     play(rt, alloc, &assemble(alloc, &flow)?, task, is_begun, out)
 }
 
-// Does it anew where it is refused before the first run begins.
+// Plays the flow; after an error before the first run begins, plays it anew.
 fn play_anew<R: Files + Threads + Wait + Sync, W: Write>(
     rt: &R,
     alloc: Global,

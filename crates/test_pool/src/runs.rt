@@ -24,7 +24,7 @@ pub struct Ran {
     pub report: Report,
 }
 
-/// So many contexts, each with its number as the entry `offer`.
+/// `count` contexts, each with its number as the entry `offer`.
 pub fn offers_of(alloc: Global, count: usize) -> Result<Listed, TestError> {
     let mut contexts = Vec::new(alloc);
     for number in 0..count {

@@ -36,7 +36,7 @@ impl<'a, R: Wait> Watch<'a, R> {
         }
     }
 
-    /// The calls that were noted; out of memory where one is missing.
+    /// The calls that were noted; out of memory if one is missing.
     pub fn into_calls(self) -> Result<Vec<Called>, AllocError> {
         let Watch { rt: _, calls } = self;
         let Calls { list, is_short } = calls.into_inner();

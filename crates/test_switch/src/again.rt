@@ -1,7 +1,8 @@
-//! A script whose turns are made again where memory is refused.
+//! A script whose turns are made again if memory is refused.
 //!
-//! The script is read, and its participants are made, before the first turn: a try of that which runs out of memory
-//! begins anew. Then a plant does the turns, each again where memory is refused. Only where it is refused to the
+//! The script is read, and its participants are made, before the first turn: if memory runs out during this, it
+//! begins anew. Then a plant does the turns, each again if memory is refused. Only if memory is refused to the
+//! journal's store does a new plant go on, over what the store has.
 //! journal's store a new plant goes on, over what the store has.
 
 ghost use Rattle.tx_plant.specs.Plant.{IsEngine};
@@ -134,7 +135,7 @@ fn drive(alloc: Global, plant: &mut Plant<MemStore>, turn: &[Turn]) -> Result<Ou
     }
 }
 
-// Does one turn, again where memory is refused. `None`: the journal has failed.
+// Does one turn, and does it again if memory is refused. `None`: the journal has failed.
 fn drive_again(
     alloc: Global,
     plant: &mut Plant<MemStore>,
@@ -154,7 +155,8 @@ fn drive_again(
     Err(TestError::OutOfMemory(AllocError))
 }
 
-// Does the turns that are left, and writes what comes of each. Whether all are done; else the journal has failed.
+// Does the turns that are left, and writes what comes of each. Returns whether all are done; if not, the journal
+// has failed.
 fn drive_rest<W: Write>(
     alloc: Global,
     plant: &mut Plant<MemStore>,
@@ -176,8 +178,8 @@ fn drive_rest<W: Write>(
     Ok(true)
 }
 
-// Does the turns over a plant of these stations; where its journal fails, over a new one, which is reported as a stop.
-// `is_begun` is set before the first turn.
+// Does the turns over a plant of these stations; if its journal fails, over a new one, which is reported as a
+// stop. `is_begun` is set before the first turn.
 fn drive_all<W: Write>(
     alloc: Global,
     code: &Code,
@@ -221,8 +223,8 @@ fn drive_all<W: Write>(
     Err(TestError::OutOfMemory(AllocError))
 }
 
-// Reads the script, makes a participant for each one of its flow, and does its turns. (It hands no station out, so that
-// contracts know of every participant whose it is.)
+// Reads the script, makes a participant for each one of its flow, and does its turns. (It hands out no station, so
+// that contracts know whose each participant is.)
 fn run_once<W: Write>(
     alloc: Global,
     script: &[u8],
@@ -260,7 +262,7 @@ fn is_memory(error: &TestError) -> bool {
 }
 
 /// Does the turns of a script's lines over a journal in memory, and prints what comes of each. A turn that is
-/// refused for memory is done again. Where memory is refused to the journal's store, a new plant goes on over what
+/// refused for memory is done again. If memory is refused to the journal's store, a new plant goes on over what
 /// the store has, and that is printed as a stop is.
 pub fn run_again<W: Write>(alloc: Global, script: &[u8], out: &mut W) -> Result<(), TestError> {
     let mut is_begun = false;

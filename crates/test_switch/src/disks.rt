@@ -28,7 +28,7 @@ impl Cut {
     }
 }
 
-// Disks with these contents, of whose calls the one after so many others is cut.
+// Disks with these contents, cut at the call after the first `calls` ones.
 fn cut_after(
     alloc: Global,
     log: Memory,
@@ -40,12 +40,12 @@ fn cut_after(
     Ok(Files { log, db })
 }
 
-/// New disks, of whose calls the one after so many others is cut.
+/// New disks, cut at the call after the first `calls` ones.
 pub fn new_disks(alloc: Global, cut: Cut, calls: u64) -> Result<Disks, AllocError> {
     cut_after(alloc, Memory::new(alloc), Memory::new(alloc), cut, calls)
 }
 
-/// The disks as they are found again, of whose calls the one after so many others is cut.
+/// The disks as they are found again, cut at the call after the first `calls` ones.
 pub fn found_again(alloc: Global, files: Disks, cut: Cut, calls: u64) -> Result<Disks, AllocError> {
     let Files { log, db } = files;
     let (mut log, mut db) = (log.into_inner(), db.into_inner());

@@ -39,7 +39,7 @@ fn is_script_cut(done: Result<(), StepError>) -> Result<bool, TestError> {
     }
 }
 
-/// Runs the lines of a script. Whether the journal has refused.
+/// Runs the lines of a script. Returns whether the journal has refused.
 pub fn play<S: Alter, W: Write>(
     alloc: Global,
     plant: &mut Plant<S>,
@@ -50,8 +50,8 @@ pub fn play<S: Alter, W: Write>(
     is_script_cut(run_actions(alloc, plant, &mut tracer, actions, out))
 }
 
-/// Writes what the journal had, finishes what it has unfinished, and writes the lines, and what it has
-/// then. Whether it has refused.
+/// Writes what the journal had, finishes what it has unfinished, and writes the lines, and what it has then.
+/// Returns whether it has refused.
 pub fn finish<S: Alter, W: Write>(
     alloc: Global,
     plant: &mut Plant<S>,

@@ -1,4 +1,4 @@
-//! The switch under faults that no subcommand lays into it, for tests. Without words it does nothing.
+//! The switch under faults that no subcommand can cause, for tests. Without words it does nothing.
 //!
 //! `test_switch silent FLOW JOURNAL` answers the requests of its input as `cardswitch run --flow FLOW --journal
 //! JOURNAL` does, but its issuer alpha is silent.
@@ -13,16 +13,17 @@
 //! opened again, the lines of the recovery, `left` with the journal after it, and after the lines of
 //! each plant `calls NAME COUNT` for each of its stations.
 //!
-//! `test_switch again < SCRIPT` does the turns of a script over a journal in memory, and prints what comes of each;
-//! a turn that is refused for memory is done again. Where memory is refused to the journal's store, a new plant goes
-//! on over what the store has, and `restart UNFINISHED` is printed, as of a stop.
+//! `test_switch again < SCRIPT` does the turns of a script over a journal in memory, and prints what comes of
+//! each; a turn that is refused for memory is done again. If memory is refused to the journal's store, a new plant
+//! goes on over what the store has, and `restart UNFINISHED` is printed, as after a stop.
 //!
 //! `test_switch opened PATH` prints the layout of the journal in the file, opens it, and prints its view, or why it is
 //! refused: `layout N`, `next NEXTID`, and a line for each row, context on the shelf and advice.
 //!
-//! `test_switch turned power|kill|refusal < SQL` makes a database by the statements of its input, one a line, and opens
-//! it as a journal, cut at the first call of its disks, at the second and so on, up to an opening that is not cut. Each
-//! time what is left is opened again. It prints for each run `run CALLS`, the layout that was left, and the view.
+//! `test_switch turned power|kill|refusal < SQL` makes a database from the statements of its input, one a line,
+//! and opens it as a journal, cut at the first call of its disks, at the second and so on, up to an opening that
+//! is not cut. Each time what is left is opened again. It prints for each run `run CALLS`, the layout that was
+//! left, and the view.
 #![tactic(auto)]
 
 mod again;
@@ -58,7 +59,7 @@ fn cut_of(word: &str) -> Result<Cut, TestError> {
 }
 
 fn run_stopped(rt: &HostRuntime, cut: Cut, is_twice: bool) -> Result<(), TestError> {
-    // (after a refusal the connection goes on, so that no second one can be laid into its disks)
+    // (after a refusal the connection goes on, so that its disks cannot be made to refuse a second time)
     if is_twice && matches!(cut, Cut::Refusal) {
         return Err(TestError::Words);
     }

@@ -65,7 +65,7 @@ fn show<S: Alter + Drop, W: Write>(
     }
 }
 
-// Does the task. Whether it was refused, and the store.
+// Does the task. Returns whether it was refused, and the store.
 fn done<S: Alter + Drop, W: Write>(
     alloc: Global,
     conn: Connection<S>,
@@ -83,8 +83,8 @@ fn done<S: Alter + Drop, W: Write>(
     }
 }
 
-// Does the task over these files. Whether it was refused, and the files. (Each function that calls a generic one at the
-// store of these disks is slow to prove: it is this one alone.)
+// Does the task over these files. Returns whether it was refused, and the files. (Each function that calls a
+// generic one at the store of these disks is slow to prove, so only this one does.)
 fn over_files<W: Write>(
     alloc: Global,
     files: Disks,
@@ -103,8 +103,8 @@ fn over_files<W: Write>(
     }
 }
 
-// Opens a journal of that database, cut after so many calls, then what is left, without a cut, of which it writes the
-// layout that was found and the view. Whether the first opening was cut.
+// Opens a journal of that database, cut after `calls` calls; then opens what is left without a cut, and writes the
+// layout that was found and the view. Returns whether the first opening was cut.
 fn open_twice<W: Write>(
     alloc: Global,
     sql: &str,

@@ -24,9 +24,9 @@ fn end<S: Alter + Drop, W: Write>(plant: Plant<S>, out: &mut W) -> Result<Journa
     Ok(journal)
 }
 
-// Makes a plant with a participant by the script for each one of the flow, and runs the script's lines,
-// or recovers. Whether the journal has refused. (It hands no station out, so that contracts know of
-// every participant whose it is.)
+// Makes a plant with a scripted participant for each one of the flow, and runs the script's lines, or recovers.
+// Returns whether the journal has refused. (It hands out no station, so that contracts know whose each
+// participant is.)
 fn begin<S: Alter + Drop, W: Write>(
     alloc: Global,
     code: &Code,
@@ -53,8 +53,8 @@ fn begin<S: Alter + Drop, W: Write>(
     Ok((is_cut, end(plant, out)?))
 }
 
-// Runs the script, or recovers, over the journal of this connection. Whether it was cut; `None` where the journal
-// was not opened.
+// Runs the script, or recovers, over the journal of this connection. Returns whether it was cut; `None` if the
+// journal was not opened.
 fn run_part<S: Alter + Drop, W: Write>(
     alloc: Global,
     script: &[u8],
@@ -74,8 +74,8 @@ fn run_part<S: Alter + Drop, W: Write>(
     Ok((Some(is_cut), Left::Open(journal.into_connection())))
 }
 
-// Writes the lines of one plant over the journal of this connection, and adds whether it was cut. After a
-// refusal the connection goes on, where it can, with a second plant, whose lines are written too.
+// Writes the lines of one plant over the journal of this connection, and adds whether it was cut. After a refusal
+// the connection goes on, if it can, with a second plant, whose lines are written too.
 fn run_over<S: Alter + Drop, W: Write>(
     alloc: Global,
     script: &[u8],
@@ -103,8 +103,8 @@ fn run_over<S: Alter + Drop, W: Write>(
     })
 }
 
-// Writes the lines over the journal in these files, and gives them back. (Each function that calls a generic one at the
-// store of these disks is slow to prove: it is this one alone.)
+// Writes the lines over the journal in these files, and gives the files back. (Each function that calls a generic
+// one at the store of these disks is slow to prove, so only this one does.)
 fn run_files<W: Write>(
     alloc: Global,
     script: &[u8],
@@ -126,8 +126,8 @@ fn run_files<W: Write>(
     }
 }
 
-// Writes `run CALLS ..` with what cuts it, and the lines of that run: those of the script, then those of
-// recoveries. Whether each of these was cut, of which the last may not be.
+// Writes `run CALLS ..` with the numbers of calls after which it is cut, and the lines of that run: those of the
+// script, then those of recoveries. Returns whether each of these was cut; the last one must not be.
 fn run_lines<W: Write>(
     alloc: Global,
     script: &[u8],
@@ -139,7 +139,7 @@ fn run_lines<W: Write>(
     let mut cuts = Vec::new(alloc);
     write_run(calls, out)?;
     for (place, count) in calls.iter().enumerate() {
-        // (after a refusal two have run over one connection)
+        // (after a refusal two plants have run over one connection)
         if place < cuts.len() {
             continue;
         }
@@ -155,8 +155,8 @@ fn run_lines<W: Write>(
     }
 }
 
-// The runs that are cut after so many calls, and then at each call of the recovery, up to one that
-// is recovered without a cut. Whether the script was cut.
+// The runs that are cut after `first` calls, and then at each call of the recovery, up to one that is recovered
+// without a cut. Returns whether the script was cut.
 fn run_each_second<W: Write>(
     alloc: Global,
     script: &[u8],

@@ -1,5 +1,5 @@
-//! The advices of an authorization that the switch approved by itself, byte by byte: as a later run sends
-//! them again, and as the simulated issuer answers them. As they are stored, `tests/run/silent.cases` shows.
+//! The advices of an authorization that the switch approved by itself, byte by byte: as a later run sends them
+//! again, and as the simulated issuer answers them. `tests/run/silent.cases` shows them as they are stored.
 
 ghost use Rattle.std.specs.Prelude.{[]};
 

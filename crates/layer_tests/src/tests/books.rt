@@ -61,7 +61,7 @@ fn answer(book: &mut Book, act: Act) -> &'static str {
     }
 }
 
-/// Each call with its answer, and what is reserved and used of the card's limit of 10,000 then.
+/// Each call with its answer, and what is then reserved and used of the card's limit of 10,000.
 const CALLS: [(Act, &str, u64, u64); 13] = [
     (Act::Reserve(1, 1, 9_999), "yes", 9_999, 0),
     (Act::Settle(1), "yes", 0, 9_999),

@@ -7,7 +7,7 @@ use std::alloc::Global;
 use std::test::Fail;
 use sw_frame::{Framer, frame};
 
-/// A network management request: 0800 with field 11, and 70 after the second bitmap.
+/// A network management request: 0800 with field 11, and with field 70, which the second bitmap announces.
 const NETWORK: &[u8] = b"080080200000000000000400000000000000000001301";
 
 const PIN: [u8; 8] = [0xA1, 0xB2, 0xC3, 0xD4, 0xE5, 0xF6, 0x07, 0x18];
@@ -18,7 +18,7 @@ fn is_spelled(alloc: Global, message: &Message, wanted: &[u8]) -> Result<bool, F
     Ok(encode(alloc, message)?.as_slice() == wanted)
 }
 
-// Whether the message with these fields is spelled so, and a copy of it.
+// Whether the message with these fields, and a copy of it, are encoded as these bytes.
 fn is_encoded(
     alloc: Global,
     mti: &[u8],
@@ -107,8 +107,8 @@ fn is_told(alloc: Global, bytes: &[u8], wanted: DecodeError) -> bool {
     matches!(decode(alloc, bytes), Err(error) if error == wanted)
 }
 
-/// Passes whichever allocation is refused (`rt try --test --fail-alloc N`): a fault is reported before out
-/// of memory, and out of memory only in the place of a message.
+/// Passes whichever allocation is refused (`rt try --test --fail-alloc N`): a fault is reported before out of
+/// memory, and out of memory only instead of a message.
 #[test]
 fn want_of_memory_is_told_last(rt: HostRuntime) {
     for _ in 0..3 {

@@ -1,5 +1,6 @@
-//! Contexts: bytes worked out by hand, limits, and the order of entries and of refusals. The helpers have no contract,
-//! so that the proof of a test carries no values, and hardly a test holds a context where it may end.
+//! Contexts: bytes worked out by hand, limits, and the order of entries and of refusals. The helpers have no
+//! contract, so that the proof of a test carries no values, and few tests hold a context at a place where they may
+//! end.
 
 use std::alloc::{AllocError, Global};
 use std::test::Fail;
@@ -100,7 +101,7 @@ fn other_bytes_are_refused(rt: HostRuntime) {
     assert!(rt; is_bytes(ONE));
 }
 
-// What comes of so many zeros under a name that may be bad, and whether the one entry is as it was.
+// Why this many zeros are refused under a name that may be bad; `None` unless the one entry is left as it was.
 fn refusal(alloc: Global, name: &str, count: usize) -> Result<Option<ContextError>, ContextError> {
     let mut context = one(alloc)?;
     match put(&mut context, name, &zeros(alloc, count)?) {

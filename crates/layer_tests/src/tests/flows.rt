@@ -1,4 +1,4 @@
-//! The flows that the tests share, and the engine that is played.
+//! The flows that the tests share, and the engine that they play.
 
 use flow_asm::{Code, assemble};
 use flow_model::{Flow, Group};

@@ -1,5 +1,5 @@
-//! A list of pieces, and frames of messages. Streams that are cut anywhere, and faults of lengths,
-//! `tests/decode` shows.
+//! A list of pieces, and frames of messages. Streams that are cut anywhere, and faults of lengths, are shown by
+//! `tests/decode`.
 
 use std::alloc::Global;
 use std::test::Fail;
@@ -63,8 +63,8 @@ fn wants_memory_or_goes_on(framer: &mut Framer, piece: &[u8]) -> bool {
     }
 }
 
-// It holds with each allocation refused in its turn too, as by `rt try --test --fail-alloc 3`: a feed that is refused
-// memory leaves what is pending, and the next finds no fault that isn't there.
+// Passes with each allocation refused in its turn too, as by `rt try --test --fail-alloc 3`: a feed that is
+// refused memory leaves what is pending, and the next finds no fault that isn't there.
 #[test]
 fn a_feed_that_wants_memory_changes_nothing(rt: HostRuntime) {
     let mut framer = Framer::new(rt.alloc());

@@ -26,7 +26,7 @@ fn request(mux: &mut Mux, message: &Message) -> Result<Key, MuxError> {
     mux.request(message, 5)
 }
 
-/// How many requests end at this moment, and how many wait on.
+/// How many requests end at this moment, and how many still wait.
 fn ends(alloc: Global, mux: &mut Mux, now: u64) -> Result<(usize, usize), Fail> {
     let ended = mux.expire(alloc, now)?.len();
     Ok((ended, mux.waiting()))

@@ -204,7 +204,7 @@ fn call(alloc: Global, engine: &mut Engine, number: usize) -> Result<usize, Engi
     }
 }
 
-/// Makes the entry of this number, all before it written.
+/// Makes the entry of this number, with all entries before it written.
 fn make_entry(alloc: Global, engine: &mut Engine, number: usize) -> Result<(), Fail> {
     engine.written(engine.history().len())?;
     if call(alloc, engine, number)? != number {
@@ -310,7 +310,7 @@ fn joined(alloc: Global, pieces: &[&str]) -> Result<String, AllocError> {
     Ok(text)
 }
 
-/// The line of JSON after the first entries, so many of them.
+/// The line of JSON that comes after the first `count` entries.
 fn json_after(alloc: Global, engine: &Engine, count: usize) -> Result<Option<Vec<u8>>, AllocError> {
     let mut tracer = Tracer::new(alloc, engine);
     if count > 0 {

@@ -68,7 +68,7 @@ fn after(alloc: Global, code: &Code, items: &[Item]) -> Result<Machine, MachineE
     Machine::after_items(alloc, code, 3, bytes(alloc, 0)?, items)
 }
 
-/// What is due after these items of the selection, where a machine that starts takes them.
+/// What is due once a new machine has taken these items of the selection; `None` if one of them was not due.
 fn due_after(alloc: Global, code: &Code, from: usize, to: usize) -> Result<Option<Due>, Fail> {
     let items = selection(alloc)?;
     let part = items.get(from..to).unwrap_or(&[]);

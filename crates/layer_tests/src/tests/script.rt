@@ -2,7 +2,7 @@
 //! without a contract, so that the proof of a test carries no values.
 //!
 //! `counts` (queued, on the shelf, recovering, entries, next id of the opened journal, its rows),
-//! `often N NAME` (so many breakpoints, as the last answers), `offer`, `reserve`, `spare`,
+//! `often N NAME` (sets N breakpoints, and answers as the last one does), `offer`, `reserve`, `spare`,
 //! `offer_reserved`, `take S`, `next S`, `answer S BYTE`, `ack ID PLACE`, `break NAME`, `clear NAME`, `go S`,
 //! `release`, `write MARK`, `cut`. An event answers its entry's number, `reserve`, `write` and `cut` answer 0,
 //! and a refusal its name. Contexts are empty.
@@ -85,7 +85,7 @@ fn go(engine: &mut Engine, session: usize) -> Answer {
     engine.let_go(session)
 }
 
-// Sets a breakpoint so many times.
+// Sets a breakpoint `count` times.
 fn often(engine: &mut Engine, count: usize, name: &str) -> Answer {
     let mut number = 0;
     for _ in 0..count {
@@ -138,7 +138,7 @@ fn counts(alloc: Global, engine: &Engine) -> Result<String, Fail> {
     Ok(format!(in alloc; "{queued} {shelved} {recovering} {entries} {next_id} {rows}")?)
 }
 
-// What a call answers that makes an entry, or 0.
+// What a call answers that makes an entry, or that answers 0.
 fn event(alloc: Global, engine: &mut Engine, call: &str, text: &str) -> Result<Answer, Fail> {
     let (first, rest) = cut_word(text);
     Ok(match call {

@@ -1,4 +1,4 @@
-//! Stations: that calls succeed where there is memory, and that the call that is named is the one made.
+//! Stations: that calls succeed if there is memory, and that the call that is named is the one made.
 
 ghost use Rattle.std.specs.Prelude.{◌≡◌, [], OnErr};
 
@@ -11,7 +11,7 @@ use sw_participant::{
     Text, call_station,
 };
 
-/// Answers alike at all times, and puts the name of each call under `call`. It promises nothing.
+/// Always gives the same answer, and puts the name of each call under `call`. It promises nothing.
 #[derive(Drop)]
 struct Scribe {
     alloc: Global,
@@ -102,7 +102,7 @@ fn shown(reply: &Reply) -> &str {
     }
 }
 
-/// Each call with the reply of a `Scribe` that answers 0x41, and what stands under `call` then.
+/// Each call with the reply of a `Scribe` that answers 0x41, and what is under `call` afterwards.
 const CALLS: [(Act, &str, &str); 9] = [
     (Act::Prepare, "answer", "prepare"),
     (Act::PrepareForAbort, "answer", "prepare for abort"),
@@ -130,7 +130,7 @@ fn new_scribe(alloc: Global) -> Scribe {
     }
 }
 
-/// Whether the station of the number gives this reply.
+/// Whether the station of the called participant gives this reply.
 fn replies(stations: &mut Vec<Station>, call: &Call, context: &mut Context, wanted: &str) -> bool {
     if usize::from(call.participant) >= stations.len() {
         return false;
@@ -180,7 +180,7 @@ fn each_call_is_the_one_that_is_named(rt: HostRuntime) -> Result<(), Fail> {
     Ok(())
 }
 
-/// The stamp's calls, and whether the stamp stands then.
+/// The stamp's calls, and whether the context has the stamp afterwards.
 const STAMPED: [(Act, &str, bool); 2] = [
     (Act::Prepare, "prepared", true),
     (Act::Abort { recovering: false }, "told", false),

@@ -1,4 +1,4 @@
-//! Disks in memory of whose calls one is refused.
+//! Disks in memory, one of whose calls is refused.
 
 use once_disk::{Fault, Once, pair};
 use sqlite::Files;
@@ -9,7 +9,7 @@ use std::test::*;
 /// The journal's files.
 pub type Disks = Files<Once<Memory>>;
 
-/// How often the call that is refused yields first: so long that another thread goes on, unless it
+/// How often the call that is refused yields first: long enough for another thread to go on, unless that thread
 /// waits for the call.
 const YIELDS: u64 = 2_000;
 
@@ -18,7 +18,7 @@ fn disks_of(alloc: Global, log: Memory, db: Memory, calls: u64) -> Result<Disks,
     Ok(Files { log, db })
 }
 
-/// New disks, of whose calls the one after so many others is refused, and those after it are not.
+/// New disks that refuse the call after the first `calls` ones, and none of those after it.
 pub fn new_disks(alloc: Global, calls: u64) -> Result<Disks, Fail> {
     disks_of(alloc, Memory::new(alloc), Memory::new(alloc), calls)
 }

@@ -14,7 +14,7 @@ pub fn new_flag(alloc: Global) -> Result<Arc<AtomicBool>, Fail> {
     Ok(Arc::new(alloc, AtomicBool::new(false))?)
 }
 
-/// Waits until the flag is set, for so many turns at most. Whether it is set.
+/// Waits until the flag is set, for at most `TURNS` turns. Returns whether it is set.
 pub fn is_set_in_time(flag: &AtomicBool) -> bool {
     for _ in 0..TURNS {
         if flag.load(Ordering::SeqCst) {

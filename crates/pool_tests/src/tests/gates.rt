@@ -4,8 +4,7 @@ use std::sync::atomic::{AtomicU64, Ordering};
 use sw_participant::{Act, Call};
 use tx_pool::Gate;
 
-/// Counts the preparations that are under way at once, but for those of the participant 0, and the
-/// outcomes.
+/// Counts the preparations that are under way at once, except those of participant 0, and the outcomes.
 #[derive(Drop)]
 pub struct Counting {
     now: AtomicU64,
@@ -33,7 +32,7 @@ impl Counting {
         self.most.load(Ordering::SeqCst)
     }
 
-    /// How many members were notified of the commit, and how many to abort.
+    /// How many members were notified of the commit, and how many of the abort.
     pub fn outcomes(&self) -> (u64, u64) {
         (
             self.commits.load(Ordering::SeqCst),

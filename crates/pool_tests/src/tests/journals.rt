@@ -97,8 +97,8 @@ fn refuses<S: Alter + Drop, R: Runtime>(rt: &R, conn: Connection<S>) -> Result<b
     Ok(true)
 }
 
-// The same over these disks. (Each function that calls a generic one at the store of these disks is slow to prove, so
-// it is this one alone.)
+// The same over these disks. (Each function that calls a generic one at the store of these disks is slow to prove,
+// so only this one does.)
 fn fails<R: Runtime>(rt: &R, files: Disks) -> Result<bool, Fail> {
     if !files.may_be_used() {
         return Err(Fail::new("the disks are not as they are opened"));

@@ -13,13 +13,12 @@ use sw_participant::{Bystander, NoMemory, Station, Text, Unjoined};
 pub enum Deed {
     /// It answers this byte.
     Answer(u8),
-    /// It sets its own flag and waits for the other: it answers 01 where that is set in time, else
-    /// 00.
+    /// It sets its own flag and waits for the other: it answers 01 if that is set in time, and otherwise 00.
     Meet {
         own: Arc<AtomicBool>,
         other: Arc<AtomicBool>,
     },
-    /// So many times it answers 01, once it is refused memory, and then it answers 01 again.
+    /// It answers 01 this many times, is refused memory once, and then answers 01 again.
     Fail {
         calls: u64,
     },

@@ -39,7 +39,7 @@ pub fn code_of(
     Ok(assemble(alloc, &flow)?)
 }
 
-/// The code of a flow whose one group has this participant alone.
+/// The code of a flow whose one group has only this participant.
 pub fn code_of_one(alloc: Global, retries: u8, name: &str) -> Result<Code, Fail> {
     code_of(alloc, retries, &[("main", &[(name, Kind::PLAIN)])])
 }
@@ -100,7 +100,7 @@ pub fn context_of(alloc: Global, go: &str) -> Result<Context, Fail> {
     Ok(context)
 }
 
-/// A source of so many such contexts.
+/// A source of `count` such contexts.
 pub fn listed(alloc: Global, count: usize) -> Result<Listed, Fail> {
     let mut contexts = Vec::new(alloc);
     for _ in 0..count {

@@ -70,7 +70,7 @@ fn refuse<R: Runtime>(
     Ok(())
 }
 
-// Where two refusals hold, the first of BreakSet, InUse and BadCapacity is reported.
+// If two refusals hold, the first of BreakSet, InUse and BadCapacity is reported.
 #[test]
 fn a_plant_that_may_not_run_comes_back(rt: HostRuntime) -> Result<(), Fail> {
     refuse(&rt, true, false, 4, Early::BreakSet)?;

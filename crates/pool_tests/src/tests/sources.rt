@@ -11,8 +11,8 @@ use sw_context::Context;
 use sw_participant::NoMemory;
 use tx_intake::{Listed, Source};
 
-/// A list whose second context is given only once the flag is set. Where it is not set in time, the
-/// source has ended, and gives no context after that.
+/// A list whose second context is given only once the flag is set. If it is not set in time, the source has ended,
+/// and gives no context after that.
 #[derive(Drop)]
 pub struct Waiting {
     listed: Listed,
@@ -22,7 +22,7 @@ pub struct Waiting {
 }
 
 impl Waiting {
-    /// Of this list.
+    /// A source of this list.
     pub fn new(listed: Listed, called: Arc<AtomicBool>) -> Waiting {
         Waiting {
             listed,
@@ -59,7 +59,7 @@ impl Source for Waiting {
     }
 }
 
-/// A list that is refused memory where it would end.
+/// A list that is refused memory when it would end.
 #[derive(Drop)]
 pub struct Broken {
     pub listed: Listed,

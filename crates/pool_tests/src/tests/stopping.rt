@@ -17,12 +17,12 @@ use tx_pool::{Fault, Late, Open, Pool, PoolError, Report};
 const MOST_CALLS: u64 = 10_000;
 /// How many calls a transaction makes.
 const ALL: u64 = 4;
-/// How many calls a recovery makes of a transaction of which so many replies are written: `check`
-/// is notified of the abort, since it may be prepared; both are notified of the abort; both are notified of the commit;
-/// `send` is notified of the commit; nobody is notified.
+/// How many calls a recovery makes for a transaction, by how many of its replies are written: `check` is notified
+/// of the abort, since it may be prepared; both are notified of the abort; both are notified of the commit; `send`
+/// is notified of the commit; nobody is notified.
 const CALLS_OF_RECOVERY: [u64; 5] = [1, 2, 2, 1, 0];
 
-/// What a plant came to whose store refuses a call.
+/// What became of a plant whose store refuses a call.
 #[derive(Drop)]
 enum Life {
     /// The journal was not opened, or not read.
@@ -31,8 +31,8 @@ enum Life {
     GivenUp(Vec<Station>),
     /// The run ended well.
     Done,
-    /// It recovered what a run that was given up has left. Of its transaction so many replies were
-    /// written; `None`: it was not in the journal.
+    /// It recovered what a run that was given up had left. This many replies of its transaction were written;
+    /// `None`: the transaction was not in the journal.
     Recovered(Option<u64>),
 }
 
@@ -51,7 +51,7 @@ fn left_store<S: Alter + Drop>(left: Left<S>) -> S {
     }
 }
 
-// What a run came to over a journal that may refuse, and the journal.
+// What became of a run over a journal that may refuse, and the journal.
 fn life_of<S: Alter + Drop, R: Runtime>(
     rt: &R,
     ran: Result<(Plant<S>, Listed, Report), PoolError<S>>,
@@ -97,7 +97,7 @@ fn run_first<S: Alter + Drop, R: Runtime>(
     Ok((life, journal.into_connection().into_store()))
 }
 
-// How many replies of the one transaction are written; `None` where it is not in the journal.
+// How many replies of the one transaction are written; `None` if it is not in the journal.
 fn replies_in(view: &JournalView) -> Option<u64> {
     match view.rows.as_slice() {
         [] if view.next_id == 1 => None,
@@ -107,8 +107,8 @@ fn replies_in(view: &JournalView) -> Option<u64> {
     }
 }
 
-// Whether so many calls may have been made where so many replies are written: a call is made only
-// once the entry before it is written, be it the take's or the last reply's.
+// Whether `made` calls may have been made if `written` replies are written: a call is made only once the entry
+// before it is written, be it the take's or the last reply's.
 fn are_calls_of(written: Option<u64>, made: u64) -> bool {
     match written {
         None => made == 0,
@@ -148,8 +148,8 @@ fn run_again<S: Alter + Drop, R: Runtime>(
     ))
 }
 
-// Runs a plant over the journal in these files; with stations, on what a first one left. (Each
-// function that calls a generic one at the store of these disks is slow to prove: it is this one.)
+// Runs a plant over the journal in these files; with stations, on what a first one left. (Each function that calls
+// a generic one at the store of these disks is slow to prove, so only this one does.)
 fn run_files<R: Runtime>(
     rt: &R,
     code: &Code,

@@ -10,7 +10,7 @@ use tx_history::{JournalView, Row};
 use tx_journal::{Journal, JournalError};
 use tx_trace::PhaseText;
 
-/// `layout N`, by the database; `layout none` where it has no such row.
+/// `layout N`, by the database; `layout none` if it has no such row.
 pub fn write_layout<S: Alter, W: Write>(
     conn: &mut Connection<S>,
     out: &mut W,
