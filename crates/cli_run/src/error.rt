@@ -70,7 +70,7 @@ pub enum ServeError {
     /// No transaction does.
     #[error("a transaction did not end within the steps that one has")]
     Endless,
-    /// No memory was left.
+    /// No memory was left, or a thread of a batch could not be started.
     #[error("out of memory")]
     OutOfMemory,
 }
