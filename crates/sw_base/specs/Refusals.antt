@@ -6,7 +6,7 @@ abbrev pub or_else : {A : Type 0} → Option A → Option A → Option A
 or_else (Some e) later = Some e
 or_else None later = later
 
--- a refusal where something holds
+-- a refusal if something holds
 abbrev pub refused_if : {E : Type 0} → Bool → E → Option E
 refused_if holds e = if holds then Some e else None
 
@@ -25,8 +25,8 @@ abbrev pub refused : {E : Type 0} → Option E → Result (Unit {0}) E
 refused None = Ok tt
 refused (Some e) = Err e
 
--- What a call answers of which the first refusal in order is known. Where it has none, it is done, or
--- memory was refused and all is the same as before; where it has one, that is the answer and all is the same.
+-- What a call answers whose first refusal in order is known. If there is none, the call is done, or memory was
+-- refused and everything is as before; if there is one, that is the answer and everything is as before.
 abbrev pub Accepts : {A E : Type 0} → E → Option E → Result A E → (A → Type 0) → Type 0 → Type 0
 Accepts memory None (Ok x) done same = done x
 Accepts memory None (Err e) done same = (e ≡ memory) × same

@@ -3,8 +3,8 @@
 ghost use Rattle.std.specs.Prelude.{◌≡◌, ◌≤◌, ◌<◌, ◌^◌, length, IfSome};
 ghost use Rattle.sw_base.specs.Digits.{number_of};
 
-/// The number that up to nine decimal digits spell, leading zeros counting for nothing; `None`
-/// where a byte is not a digit. No digits at all spell 0.
+/// The number that up to nine decimal digits spell; `None` if a byte is not a digit. Leading zeros
+/// count for nothing, and no digits at all spell 0.
 pub fn decimal(digits: &[u8]) -> Option<u32>
     requires { length digits.now ≤ 9 }
     ensures value { result ≡ number_of digits.now }

@@ -1,5 +1,5 @@
-//! What several crates of the switch say alike: refusals in order (`specs/Refusals.antt`), and
-//! numbers in decimal digits (`decimal` of a fixed field, `read_number` of a word).
+//! What several crates of the switch share: refusals in order (`specs/Refusals.antt`), and numbers
+//! in decimal digits (`decimal` for a fixed field, `read_number` for a word).
 #![tactic(auto)]
 
 mod digits;

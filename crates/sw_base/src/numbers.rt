@@ -11,7 +11,8 @@ fn is_digits(word: &str) -> bool
     word.as_bytes().iter().all(|byte| byte.is_ascii_digit())
 }
 
-/// A decimal number below 2^64: digits alone, of which leading zeros count for nothing.
+/// The decimal number below 2^64 that a word spells; `None` if the word is empty, has a byte that
+/// is not a digit, or spells a larger number. Leading zeros count for nothing.
 pub fn read_number(word: &str) -> Option<u64>
     ensures { result ≡ number_spelled word.now }
 {

@@ -19,18 +19,18 @@ const READONLY: u8 = 0x80;
 /// A bit that no answer has.
 const UNKNOWN: u8 = 0x04;
 
-/// A participant that draws its replies. Each preparation puts a byte after the context's entry
-/// `path`, its own number, and each outcome its number with the highest bit set.
+/// A participant that draws its replies at random. Each preparation appends a byte to the context's
+/// entry `path`: the participant's number; each outcome appends that number with the highest bit set.
 #[derive(Drop)]
 pub struct Chance {
     alloc: Global,
     number: u8,
     random: Pcg32,
-    // The names that it selects among.
+    // The names that it selects from.
     groups: Vec<Text>,
 }
 
-// Puts the mark after the path.
+// Appends the mark to the path.
 fn note(alloc: Global, context: &mut Context, mark: u8) -> Result<(), NoMemory>
     ensures { OnErr result (context.new ≡ context.old) }
 {
@@ -43,8 +43,8 @@ fn note(alloc: Global, context: &mut Context, mark: u8) -> Result<(), NoMemory>
 }
 
 impl Chance {
-    /// The participant of this number, below 128. As a selector it selects some of these groups.
-    /// Its generator begins with the seed and the number.
+    /// The participant with this number, below 128. As a selector it selects some of these groups.
+    /// Its generator is seeded with the seed and the number.
     pub fn new(alloc: Global, number: u8, groups: Vec<Text>, seed: u64) -> Chance
         requires { number < 128 }
         ensures { ⟦<Chance as Participant>⟧.object result ≡ [] }
@@ -65,7 +65,7 @@ impl Chance {
         self.random.next_u32() % bound
     }
 
-    // The bits, in one of so many cases.
+    // The bits in one of `cases` cases, otherwise none.
     fn bits(&mut self, bits: u8, cases: u32) -> u8
         requires { 0 < cases }
     {
@@ -81,7 +81,7 @@ impl Chance {
             | self.bits(UNKNOWN, 32)
     }
 
-    // No name in half of all cases, else one or two.
+    // No name in half of all cases, otherwise one or two.
     fn choose(&mut self) -> Result<Text, NoMemory> {
         let count = self.draw(4).saturating_sub(1);
         let mut text = String::new(self.alloc);

@@ -1,6 +1,6 @@
 mod Entries
 mod Places
--- what crates cite that read names from bytes
+-- what crates that read names from bytes cite
 pub mod NameLaws
 mod PairLaws
 mod SpellingLaws

@@ -111,7 +111,7 @@ length-without name (e ∷ es) = by (bytes_eq name e.0) (length-without name es)
     by true more = omega arith
     by false more = omega arith
 
--- an error that comes first, or another choice
+-- an error that comes first, or the refusal after it
 first-refusal : (b : Bool) (e : ContextError) (r : Option ContextError) → IsRefusal e (Some e) → ((f : ContextError) → r ≡ Some f → IsRefusal f r)
     → (f : ContextError) → cond b (Some e) r ≡ Some f → IsRefusal f (cond b (Some e) r)
 first-refusal true e r this more f h = let same : e ≡ f = cc in subst (λ g. IsRefusal g (Some e)) same this
@@ -137,7 +137,7 @@ wants-memory BadName r h none = absurd cc
 wants-memory BadBytes r h none = absurd cc
 wants-memory ValueTooLong r h none = absurd cc
 
--- a value that is taken leaves a context
+-- with a value that it accepts, a context is still a context
 pub IsContext-with_value : (es : Pairs) (name value : List ℕ) → IsContext es → refusal es name value ≡ None → IsContext (with_value es name value)
 unfolding refusal
 IsContext-with_value es name value is h =
@@ -159,7 +159,7 @@ IsContext-with_value es name value is h =
     fits true e room = let few = below (length es) (ap (λ b. nat_le 64 (length es) && b) (sym e) ∙ room) in omega (arith, few, length-with_value es name value)
     fits false e room = omega (arith, is.0, length-with_value_there es name value e)
 
--- and so does one that is taken out
+-- and so it is without a name
 pub IsContext-without : (name : List ℕ) (es : Pairs) → IsContext es → IsContext (without name es)
 IsContext-without name es is = (omega (arith, is.0, length-without name es), AreEntries-without name es is.1)
 
@@ -173,7 +173,7 @@ AreEntries-before (x ∷ xs) e ys are =
     let differ = absent (bytes_eq x.0 e.0) e.1 (find x.0 ys) after.1 in
     (find-cons e.0 x xs (differ-back x.0 e.0 differ.0) rest.0, rest.1)
 
--- the first of the entries that are left is taken, and goes last
+-- the first of the entries that are left is accepted, and comes last
 pub put-next : (xs : Pairs) (e : List ℕ × List ℕ) (ys : Pairs) → IsContext (xs ++ e ∷ ys)
     → (refusal xs e.0 e.1 ≡ None) × (with_value xs e.0 e.1 ≡ xs ++ e ∷ [])
 unfolding refusal

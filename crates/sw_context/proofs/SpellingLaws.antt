@@ -13,7 +13,7 @@ use Rattle.sw_context.specs.declared.error.ContextError.{ContextError}
 use Rattle.sw_context.specs.declared.error.ContextError.TheVariants.{OutOfMemory, Full, BadName, BadBytes, ValueTooLong}
 use Rattle.sw_context.proofs.NameLaws.{name-length}
 
--- two lists of one length that begin the same bytes
+-- two lists of the same length that begin the same bytes
 same-front : (a b x y : List ℕ) → length a ≡ length b → a ++ x ≡ b ++ y → (a ≡ b) × (x ≡ y)
 same-front a b x y l e = (
   sym (take_at a x (length b) l) ∙ ap (take (length b)) e ∙ take_at b y (length b) refl,
@@ -46,7 +46,7 @@ one-entry e f x y h =
     let value = one-value e.1 f.1 x y name.1 in
     (λ i. (name.0 i, value.0 i), value.1)
 
--- entries whose bytes begin with those of an entry begin with it
+-- entries whose bytes begin with those of an entry begin with that entry
 pub first-entry : (e : List ℕ × List ℕ) (rest : List ℕ) (count : ℕ) (es : Pairs) → 0 < count → length es ≡ count →
     entry_bytes e ++ rest ≡ flat_map entry_bytes es
     → (more : Pairs) × (es ≡ e ∷ more) × (length more + 1 ≡ count) × (rest ≡ flat_map entry_bytes more)
@@ -59,7 +59,7 @@ no-entries : (es : Pairs) → length es ≡ 0 → es ≡ []
 no-entries [] l = refl
 no-entries (e ∷ es) l = absurd (omega (arith, l))
 
--- as many entries with the same bytes are the same
+-- equally many entries with the same bytes are the same
 pub same-entries : (es fs : Pairs) → length es ≡ length fs → flat_map entry_bytes es ≡ flat_map entry_bytes fs → es ≡ fs
 same-entries [] fs l h = sym (no-entries fs (sym l))
 same-entries (e ∷ es) fs l h =
@@ -134,7 +134,7 @@ length-entries (e ∷ es) are =
 pub length-context : (es : Pairs) → IsContext es → length (bytes_of es) < 2 ^ 23
 length-context es is = omega (arith, is.0, length-entries es is.1)
 
--- what the bytes of entries have beside those of the first
+-- how long the bytes of entries are, by the first one and the rest
 pub length-first : (e : List ℕ × List ℕ) (es : Pairs) → length (flat_map entry_bytes (e ∷ es)) ≡ length e.0 + length e.1 + 3 + length (flat_map entry_bytes es)
 length-first e es = omega (arith, length-entry e, length-append (entry_bytes e) (flat_map entry_bytes es))
 

@@ -45,7 +45,7 @@ refusal es name value =
     else if nat_le 64 (length es) && is_none (find name es) then Some Full
     else None
 
--- the error is that refusal; out of memory comes only where there is none
+-- the error is that refusal; out of memory is reported only if there is none
 abbrev pub IsRefusal : ContextError → Option ContextError → Type 0
 IsRefusal OutOfMemory r = r ≡ None
 IsRefusal e r = r ≡ Some e

@@ -24,7 +24,7 @@ bytes_of es = length es ∷ flat_map entry_bytes es
 abbrev pub IsSpelled : List ℕ → Type 0
 IsSpelled bytes = (es : Pairs) × IsContext es × (bytes ≡ bytes_of es)
 
--- the bytes are those of so many entries
+-- the bytes are those of `count` entries
 abbrev pub Spells : ℕ → List ℕ → Type 0
 Spells count bytes = (es : Pairs) × AreEntries es × (length es ≡ count) × (bytes ≡ flat_map entry_bytes es)
 

@@ -77,7 +77,7 @@ impl Context {
         }
     }
 
-    /// The name of an entry, counted from 0.
+    /// The name of the entry at an index, counted from 0.
     pub fn name_at(&self, index: usize) -> Option<&str>
         ensures { option_map (λ n. n.now) result
             ≡ option_map (λ e. e.0) (slice_get self.now index) }
@@ -88,7 +88,7 @@ impl Context {
         }
     }
 
-    /// The value of an entry, counted from 0.
+    /// The value of the entry at an index, counted from 0.
     pub fn value_at(&self, index: usize) -> Option<&[u8]>
         ensures { option_map (λ v. v.now) result
             ≡ option_map (λ e. e.1) (slice_get self.now index) }
@@ -115,9 +115,9 @@ impl Context {
         }
     }
 
-    /// Puts a value under a name. A name that is there keeps its place, and a new one goes last.
+    /// Puts a value under a name. A name that is already there keeps its position, and a new one comes last.
     ///
-    /// The refusals, in this order: `BadName`, `ValueTooLong`, `Full` (a new name beside 64), `OutOfMemory`.
+    /// The refusals, in this order: `BadName`, `ValueTooLong`, `Full` (a new name beside 64 others), `OutOfMemory`.
     pub fn put(&mut self, name: &str, value: &[u8]) -> Result<(), ContextError>
         ensures put { OnOk result (self.new ≡ with_value self.old name.now value.now) }
         ensures taken { OnOk result (refusal self.old name.now value.now ≡ None) }
@@ -134,7 +134,7 @@ impl Context {
         Ok(())
     }
 
-    /// Takes the value under a name out, with its name. The other entries keep their order. It takes no memory.
+    /// Removes the entry under a name and gives its value. The other entries keep their order. It takes no memory.
     pub fn take(&mut self, name: &str) -> Option<Vec<u8>>
         ensures taken { option_map (λ v. v.items) result ≡ find name.now self.old }
         ensures left { self.new ≡ without name.now self.old }

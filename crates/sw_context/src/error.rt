@@ -7,13 +7,13 @@ use thiserror::Error;
 /// Why a context refused a call. A refused call changes nothing.
 #[derive(Clone, Copy, Debug, PartialEq, Eq, Error)]
 pub enum ContextError {
-    /// Memory was refused. All else about the call was right.
+    /// Memory was refused. Everything else about the call was right.
     #[error("out of memory")]
     OutOfMemory = 0,
     /// The name is new, and there are 64 entries.
     #[error("the context is full: it has 64 entries, none with this name")]
     Full = 1,
-    /// The name is empty, too long or has another byte.
+    /// The name is empty or too long, or has a byte that is not allowed.
     #[error("not a name: expected 1 to 32 bytes of a-z A-Z 0-9 _ - .")]
     BadName = 2,
     /// The bytes are those of no context.

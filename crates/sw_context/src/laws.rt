@@ -6,7 +6,7 @@ ghost use Rattle.sw_context.specs.Spelling.{IsReading, bytes_of};
 
 use crate::error::ContextError;
 
-/// Of the bytes that `to_bytes` gives of a context, `from_bytes` gives that context, or runs out of memory.
+/// From the bytes that `to_bytes` gives for a context, `from_bytes` gives that context, or runs out of memory.
 pub fn spellings_read_back()
     ensures { (es : Pairs) (read : Result Pairs ContextError)
         → IsContext es → IsReading (bytes_of es) read

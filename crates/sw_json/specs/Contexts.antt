@@ -20,7 +20,7 @@ abbrev pub entry_at : List ℕ → Front
 entry_at (n ∷ rest) = value_at (take n rest) (drop n rest)
 entry_at [] = (([], []), [])
 
--- so many entries, one after the other
+-- this many entries, one after the other
 unfoldable pub entries_at : ℕ → List ℕ → Pairs
 entries_at zero bytes = []
 entries_at (suc n) bytes = (entry_at bytes).0 ∷ entries_at n (entry_at bytes).1

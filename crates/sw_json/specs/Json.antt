@@ -14,7 +14,7 @@ is_printable b = nat_le 32 b && nat_le b 126
 abbrev pub hex_digit : ℕ → ℕ
 hex_digit d = if nat_lt d 10 then 48 + d else 55 + d
 
--- a byte within a string: a quotation mark, a backslash and a line feed are escaped, and what is not printable ASCII
+-- a byte within a string: a quotation mark, a backslash, a line feed and whatever is not printable ASCII are escaped
 abbrev pub escaped : ℕ → Text
 escaped b =
     if b == 34 then codes "\\\"" else if b == 92 then codes "\\\\" else if b == 10 then codes "\\n"
@@ -23,7 +23,7 @@ escaped b =
 unfoldable pub string : Text → Text
 string text = codes "\"" ++ (flat_map escaped text ++ codes "\"")
 
--- strings, parted by commas
+-- strings, separated by commas
 abbrev pub next_string : Text → Text
 next_string text = codes "," ++ string text
 

@@ -1,4 +1,4 @@
-//! What lines of JSON are made of, and what they say of a context.
+//! What lines of JSON are made of, and what they say about a context.
 //!
 //! Promised here, byte by byte, by the definitions in `specs/Json.antt` and `specs/Contexts.antt`:
 //! - [`push_string`] and the members ([`push_text_member`], [`push_number_member`], [`push_flag_member`],

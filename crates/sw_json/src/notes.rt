@@ -17,8 +17,8 @@ fn value_in(alloc: Global, context: &Context, name: &str) -> Result<Option<Vec<u
     }
 }
 
-/// The value under a name in the context that bytes spell; none where they spell none, or it has no such entry.
-/// The only refusal is out of memory.
+/// The value under a name in the context that bytes spell; `None` if they spell none, or if it has no such
+/// entry. The only refusal is out of memory.
 pub fn note_in(alloc: Global, bytes: &[u8], name: &str) -> Result<Option<Vec<u8>>, AllocError>
     ensures { IfOk result (λ value. option_map (λ v. v.items) value ≡ noted name.now bytes.now) }
 {

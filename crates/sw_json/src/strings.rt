@@ -50,7 +50,7 @@ fn push_all_escaped(text: &mut Vec<u8>, bytes: &[u8]) -> Result<(), AllocError>
     Ok(())
 }
 
-/// Adds a string. A byte that is not printable ASCII is written as the character of its number.
+/// Adds a string. A byte that is not printable ASCII is escaped, as the character with that number.
 #[tactic(auto, unfolding(crate::specs::Json::string))]
 pub fn push_string(text: &mut Vec<u8>, value: &[u8]) -> Result<(), AllocError>
     ensures { OnOk result (text.new.items ≡ text.old.items ++ spec.string value.now) }
@@ -78,7 +78,7 @@ fn push_rest(text: &mut Vec<u8>, values: &[&str]) -> Result<(), AllocError>
     Ok(())
 }
 
-/// Adds strings, parted by commas.
+/// Adds strings, separated by commas.
 #[tactic(auto, unfolding(crate::specs::Json::strings))]
 pub(crate) fn push_strings(text: &mut Vec<u8>, values: &[&str]) -> Result<(), AllocError>
     ensures { OnOk result (text.new.items

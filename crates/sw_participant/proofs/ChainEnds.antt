@@ -6,7 +6,7 @@ use Rattle.std.proofs.lemmas.Bool.Decides.{nat_tests}
 use Rattle.std.proofs.lemmas.List.{get_or-set_same, get_or-set_other, length-set}
 use Rattle.sw_participant.specs.Chains.{Rule, Contexts, with_context, ChainItem, Began, Called, Stopped, Chain, counted, counts_after, calls_to}
 
--- the objects are as many at the end
+-- there are as many objects at the end
 pub chain_length : {V : Type 0} (recovered : V → Contexts) (rule : ℕ → Rule) (m : List (ChainItem V)) (os : List (List ℕ)) (live : Contexts)
     (ps : List (List ℕ)) (now : Contexts) → Chain recovered rule os live m ps now → length ps ≡ length os
 chain_length recovered rule [] os live ps now (e, f) = ap length e
@@ -56,7 +56,7 @@ one_more false a n h = refl
 top : (a : ℕ) → a ≤ 2 ^ 64 - 1 → a ≡ min (a + 0) (2 ^ 64 - 1)
 top a h = omega arith
 
--- a count goes up by the calls, as far as it goes
+-- a count goes up by the number of calls, up to its limit
 pub counts_up : {V : Type 0} (cs : List ℕ) (m : List (ChainItem V)) (k : ℕ) → k < length cs → get_or cs k 0 ≤ 2 ^ 64 - 1 →
     get_or (counts_after cs m) k 0 ≡ min (get_or cs k 0 + calls_to k m) (2 ^ 64 - 1)
 counts_up cs [] k l h = top (get_or cs k 0) h

@@ -13,7 +13,7 @@ use Rattle.sw_participant.specs.declared.call.Reply.{Reply}
 use Rattle.sw_participant.specs.Chains.{Rule, rule_at, Makes, Contexts, with_context, ChainItem, Began, Called, Stopped, Chain, Among, begins, counted}
 use Rattle.sw_participant.specs.Chains.{counts_after}
 
--- the rule of the station at k, where there is one
+-- the rule of the station at k, if there is one
 pub rule_at_from : {S : Type 0} (rule : S → Rule) (ss : List S) (k : ℕ) (d : S) → k < length ss →
     (id : ℕ) (act : Act) (o : List ℕ) (x : Pairs) (reply : Reply) (p : List ℕ) (y : Pairs) → rule (get_or ss k d) id act o x reply p y →
     rule_at rule ss k id act o x reply p y
@@ -42,7 +42,7 @@ made_counted calls ss k s t h e m =
     let es : calls s ≡ get_or (map calls ss) k 0 = ap calls e ∙ sym (get_or-map calls ss k s 0 h) in
     map-set calls ss k t ∙ ap (slice_set (map calls ss) k) (m ∙ ap (λ n. min (n + 1) (2 ^ 64 - 1)) es)
 
--- the contexts of a chain are read by id alone
+-- the contexts of a chain are read only by id
 pub with_same : (live start : Contexts) (i : ℕ) (x : Pairs) → ((id : ℕ) → start id ≡ live id) → (id : ℕ) → with_context start i x id ≡ with_context live i x id
 with_same live start i x e id = ap (λ (o : Option Pairs). if id == i then Some x else o) (e id)
 
@@ -86,7 +86,7 @@ among_with_by : (b : Bool) (y : Pairs) (o p : Option Pairs) → ((x : Pairs) →
 among_with_by true y o p f x h = h
 among_with_by false y o p f x h = f x h
 
--- what is among contexts stays so where both get a context
+-- what is among contexts stays so if both get the same context
 pub among_with : (live start : Contexts) (i : ℕ) (y : Pairs) → Among live start → Among (with_context live i y) (with_context start i y)
 among_with live start i y f id x h = among_with_by (id == i) y (live id) (start id) (f id) x h
 
@@ -104,7 +104,7 @@ chain_begins recovered rule (Called call place r ∷ m) os live ps now (x, qs, y
     let (_, o) = with_none_by (id == call.id) y (live id) (chain_begins recovered rule m qs (with_context live call.id y) ps now c id b) in o
 chain_begins recovered rule (Stopped v ∷ m) os live ps now c id h = cc
 
--- a chain from contexts is one from any that they are among, where it begins none of these; the contexts at its end are among those
+-- a chain from contexts is also one from any that they are among, if it begins none of the latter; its contexts at the end are among the other's
 pub chain_wider : {V : Type 0} (recovered : V → Contexts) (rule : ℕ → Rule) (m : List (ChainItem V)) (os : List (List ℕ)) (live start : Contexts)
     (ps : List (List ℕ)) (now : Contexts) → Among live start → ((id : ℕ) → begins id m ≡ true → start id ≡ None) → Chain recovered rule os live m ps now →
     (end : Contexts) × Among now end × Chain recovered rule os start m ps end
@@ -140,7 +140,7 @@ chain_append recovered rule (Called call place r ∷ m) n os live ps mid qs now 
     (x, rs, y, l, h, chain_append recovered rule m n rs (with_context live call.id y) ps mid qs now c d)
 chain_append recovered rule (Stopped v ∷ m) n os live ps mid qs now c d = chain_append recovered rule m n os (recovered v) ps mid qs now c d
 
--- a chain by rules that allow no more is one by these
+-- a chain by rules that allow no more than others is also one by the others
 pub chain_weaker : {V : Type 0} (recovered : V → Contexts) (rule wide : ℕ → Rule) →
     ((k id : ℕ) (act : Act) (o : List ℕ) (x : Pairs) (reply : Reply) (p : List ℕ) (y : Pairs) → rule k id act o x reply p y → wide k id act o x reply p y) →
     (m : List (ChainItem V)) (os : List (List ℕ)) (live : Contexts) (ps : List (List ℕ)) (now : Contexts) → Chain recovered rule os live m ps now →
@@ -157,7 +157,7 @@ chain_weaker recovered rule wide w (Called call place r ∷ m) os live ps now (x
 )
 chain_weaker recovered rule wide w (Stopped v ∷ m) os live ps now c = chain_weaker recovered rule wide w m os (recovered v) ps now c
 
--- what one rule allows another allows, of each station
+-- what the first rule allows, the second allows too, for each station
 pub rule_at_wider : {S : Type 0} (rule wide : S → Rule) → ((s : S) (id : ℕ) (act : Act) (o : List ℕ) (x : Pairs) (reply : Reply) (p : List ℕ) (y : Pairs) →
     rule s id act o x reply p y → wide s id act o x reply p y) → (ss : List S) (k id : ℕ) (act : Act) (o : List ℕ) (x : Pairs) (reply : Reply) (p : List ℕ)
     (y : Pairs) → rule_at rule ss k id act o x reply p y → rule_at wide ss k id act o x reply p y

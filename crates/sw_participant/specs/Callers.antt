@@ -5,7 +5,7 @@ use Rattle.sw_participant.specs.declared.call.Act.{Act}
 use Rattle.sw_participant.specs.declared.call.Reply.{Reply}
 use Rattle.sw_participant.specs.Chains.{Rule}
 
--- what the one rule allows the other allows
+-- what the first rule allows, the second allows too
 abbrev pub Within : Rule → Rule → Type 0
 Within rule wide = (id : ℕ) (act : Act) (o : List ℕ) (x : Pairs) (reply : Reply) (p : List ℕ) (y : Pairs) → rule id act o x reply p y →
     wide id act o x reply p y

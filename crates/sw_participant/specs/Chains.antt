@@ -25,7 +25,7 @@ Makes rule os x call reply ps y =
     × rule call.participant call.id call.act (get_or os call.participant []) x reply p y
     × (ps ≡ slice_set os call.participant p)
 
--- what one rule allows the other allows, of each participant
+-- what the first rule allows, the second allows too, for each participant
 abbrev pub IsWider : {S : Type 0} → (S → Rule) → (S → Rule) → Type 0
 IsWider {S = S} rule wide =
     (s : S) (id : ℕ) (act : Act) (o : List ℕ) (x : Pairs) (reply : Reply) (p : List ℕ) (y : Pairs)
@@ -38,12 +38,12 @@ Contexts = ℕ → Option Pairs
 abbrev pub with_context : Contexts → ℕ → Pairs → Contexts
 with_context live id x i = if i == id then Some x else live i
 
--- what the one keeps the other has, and with the same context
+-- what the first has, the second has too, with the same context
 abbrev pub Among : Contexts → Contexts → Type 0
 Among now live = (id : ℕ) → (x : Pairs) → now id ≡ Some x → live id ≡ Some x
 
--- What happened, in order: a transaction began with a context; a participant was called; everything stopped but the
--- stations, and what was written down then is all that is left of the contexts. The record of a call has the call, its
+-- What happened, in order: a transaction began with a context; a participant was called; everything but the stations
+-- stopped, and what was written down then is all that is left of the contexts. The record of a call has the call, its
 -- place, by which an outcome call is distinguished from the others of its transaction, and the reply. V is what a plant writes
 -- down. A participant's number is its station's.
 pub data ChainItem (V : Type 0) : Type 0 where
@@ -51,8 +51,8 @@ pub data ChainItem (V : Type 0) : Type 0 where
   Called : (call : Call) → (place : Option ℕ) → (reply : Reply) → ChainItem V
   Stopped : (view : V) → ChainItem V
 
--- the place of a call: where a member is notified of the outcome, and as it recovers before that, the number of members that
--- were notified before
+-- the place of a call: if a member is notified of the outcome, or recovers before that, the number of members that were
+-- notified before it
 abbrev pub outcome_place : Act → ℕ → Option ℕ
 outcome_place Prepare told = None
 outcome_place PrepareForAbort told = None
@@ -62,7 +62,7 @@ outcome_place (Abort recovering) told = Some told
 outcome_place (Recover commit) told = Some told
 
 -- From these objects and contexts to those: each call is one by its participant's rule, with the object that its
--- station's last call left and the context that its transaction's last call left. A transaction begins where it has no
+-- station's last call left and the context that its transaction's last call left. A transaction begins only if it has no
 -- context, and starts from the one that it began with; after a stop it starts from the recovered one.
 abbrev pub Chain : {V : Type 0} → (V → Contexts) → (ℕ → Rule) → List (List ℕ) → Contexts → List (ChainItem V) → List (List ℕ) → Contexts → Type 0
 Chain recovered rule os live [] ps now = (ps ≡ os) × ((id : ℕ) → now id ≡ live id)

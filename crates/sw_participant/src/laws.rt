@@ -10,9 +10,9 @@ ghost use Rattle.sw_participant.specs.Chains.{calls_to, counts_after};
 ghost use Rattle.sw_participant.specs.Chains.{IsWider};
 ghost use Rattle.sw_participant.specs.Shown.{shown};
 
-/// What a participant of each type K may do.
+/// What a participant of each type in K may do.
 pub trait Rules<K> {
-    /// By type: what `rule_of` gives of a station.
+    /// By type: what `rule_of` gives for a station.
     ghost rule: { K → Rule };
 }
 
@@ -26,8 +26,9 @@ pub fn chains_append<K, R: Rules<K>, V>()
         → Chain recovered (rule_at R.rule types) os live (m ++ n) qs now }
 {}
 
-/// A chain from some contexts is one from any contexts that these are among, where it begins none of them. So a
-/// chain may go on from fewer contexts than it has: those of transactions that ended may be let go.
+/// A chain from some contexts is also one from any contexts that these are among, if it begins no transaction that
+/// has one of those. So a chain may be continued from fewer contexts than it ends with: those of transactions that
+/// ended may be dropped.
 pub fn chains_widen<K, R: Rules<K>, V>()
     ensures { (recovered : V → Contexts) (types : List K) (m : List (ChainItem V))
         (os ps : List (List ℕ)) (live start now : Contexts)
@@ -37,7 +38,7 @@ pub fn chains_widen<K, R: Rules<K>, V>()
         × Chain recovered (rule_at R.rule types) os start m ps end }
 {}
 
-/// A chain by rules is one by any rules that allow as much.
+/// A chain by some rules is also one by any rules that allow at least as much.
 pub fn rules_widen<K, R: Rules<K>, W: Rules<K>, V>()
     ensures { (recovered : V → Contexts) (types : List K) (m : List (ChainItem V))
         (os ps : List (List ℕ)) (live now : Contexts)
@@ -46,7 +47,7 @@ pub fn rules_widen<K, R: Rules<K>, W: Rules<K>, V>()
         → Chain recovered (rule_at W.rule types) os live m ps now }
 {}
 
-/// A chain among stations is one among any stations of the same types, as these stations are later.
+/// A chain among stations is also one among any stations of the same types, such as these stations later on.
 pub fn types_decide<S, K, R: Rules<K>, V>()
     ensures { (recovered : V → Contexts) (type : S → K) (ss ts : List S) (m : List (ChainItem V))
         (os ps : List (List ℕ)) (live now : Contexts)
@@ -64,7 +65,7 @@ pub fn others_stay<K, R: Rules<K>, V>()
         × ((k : ℕ) → calls_to k m ≡ 0 → get_or ps k [] ≡ get_or os k []) }
 {}
 
-/// The count of a station goes up by the number of its calls, and stays at 2^64 - 1.
+/// The count of a station goes up by the number of its calls, but not beyond 2^64 - 1.
 pub fn calls_are_counted<V>()
     ensures { (counts : List ℕ) (m : List (ChainItem V)) (k : ℕ)
         → k < length counts → get_or counts k 0 ≤ 2 ^ 64 - 1

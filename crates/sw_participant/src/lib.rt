@@ -6,7 +6,7 @@
 //!   states for it, and counts it; a call that is refused memory changes nothing and is not counted.
 //! - [`read_answer`] reads an answer byte by one specified rule: a byte with an unknown bit is bad and
 //!   has no bits, and RETRY does not count beside PREPARED.
-//! - A participant that never joins may implement [`Unjoined`]: [`Bystander`] makes the participant of it.
+//! - A participant that never joins may implement [`Unjoined`]: [`Bystander`] makes a [`Participant`] of it.
 //! - [`Text`], [`Bytes`] and [`Sequence`] are seen by contracts as plain lists, so a clause never
 //!   speaks of capacities or addresses.
 #![tactic(auto)]

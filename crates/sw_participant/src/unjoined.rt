@@ -8,8 +8,8 @@ use crate::participant::{AdviceResult, NoMemory, Participant};
 use crate::values::Text;
 use sw_context::Context;
 
-/// What takes part in a transaction by what it prepares and selects alone: it never joins, so it is
-/// notified of no outcome. The relations are those of [`Participant`].
+/// What takes part in a transaction only by preparing and selecting: it never joins, so it is notified
+/// of no outcome. The relations are those of [`Participant`].
 pub trait Unjoined: Drop {
     /// What contracts see of it.
     ghost object: { Self → List ℕ };
@@ -29,7 +29,7 @@ pub trait Unjoined: Drop {
             selects id (object self.old) context.now text (object self.new)) }
         ensures object_kept { OnErr result (object self.new ≡ object self.old) };
 
-    /// Prepares in a transaction that is aborting already.
+    /// Prepares in a transaction that is already aborting.
     fn prepare_for_abort(&mut self, id: u64, context: &mut Context) -> Result<u8, NoMemory>
         ensures performed { IfOk result (λ byte. prepares_for_abort id
             (object self.old) context.old byte (object self.new) context.new) }
@@ -57,7 +57,7 @@ impl<P: Unjoined + Drop> Drop for Bystander<P> {
 }
 
 impl<P: Unjoined> Bystander<P> {
-    /// Of this one.
+    /// The participant made of this one.
     pub fn new(part: P) -> Bystander<P>
         ensures { ⟦<Bystander<P> as Participant>⟧.object result ≡ P.object part }
     {

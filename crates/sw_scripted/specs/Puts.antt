@@ -4,7 +4,7 @@ use Rattle.std.specs.List.{list_any}
 use Rattle.sw_context.specs.Pairs.{Pairs, find, refusal, with_value}
 use Rattle.sw_scripted.specs.declared.puts.Put.{Put}
 
--- the context with an entry; one that does not take it, as where it is full, stays as it is
+-- the context with an entry; one that does not take it, for instance because it is full, stays as it is
 abbrev pub put_one : Pairs → Put → Pairs
 put_one x p = if is_none (refusal x p.name p.value) then with_value x p.name p.value else x
 

@@ -1,4 +1,4 @@
--- What a participant replies whose replies are queued.
+-- The replies of a participant whose replies are queued.
 use Rattle.std.specs.Prelude.{◌≡◌, ℕ, List, [], drop, slice_get, Option, Some, None, unwrap_or, refl}
 use Rattle.std.specs.Coded.{Coded, code_by, coded_ℕ, coded_list, coded×}
 use Rattle.sw_context.specs.Pairs.{Pairs}

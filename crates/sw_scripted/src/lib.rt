@@ -1,4 +1,4 @@
-//! Participants by a script: each replies from queues of its own.
+//! Participants that follow a script: each replies from queues of its own.
 //!
 //! Promised here: a [`Scripted`] participant takes each reply from the front of its queue, and an empty
 //! queue gives PREPARED, no group, no advice and nothing to restore (`specs/Scripted.antt`); entries are

@@ -27,7 +27,7 @@ impl Drop for QueuedAnswer {
     }
 }
 
-/// QueuedReplies that are queued, of each kind the next first.
+/// Replies that are queued, of each kind the next one first.
 pub struct QueuedReplies {
     /// For `prepare` and `prepare_for_abort`.
     pub answers: VecDeque<QueuedAnswer>,
@@ -51,7 +51,7 @@ impl Drop for QueuedReplies {
     }
 }
 
-/// A participant whose replies are queued. Each call takes the next of its kind; where none is queued
+/// A participant whose replies are queued. Each call takes the next one of its kind; if none is queued,
 /// it answers PREPARED, selects no group, gives no advice and restores nothing.
 pub struct Scripted {
     alloc: Global,
@@ -124,7 +124,7 @@ impl QueuedReplies {
 }
 
 impl Scripted {
-    /// A participant that replies so.
+    /// A participant that gives these replies.
     pub fn new(alloc: Global, replies: QueuedReplies) -> Scripted
         ensures { ⟦<Scripted as Participant>⟧.object result ≡ shown_queues (queues_of replies) }
     {

@@ -25,8 +25,8 @@ fn put_one(context: &mut Context, put: &Put) -> Result<(), NoMemory>
     }
 }
 
-/// Puts entries into a context in their order; one that the context does not take, as where it is
-/// full, is passed over. Refused memory, it has put the first of them.
+/// Puts entries into a context in their order; one that the context does not take, for instance because
+/// it is full, is passed over. If memory is refused, the entries before that one have been put.
 pub fn put_all(context: &mut Context, puts: &[Put]) -> Result<(), NoMemory>
     ensures { OnOk result (context.new ≡ put_all context.old puts.now) }
 {

@@ -5,7 +5,7 @@ ghost use Rattle.std.specs.Prelude.{◌≡◌, ◌<◌, ◌↔◌, IsTrue, lengt
 use super::Context;
 
 impl Context {
-    // Whether the entries at this place are the same.
+    // Whether the entries at this index are the same.
     fn is_same_at(&self, other: &Context, index: usize) -> bool
         requires here { index < length self.now }
         requires there { index < length other.now }

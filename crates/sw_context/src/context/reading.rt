@@ -78,7 +78,7 @@ fn has_name(name: &str, count: u8, bytes: &[u8]) -> bool
     }
 }
 
-/// Whether the bytes are those of so many entries of different names.
+/// Whether the bytes are those of `count` entries with different names.
 fn are_entries(count: u8, bytes: &[u8]) -> bool
     ensures { IsTrue result ↔ Spells count bytes.now }
 {
@@ -93,7 +93,7 @@ fn are_entries(count: u8, bytes: &[u8]) -> bool
     }
 }
 
-/// Puts so many entries, one after the other.
+/// Puts `count` entries, one after the other.
 fn put_entries(context: &mut Context, count: u8, bytes: &[u8]) -> Result<(), ContextError>
     ensures { (es : Pairs)
         → IsContext (context.old ++ es) → length es ≡ count → bytes.now ≡ flat_map entry_bytes es
@@ -125,7 +125,7 @@ impl Context {
         }
     }
 
-    /// The context whose bytes these are. `BadBytes` where they are those of none; `OutOfMemory` comes only where
+    /// The context whose bytes these are. `BadBytes` if they are those of none; `OutOfMemory` is reported only if
     /// there is one.
     pub fn from_bytes(alloc: Global, bytes: &[u8]) -> Result<Context, ContextError>
         ensures { IsReading bytes.now result }

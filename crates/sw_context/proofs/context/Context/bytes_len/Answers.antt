@@ -6,7 +6,7 @@ use Rattle.sw_context.proofs.Entries.{Entry, seen}
 use Rattle.sw_context.proofs.SpellingLaws.{length-context, length-first}
 use Rattle.sw_context.proofs.context.Context.bytes_len.Goals as goal
 
--- the bytes of the entries that a loop has left
+-- how many bytes the entries have that a loop has yet to count
 abbrev left : List Entry → ℕ
 left es = length (flat_map entry_bytes (map seen es))
 
