@@ -119,7 +119,7 @@ stage_get (t ∷ ss) more (suc j) s h = by t.kind.selector (stage_get ss more j 
     by true e = e
     by false e = e
 
--- an entry's placed has its place
+-- the placed entry at an index, which has that place
 record PlacedAt (ss : List PlacedEntry) (g i : ℕ) : Type 0 where
   placed : PlacedEntry
   is : slice_get ss i ≡ Some placed

@@ -24,7 +24,7 @@ front xs k x h =
     let e : get_or xs k x ≡ x = get_or_from_slice_get xs k x x h in
     drop_more xs k x (slice_get_within xs k x h) ∙ ap (λ y. y ∷ drop (k + 1) xs) e
 
--- the stage whose step a step is
+-- the step is that of the stage
 abbrev Shows : Option Stage → Step → Type 0
 Shows None x = ⊥
 Shows (Some (AtCall s)) x = x ≡ Call s.participant

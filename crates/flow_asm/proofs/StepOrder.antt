@@ -80,7 +80,7 @@ picks_length : (s : PlacedEntry) (xs : List Stage) → Picks s xs → 0 < length
 picks_length s [] h = absurd h
 picks_length s (x ∷ xs) h = omega arith
 
--- where something stands at a step, the step is one of the flow's
+-- if anything stands at a step, the step is one of the flow's
 within : (f : Flow) (k : ℕ) → 0 < length (drop k (stages f)) → k < length (stages f)
 within f k h = omega (arith, length-drop k (stages f))
 

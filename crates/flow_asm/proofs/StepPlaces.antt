@@ -152,7 +152,7 @@ counted_pick f k g i p c h =
       next = w.3;
     }
 
--- after a return counting begins anew
+-- after a return, counting begins anew
 pub record IsReturn (f : Flow) (k g : ℕ) : Type 0 where
   pub place : place_of f k ≡ None
   pub next : Counted f (k + 1) (g + 1) 0 (drop (k + 1) (stages f))
@@ -208,7 +208,7 @@ counted_at f g h =
     (flat_map stages_of_group (groups_from (parts_of f) g (drop g f.groups))) (first_step f g) refl in
     subst (Counted f (first_step f g) g 0) (sym rest) (counted_groups f before g (first_step f g) (drop g f.groups) is (length-take-le g (layout f) h) refl)
 
--- a group has a step at least
+-- a group has at least one step
 some_stage : (ss : List PlacedEntry) → 1 ≤ length (stages_of_group ss)
 some_stage [] = omega arith
 some_stage (s ∷ ss) = omega (arith, length-append (stages_of_entry s) (stages_of_group ss), some_stage ss)

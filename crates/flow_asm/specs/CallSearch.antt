@@ -3,7 +3,7 @@ use Rattle.std.specs.Prelude.{ℕ, ◌+◌, ◌-◌, ◌==◌, List, [], ◌∷�
 use Rattle.flow_asm.specs.declared.code.Step.{Step}
 use Rattle.flow_asm.specs.declared.code.Step.TheVariants.{Call, Pick, Return}
 
--- the number of the call of this index before the next return, where the first step has number n
+-- the number of the call of this index before the next return, when the first step has number n
 abbrev pub call_from : ℕ → ℕ → List Step → Option ℕ
 call_from n i [] = None
 call_from n i (Call p ∷ xs) = if i == 0 then Some n else call_from (n + 1) (i - 1) xs

@@ -11,7 +11,7 @@ use Rattle.flow_model.specs.Places.{number_in}
 abbrev pub number_at : BTreeMap (Bor (List ℕ)) ℕ → List ℕ → Option ℕ
 number_at m name = get_by (λ k. slice_cmp nat_cmp name k.now) m
 
--- the number of a participant, where one has the name
+-- the number of a participant, if one has the name
 abbrev pub known : List Part → List ℕ → Option ℕ
 known parts name = if nat_lt (number_in parts name) (length parts) then Some (number_in parts name) else None
 

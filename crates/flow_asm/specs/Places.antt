@@ -32,7 +32,7 @@ call_within ss i = length (flat_map stages_of_entry (take i ss))
 abbrev pub call_step : Flow → ℕ → ℕ → ℕ
 call_step f g i = first_step f g + call_within (group_at (layout f) g) i
 
--- that step, where the flow has the entry
+-- that step, if the flow has the entry
 abbrev pub call_of : Flow → ℕ → ℕ → Option ℕ
 call_of f g i = if nat_lt i (length (group_at (layout f) g)) then Some (call_step f g i) else None
 

@@ -21,8 +21,8 @@ pub enum Step {
 /// A group of the flow.
 pub struct GroupStart {
     pub name: Text,
-    /// The number of the group's first step: that of its first entry, or its `Return` where it has
-    /// no entry.
+    /// The number of the group's first step: the call of its first entry, or its `Return` if it has no
+    /// entry.
     pub first: usize,
 }
 

@@ -20,7 +20,7 @@ pub(crate) fn steps_from(steps: &[Step], first: usize) -> &[Step]
     }
 }
 
-/// Adds the entry of the participant of this number; none where no participant has it. The only
+/// Adds the entry of the participant of this number; none if no participant has it. The only
 /// refusal is out of memory.
 pub fn add_entry(entries: &mut Vec<Entry>, parts: &[Part], number: usize) -> Result<(), AllocError>
     ensures ok { OnOk result (AddsEntry entries.old.items entries.new.items

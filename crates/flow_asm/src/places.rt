@@ -8,8 +8,8 @@ ghost use Rattle.flow_asm.specs.CallSearch.{call_from};
 use crate::code::{Code, Step};
 use crate::listing::steps_from;
 
-// A group that begins at or before a step, with its first step: the last such one. The first step
-// of all where there is none.
+// The last group that begins at or before a step, with its first step; group 0 with step 0 if there
+// is none.
 #[derive(Clone, Copy)]
 struct Before {
     group: usize,
@@ -71,7 +71,7 @@ pub fn place(code: &Code, step: usize) -> Option<(usize, usize)>
     None
 }
 
-// How many steps before the end of the group stand before its call of this index.
+// How many steps come before the call of this index; `None` if the group ends before it.
 fn nth_call(steps: &[Step], index: usize) -> Option<usize>
     ensures value { result ≡ call_from 0 index steps.now }
     ensures within { IfSome result (λ number. number < length steps.now) }
@@ -92,7 +92,7 @@ fn nth_call(steps: &[Step], index: usize) -> Option<usize>
     None
 }
 
-/// The step that calls the entry at this place; `None` where the flow has no such entry.
+/// The step that calls the entry at this place; `None` if the flow has no such entry.
 pub fn step_at(code: &Code, group: usize, index: usize) -> Option<usize>
     ensures value { result ≡ call_of code.now group index }
     ensures place { IfSome result (λ step. place_of code.now step ≡ Some (group, index)) }

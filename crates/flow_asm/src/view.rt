@@ -40,8 +40,8 @@ impl Code {
         }
     }
 
-    /// The number of the group of this name, in the order of [`Code::groups`]; `None` where the flow
-    /// has no such group.
+    /// The number of the group of this name, in the order of [`Code::groups`]; `None` if the flow has no
+    /// such group.
     pub fn find_group(&self, name: &[u8]) -> Option<usize>
         ensures within { IfSome result (λ g. g < length (layout self.now)) }
         ensures named { IfSome result

@@ -217,7 +217,7 @@ walks_again parts line g ps (x ∷ gs) at n fit is e =
     ∙ start_step parts line g at (length ps) _ x (starts_at parts next gs)
     (record { entries = x.entries; at = next; seen = length (parts_from ps x.entries); rest = all_steps parts gs }) _ one refl others
 
--- no name stands twice among numbered participants
+-- no name occurs twice among numbered participants
 
 no_double_from : (parts : List Part) (n : ℕ) (ps : List Part) → ((i : ℕ) (x : Part) → slice_get ps i ≡ Some x → number_in parts x.name ≡ n + i) →
     double_from parts n ps ≡ None

@@ -13,7 +13,7 @@ use Rattle.flow_load.specs.declared.groups.StepRole.TheVariants.{Calls, Picks, R
 use Rattle.flow_load.specs.Groups.{Walk, after, cut_off, role_of, walk, wanted, with_entries}
 use Rattle.flow_load.specs.Reads.{◌>>=◌}
 
--- what was read before, and what is still read
+-- what was read before, and what is yet to be read
 abbrev pub behind : List Entry → Result Walk LoadError → Result Walk LoadError
 behind es read = read >>= λ w. Ok (with_entries es w)
 

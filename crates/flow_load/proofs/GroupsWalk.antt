@@ -14,7 +14,7 @@ use Rattle.flow_load.specs.declared.error.LoadError.TheVariants.{BadTarget}
 use Rattle.flow_load.specs.Groups.{Walk, Walks, walk, walks, with_groups}
 use Rattle.flow_load.specs.Reads.{◌>>=◌}
 
--- what was read before, and what is still read
+-- what was read before, and what is yet to be read
 abbrev pub behind : List Group → Result Walks LoadError → Result Walks LoadError
 behind gs read = read >>= λ w. Ok (with_groups gs w)
 

@@ -19,7 +19,7 @@ fails_same Y (Flow f) = refl
 pub fails_when : {Y : Type 0} (e : LoadError) (read : Result Y LoadError) → read ≡ Err e → Fails e read
 fails_when {Y = Y} e read is = subst (λ (r : Result Y LoadError). Fails e r) (sym is) (fails_same Y e)
 
--- what fails of one reading, fails of the other, unless memory ran out
+-- a failure of the one reading is one of the other, unless memory ran out
 pub fails_through : {X Y : Type 0} (e : LoadError) (inner : Result X LoadError) (read : Result Y LoadError) → (inner ≡ Err e → read ≡ Err e) →
     Fails e inner → Fails e read
 fails_through OutOfMemory inner read on h = tt
@@ -35,7 +35,7 @@ pub gives_exactly : {X Y : Type 0} (view : X → Y) (r : Result X LoadError) (re
 gives_exactly view (Ok x) read h = h
 gives_exactly view (Err e) read h = fails_when e read h
 
--- what was read before, and what is still read
+-- what was read before, and what is yet to be read
 abbrev pub with_front : {A : Type 0} → List A → Result (List A × List ℕ) LoadError → Result (List A × List ℕ) LoadError
 with_front front read = read >>= λ x. Ok (front ++ x.0, x.1)
 

@@ -1,4 +1,4 @@
--- What is read of a line is spelled so.
+-- A line spells what is read from it.
 -- for: reader::load
 use Rattle.std.specs.Prelude.{◌==◌, slice_index, not, ◌&&◌, ◌||◌, find, if◌then◌else◌}
 use Rattle.std.specs.Fmt.{decimal}
@@ -339,7 +339,7 @@ lines_done bytes h ps gs ss l a b c d e last =
     ++ 10 ∷ (lines_text part_text 0 ps.0 ++ (lines_text group_text 0 gs.0 ++ lines_text step_text 0 ss.0))) head
     ∙ ap spelled (same_value (record { version = h.0.version; retries = h.0.retries; parts = ps.0; starts = gs.0; steps = ss.0 }) l last)
 
--- the lines that are read are spelled so
+-- the bytes spell the lines that are read from them
 pub lines_ok : (bytes : Text) (l : Lines) → lines_in bytes ≡ Ok l → bytes ≡ spelled l
 unfolding lines_in
 lines_ok bytes l h =

@@ -1,4 +1,4 @@
--- Looking bytes over tells the first fault of a line by itself or of the version, which is never want
+-- Looking bytes over tells the first fault of a line by itself or of the version, which is never out
 -- of memory.
 -- for: reader::settled
 use Rattle.std.proofs.Common.{◌≡◌, ℕ, zero, suc, ◌+◌, Bool, true, false, cond, Option, Some, None, Result, Ok, Err, refl, sym, ap, ◌∙◌, subst, codes, length}
@@ -44,7 +44,7 @@ lines_over_is text =
     over (items_at step_form h.0.steps 0 (2 + h.0.parts + h.0.groups) gs.1) _ _ _ _ (λ ss.
     plain (ended h.0 ss.1) _ _ _ (λ u. refl)))))
 
--- ---- a line by itself never has out of memory for its fault
+-- ---- the fault of a line by itself is never out of memory
 
 abbrev NotMemory : LoadError → Type 0
 NotMemory OutOfMemory = ⊥

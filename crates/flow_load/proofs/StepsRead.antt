@@ -36,7 +36,7 @@ use Rattle.flow_load.specs.Groups.{steps_line, flow_in}
 use Rattle.flow_load.proofs.Doubles.{number_take}
 use Rattle.flow_load.proofs.LineSpelling.{if_ok, same_value, with_bind}
 
--- no name stands twice
+-- no name occurs twice
 abbrev pub IsNumbered : List Part → Type 0
 IsNumbered parts = (p : ℕ) (x : Part) → slice_get parts p ≡ Some x → number_in parts x.name ≡ p
 

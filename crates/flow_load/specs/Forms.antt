@@ -90,7 +90,7 @@ module _ {A : Type 0} (form : LoadError → Text → Result (ℕ × A) LoadError
   line_at n at text =
       found (BadLine at) (cut 10 text) >>= λ line. form (BadLine at) line.0 >>= λ x. in_place x.0 n at >>= λ u. Ok (x.1, line.1)
 
-  -- so many items, from that number and line on
+  -- this many items, from that number and line on
   unfoldable pub items_at : ℕ → ℕ → ℕ → Text → Result (List A × Text) LoadError
   items_at zero n at text = Ok ([], text)
   items_at (suc left) n at text = line_at n at text >>= λ x. items_at left (n + 1) (at + 1) x.1 >>= λ xs. Ok (x.0 ∷ xs.0, xs.1)

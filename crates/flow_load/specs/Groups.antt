@@ -29,7 +29,7 @@ double_from parts n (p ∷ ps) = if nat_lt (number_in parts p.name) n then Some 
 abbrev pub double_fault : List Part → Option LoadError
 double_fault parts = option_map (λ n. BadTarget (2 + n)) (double_from parts 0 parts)
 
--- the pick that a call wants after it
+-- the pick that has to follow a call
 abbrev pub wanted : ℕ → Option Part → Option ℕ
 wanted p None = None
 wanted p (Some x) = if x.kind.selector then Some p else None
@@ -67,8 +67,8 @@ abbrev pub with_groups : List Group → Walks → Walks
 with_groups gs w = record w { groups = gs ++ w.groups }
 
 module _ (parts : List Part) where
-  -- What a step on that line is, where a pick may be due to the call before it, and so many
-  -- participants were seen.
+  -- What a step on that line is, by the pick that is due to the call before it, if any, and by how
+  -- many participants were seen.
   abbrev pub role_of : ℕ → Option ℕ → ℕ → Step → Result StepRole LoadError
   role_of here None seen (Call p) = if nat_lt p (length parts) && nat_le p seen then Ok (Calls p) else Err (BadTarget here)
   role_of here None seen (Pick p) = Err (BadTarget here)

@@ -13,16 +13,16 @@ use Rattle.sw_base.specs.Refusals.{refused}
 use Rattle.flow_load.specs.Forms.{lines_in}
 use Rattle.flow_load.specs.Groups.{flow_in}
 
--- the line of the first item with this mark, where the first item is on that line
+-- the line of the first item with this mark, when the first item is on that line
 abbrev pub first_marked : {A : Type 0} → (A → Bool) → ℕ → List A → Option ℕ
 first_marked mark at [] = None
 first_marked mark at (x ∷ xs) = if mark x then Some at else first_marked mark (at + 1) xs
 
--- the line of the first participant that recovers, where the first participant is on that line
+-- the line of the first participant that recovers, when the first participant is on that line
 abbrev pub first_recovering : ℕ → List Part → Option ℕ
 first_recovering at parts = first_marked (λ p. p.kind.recovers) at parts
 
--- where no participant recovers the version is 1, and else 2
+-- the version is 1 if no participant recovers, and otherwise 2
 abbrev pub misversioned : ℕ → Option ℕ → Option LoadError
 misversioned version None = if version == 1 then None else Some BadHeader
 misversioned version (Some at) = if version == 2 then None else Some (BadLine at)
@@ -30,7 +30,7 @@ misversioned version (Some at) = if version == 2 then None else Some (BadLine at
 abbrev pub version_fault : Lines → Option LoadError
 version_fault l = misversioned l.version (first_recovering 2 l.parts)
 
--- The first fault of a line by itself, else of the version: what is reported without memory.
+-- The first fault of a line by itself, otherwise that of the version: what is reported without memory.
 abbrev pub line_fault : Text → Option LoadError
 line_fault bytes = fault_of (lines_in bytes >>= λ l. refused (version_fault l))
 

@@ -8,7 +8,7 @@ abbrev pub ◌>>=◌ : {A B : Type 0} → Result A LoadError → (A → Result B
 (Ok x) >>= f = f x
 (Err e) >>= f = Err e
 
--- the value, or the fault where there is none
+-- the value, or the fault if there is none
 abbrev pub found : {A : Type 0} → LoadError → Option A → Result A LoadError
 found e None = Err e
 found e (Some x) = Ok x

@@ -44,7 +44,7 @@ kinds =
 abbrev pub is_spelled : Text → Kind → Bool
 is_spelled w k = bytes_eq (kind_text k) w
 
--- the kind that is spelled so
+-- the kind that is spelled like this
 unfoldable pub kind_of : Text → Option Kind
 kind_of w = find (is_spelled w) kinds
 

@@ -9,18 +9,18 @@ use thiserror::Error;
 /// from 1, groups from 0.
 #[derive(Clone, Copy, PartialEq, Eq, Error)]
 pub enum LoadError {
-    /// An allocation failed. Each line by itself and the version are without fault (`BadHeader`,
-    /// `BadLine`, `BadNumber`), which is reported without memory; the lines together and the flow may have
-    /// one, since those are reported for lines that are kept.
+    /// An allocation failed. No line by itself has a fault, nor has the version (`BadHeader`, `BadLine`,
+    /// `BadNumber`), since those faults are reported without memory; the lines together and the flow may
+    /// have one, since theirs are found only in lines that are kept.
     #[error("out of memory")]
     OutOfMemory,
     /// The first line is missing, not of its form, of a version other than 1 and 2, or counts more
-    /// than an image may have; or it says version 2 where no participant recovers.
+    /// than an image may have; or it says version 2 although no participant recovers.
     #[error("line 1: bad header: expected `image 1` or `image 2`, retries up to 100, and the numbers of \
          participants up to 16384, of groups up to 256 and of steps up to 33024; version 2 where a \
          participant recovers")]
     BadHeader,
-    /// The line is missing, has no line feed or is not of its form; or it stands after the last
+    /// The line is missing, has no line feed or is not of its form; or it comes after the last
     /// one; or it marks a participant as recovering in version 1.
     #[error("line {0}: bad line: expected the participants, the groups and the steps that line 1 counts, \
          each line ended by a line feed, numbers up to 100000, and `recover` only in version 2")]

@@ -204,7 +204,7 @@ pub fn header_at(bytes: &[u8]) -> Result<(ImageHeader, &[u8]), LoadError>
     }
 }
 
-/// The line `at` has its place among the lines of its kind for its own number.
+/// Refuses the line `at` unless its own number is its place among the lines of its kind.
 pub fn test_number(own: usize, number: usize, at: usize) -> Result<(), LoadError>
     ensures { Exactly (λ u. u) result (spec.in_place own number at) }
 {
@@ -231,7 +231,7 @@ fn item_at<T: Line>(
     Ok((item, rest))
 }
 
-// So many items, from the line of the number `at` on.
+// `count` items, from the line of the number `at` on.
 fn read_items<T: Line>(
     alloc: Global,
     count: usize,
@@ -253,7 +253,7 @@ fn read_items<T: Line>(
     Ok((items, rest))
 }
 
-/// Nothing stands after the last line.
+/// Refuses anything after the last line.
 pub fn test_rest(header: ImageHeader, rest: &[u8]) -> Result<(), LoadError>
     requires { spec.is_header header ≡ true }
     ensures { Exactly (λ u. u) result (spec.ended header rest.now) }

@@ -89,7 +89,7 @@ fn role_of(
     }
 }
 
-// The pick that a call wants after it.
+// The pick that has to follow a call.
 fn wanted(parts: &[Part], number: usize) -> Option<usize>
     ensures { result ≡ spec.wanted number (slice_get parts.now number) }
 {
@@ -214,7 +214,7 @@ fn read_groups<'a>(
     })
 }
 
-// All steps are a group's, and each participant is called.
+// Refuses a step that no group has, and a participant that is not called.
 fn test_end(parts: &[Part], line: usize, walked: &GroupsRead<'_>) -> Result<(), LoadError>
     requires { line + walked.now.at < 2 ^ 32 }
     ensures { Gives (λ u. u) result (refused

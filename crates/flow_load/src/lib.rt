@@ -1,6 +1,6 @@
 //! Images of flows: the numbered steps of a flow as lines of text.
 //!
-//! The flow whose group `main` has the entries check and send, without marks and retries, has the
+//! The flow whose group `main` has the entries check and send, without marks or retries, has the
 //! image
 //!
 //! ```text
@@ -13,15 +13,15 @@
 //! 2 return
 //! ```
 //!
-//! The first line has the version (2 where a participant recovers), the retries and the numbers of
+//! The first line has the version (2 if a participant recovers), the retries and the numbers of
 //! participants, groups and steps. Then come the participants with their marks, the groups with their
 //! first steps, and the steps, each numbered from 0.
 //!
 //! Promised here:
 //! - [`image`] writes exactly the image of its steps.
-//! - [`load`] answers a flow's steps exactly where the bytes are the image of a checked flow, and else
-//!   the first fault in one specified order. It is out of memory only where no line has a fault by
-//!   itself, nor the version.
+//! - [`load`] gives a flow's steps exactly if the bytes are the image of a checked flow, and otherwise
+//!   the first fault in one specified order. It reports out of memory only if no line by itself has a
+//!   fault, nor the version.
 #![tactic(auto)]
 
 mod error;

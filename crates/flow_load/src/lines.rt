@@ -7,7 +7,7 @@ use sw_participant::{Kind, Sequence};
 /// The first line.
 #[derive(Clone, Copy)]
 pub(crate) struct ImageHeader {
-    /// 1, or 2 where a participant recovers.
+    /// 1, or 2 if a participant recovers.
     pub version: usize,
     pub retries: usize,
     /// How many participants there are; likewise groups and steps.

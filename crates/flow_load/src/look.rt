@@ -12,7 +12,8 @@ use crate::words::line_at;
 use flow_asm::{GroupStart, Step};
 use flow_model::Part;
 
-/// The version fits the participants, of whom the one on the line `recovering` is the first to recover.
+/// Refuses a version that does not fit the participants, of which the first that recovers is on the line
+/// `recovering`.
 pub fn test_version(version: usize, recovering: Option<usize>) -> Result<(), LoadError>
     ensures { Exactly (λ u. u) result (refused (misversioned version recovering)) }
 {
@@ -45,7 +46,7 @@ fn look_at<T: Line>(number: usize, at: usize, bytes: &[u8]) -> Result<(bool, &[u
     Ok((recovers, rest))
 }
 
-// The line of the first of so many items that recovers, and the text after them.
+// The line of the first of `count` items that recovers, and the text after them.
 fn look_items<T: Line>(
     count: usize,
     at: usize,
@@ -65,7 +66,7 @@ fn look_items<T: Line>(
     Ok((recovering, rest))
 }
 
-/// Refuses bytes of which a line has a fault by itself, or the version.
+/// Refuses bytes in which a line by itself has a fault, or the version.
 #[tactic(auto, unfolding(crate::specs::LookOver::lines_over))]
 pub fn look_over(bytes: &[u8]) -> Result<(), LoadError>
     ensures { Exactly (λ u. u) result (lines_over bytes.now) }

@@ -125,7 +125,7 @@ impl fmt::Display for StepLines<'_> {
     }
 }
 
-// 2 where a participant recovers, else 1.
+// 2 if a participant recovers, otherwise 1.
 fn version_of(parts: &[Part]) -> usize
     ensures { result ≡ spec.version_of parts.now }
 {

@@ -58,8 +58,8 @@ fn read_code(alloc: Global, bytes: &[u8]) -> Result<Code, LoadError>
     Ok(assemble(alloc, &flow)?)
 }
 
-// The refusal to tell where reading stopped with this one. Where that was out of memory, the bytes
-// are looked over for a fault that is reported without memory.
+// The refusal to report when reading stopped with this one. If that was out of memory, the bytes are
+// looked over for a fault that is reported without memory.
 fn settled(e: LoadError, bytes: &[u8]) -> LoadError
     requires { Fails e (spec.load_of bytes.now) }
     ensures read { Fails result (spec.load_of bytes.now) }
@@ -76,11 +76,11 @@ fn settled(e: LoadError, bytes: &[u8]) -> LoadError
 
 /// The steps of the checked flow whose image the bytes are. Other bytes are refused for their first
 /// fault: first each line by itself, from the first line on (`BadHeader`, `BadLine`, `BadNumber`), then
-/// the version (`BadLine`, `BadHeader`), then the lines together (`BadTarget`, `NoReturn`), at last the
+/// the version (`BadLine`, `BadHeader`), then the lines together (`BadTarget`, `NoReturn`), and last the
 /// flow (`Flow`).
 ///
-/// `OutOfMemory` is reported only where each line by itself and the version are without fault. It may stand
-/// in for a fault of the lines together or of the flow, which is reported for lines that are kept.
+/// `OutOfMemory` is reported only if no line by itself has a fault, nor the version. It may hide a fault of
+/// the lines together or of the flow, since those are found only in lines that are kept.
 pub fn load(alloc: Global, bytes: &[u8]) -> Result<Code, LoadError>
     ensures exact { Gives (λ code. code) result (spec.load_of bytes.now) }
     ensures last { result ≡ Err OutOfMemory → spec.line_fault bytes.now ≡ None }

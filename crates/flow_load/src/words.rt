@@ -1,4 +1,4 @@
-//! The words of a line. Where a word is not of its form, the line's fault is answered.
+//! The words of a line. If a word is not of its form, the line's fault is reported.
 
 ghost use Rattle.std.specs.Prelude.{◌≡◌, option_map};
 ghost use Rattle.flow_load.specs.Reads.{Exactly, found};
@@ -9,7 +9,7 @@ use crate::print::kind_word;
 use sw_context::is_name;
 use sw_participant::Kind;
 
-/// What stands before the first such byte, and after it.
+/// What stands before the first such byte, and what after it; `None` if there is none.
 pub fn cut(byte: u8, text: &[u8]) -> Option<(&[u8], &[u8])>
     ensures { option_map (λ p. (p.0.now, p.1.now)) result ≡ spec.cut byte text.now }
 {
@@ -76,7 +76,7 @@ pub fn number_at(error: LoadError, text: &[u8]) -> Result<(usize, &[u8]), LoadEr
     Ok((n, rest))
 }
 
-/// What follows the first word, which is to be `word`.
+/// What follows the first word, which must be `word`.
 pub fn word_is<'a>(error: LoadError, word: &[u8], text: &'a [u8]) -> Result<&'a [u8], LoadError>
     ensures { Exactly (λ r. r.now) result (spec.word_is error word.now text.now) }
 {

@@ -30,7 +30,7 @@ number_found (p ∷ ps) name d h = ⊎_elim (λ (e : bytes_eq p.name name ≡ tr
     ∙ (bytes_eq-Decides p.name name).0 e) (λ (e : bytes_eq p.name name ≡ false). ap (λ n. (get_or (p ∷ ps) n d).name) (number_cons p ps name e)
     ∙ number_found ps name d (omega (arith, number_cons p ps name e, h))) (cases_Bool (bytes_eq p.name name))
 
--- more parts leave the known numbers
+-- more parts leave the known numbers as they are
 pub number_kept : (parts more : List Part) (name : List ℕ) → number_in parts name < length parts → number_in (parts ++ more) name ≡ number_in parts name
 number_kept [] more name h = absurd (omega (arith, h))
 number_kept (p ∷ ps) more name h = ⊎_elim (λ (e : bytes_eq p.name name ≡ true). number_here p (ps ++ more) name e ∙ sym (number_here p ps name e))

@@ -82,7 +82,7 @@ few_participants f h = omega (arith, parts_at_most [] (all_entries f), few_entri
 abbrev Within : List Part → PlacedEntry → Type 0
 Within parts s = s.participant < length parts
 
--- the entries have numbers below that of the participants
+-- the entries have numbers below how many participants there are
 abbrev Known : List Part → List Entry → Type 0
 Known parts es = (e : Entry) → In es e → number_in parts e.participant < length parts
 

@@ -1,4 +1,4 @@
--- Numbering participants, a list of entries after another.
+-- Numbering participants, one list of entries after another.
 -- for: flow_load, flow_asm
 use Rattle.std.proofs.Common.{◌≡◌, List, [], ◌∷◌, ◌++◌, refl}
 use Rattle.flow_model.specs.declared.flow.Entry.{Entry}

@@ -71,7 +71,7 @@ abbrev pub is_kind : Kind → Option Kind → Bool
 is_kind k None = false
 is_kind k (Some l) = same_kind k l
 
--- an entry whose participant has another kind than at its first place
+-- an entry whose participant has a kind other than that at its first place
 abbrev pub clash : List Group → ℕ → ℕ → Entry → Option FlowError
 clash gs g i e = if is_kind e.kind (first_kind e.participant gs) then None else Some (KindClash g i)
 

@@ -30,7 +30,7 @@ kinds_of_entries es name = kind_in name es
 abbrev pub kinds_of_groups : List Group → List ℕ → Option Kind
 kinds_of_groups gs name = first_kind name gs
 
--- an entry whose participant has another kind than the looked-up one
+-- an entry whose participant has a kind other than the looked-up one
 abbrev pub clash_by : (List ℕ → Option Kind) → ℕ → ℕ → Entry → Option FlowError
 clash_by look g i e = if is_kind e.kind (look e.participant) then None else Some (KindClash g i)
 

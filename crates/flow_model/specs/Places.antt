@@ -40,8 +40,8 @@ abbrev pub placed_from : List Part → ℕ → ℕ → List Entry → List Place
 placed_from parts g i [] = []
 placed_from parts g i (e ∷ es) = placed_entry parts g i e ∷ placed_from parts g (i + 1) es
 
--- the entries of the group of this name, at their places: of the first one, where several have the
--- name, and none where no group has it
+-- the entries of the group of this name, at their places: of the first such group if several have the
+-- name, and none if no group has it
 abbrev pub named_from : List Part → ℕ → List Group → List ℕ → List PlacedEntry
 named_from parts g [] name = []
 named_from parts g (x ∷ xs) name = if bytes_eq x.name name then placed_from parts g 0 x.entries else named_from parts (g + 1) xs name

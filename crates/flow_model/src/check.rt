@@ -1,4 +1,4 @@
-//! What a checked flow is: the tests, each of which answers the first fault of its kind.
+//! What a checked flow is: the tests, each of which gives the first fault of its kind.
 
 ghost use Rattle.std.specs.Prelude.{◌≡◌, ◌≤◌, length, Some, None, false};
 ghost use Rattle.flow_model.specs.Check as spec;
@@ -192,9 +192,9 @@ impl Flow {
     ghost use Rattle.flow_model.specs.Check.{first_fault};
     ghost use Rattle.sw_base.specs.Refusals.{refused};
 
-    /// Accepts exactly a flow without a fault, and else answers its first one, tested in the order
-    /// size, retries, names (a group's, then its entries', group by group), doubled groups, the
-    /// group `main`, kinds. Takes no memory, so comparing the kinds of n entries takes n × n steps.
+    /// Accepts exactly the flows without a fault. Other flows are refused for their first fault, tested
+    /// in the order size, retries, names (a group's, then its entries', group by group), doubled groups,
+    /// the group `main`, kinds. Takes no memory, so comparing the kinds of n entries takes n × n steps.
     #[tactic(auto, unfolding(crate::specs::Check::first_fault))]
     pub fn check(&self) -> Result<(), FlowError>
         ensures { result ≡ refused (first_fault self.now) }

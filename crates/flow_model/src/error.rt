@@ -16,7 +16,7 @@ pub enum FlowError {
     /// The name of a group, or of the participant of an entry of it, breaks the name rule.
     #[error("{}: bad name: expected 1 to 32 of a-z A-Z 0-9 _ - .", name_path(*.0, *.1))]
     BadName(usize, Option<usize>),
-    /// The participant of the entry has other marks than at its first place.
+    /// The participant of the entry has marks other than those at its first place.
     #[error("group {0}, entry {1}: the participant has other marks at its first place: expected the same")]
     KindClash(usize, usize),
     /// More than 256 groups, 256 entries in a group or 16,384 entries in all.

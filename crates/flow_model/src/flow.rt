@@ -8,7 +8,7 @@ use sw_participant::{Kind, Sequence, Text};
 
 /// One entry of a group: a participant that is prepared there.
 pub struct Entry {
-    /// The participant's name; a checked flow has names of 1 to 32 of `a-z A-Z 0-9 _ - .`.
+    /// The participant's name; in a checked flow it is 1 to 32 bytes of `a-z A-Z 0-9 _ - .`.
     pub participant: Text,
     /// The participant's marks, the same at each of its places in a checked flow.
     pub kind: Kind,

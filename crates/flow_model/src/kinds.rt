@@ -94,7 +94,7 @@ fn test_kinds_by(kinds: &BTreeMap<&str, Kind>, groups: &[Group]) -> Result<(), F
     Ok(())
 }
 
-// As the comparison of kinds without a map, which has each participant's kind at its first place.
+// As the comparison of kinds without a map; the map has each participant's kind at its first place.
 fn test_kinds(kinds: &BTreeMap<&str, Kind>, groups: &[Group]) -> Result<(), FlowError>
     requires { Has kinds.now (kinds_of_groups groups.now) }
     ensures { result ≡ refused (spec.clashes groups.now) }
@@ -102,7 +102,7 @@ fn test_kinds(kinds: &BTreeMap<&str, Kind>, groups: &[Group]) -> Result<(), Flow
     test_kinds_by(kinds, groups)
 }
 
-// As the check without a map, with the same kinds.
+// As the check without a map; the map has the same kinds.
 #[tactic(auto, unfolding(crate::specs::Check::first_fault))]
 fn check_with(flow: &Flow, kinds: &BTreeMap<&str, Kind>) -> Result<(), FlowError>
     requires { Has kinds.now (kinds_of_groups flow.now.groups) }
@@ -121,9 +121,9 @@ impl Flow {
     ghost use Rattle.flow_model.specs.Check.{first_fault};
     ghost use Rattle.sw_base.specs.Refusals.{refused};
 
-    /// As [`Flow::check`], but through a map from participants to kinds, so that n entries take
-    /// n × log n steps. The outer error is out of memory, which is reported for a flow without a fault
-    /// alone.
+    /// Checks as [`Flow::check`] does, but with a map from participants to kinds, so that n entries take
+    /// n × log n steps. The outer error is out of memory, which is reported only for a flow without a
+    /// fault.
     pub fn check_by_map(&self, alloc: Global) -> Result<Result<(), FlowError>, AllocError>
         ensures checked { IfOk result (λ checked. checked ≡ refused (first_fault self.now)) }
         ensures memory { OnErr result (first_fault self.now ≡ None) }

@@ -1,8 +1,8 @@
 //! Flows: named groups of entries, what a checked flow is, and where its entries stand.
 //!
 //! Promised here:
-//! - [`Flow::check`] accepts exactly the flows without a fault, and answers the first fault in one
-//!   specified order.
+//! - [`Flow::check`] accepts exactly the flows without a fault, and refuses the others for their first
+//!   fault in one specified order.
 //! - [`number_of`] finds the number of a participant in a list of them, so a participant has one
 //!   number in whatever form a flow is kept.
 //! - A checked flow has at most 16,384 participants, and each placed entry's number is one of theirs.

@@ -11,11 +11,11 @@ use Rattle.flow_toml.specs.declared.error.FlowTomlError.{FlowTomlError}
 use Rattle.flow_toml.specs.declared.error.FlowTomlError.TheVariants.{OutOfMemory, Toml, Missing, WrongKind, Unknown, Flow}
 use Rattle.flow_toml.specs.Reads.{◌>>=◌, Fails, each}
 
--- what was read before, and what is still read
+-- what was read before, and what is yet to be read
 abbrev pub with_front : {B : Type 0} → List B → Result (List B) FlowTomlError → Result (List B) FlowTomlError
 with_front front read = read >>= λ ys. Ok (front ++ ys)
 
--- what fails of one reading, fails of the other, unless memory ran out
+-- a failure of the one reading is one of the other, unless memory ran out
 pub fails_through : {X Y : Type 0} (e : FlowTomlError) (inner : Result X FlowTomlError) (read : Result Y FlowTomlError) → (inner ≡ Err e → read ≡ Err e) →
     Fails e inner → Fails e read
 fails_through OutOfMemory inner read on h = tt

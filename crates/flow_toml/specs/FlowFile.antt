@@ -20,7 +20,7 @@ use Rattle.flow_toml.specs.Faults.{table_fault}
 use Rattle.flow_toml.specs.Reads.{◌>>=◌, each}
 use Rattle.sw_base.specs.Refusals.{refused}
 
--- What stands at a key of a table without a fault: the default where it is absent. (Other tables have
+-- What stands at a key of a table without a fault: the default if it is absent. (Other tables have
 -- a value here too, which is never read.)
 abbrev pub text_at : Key → Members → List ℕ
 text_at k ms = unwrap_or (option_and_then as_str (get_member (spelling k) ms)) []
@@ -91,7 +91,7 @@ checked f (Some e) = Err (Flow e)
 abbrev pub checked_flow_of : Members → Result flow.Flow FlowTomlError
 checked_flow_of ms = flow_of ms >>= λ f. checked f (first_fault f)
 
--- what a text reads as; nothing where it is not TOML
+-- what a text reads as; nothing if it is not TOML
 unfoldable pub reading : List ℕ → Option (Result flow.Flow FlowTomlError)
 reading text = option_map checked_flow_of (parse_document text)
 
@@ -99,8 +99,8 @@ reading text = option_map checked_flow_of (parse_document text)
 abbrev pub IsFlowFile : flow.Flow → List ℕ → Type 0
 IsFlowFile f text = reading text ≡ Some (Ok f)
 
--- What a refusal says of a text: nothing where memory ran out, else its first fault. That a text is no
--- TOML comes with a span of it.
+-- What a refusal says about a text: nothing if memory ran out, otherwise its first fault. With the fault that
+-- it is not TOML comes a span of the text.
 abbrev pub Refuses : List ℕ → FlowTomlError → Type 0
 Refuses text OutOfMemory = ⊤
 Refuses text (Toml t) = (parse_document text ≡ None) × IsWithin text t

@@ -10,7 +10,7 @@ use thiserror::Error;
 /// The first fault of a flow file, its kinds in the order of their numbers, from 0.
 #[derive(Drop, Error)]
 pub enum FlowTomlError {
-    /// An allocation failed, which says nothing of the file.
+    /// An allocation failed, which says nothing about the file.
     #[error("out of memory")]
     OutOfMemory,
     /// The text is not TOML; the reason has its line and column, both from 1.
@@ -19,13 +19,13 @@ pub enum FlowTomlError {
     /// The table lacks the key.
     #[error("{}: key {} is missing: expected {}", .1, .0, .0.wants())]
     Missing(Key, TablePath),
-    /// A value of another kind stands at the key; of several such keys the least.
+    /// The key has a value of the wrong kind; of several such keys, the least is reported.
     #[error("{}: key {} has a value of the wrong kind: expected {}", .1, .0, .0.wants())]
     WrongKind(Key, TablePath),
-    /// The table has a key that is not one of its keys; of several the least, by its bytes.
+    /// The table has an unknown key; of several such keys, the least by its bytes is reported.
     #[error("{}: unknown key: expected one of {}", .1, keys_for(*.1))]
     Unknown(Text, TablePath),
-    /// The file states a flow that its check refuses.
+    /// The file states a flow that the check of flows refuses.
     #[error("{0}")]
     Flow(FlowError),
 }

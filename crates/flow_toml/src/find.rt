@@ -29,9 +29,9 @@ fn text_of(alloc: Global, value: &Value) -> Result<String, AllocError> {
     }
 }
 
-/// What stands at a key of a table of a flow file: a string's own text, and any other value as TOML
-/// writes it. Nothing where nothing stands there, where the text is not TOML, or where memory is
-/// refused: it is for a message that can do without.
+/// What stands at a key of a table of a flow file: a string's own text, or any other value as TOML
+/// writes it. `None` if nothing stands there, if the text is not TOML, or if memory is refused: it is
+/// for a message that can do without.
 pub fn value_at(alloc: Global, text: &str, path: TablePath, key: Key) -> Option<String> {
     let top = toml::table_from_str(alloc, text).ok()?;
     let table = table_of(&top, path)?;

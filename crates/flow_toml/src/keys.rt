@@ -12,7 +12,7 @@ pub enum TablePath {
     Top,
     /// The group of this number.
     Group(usize),
-    /// In the group of the first number the entry of the second.
+    /// In the group of the first number, the entry of the second.
     Entry(usize, usize),
 }
 

@@ -11,17 +11,17 @@
 //! selector = true
 //! ```
 //!
-//! The top table has `group` (an array of tables, required) and `retries` (an integer, 0 where it is
-//! absent). A group has `name` (a string, required) and `entry` (an array of tables, empty where it
-//! is absent). An entry has `participant` (a string, required) and the marks `abort_aware`,
-//! `recovers` and `selector` (false where they are absent).
+//! The top table has `group` (an array of tables, required) and `retries` (an integer, 0 if it is
+//! absent). A group has `name` (a string, required) and `entry` (an array of tables, empty if it is
+//! absent). An entry has `participant` (a string, required) and the marks `abort_aware`, `recovers`
+//! and `selector` (false if they are absent).
 //!
 //! Promised here:
-//! - [`read_flow`] answers exactly the checked flow of a text, or its first fault in the specified
-//!   order, with the key and the table that it stands in.
+//! - [`read_flow`] gives exactly the checked flow of a text, or its first fault in the specified
+//!   order, with the key and the table that it is in.
 //! - [`print_flow`] writes a text that reads back as the same flow.
 //!
-//! Of [`value_at`], which finds what a message quotes, nothing is promised; tests show it.
+//! Nothing is promised of [`value_at`], which finds what a message quotes; tests cover it.
 #![tactic(auto)]
 
 mod error;

@@ -27,7 +27,7 @@ fn member(table: &Table, key: Key) -> Option<&Value>
     table.get(key.as_str())
 }
 
-/// Whether each item of an array is a table, as of an array that is written `[[KEY]]`.
+/// Whether each item of an array is a table, as in an array that is written `[[KEY]]`.
 pub fn are_tables(array: &Array) -> bool
     ensures { result ≡ are_tables (array_view array.now) }
 {
@@ -283,7 +283,7 @@ fn read_document(alloc: Global, table: &Table) -> Result<Flow, FlowTomlError>
 /// each followed by its entries in order; then the flow's own check. In each table the least unknown
 /// key comes first, then the least missing one, then the least whose value is of the wrong kind. An
 /// integer outside 0 to 100 for `retries` is the check's `BadRetries`; one of more than 64 bits is
-/// no TOML. `OutOfMemory` comes only where an allocation failed before a fault was found.
+/// not TOML. `OutOfMemory` is reported only if an allocation failed before a fault was found.
 #[tactic(auto, unfolding(crate::specs::FlowFile::reading))]
 pub fn read_flow(alloc: Global, text: &str) -> Result<Flow, FlowTomlError>
     ensures flow { IfOk result (λ f. spec.IsFlowFile f text.now) }

@@ -117,7 +117,7 @@ impl Context {
 
     /// Puts a value under a name. A name that is already there keeps its position, and a new one comes last.
     ///
-    /// The refusals, in this order: `BadName`, `ValueTooLong`, `Full` (a new name beside 64 others), `OutOfMemory`.
+    /// The refusals, in this order: `BadName`, `ValueTooLong`, `Full` (it would be the 65th name), `OutOfMemory`.
     pub fn put(&mut self, name: &str, value: &[u8]) -> Result<(), ContextError>
         ensures put { OnOk result (self.new ≡ with_value self.old name.now value.now) }
         ensures taken { OnOk result (refusal self.old name.now value.now ≡ None) }

@@ -1,4 +1,4 @@
--- No two participants of a flow have one name.
+-- No two participants of a flow have the same name.
 -- for: laws::participants_are_numbered
 use Rattle.std.proofs.Common.{◌≡◌, ℕ, suc, zero, ◌+◌, ◌<◌, ◌≤◌, true, false, ◌⊎◌, inl, inr, ⊎_elim, List, [], ◌∷◌, ◌++◌, length, get_or, refl, sym, ap, ◌∙◌}
 use Rattle.std.proofs.Common.{subst, arith, if◌then◌else◌, length-append, true≢false}

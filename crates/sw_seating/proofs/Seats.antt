@@ -47,7 +47,7 @@ not_behind names ps k p numbered low has seated absent =
     let first = early ps k name (sym (ap (list_any test) seated) ∙ front) in
     omega (arith, first, numbered k p low)
 
--- what a swap does to the names up to the place k, where the other place is not before it
+-- what a swap does to the names up to the place k, if the other place is not before it
 swapped_at : (ns : List (List ℕ)) (k at : ℕ) (name : List ℕ) → k ≤ at → at < length ns → get_or ns at [] ≡ name
     → take (k + 1) (set (set ns k (get_or ns at [])) at (get_or ns k [])) ≡ take k ns ++ name ∷ []
 swapped_at ns k at name up low is =
@@ -91,7 +91,7 @@ seated_more f xs zs ps k at p is up there low named seated =
     ∙ ap (λ n. take k (part_names ps) ++ n ∷ []) (sym (get_or-map (λ (q : Part). q.name) ps k p [] low))
     ∙ sym (take_more (part_names ps) k [] (omega (arith, low, length-map ps (λ (q : Part). q.name))))
 
--- where no participant is refused, each has a station
+-- if no participant is refused, each has a station
 has_station : (names : List (List ℕ)) (n : ℕ) (q : Part) → no_station names n q ≡ None → is_among q.name names ≡ true
 has_station names n q h =
     ⊎_elim

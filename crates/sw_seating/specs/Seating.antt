@@ -1,4 +1,4 @@
--- Which stations suit the participants of a flow, and in which order they stand then.
+-- Which stations suit the participants of a flow, and in which order they are put.
 use Rattle.std.specs.Prelude.{◌≡◌, ℕ, ◌<◌, Bool, List, length, map, take, get_or, not, true, Option}
 use Rattle.std.specs.List.{list_any}
 use Rattle.std.specs.Str.{bytes_eq}
@@ -39,6 +39,6 @@ HaveStations names parts = (k : ℕ) (p : Part) → k < length parts → is_amon
 abbrev pub AreSeated : List (List ℕ) → List Part → Type 0
 AreSeated names parts = take (length parts) names ≡ part_names parts
 
--- each participant has the number of its place: no two have one name
+-- each participant has the number of its place: no two have the same name
 abbrev pub AreNumbered : List Part → Type 0
 AreNumbered parts = (k : ℕ) (p : Part) → k < length parts → number_in parts (get_or parts k p).name ≡ k

@@ -81,7 +81,7 @@ fn find_from(stations: &[Station], from: usize, name: &str) -> Option<usize>
     None
 }
 
-// The station of participant k comes to place k.
+// Moves the station of participant k to place k.
 fn seat_one(stations: &mut Vec<Station>, parts: &[Part], k: usize)
     requires numbered { AreNumbered parts.now }
     requires below { k < length parts.now }
@@ -108,9 +108,9 @@ fn seat_all(stations: &mut Vec<Station>, parts: &[Part])
     }
 }
 
-/// Puts the stations in the order of the participants' numbers, those that no participant calls for
-/// after them. Refused are, and then nothing has moved: the least participant without a station of
-/// its name, then the first station that has the name of an earlier one.
+/// Puts the stations in the order of the participants' numbers, and after them those that no
+/// participant calls for. It refuses, and then has moved nothing, the least participant without a
+/// station of its name, then the first station that has the name of an earlier one.
 pub fn seat(stations: &mut Vec<Station>, parts: &[Part]) -> Result<(), SeatingError>
     requires numbered { AreNumbered parts.now }
     ensures refused { result ≡ refused (seating_refusal (names_of stations.old.items) parts.now) }
