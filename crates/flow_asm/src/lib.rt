@@ -5,7 +5,7 @@
 //!   contracts see a [`Code`] as the flow that it was assembled from.
 //! - [`place`] and [`step_at`] agree: the call of an entry is the step whose place the entry is, and
 //!   a selector's pick is the step after its call.
-//! - [`Code::look`] says what stands at a step, and [`Code::find_group`] finds a group by its name.
+//! - [`Code::look`] says what a step is, and [`Code::find_group`] finds a group by its name.
 #![tactic(auto)]
 
 mod assembly;

@@ -1,4 +1,4 @@
-//! What stands at a step, and the look-up of a group by its name.
+//! What a step is, and the look-up of a group by its name.
 
 ghost use Rattle.std.specs.Prelude.{◌≡◌, ◌<◌, ◌≤◌, [], length, IfSome, IfNone, Some, false, slice_get};
 ghost use Rattle.std.specs.Option.{option_map};
@@ -11,7 +11,7 @@ ghost use Rattle.flow_asm.specs.Views.{IsStepView};
 use crate::code::{Code, Step};
 use sw_participant::Kind;
 
-/// What stands at a step.
+/// What a step is.
 #[derive(Clone, Copy)]
 pub enum StepView {
     /// The participant of this number is prepared; it has these marks.
@@ -23,7 +23,7 @@ pub enum StepView {
 }
 
 impl Code {
-    /// What stands at a step of the code.
+    /// What a step of the code is.
     pub fn look(&self, step: usize) -> StepView
         requires { step < length (stages self.now) }
         ensures view { IsStepView self.now step result }

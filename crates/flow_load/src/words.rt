@@ -9,7 +9,7 @@ use crate::print::kind_word;
 use sw_context::is_name;
 use sw_participant::Kind;
 
-/// What stands before the first such byte, and what after it; `None` if there is none.
+/// The bytes before and after the first `byte` of the text; `None` if it has none.
 pub fn cut(byte: u8, text: &[u8]) -> Option<(&[u8], &[u8])>
     ensures { option_map (λ p. (p.0.now, p.1.now)) result ≡ spec.cut byte text.now }
 {
@@ -125,7 +125,7 @@ pub fn kind_at(error: LoadError, word: &[u8]) -> Result<Kind, LoadError>
     }
 }
 
-/// What stands before the first line feed, and after it.
+/// The bytes before and after the first line feed.
 pub fn line_at(error: LoadError, text: &[u8]) -> Result<(&[u8], &[u8]), LoadError>
     ensures { Exactly (λ p. (p.0.now, p.1.now)) result (found error (spec.cut 10 text.now)) }
 {

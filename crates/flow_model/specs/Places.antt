@@ -1,4 +1,4 @@
--- Where the entries of a flow stand, and how its participants are numbered.
+-- The places of a flow's entries, and how its participants are numbered.
 use Rattle.std.specs.Prelude.{ℕ, ◌+◌, ◌<◌, List, [], ◌∷◌, ◌++◌, length, nat_lt, if◌then◌else◌}
 use Rattle.std.specs.List.{flat_map}
 use Rattle.std.specs.Str.{bytes_eq}

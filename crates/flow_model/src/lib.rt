@@ -1,4 +1,4 @@
-//! Flows: named groups of entries, what a checked flow is, and where its entries stand.
+//! Flows: named groups of entries, what a checked flow is, and the places of its entries.
 //!
 //! Promised here:
 //! - [`Flow::check`] accepts exactly the flows without a fault, and refuses the others for their first

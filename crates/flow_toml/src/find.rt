@@ -1,4 +1,4 @@
-//! What stands at a key of a flow file, as a message quotes it.
+//! The value at a key of a flow file, as a message quotes it.
 
 use crate::keys::{Key, TablePath};
 use std::alloc::{AllocError, Global};
@@ -29,9 +29,9 @@ fn text_of(alloc: Global, value: &Value) -> Result<String, AllocError> {
     }
 }
 
-/// What stands at a key of a table of a flow file: a string's own text, or any other value as TOML
-/// writes it. `None` if nothing stands there, if the text is not TOML, or if memory is refused: it is
-/// for a message that can do without.
+/// The value at a key of a table of a flow file: a string's own text, or any other value as TOML
+/// writes it. `None` if there is no such table or key, if the text is not TOML, or if memory is
+/// refused: it is for a message that can do without.
 pub fn value_at(alloc: Global, text: &str, path: TablePath, key: Key) -> Option<String> {
     let top = toml::table_from_str(alloc, text).ok()?;
     let table = table_of(&top, path)?;

@@ -1,4 +1,4 @@
-//! The tables of a flow file and the keys that stand in them.
+//! The tables of a flow file and the keys in them.
 
 ghost use Rattle.std.specs.Prelude.{◌≡◌};
 ghost use Rattle.flow_toml.specs.Keys as spec;
@@ -29,7 +29,7 @@ pub enum Key {
     Selector,
 }
 
-/// What stands at a key.
+/// What kind of value a key has.
 #[derive(Clone, Copy, PartialEq, Eq)]
 pub(crate) enum Want {
     /// An array whose members are all tables, written inline or by headers; it may be empty.
@@ -79,7 +79,7 @@ impl Key {
         matches!(self, Key::Group | Key::Name | Key::Participant)
     }
 
-    /// What stands at it.
+    /// What kind of value it has.
     pub(crate) fn wants(self) -> Want
         ensures { result ≡ spec.wants self }
     {

@@ -1,4 +1,4 @@
--- The definitions at work, by computing alone.
+-- The definitions at work, by computation only.
 -- for: the definitions, which compute
 use Rattle.std.proofs.Common.{true, ◌≡◌, false, List, [], ◌∷◌, Some, None, refl}
 use Rattle.std.specs.Prelude.{codes}
@@ -66,7 +66,7 @@ twice : journal flow (stopped flow start past) (Told 0 None ∷ Told 0 (Some (7 
 unfolding plain flow start past
 twice = refl
 
--- a take before any answer of a flow with nobody doing would be closed at opening
+-- a transaction with no member and nobody in `doing` is closed at the opening
 closed : opened flow (record {
   view = record {
     next_id = 2;

@@ -80,7 +80,7 @@ gave_told f v past s a id h = record {
   stale = λ j d. rw (is_other (serves f v past s) id j h d) refl;
 }
 
--- the others stand where they stood
+-- the others stay in the states that they were in
 pub state_other : (f : Flow) (v : Start) (past : List Event) (e : Event) (id : ℕ) (x : Item) (j : ℕ) → Gave f v past e id x → j ≢ id →
     state_of f v (e ∷ past) j ≡ state_of f v past j
 state_other f v past e id x j g d = rw (g.arrived, g.others j d) refl

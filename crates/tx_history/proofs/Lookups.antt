@@ -1,4 +1,4 @@
--- What is found under an id: in one list behind another, and in a list that was gathered.
+-- What is found under an id: in one list after another, and in a list that was gathered.
 -- for: laws::journals_agree of outcome_history, laws::entries_fit of tx_journal
 use Rattle.std.proofs.Common.{◌≡◌, ℕ, zero, suc, ◌+◌, ◌<◌, ◌≤◌, Bool, true, false, List, [], ◌∷◌, ◌++◌, Option, Some, None, refl, ◌∙◌, arith}
 use Rattle.std.specs.Prelude.{if◌then◌else◌, ◌==◌}

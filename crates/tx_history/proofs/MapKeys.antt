@@ -38,7 +38,7 @@ module _ {K A : Type 0} (cmp : K → K → Ordering) (lt : K → K → Bool) (o 
       let no : lt y.0 k ≡ false = o.less y.0 k ∙ ap is_lt (back cmp lt o k y.0 up) in
       rw no (none_low k x xs h all.1)
 
-  -- and all after it is above k
+  -- and everything after it is above k
   all_high : (k x : K) (xs : List (K × A)) → (cmp k x ≡ Less) ⊎ (k ≡ x) → AllByRecursion (λ y. cmp x y ≡ Less) (keys_of xs) →
       filter (λ (p : K × A). lt k p.0) xs ≡ xs
   all_high k x [] h all = refl

@@ -100,7 +100,7 @@ old_outcome f r items =
 more_told : (n m k : ℕ) → n ≤ m → not (nat_lt n k) ≡ true → not (nat_lt m k) ≡ true
 more_told n m k le h = grind (arith, nat_tests)
 
--- with nobody to notify there never is
+-- one with nobody to notify stays ended
 pub ended_stays : (f : Flow) (r : Row) (items : List Item) → is_ended f (reopened f r) ≡ true → is_ended f (after_newest f (reopened f r) items) ≡ true
 ended_stays f r items h =
     let w = old_stays f (reopened f r) items refl refl in
@@ -195,7 +195,7 @@ taken_from v (Cleared p ∷ past) s id h = taken_from v past s id h
 taken_from v (LetGo t ∷ past) s id h = taken_from v past s id h
 taken_from v (Closed k ∷ past) s id h = taken_from v past s id h
 
--- an id that is served stands in the journal, or was taken
+-- an id that is served is in the journal, or was taken
 pub serves_below : (f : Flow) (v : Start) (past : List Event) (s id : ℕ) → IsOrdered v.view → serves f v past s ≡ Some id → (1 ≤ id) × (id < next_id v past)
 serves_below f v past s id o h = elim (serves_one f v past s id h) [
   | inl old ↦ (let w = found f v.view.rows (own_items f v past) 1 v.view.next_id id o.rows old in

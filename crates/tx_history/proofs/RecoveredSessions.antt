@@ -37,7 +37,7 @@ none_taken v (Cleared p ∷ past) s h = none_taken v past s h
 none_taken v (LetGo t ∷ past) s h = none_taken v past s h
 none_taken v (Closed i ∷ past) s h = none_taken v past s h
 
--- an item is not for one that waits after the one that is recovered after it
+-- j is not k, and has no entry yet
 pub record Passes (f : Flow) (v : Start) (past : List Event) (k j : ℕ) : Type 0 where
   pub apart : j ≢ k
   pub none : last_of f v past j ≡ 0
@@ -70,7 +70,7 @@ restored_apart f v past s k id j h r lt le z = elim (serves_who f v past s k h) 
   | inr a ↦ (let above = taken_from v past s k a in omega arith)
 ]
 
--- those after the one that is recovered now have no entry yet
+-- those after the one that is being recovered have no entry yet
 pub last_none : (f : Flow) (v : Start) (past : List Event) (id j : ℕ) → IsOrdered v.view → IsLawful f v past → recovering f v past ≡ Some id → id < j →
     j < v.view.next_id → last_of f v past j ≡ 0
 last_none f v [] id j o law h lt le = refl
@@ -111,7 +111,7 @@ abbrev pub next_reopened : Flow → Start → Option ℕ → Option (ℕ × TxSt
 next_reopened f v None = None
 next_reopened f v (Some j) = Some (j, reopened_at f (look j v.view.rows))
 
--- while it goes on, session 0 serves it still
+-- while it goes on, session 0 still serves it
 pub session_goes_on : (f : Flow) (v : Start) (past : List Event) (e : Event) (id : ℕ) (x : Item) → IsOrdered v.view → IsLawful f v past →
     Gave f v past e id x → recovering f v past ≡ Some id
     → is_ended f (next f (state_of f v past id) x) ≡ false → session_state f v (e ∷ past) 0 ≡ Some (id, next f (state_of f v past id) x)
@@ -120,7 +120,7 @@ session_goes_on f v past e id x o law g h going =
     let still : recovering f v (e ∷ past) ≡ Some id = recovering_next f v past e id x o law g h ∙ (rw (given, going) refl) in
     ap (λ (r : Option ℕ). state_of_served f v (e ∷ past) (or_taken r (taken v (e ∷ past) 0))) still ∙ ap (λ (s : TxState). Some (id, s)) given
 
--- who comes next stands after it
+-- the one that is recovered next comes after it
 pub next_behind : (f : Flow) (v : Start) (past : List Event) (e : Event) (id j : ℕ) (x : Item) → IsOrdered v.view → IsLawful f v past →
     Gave f v past e id x → recovering f v past ≡ Some id
     → recovering f v (e ∷ past) ≡ Some j → j ≢ id → (id < j) × (j < v.view.next_id)
@@ -129,7 +129,7 @@ next_behind f v past e id j x o law g h r apart =
     let below = recovering_below f v (e ∷ past) j o r in
     (omega (arith, apart), below)
 
--- the one after stands as its row says
+-- one after it is in the state that its row says
 reopened_as : (f : Flow) (v : Start) (past : List Event) (e : Event) (id j : ℕ) (x : Item) → IsOrdered v.view → IsLawful f v past → Gave f v past e id x →
     recovering f v past ≡ Some id → id < j → j < v.view.next_id
     → state_of f v (e ∷ past) j ≡ reopened_at f (look j v.view.rows)
@@ -149,7 +149,7 @@ over_apart f v past id j o h over z =
     let same : is_ended f (state_of f v past j) ≡ is_ended f (state_of f v past id) = ap (λ (i : ℕ). is_ended f (state_of f v past i)) z in
     cc
 
--- where it is over, session 0 serves the next one, as its row says, or nobody
+-- when it is over, session 0 serves the next one, as its row says, or nobody
 pub session_goes_to_next : (f : Flow) (v : Start) (past : List Event) (e : Event) (id : ℕ) (x : Item) → IsOrdered v.view → IsLawful f v past →
     Gave f v past e id x → recovering f v past ≡ Some id
     → taken v (e ∷ past) 0 ≡ taken v past 0 → is_ended f (next f (state_of f v past id) x) ≡ true →
@@ -168,7 +168,7 @@ session_goes_to_next f v past e id x o law g h same over =
         let w = next_behind f v past e id j x o law g h now (over_apart f v (e ∷ past) id j o now ended) in
         ap (λ (s : TxState). Some (j, s)) (reopened_as f v past e id j x o law g h w.0 w.1)
 
--- and no entry is one of the next one's yet
+-- and the next one has no entry yet
 pub last_of_next : (f : Flow) (v : Start) (past : List Event) (e : Event) (id j : ℕ) (x : Item) → IsOrdered v.view → IsLawful f v (e ∷ past) →
     Gave f v past e id x → recovering f v past ≡ Some id
     → is_ended f (next f (state_of f v past id) x) ≡ true → recovering f v (e ∷ past) ≡ Some j → last_of f v past j ≡ 0

@@ -24,7 +24,7 @@ use Rattle.tx_history.proofs.Sessions.{serves_who, recovered_stays, recovering_b
 found_from : (f : Flow) (rows : List (ℕ × Row)) (items : ℕ → List Item) (n m id : ℕ) → Rising n m rows → first_unfinished f rows items ≡ Some id → n ≤ id
 found_from f rows items n m id r h = let w = found f rows items n m id r h in (look_within rows n m id w.row r w.there).0
 
--- an item for the one that is recovered now leaves those before it over
+-- after an item for the one that is being recovered, those before it are still over
 step_if : (f : Flow) (r : ℕ × Row) (rows : List (ℕ × Row)) (a b : ℕ → List Item) (n m k id : ℕ) → Rising n m (r ∷ rows) → ((j : ℕ) → j ≢ k → b j ≡ a j) →
     (first_unfinished f rows a ≡ Some k → first_unfinished f rows b ≡ Some id → k ≤ id)
     → (x : Bool) → is_ended f (after_newest f (reopened f r.1) (a r.0)) ≡ x → (if x then first_unfinished f rows a else Some r.0) ≡ Some k
@@ -66,7 +66,7 @@ gave_later f v past e k s id j x o acc g h r lt le ih (Some i) was = elim (serve
       g.others j (λ z. omega arith) ∙ ih i was (omega arith))
 ]
 
--- those after the one that is recovered now have no items yet
+-- those after the one that is being recovered have no items yet
 pub later_none : (f : Flow) (v : Start) (past : List Event) (id j : ℕ) → IsOrdered v.view → IsLawful f v past → recovering f v past ≡ Some id → id < j →
     j < v.view.next_id → own_items f v past j ≡ []
 later_none f v [] id j o law h lt le = refl
@@ -144,7 +144,7 @@ next_on f (r ∷ rows) a b n m k q rise same later there h =
     next_if f r rows a b n m k q rise same later there (λ i t. next_on f rows a b (r.0 + 1) m k q rise.2 same later t i)
     (is_ended f (after_newest f (reopened f r.1) (a r.0))) refl h
 
--- after an item for the one that is recovered: the same one, or the first one after it with somebody to notify
+-- after an item for the one that is being recovered: the same one, or the first one after it with somebody to notify
 pub recovering_next : (f : Flow) (v : Start) (past : List Event) (e : Event) (id : ℕ) (x : Item) → IsOrdered v.view → IsLawful f v past →
     Gave f v past e id x → recovering f v past ≡ Some id
     → recovering f v (e ∷ past) ≡ one_after f v.view.rows id (is_ended f (state_of f v (e ∷ past) id))

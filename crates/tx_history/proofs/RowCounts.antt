@@ -1,4 +1,4 @@
--- A journal has a row for each session at most, or those that it began with.
+-- A journal has at most one row for each session, or the rows that it began with.
 -- for: laws::journals_are_sound
 use Rattle.std.proofs.Common.{◌≡◌, ◌≢◌, ℕ, ◌+◌, ◌<◌, ◌≤◌, Bool, true, false, List, [], ◌∷◌, length, Option, Some, None, refl, sym, ◌∙◌, ap, subst, arith, suc}
 use Rattle.std.proofs.Common.{zero, length-append}
@@ -277,7 +277,7 @@ taker f v (LetGo t ∷ past) n j o ss law lo hi u = let w = taker f v past n j o
 taker f v (Closed k ∷ past) n j o ss law lo hi u = let w = taker f v past n j o ss law.2 lo hi u in
     record { session = w.session; within = w.within; took = w.took }
 
--- as many things as have holes
+-- no more things than holes, when each has a hole of its own
 
 abbrev cut : {A : Type 0} → ℕ → List (ℕ × A) → List (ℕ × A)
 cut k [] = []

@@ -67,7 +67,7 @@ served_once f v past s t id o h k = elim (serves_who f v past s id h) [
   ]
 ]
 
--- what a session is recovering is over before anything is taken
+-- what is recovered is over before anything is taken
 
 -- an item for a transaction that was taken leaves the journalled ones
 pub recovering_other : (f : Flow) (v : Start) (past : List Event) (e : Event) (id : ℕ) (x : Item) → IsOrdered v.view → Gave f v past e id x →
@@ -82,7 +82,7 @@ none_recovering f v past e id s x o g h none = elim (serves_who f v past s id h)
   | inr a ↦ recovering_other f v past e id x o g (taken_from v past s id a) ∙ none
 ]
 
--- what is recovered stays so
+-- once nothing is left to recover, that stays so
 pub recovered_stays : (f : Flow) (v : Start) (past : List Event) (e : Event) → IsOrdered v.view → IsAccepted f v past e → recovering f v past ≡ None →
     recovering f v (e ∷ past) ≡ None
 recovered_stays f v past (Offered x) o acc none = none
@@ -166,7 +166,7 @@ pub state_given : (f : Flow) (v : Start) (past : List Event) (e : Event) (id : �
     state_of f v (e ∷ past) id ≡ next f (state_of f v past id) x
 state_given f v past e id x g = rw (g.arrived, g.given) refl
 
--- the other sessions serve whom they served
+-- the other sessions still serve whom they served
 other_if : (f : Flow) (v : Start) (past : List Event) (e : Event) (id t : ℕ) (x : Item) → IsOrdered v.view → Gave f v past e id x →
     ((recovering f v past ≡ Some id) × (0 ≡ t) → ⊥) → ((recovering f v past ≡ Some id → ⊥) → v.view.next_id ≤ id)
     → taken v (e ∷ past) t ≡ taken v past t → (b : Bool) → (t == 0) ≡ b → serves f v (e ∷ past) t ≡ serves f v past t
@@ -186,7 +186,7 @@ serves_other f v past e id s t x o g h d same =
           (λ n. taken_from v past s id a) same (t == 0) refl
     ]
 
--- what arrives later leaves everybody where he stands
+-- what arrives later changes no transaction's state
 pub state_more : (f : Flow) (v : Start) (past : List Event) (c : List ℕ) (j : ℕ) → IsOrdered v.view → IsLawful f v past → j < next_id v past →
     state_of f v (Offered c ∷ past) j ≡ state_of f v past j
 state_more f v past c j o law lt = let n = o.next in rw (first_more f v past (record { tries = f.retries; context = c } ∷ []) j o law (omega arith)) refl

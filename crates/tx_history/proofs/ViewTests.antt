@@ -42,7 +42,7 @@ found_fits {A = A} P (y ∷ xs) all id x h = by (y.0 == id) h (found_fits P xs a
     by true h ih = let same : y.1 ≡ x = grind (arith) in subst P same all.0
     by false h ih = ih h
 
--- where keys rise, everything in the list is found
+-- if keys rise, everything in the list is found
 pub found_all : {A : Type 0} (P : A → Type 0) (n m : ℕ) (xs : List (ℕ × A)) → Rising n m xs → ((id : ℕ) (x : A) → look id xs ≡ Some x → P x) → AllUnder P xs
 found_all {A = A} P n m [] rising found = tt
 found_all {A = A} P n m (y ∷ xs) rising found =

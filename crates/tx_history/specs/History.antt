@@ -21,7 +21,7 @@ use Rattle.tx_history.specs.declared.journal.Row.{Row}
 use Rattle.tx_history.specs.declared.journal.JournalView.{JournalView}
 use Rattle.tx_history.specs.Keys.{gather, look}
 
--- what a history begins from: an opening has a view alone, a cut a queue and breakpoints too
+-- what a history begins from: after an opening only a view, after a cut also a queue and breakpoints
 pub record Start : Type 0 where
   pub view : JournalView
   pub queue : List Waiting
@@ -63,7 +63,7 @@ abbrev pub is_committing : Phase → Bool
 is_committing Committing = true
 is_committing _ = false
 
--- a journalled transaction is committed where it was committing, else aborted, and never shelved
+-- a journalled transaction is committed if it was committing, otherwise aborted, and never shelved
 abbrev pub reopened : Flow → Row → TxState
 reopened f r = reopening (is_committing r.phase) (map (number_of f) (to_tell r r.doing)) r.told r.tries r.context
 
@@ -107,7 +107,7 @@ abbrev pub or_taken : Option ℕ → Option ℕ → Option ℕ
 or_taken None o = o
 or_taken (Some id) o = Some id
 
--- whom the session serves: session 0 the first journalled transaction that is unfinished, else what it took last
+-- whom the session serves: session 0 the first journalled transaction that is unfinished, otherwise what it took last
 abbrev pub serves_by : Flow → Start → List Event → ℕ → (ℕ → List Item) → Option ℕ
 serves_by f v past s items = if s == 0 then or_taken (first_unfinished f v.view.rows items) (taken v past s) else taken v past s
 
@@ -123,7 +123,7 @@ own_items f v (_ ∷ past) id = own_items f v past id
 abbrev pub serves : Flow → Start → List Event → ℕ → Option ℕ
 serves f v past s = serves_by f v past s (own_items f v past)
 
--- the journalled transaction that is recovered now
+-- the journalled transaction that is being recovered
 abbrev pub recovering : Flow → Start → List Event → Option ℕ
 recovering f v past = first_unfinished f v.view.rows (own_items f v past)
 
@@ -149,7 +149,7 @@ abbrev pub shelved_in : Due → Bool → TxState → Option Waiting
 shelved_in Shelve true st = Some (record { tries = st.tries - 1; context = st.saved })
 shelved_in _ _ st = None
 
--- what the shelf keeps of a transaction that stands so
+-- what the shelf keeps of a transaction in this state
 abbrev pub shelved : Flow → TxState → Bool → Option Waiting
 shelved f st fresh = shelved_in (due_of f st) fresh st
 
@@ -177,7 +177,7 @@ arrivals f v (Offered c ∷ past) = arrivals f v past ++ record { tries = f.retr
 arrivals f v (Released ∷ past) = arrivals f v past ++ map (λ item. item.1) (shelf_of f v (arrivals f v past) past)
 arrivals f v (_ ∷ past) = arrivals f v past
 
--- the queue: what arrived, without as many of the first as there were takes
+-- the queue: what arrived, without the first ones, as many as there were takes
 abbrev pub queue : Flow → Start → List Event → List Waiting
 queue f v past = drop (takes past) (arrivals f v past)
 
@@ -258,7 +258,7 @@ is_held_at f v past s (Some id) = on_break v past (participant_of (due_of f (sta
 abbrev pub is_held : Flow → Start → List Event → ℕ → Bool
 is_held f v past s = is_held_at f v past s (holds f v past s)
 
--- whether an entry of the transaction is the session's last one: 0 means none. A recovered transaction counts its own entries alone.
+-- the number of the transaction's last entry, its take or a reply of a session that served it; 0 if it has none. A recovered one has no take.
 abbrev pub last_of : Flow → Start → List Event → ℕ → ℕ
 last_of f v [] id = 0
 last_of f v (Taken s ∷ past) id = if next_id v past == id then length past + 1 else last_of f v past id

@@ -41,7 +41,7 @@ is_closed [] id = false
 is_closed (Closed k ∷ past) id = (k == id) || is_closed past id
 is_closed (_ ∷ past) id = is_closed past id
 
--- a journalled transaction keeps its row until a member was notified
+-- a journalled transaction keeps its row until a member is notified
 abbrev pub row_since : Flow → Row → List Item → Option Row
 row_since f r [] = Some r
 row_since f r (x ∷ xs) = row f (after_newest f (reopened f r) (x ∷ xs))
@@ -89,7 +89,7 @@ abbrev pub shelved_change : ℕ → Option Waiting → Option (ℕ × Waiting)
 shelved_change id None = None
 shelved_change id (Some w) = Some (id, w)
 
--- the change that concerns a transaction that stands so
+-- the change of one transaction: its row, the shelf if it goes there, and this advice
 abbrev pub touched : Flow → Start → List Event → Option ((ℕ × ℕ) × Option (List ℕ)) → Option ℕ → Change
 touched f v past advice None = no_change
 touched f v past advice (Some id) =

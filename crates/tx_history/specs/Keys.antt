@@ -16,7 +16,7 @@ abbrev pub look : {A : Type 0} → ℕ → List (ℕ × A) → Option A
 look id [] = None
 look id (x ∷ xs) = if x.0 == id then Some x.1 else look id xs
 
--- the list with x alone under the key, or with nothing there
+-- the list with only x under the key, or with nothing there
 abbrev pub put_by : {K A : Type 0} → (K → K → Bool) → K → Option A → List (K × A) → List (K × A)
 put_by lt key x xs = filter (λ p. lt p.0 key) xs ++ keyed key x ++ filter (λ p. lt key p.0) xs
 

@@ -16,7 +16,7 @@ closes_of (id ∷ ids) past = closes_of ids (Closed id ∷ past)
 abbrev pub opened : Flow → Start → List Event
 opened f v = closes_of (to_close f v.view.rows) []
 
--- a stop leaves the journal alone
+-- a stop leaves only the journal
 abbrev pub stopped : Flow → Start → List Event → Start
 stopped f v past = record { view = journal f v past; queue = []; breaks = [] }
 

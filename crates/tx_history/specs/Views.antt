@@ -53,7 +53,7 @@ pub record WaitingFits (w : Waiting) : Type 0 where
   pub tries : w.tries ≤ 100
   pub context : IsSpelled w.context
 
--- places rise, none of them below the first one given
+-- places rise, with ids from 1 on and below n, and members from 0 to 1,000
 abbrev pub PlacesRise : ℕ → List ((ℕ × ℕ) × List ℕ) → Type 0
 PlacesRise n [] = Unit {0}
 PlacesRise n (x ∷ xs) = (1 ≤ x.0.0) × (x.0.0 < n) × (x.0.1 ≤ 1000) × All (λ y. place_lt x.0 y.0 ≡ true) xs × PlacesRise n xs

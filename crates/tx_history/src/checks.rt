@@ -19,7 +19,7 @@ const MOST_ROWS: usize = 16;
 
 const MOST_MEMBERS: usize = 1_001;
 
-/// While preparing or aborting, one participant more may be doing.
+/// While preparing or aborting, there may be one more participant in `doing`.
 const MOST_OPEN_MEMBERS: usize = 1_000;
 
 const MOST_TRIES: u8 = 100;
@@ -164,7 +164,7 @@ fn advices_fit(advices: &[((u64, usize), Bytes)], next_id: u64) -> bool
 }
 
 impl JournalView {
-    // All that is asked but what each row and each waiting context has to fit.
+    // Everything that is asked, except what is asked of each row and of each waiting context.
     fn frame_fits(&self) -> bool
         ensures { result ≡ frame_fits self.now }
     {
@@ -180,10 +180,10 @@ impl JournalView {
 
     /// Whether an engine may be opened on this view: the next id is 1 to 2^63 - 1; ids rise from 1 and
     /// are below it, none with both a row and a place on the shelf; there are at most 16 rows; members
-    /// and the participant of a due call have names; while preparing or aborting nobody was notified
-    /// and there are at most 1,000 members, while committing or undoing `doing` is empty and fewer
-    /// were notified than the at most 1,001 members; tries are at most 100, contexts are bytes of contexts;
-    /// advices stand under rising places from 0 to 1,000. It takes no memory.
+    /// and the participant of a due call have names; while preparing or aborting, nobody was notified
+    /// and there are at most 1,000 members; while committing or undoing, `doing` is empty, there are at
+    /// most 1,001 members, and not all of them were notified; tries are at most 100; contexts are bytes of
+    /// contexts; advices stand under rising places, with members from 0 to 1,000. It takes no memory.
     #[tactic(auto, using(crate::proofs::ViewTests::ok_frame, crate::proofs::ViewTests::ok_rows))]
     pub fn ok(&self) -> bool
         ensures { IsTrue result ↔ IsOk self.now }

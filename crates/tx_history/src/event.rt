@@ -38,7 +38,7 @@ pub enum Event {
     },
     /// The whole shelf went to the end of the queue, ids rising.
     Released,
-    /// The advice of this member was forwarded and is stored no more.
+    /// The advice of this member was forwarded and is no longer stored.
     Acked {
         id: u64,
         place: usize,
@@ -101,7 +101,7 @@ impl Drop for Event {
     }
 }
 
-/// What an entry changes in the journal: each part that is there is put in the place of what stands.
+/// What an entry changes in the journal: each part that is given replaces what the journal has.
 pub struct Change {
     pub next_id: Option<u64>,
     /// The row under an id, or that there is none.

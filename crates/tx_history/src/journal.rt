@@ -25,7 +25,7 @@ impl Drop for Waiting {
     }
 }
 
-/// The journal's row of an unfinished transaction; participants stand here by name.
+/// The journal's row of an unfinished transaction; it has participants by name.
 pub struct Row {
     pub phase: Phase,
     /// The members, in the order of joining and once per joining; at most 1,001.
@@ -56,7 +56,7 @@ impl Drop for Row {
 
 /// What a journal holds.
 pub struct JournalView {
-    /// The id of the next take, from 1; 2^63 - 1 where all ids are spent.
+    /// The id of the next take, from 1; 2^63 - 1 if all ids are spent.
     pub next_id: u64,
     /// The unfinished transactions under their ids, which rise.
     pub rows: Sequence<(u64, Row)>,
@@ -80,7 +80,7 @@ impl Drop for JournalView {
 }
 
 impl JournalView {
-    /// The journal of nothing: the next id is 1. It takes no memory.
+    /// An empty journal, whose next id is 1. It takes no memory.
     pub fn blank(alloc: Global) -> JournalView
         ensures is { result ≡ record { next_id = 1; rows = []; shelf = []; advices = [] } }
         ensures ok { IsOk result }

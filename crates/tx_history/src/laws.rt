@@ -27,8 +27,8 @@ pub fn changes_lead_on()
 {}
 
 /// A transaction's own items are those that sessions gave while they held it, whatever the others
-/// did. Session 0 holds the journalled ones first, and meanwhile nothing is taken; no two sessions
-/// serve one transaction.
+/// did. Session 0 holds the journalled ones first, and nothing is taken while it does; no two sessions
+/// serve the same transaction.
 pub fn items_are_of_their_holders()
     ensures answered { (f : Flow) (v : Start) (past : List Event) (s b : ℕ) (c : List ℕ) (id : ℕ)
         → IsAccepted f v past (Event.Answered s b c)
@@ -82,8 +82,8 @@ pub fn checked_flows_fit()
 {}
 
 /// The journalled transactions are recovered one after the other, ids rising: those after the one
-/// that is recovered have no items, and when it is over the first one after it with somebody to
-/// notify follows. An item moves its own transaction by the specified table and leaves the others.
+/// that is being recovered have no items, and when it is over, the first one after it with somebody
+/// to notify follows. An item moves its own transaction by the specified table and leaves the others.
 pub fn recovered_in_turn()
     ensures untouched { (f : Flow) (v : Start) (past : List Event) (id j : ℕ)
         → IsOrdered v.view → IsLawful f v past → recovering f v past ≡ Some id

@@ -1,4 +1,4 @@
--- A machine with the same step and frames that say the same stands where the other does.
+-- A machine with the same step, and frames that say the same, is in the same state as the other.
 -- for: machine::Machine::copy
 use Rattle.std.proofs.Common.{◌≡◌, ℕ, ◌<◌, ◌≤◌, inl, inr, ⊎_elim, List, [], ◌∷◌, ◌++◌, length, map, refl, sym, ap, ◌∙◌, subst}
 use Rattle.std.specs.Prelude.{slice_get}

@@ -16,16 +16,16 @@ abbrev pub IsOfFlow : Flow → Upcoming → Type 0
 IsOfFlow f (Prepare e) = IsOfParticipant f e
 IsOfFlow f (Select e) = IsOfParticipant f e
 
--- until the outcome is decided nobody is notified, each member is an answer, and without anything to come there is no
--- member
+-- until the outcome is decided nobody is notified, there are no more members than answers and choices, and without
+-- anything to come there is no member
 pub record IsUndecided (s : TxState) : Type 0 where
   pub untold : s.told ≡ 0
   pub members : length s.joined ≤ s.calls
   pub ended : s.rest ≡ [] → s.joined ≡ []
 
--- A state that a lawful list leads to. At most 1,000 answers and choices, and fewer where more is to come; members of
--- the flow, at most 1,001 (of a recovered transaction; of another at most 1,000), of which no more are notified than there
--- are.
+-- A state that a lawful list leads to. At most 1,000 answers and choices, and fewer if more is to come; at most 1,001
+-- members (at most 1,000 unless the transaction is a recovered one), all of them of the flow, of which no more are
+-- notified than there are.
 pub record IsProper (f : Flow) (s : TxState) : Type 0 where
   pub calls : s.calls ≤ 1000
   pub more : (s.rest ≡ []) ⊎ (s.calls < 1000)

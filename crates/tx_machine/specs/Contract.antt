@@ -40,7 +40,7 @@ pub record IsSettled (f : Flow) (m : Machine) : Type 0 where
   pub fits : Fits f m
   pub rested : slice_get (stages f) m.step ≡ Some AtReturn → m.stack.items ≡ []
 
--- at most 1,000 answers and choices, and fewer where more are to come
+-- at most 1,000 answers and choices, and fewer if more is to come
 pub record IsReady (f : Flow) (m : Machine) : Type 0 where
   pub settled : IsSettled f m
   pub few : ((state f m).rest ≡ []) ⊎ (m.calls < 1000)
@@ -48,8 +48,8 @@ pub record IsReady (f : Flow) (m : Machine) : Type 0 where
 unfoldable pub IsSound : Flow → Machine → Type 0
 IsSound f m = IsReady f m
 
--- What becomes of an item that a machine is given. It is taken exactly where it is due, memory aside; where it is not
--- due, that is the refusal, before any out of memory; and a refusal leaves the machine where it stood.
+-- What becomes of an item that a machine is given. It is taken exactly if it is due, memory aside; if it is not due, that
+-- is the refusal, before any out of memory; and a refusal leaves the machine as it was.
 pub record TakesItem (f : Flow) (old : Machine) (x : Item) (result : Result (Unit {0}) MachineError) (new : Machine) : Type 0 where
   pub sound : IsSound f new
   pub taken : OnOk result (tx_state f new ≡ next f (tx_state f old) x)

@@ -11,7 +11,7 @@ abbrev pub is_lawful : Flow → TxState → List Item → Bool
 is_lawful f s [] = true
 is_lawful f s (x ∷ xs) = is_due s x && is_lawful f (next f s x) xs
 
--- the context of the last answer that is not read-only, else the starting one
+-- the context of the last answer that is not read-only, otherwise the starting one
 abbrev pub saved_in : List ℕ → List Item → List ℕ
 saved_in c [] = c
 saved_in c (Answer b d ∷ xs) = saved_in (saved_after b d c) xs

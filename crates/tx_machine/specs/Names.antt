@@ -1,7 +1,7 @@
 -- The names in a selector's text (jPOS: the groups that `GroupSelector.select` gives).
 use Rattle.std.specs.Prelude.{ℕ, Bool, false, not, ◌==◌, ◌||◌, List, [], ◌∷◌, if◌then◌else◌}
 
--- a space or a comma parts names
+-- a space or a comma separates names
 abbrev pub is_gap : ℕ → Bool
 is_gap c = c == 32 || c == 44
 

@@ -22,7 +22,7 @@ pub record Row : Type 0 where
 abbrev pub row_with : TxState → Option ℕ → Row
 row_with s doing = record { phase = s.phase; joined = s.joined; told = s.told; doing = doing; tries = s.tries; saved = s.saved }
 
--- the row by the call that is due: none where the transaction has ended
+-- the row by the call that is due: none if the transaction has ended
 abbrev pub row_at : TxState → Due → Option Row
 row_at s (due.Prepare e) = Some (row_with s (Some e.participant))
 row_at s (due.PrepareForAbort e) = Some (row_with s (Some e.participant))
@@ -40,8 +40,8 @@ abbrev pub IsDoing : ℕ → Option ℕ → Type 0
 IsDoing count None = Unit {0}
 IsDoing count (Some p) = p < count
 
--- the bounds by phase: until the outcome is decided nobody is notified, and then somebody is left and nothing else is
--- under way; a recovered transaction has a member more, where a preparation was under way
+-- the bounds by phase: until the outcome is decided nobody is notified; after that, somebody is left to notify and nothing
+-- else is under way; a recovered transaction has one more member if a preparation was under way
 abbrev pub IsInPhase : Phase → Row → Type 0
 IsInPhase Preparing r = (r.told ≡ 0) × (length r.joined ≤ 1000)
 IsInPhase Aborting r = (r.told ≡ 0) × (length r.joined ≤ 1000)

@@ -12,7 +12,7 @@ use Rattle.tx_machine.specs.declared.values.Item.{Item}
 use Rattle.tx_machine.specs.declared.values.Item.TheVariants.{Answer, Choice, Told}
 use Rattle.tx_machine.specs.Names.{names_of}
 
--- what is still to come: an entry to be prepared, or a selector to select
+-- what is still to come: an entry that is to be prepared, or a selector that is to select
 pub data Upcoming : Type 0 where
   Prepare : (s : PlacedEntry) → Upcoming
   Select : (s : PlacedEntry) → Upcoming
@@ -39,8 +39,8 @@ pub record TxState : Type 0 where
   pub saved : List ℕ
   pub tries : ℕ
 
--- Once aborting, entries that are not abort-aware are passed over; of a selector among them the
--- selection stays. While a selection stands first, nothing after it is passed over.
+-- Once aborting, entries that are not abort-aware are passed over; if one is a selector, it still
+-- selects. While a selection stands first, nothing after it is passed over.
 abbrev pub passed : List Upcoming → List Upcoming
 passed [] = []
 passed (Select s ∷ tail) = Select s ∷ tail

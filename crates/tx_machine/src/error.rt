@@ -6,11 +6,11 @@ ghost use Rattle.tx_machine.specs.declared.error.MachineError.TheVariants.{OutOf
 use std::alloc::{AllocError, AllocFailed};
 use thiserror::Error;
 
-/// Why a machine refuses an item. It is then as it was. The numbers of the refusals are: 0
+/// Why a machine refuses an item. The machine is then as it was. The numbers of the refusals are: 0
 /// `OutOfMemory`, 1 `NotDue`.
 #[derive(Clone, Copy, Debug, Error)]
 pub enum MachineError {
-    /// Another kind of call is due, or none.
+    /// A call of another kind is due, or none.
     #[error("no call of this kind is due")]
     NotDue,
     #[error("out of memory")]

@@ -12,7 +12,7 @@ ghost use Rattle.tx_machine.specs.Row.{IsRow, Row, row_of};
 
 /// After a lawful list the members are the participants of the answers without NO_JOIN, in order,
 /// the number told is the number of tolds, the saved context is that of the last answer without
-/// READONLY, the calls are the answers and choices, and the tries are those of before.
+/// READONLY, the calls are the answers and choices, and the tries are those from before.
 pub fn whole_lists()
     ensures { (f : Flow) (s : TxState) (items : List Item)
         → is_lawful f s items ≡ true → IsWhole f s items }
@@ -26,7 +26,7 @@ pub fn bounded_lists()
         → IsBounded f (opening f tries saved) items }
 {}
 
-/// One item more at the end of a list; and the state after a list that is kept the newest first.
+/// What one more item at the end of a list does; and the state after a list that is kept newest first.
 pub fn lists_extend()
     ensures after { (f : Flow) (s : TxState) (xs : List Item) (x : Item)
         → after f s (xs ++ x ∷ []) ≡ next f (after f s xs) x }

@@ -9,8 +9,8 @@
 //! - a transaction has at most 1,000 answers and choices, and at most 1,000 members are notified
 //!   ([`bounded_lists`]); members, number told and saved context are those of the whole list
 //!   ([`whole_lists`]);
-//! - the journal's row of a transaction (`specs/Row.antt`) keeps its bounds, of a reopened one too
-//!   ([`lists_keep_bounds`]).
+//! - the journal's row of a transaction (`specs/Row.antt`) keeps its bounds, also that of a reopened
+//!   one ([`lists_keep_bounds`]).
 #![tactic(auto)]
 
 mod error;

@@ -24,7 +24,7 @@ use std::alloc::{AllocError, Global};
 /// One transaction.
 pub struct Machine {
     phase: Phase,
-    // The step that is due, or a return where nothing is to come.
+    // The step that is due, or a return if nothing is to come.
     step: usize,
     // The selections under way, the latest one last.
     stack: Vec<Frame>,
@@ -64,7 +64,7 @@ impl Machine {
         matches!(look(code, self.step), StepView::Return)
     }
 
-    // Drops what is to come where the bound is met.
+    // Drops what is to come if the bound is reached.
     fn limit(&mut self, code: &Code)
         requires { IsSettled code.now self.old }
         ensures state { state code.now self.new ≡ limited (state code.now self.old) }
@@ -93,8 +93,8 @@ impl Machine {
         }
     }
 
-    /// A transaction before its first item, with so many tries left after this one and the context
-    /// that it begins with, as bytes. It takes no memory.
+    /// A transaction before its first item, with `tries` tries left after this one, and `saved` as the
+    /// context that it begins with, as bytes. It takes no memory.
     #[tactic(auto, unfolding(crate::specs::Contract::tx_state, crate::specs::Contract::IsSound))]
     pub fn start(alloc: Global, code: &Code, tries: u8, saved: Vec<u8>) -> Machine
         ensures sound { IsSound code.now result }
@@ -116,8 +116,8 @@ impl Machine {
         machine
     }
 
-    /// A transaction that the journal has, whose members are notified from a number on: to commit, or
-    /// else to abort. It is never shelved. It takes no memory.
+    /// A transaction from the journal, whose members are notified from number `told` on: of the commit if
+    /// `committing`, otherwise of the abort. It is never shelved. It takes no memory.
     #[tactic(auto, unfolding(crate::specs::Contract::tx_state, crate::specs::Contract::IsSound))]
     pub fn reopened(
         alloc: Global,
@@ -199,7 +199,7 @@ impl Machine {
     }
 
     /// The reply to a due preparation: its answer byte, and the context as it is now, which is
-    /// dropped where the answer is read-only or the machine refuses it.
+    /// dropped if the answer is read-only or the machine refuses it.
     #[tactic(auto, unfolding(crate::specs::Contract::tx_state, crate::specs::Contract::IsSound))]
     pub fn answered(&mut self, code: &Code, byte: u8, context: Vec<u8>) -> Result<(), MachineError>
         requires { IsSound code.now self.old }
@@ -221,8 +221,8 @@ impl Machine {
         Ok(())
     }
 
-    /// The reply to a due selection: its text, in which names of groups stand between spaces and
-    /// commas. The first 16 names count, known or not.
+    /// The reply to a due selection: its text, with names of groups separated by spaces and commas. Only
+    /// the first 16 names count, known or not.
     #[tactic(auto, unfolding(crate::specs::Contract::tx_state, crate::specs::Contract::IsSound))]
     pub fn chose(&mut self, alloc: Global, code: &Code, text: &str) -> Result<(), MachineError>
         requires { IsSound code.now self.old }
@@ -319,7 +319,7 @@ impl Machine {
         Ok(places)
     }
 
-    /// A second machine that stands where this one does. The only refusal is out of memory.
+    /// A second machine in the same state as this one. The only refusal is out of memory.
     pub fn copy(&self) -> Result<Machine, AllocError>
         ensures state { IfOk result (λ m. (f : Shown) → tx_state f m ≡ tx_state f self.now) }
         ensures sound { IfOk result (λ m. (f : Shown) → IsSound f self.now → IsSound f m) }
@@ -359,7 +359,7 @@ impl Machine {
     {
         match item {
             Item::Answer(byte, context) => {
-                // The context is copied only where it is wanted, so that out of memory comes last.
+                // The context is copied only if it is wanted, so that out of memory is reported last.
                 if !self.awaits_answer(code) {
                     return Err(MachineError::NotDue);
                 }
@@ -371,8 +371,8 @@ impl Machine {
         }
     }
 
-    /// The machine after these items, the earliest first. It refuses the list exactly where one of
-    /// the items was not due, or where memory runs out before that is seen.
+    /// The machine after these items, the earliest first. The list is refused exactly if one of the
+    /// items was not due, or if memory runs out before that is seen.
     pub fn after_items(
         alloc: Global,
         code: &Code,

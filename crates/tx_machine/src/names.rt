@@ -13,7 +13,7 @@ fn is_gap(byte: u8) -> bool
     byte == b' ' || byte == b','
 }
 
-// The text from its first name on; empty where it has none.
+// The text from its first name on; empty if it has none.
 fn skip_gaps(text: &[u8]) -> &[u8]
     ensures names { names_of result.now ≡ names_of text.now }
     ensures begins { (result.now ≡ []) ⊎ (begins_with_name result.now ≡ true) }
@@ -26,7 +26,7 @@ fn skip_gaps(text: &[u8]) -> &[u8]
     &[]
 }
 
-// How many bytes stand before the first gap.
+// How many bytes there are before the first gap.
 fn run_len(text: &[u8]) -> usize
     ensures value { result ≡ run_of text.now }
     ensures within { result ≤ length text.now }
@@ -46,7 +46,7 @@ struct FirstName<'a> {
     rest: &'a [u8],
 }
 
-// The first name of a text; `None` where it has none.
+// The first name of a text; `None` if it has none.
 #[tactic(auto, using(crate::proofs::NameRuns::names_of_run))]
 fn first_name(text: &[u8]) -> Option<FirstName<'_>>
     ensures found { IfSome result (λ first.

@@ -11,7 +11,7 @@ use crate::error::MachineError;
 use crate::values::{Due, Phase};
 use sw_participant::read_answer;
 
-/// After so many answers and choices the rest is dropped.
+/// After this many answers and choices the rest is dropped.
 pub(crate) const MAX_CALLS: u16 = 1000;
 
 /// The phase in which the members are notified.
@@ -45,7 +45,7 @@ pub(crate) fn phase_after(phase: Phase, byte: u8) -> Phase
     }
 }
 
-/// RETRY counts in the answer that begins the abort.
+/// RETRY counts only in the answer that begins the abort.
 pub(crate) fn retry_by(phase: Phase, byte: u8, retry: bool) -> bool
     ensures { result ≡ retry_after phase byte retry }
 {
@@ -88,7 +88,7 @@ pub(crate) fn is_open(phase: Phase) -> bool
     matches!(phase, Phase::Preparing | Phase::Aborting)
 }
 
-/// How an abort ends: on the shelf with RETRY kept and tries left.
+/// How an abort ends: on the shelf if RETRY was kept and tries are left.
 pub(crate) fn end_of(retry: bool, tries: u8) -> Due
     ensures { result ≡ end_by retry tries }
 {

@@ -14,7 +14,7 @@ use crate::walk::{flow_is_checked, group_step};
 use flow_asm::Code;
 use std::alloc::{AllocError, Global};
 
-// Adds the group of this name, where there is one.
+// Adds the group of this name, if there is one.
 fn add_group(groups: &mut Vec<usize>, code: &Code, name: &[u8]) -> Result<(), AllocError>
     requires { All (λ g. g < length (layout code.now)) groups.old.items }
     ensures placed_entries { OnOk result (entries_in code.now groups.new.items

@@ -1,8 +1,8 @@
-//! What a machine answers and is given.
+//! What a machine returns and is given.
 
 use sw_participant::{Bytes, Text};
 
-/// Where a transaction is on its way.
+/// How far a transaction has come.
 #[derive(Clone, Copy)]
 pub enum Phase {
     /// Participants are prepared.
@@ -49,7 +49,7 @@ pub enum Due {
 pub enum Item {
     /// The answer byte of a preparation, and the context as the participant left it.
     Answer(u8, Bytes),
-    /// The text of a selection: names of groups, parted by spaces and commas.
+    /// The text of a selection: names of groups, separated by spaces and commas.
     Choice(Text),
     /// A member was notified of the outcome; it may have given an advice to be forwarded.
     Told(Option<Bytes>),

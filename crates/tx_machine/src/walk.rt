@@ -18,7 +18,7 @@ use std::alloc::{AllocError, Global};
 pub(crate) struct Frame {
     /// The step after the selector's.
     pub(crate) back: usize,
-    /// The numbers of the chosen groups still to be entered before; at most 16.
+    /// The numbers of the chosen groups still to be entered before that; at most 16.
     pub(crate) pending: Vec<usize>,
 }
 
@@ -39,7 +39,7 @@ pub(crate) fn flow_is_checked(code: &Code)
     let _retries = code.retries();
 }
 
-/// What stands at a step. It is `Code::look` with a clause that says what is to come from the step on.
+/// What a step is. This is `Code::look` with a clause that says what is to come from the step on.
 pub(crate) fn look(code: &Code, step: usize) -> StepView
     requires { step < length (stages code.now) }
     ensures ahead { IsAhead code.now step result }
@@ -60,7 +60,7 @@ pub(crate) fn group_step(code: &Code, group: usize) -> usize
     start.first
 }
 
-/// Enters the next group of the top frame, or takes the frame off; `None` where the stack is empty.
+/// Enters the next group of the top frame, or takes the frame off; `None` if the stack is empty.
 pub(crate) fn leave(code: &Code, stack: &mut Vec<Frame>) -> Option<usize>
     requires { All (IsFrame code.now) stack.old.items }
     ensures frames { All (IsFrame code.now) stack.new.items }

@@ -5,7 +5,7 @@ use Rattle.tx_machine.specs.Table.{settled}
 use Rattle.tx_machine.specs.Position.{rest_of, IsFrame, left_at, stack_left}
 use Rattle.tx_machine.proofs.walk.next_due.Given as goal
 
--- there is as much to do as at the start
+-- what is to come is the same as at the start
 abbrev pub invariant-loop-stack : goal.invariant-loop-stack
 invariant-loop-stack l = record {
   within : l.step < length (stages l.code);
