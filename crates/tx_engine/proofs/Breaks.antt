@@ -93,7 +93,7 @@ steps_cleared f n v es mark reserved r p lt k = record {
   spent = k.spent;
 }
 
--- where none of two refusals holds
+-- where neither of two refusals holds
 pub none_of : {E : Type 0} (a b : Option E) → or_else a b ≡ None → (a ≡ None) × (b ≡ None)
 none_of None b h = (refl, h)
 none_of (Some e) b h = absurd (cc)

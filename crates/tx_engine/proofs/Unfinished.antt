@@ -34,7 +34,7 @@ unfinished_none f (r ∷ rows) items h = by (is_ended f (after_newest f (reopene
     by true e ih = ih e
     by false e ih = absurd (cc)
 
--- nothing was given to those after the one that is recovered
+-- those after the one that is being recovered were given nothing
 all_behind : (f : Flow) (rows : List (ℕ × Row)) (items : ℕ → List Item) (id n m : ℕ) → Rising n m rows → id < n →
     ((j : ℕ) → id < j → j < m → items j ≡ []) → unfinished_in f items rows ≡ later_rows f rows id
 all_behind f [] items id n m rise lt none = refl

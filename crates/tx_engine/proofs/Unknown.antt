@@ -88,14 +88,14 @@ told_first None b error.HistoryFull h = absurd (cc)
 told_first None b error.InUse h = absurd (cc)
 told_first None b error.NotWritten h = absurd (cc)
 
--- a member that is unknown comes before who is doing
+-- a member that is unknown comes before the participant of `doing`
 pub member_told : (f : Flow) (id : ℕ) (r : Row) (d : Option (List ℕ)) (e : EngineError) → IsOpenRefusal (unknown_in f id r.joined) e →
     IsOpenRefusal (unknown_in f id (to_tell r d)) e
 member_told f id r None e h = h
 member_told f id r (Some name) e h = subst (λ (o : Option EngineError). IsOpenRefusal o e) (sym (unknown_append f id r.joined (name ∷ [])))
     (told_first (unknown_in f id r.joined) (unknown_in f id (name ∷ [])) e h)
 
--- where all members are known, it is by who is doing
+-- where all members are known, it is by the participant of `doing`
 pub doing_told : (f : Flow) (id : ℕ) (r : Row) (name : List ℕ) → unknown_in f id r.joined ≡ None →
     unknown_in f id (to_tell r (Some name)) ≡ unknown_in f id (name ∷ [])
 doing_told f id r name h = unknown_append f id r.joined (name ∷ []) ∙ ap (λ (o : Option EngineError). or_else o (unknown_in f id (name ∷ []))) h

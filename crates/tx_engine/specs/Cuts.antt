@@ -1,4 +1,4 @@
--- Cuts: a history begins anew from what it has come to.
+-- Cuts: a history begins anew from where it has led.
 use Rattle.std.specs.Prelude.{ℕ, Bool, List, [], ◌∷◌, length, filter, nat_lt, Option, is_some}
 use Rattle.std.specs.List.{list_any, range_with_len}
 use Rattle.sw_base.specs.Refusals.{refused_if, first_of}
@@ -27,7 +27,7 @@ breaks_of f v past = filter (has_break v past) (range_with_len 0 (length (parts_
 abbrev pub is_broken : World → Bool
 is_broken w = list_any (has_break w.start w.past) (range_with_len 0 (length (parts_of w.flow)))
 
--- the engine after a cut: an empty history, which begins from the journal, the queue and the breakpoints, and no offer
+-- the engine after a cut: an empty history, which begins from the journal, the queue and the breakpoints; no offer
 -- has reserved memory
 abbrev pub cut_world : World → World
 cut_world w =

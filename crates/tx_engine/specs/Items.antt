@@ -24,12 +24,12 @@ IsReply (Chose t text) s x = (t ≡ s) × (x ≡ Choice text)
 IsReply (Told t a) s x = (t ≡ s) × (x ≡ ToldOne a)
 IsReply _ s x = ⊥
 
--- the change of the advices that the event is, for the member at this place
+-- the change of the advices that the event makes, for the member at this place
 abbrev pub advice_of : Event → ℕ × ℕ → Option ((ℕ × ℕ) × Option (List ℕ))
 advice_of (Told t a) place = put_advice (Some place) a
 advice_of _ place = None
 
--- a reply of the kind is due where a transaction stands so, and nothing is to be restored before
+-- a reply of the kind is due to a transaction in this state, and nothing is to be restored before it
 abbrev pub IsAsked : ReplyKind → TxState → Option (ℕ × Bool) → Type 0
 IsAsked kind.Answer st r = ((b : ℕ) (c : List ℕ) → is_due st (Answer b c) ≡ true) × (r ≡ None)
 IsAsked kind.Choice st r = ((t : List ℕ) → is_due st (Choice t) ≡ true) × (r ≡ None)
@@ -43,7 +43,7 @@ pub record Allows (w : World) (s : ℕ) (kind : ReplyKind) (h : Hold) : Type 0 w
   pub hold : HoldIs w.flow w.start w.past s h
   pub asked : IsAsked kind (tx_state w.flow h.machine) (restores w.flow w.start w.past h.id)
 
--- the event gives an item that is due, and the machine stands where it leads
+-- the event gives an item that is due, and the machine is as the item leaves it
 pub record Gives (w : World) (s id : ℕ) (m : Machine) (e : Event) (advice : Option ((ℕ × ℕ) × Option (List ℕ))) (restored : Bool) : Type 0 where
   pub before : TxState
   pub item : Item

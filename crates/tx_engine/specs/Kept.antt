@@ -17,7 +17,7 @@ use Rattle.tx_slots.specs.declared.slot.Hold.{Hold}
 use Rattle.tx_slots.specs.Slots.{flag}
 use Rattle.tx_engine.specs.World.{World}
 
--- whom a session holds, of whom it serves and where that stands
+-- the transaction that a session holds, by the one that it serves and that one's state
 abbrev pub going_on : Flow → Option (ℕ × TxState) → Option ℕ
 going_on f None = None
 going_on f (Some who) = unless_ended f who.1 who.0

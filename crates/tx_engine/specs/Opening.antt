@@ -35,12 +35,12 @@ abbrev pub unknown_in : Flow → ℕ → List (List ℕ) → Option EngineError
 unknown_in f id [] = None
 unknown_in f id (name ∷ names) = if nat_lt (number_of f name) (length (parts_of f)) then unknown_in f id names else Some (UnknownParticipant id name)
 
--- the same of the least id, its members in order, then who is doing
+-- the same of the least id: its members in order, then the participant of `doing`
 abbrev pub unknown_of : Flow → List (ℕ × Row) → Option EngineError
 unknown_of f [] = None
 unknown_of f (r ∷ rows) = or_else (unknown_in f r.0 (to_tell r.1 r.1.doing)) (unknown_of f rows)
 
--- whether so many sessions are refused
+-- whether this number of sessions is refused
 abbrev pub are_bad_sessions : ℕ → Bool
 are_bad_sessions n = nat_lt n 1 || nat_lt 16 n
 

@@ -1,4 +1,4 @@
-//! The engine, and what it is seen as.
+//! The engine, and what contracts see of it.
 
 mod acks;
 mod breaks;
@@ -77,8 +77,8 @@ impl Model for Engine {
         }) };
 }
 
-/// The number of entries that a history may have.
+/// The greatest number of entries of a history.
 const MOST_ENTRIES: usize = 1_048_576;
 
-/// The id after which none is left: 2^63 - 1.
+/// The next id with which all ids are spent: 2^63 - 1. No transaction has it.
 const LAST_ID: u64 = 9_223_372_036_854_775_807;

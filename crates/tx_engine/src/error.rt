@@ -9,7 +9,7 @@ use std::error::Error;
 use std::fmt;
 use sw_participant::Text;
 
-/// Why a call is refused. It has then changed nothing. The numbers of the refusals are: 1
+/// Why a call is refused. A refused call has changed nothing. The numbers of the refusals are: 1
 /// `UnknownParticipant`, 2 `BadSessions`, 3 `Busy`, 4 `Empty`, 5 `Recovering`, 6 `IdsSpent`, 7
 /// `NotDue`, 8 `NoAdvice`, 9 `NoParticipant`, 10 `NotHeld`, 11 `BadMark`, 12 `NoSession`, 13
 /// `HistoryFull`, 14 `OutOfMemory`, 15 `InUse`, 16 `NotWritten`.
@@ -31,20 +31,20 @@ pub enum EngineError {
     NoAdvice,
     NoParticipant,
     NotHeld,
-    /// The mark is below the one that stands, or above the number of entries.
+    /// The mark is below the current one, or above the number of entries.
     BadMark,
     NoSession,
     /// The history has 1,048,576 entries.
     HistoryFull,
     OutOfMemory,
-    /// A session holds a transaction that is not finished, a recovered one too.
+    /// A session holds a transaction that is not finished; a recovered one counts too.
     InUse,
     /// The mark is below the number of entries.
     NotWritten,
 }
 
 impl EngineError {
-    // What is said of a refusal, without a name that it may have.
+    // The text of a refusal, without a name that it may have.
     fn text(&self) -> &'static str
         ensures { result.now ≡ text_of self.now }
     {

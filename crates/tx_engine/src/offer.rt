@@ -8,7 +8,7 @@ use std::marker::Model;
 use sw_context::Context;
 use sw_participant::Bytes;
 
-/// The context's bytes. That they are those of a context is known by its length.
+/// The context's bytes. That they are those of a context is known from its length.
 pub(crate) fn spelled(context: &Context) -> Result<Bytes, AllocError>
     ensures bytes { IfOk result (λ b. b ≡ bytes_of context.now) }
     ensures spelled { IsSpelled (bytes_of context.now) }
@@ -17,8 +17,8 @@ pub(crate) fn spelled(context: &Context) -> Result<Bytes, AllocError>
     Ok(Bytes::new(context.to_bytes()?))
 }
 
-/// A context to be offered, in the memory that the history and the queue keep it in: so offering it
-/// takes none. Contracts see the context's bytes.
+/// A context to be offered, already in the memory in which the history and the queue keep it, so that
+/// offering it takes none. Contracts see the context's bytes.
 pub struct Offer {
     pub(crate) event: Bytes,
     pub(crate) waiting: Bytes,
@@ -46,7 +46,7 @@ impl Model for Offer {
 }
 
 impl Offer {
-    /// Of this context. The only refusal is out of memory.
+    /// An offer of this context. The only refusal is out of memory.
     pub fn new(context: &Context) -> Result<Offer, AllocError>
         ensures { IfOk result (λ offer. offer ≡ bytes_of context.now) }
     {
@@ -56,7 +56,7 @@ impl Offer {
         })
     }
 
-    // The two copies, and that they are a context's.
+    // The two copies, which are the bytes of a context.
     pub(crate) fn into_parts(self) -> (Bytes, Bytes)
         ensures event { result.0 ≡ self }
         ensures waiting { result.1 ≡ self }

@@ -1,4 +1,4 @@
--- The call that is due to a transaction, and what a session is to do by it.
+-- The call that is due to a transaction, and what a session is to do accordingly.
 use Rattle.std.specs.Prelude.{ℕ, Bool, true, false, Option, Some, None}
 use Rattle.sw_participant.specs.declared.call.Act.{Act}
 use Rattle.sw_participant.specs.declared.call.Act.TheVariants as act

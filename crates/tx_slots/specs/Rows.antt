@@ -52,7 +52,7 @@ SlotBy false f rows id m number x = x ≡ slot_of f m id number
 abbrev pub IsSlotAfter : Bool → Flow → List (ℕ × Row) → ℕ → Machine → ℕ → Slot → Type 0
 IsSlotAfter recovering f rows id m number x = SlotBy (recovering && is_ended f (tx_state f m)) f rows id m number x
 
--- the change that an item is, of the machine after it
+-- the change that an item makes, by the machine after it
 abbrev pub item_change : Flow → ℕ → Machine → Option ((ℕ × ℕ) × Option (List ℕ)) → Change
 item_change f id m advice = record {
   next_id = None;

@@ -1,4 +1,4 @@
--- What a session holds, and what it is to do by it.
+-- What a session holds, and what it is to do accordingly.
 use Rattle.std.specs.Prelude.{ℕ, Bool, true, false, List, slice_get, Option, Some, None, nat_lt, not, ◌&&◌, if◌then◌else◌}
 use Rattle.sw_participant.specs.declared.call.Call.{Call}
 use Rattle.flow_model.specs.declared.flow.Flow.{Flow}

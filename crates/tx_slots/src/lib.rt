@@ -1,5 +1,5 @@
-//! What an engine keeps: by session a slot with the machine of its transaction, the call that is due
-//! to it, what a reply adds, the slots that rows of the journal become again; the entries and the
+//! What an engine keeps: for each session a slot with the machine of its transaction; the call that is
+//! due to it; what a reply adds; the slots that rows of the journal become again; the entries and the
 //! queue; the shelf and the advices.
 #![tactic(auto)]
 

@@ -8,7 +8,7 @@ use std::collections::BTreeMap;
 use sw_participant::Bytes;
 use tx_history::Waiting;
 
-// Puts an advice or takes it out, where the change says so.
+// Puts an advice in or takes it out, if the change says so.
 fn put_advice(
     advices: &mut BTreeMap<(u64, usize), Bytes>,
     change: Option<((u64, usize), Option<Bytes>)>,
@@ -16,7 +16,7 @@ fn put_advice(
     ensures put { OnOk result (advices.new.entries ≡ put_place change advices.old.entries) }
     ensures kept { OnErr result (advices.new.entries ≡ advices.old.entries) }
 {
-    // That the places rise is known by the number of entries.
+    // That the places rise is known from the number of entries.
     let _entries = advices.len();
     match change {
         None => Ok(()),

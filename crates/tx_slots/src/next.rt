@@ -84,7 +84,7 @@ fn recovers(code: &Code, participant: usize) -> bool
     }
 }
 
-/// The `recover` call that goes before this outcome of a journalled transaction: the number of the
+/// The `recover` call that comes before this outcome of a journalled transaction: the number of the
 /// participant that it goes to, and whether to commit.
 pub fn restored_by(code: &Code, due: Due) -> Option<(usize, bool)>
     ensures { result ≡ restored_by code.now due }
@@ -96,7 +96,7 @@ pub fn restored_by(code: &Code, due: Due) -> Option<(usize, bool)>
     }
 }
 
-/// The due call of a transaction, with the `recover` call that goes before it.
+/// The due call of a transaction, or the `recover` call that comes before it.
 pub(crate) fn call_of(
     id: u64,
     recovering: bool,

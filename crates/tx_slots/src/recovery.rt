@@ -103,8 +103,8 @@ pub fn reopened(alloc: Global, code: &Code, row: &Row) -> Result<Machine, AllocE
     ))
 }
 
-/// The slot of session 0 when the transactions up to this id are over: the first after it with
-/// somebody to notify. There are at most 16 rows.
+/// The slot of session 0 when the transactions up to this id are over: it holds the first later one
+/// with somebody to notify. There are at most 16 rows.
 pub fn next_slot(
     alloc: Global,
     code: &Code,

@@ -21,7 +21,7 @@ use sw_participant::Bytes;
 use tx_history::{Change, Entry, Event, Row, Waiting};
 use tx_machine::Machine;
 
-/// A reply as it is recorded: the machine stands where it leads.
+/// A reply as it is recorded. The machine is as the reply leaves it.
 #[derive(Drop)]
 pub struct Given {
     pub session: usize,
@@ -62,7 +62,7 @@ fn advice_by(change: &Change) -> Result<Option<((u64, usize), Option<Bytes>)>, A
     }
 }
 
-/// Whether a transaction of the journal is recovered still, by the slot of the session after a
+/// Whether a transaction of the journal is still being recovered, by the slot of the session after a
 /// reply.
 pub fn goes_on(recovering: bool, slot: &Slot) -> bool
     ensures { result ≡ (recovering && is_holding slot.now) }
@@ -128,8 +128,8 @@ pub fn make_ready(
     })
 }
 
-/// A machine that stands where this one does after its due preparation is answered. Where no answer is due it
-/// is refused as where memory ran out.
+/// A copy of the machine after its due preparation was answered. If no answer is due, it refuses as if memory
+/// had run out.
 pub fn after_answer(
     code: &Code,
     machine: &Machine,
@@ -148,7 +148,7 @@ pub fn after_answer(
     }
 }
 
-/// A machine that stands where this one does after its due selection; else as [`after_answer`].
+/// A copy of the machine after its due selection; otherwise as [`after_answer`].
 pub fn after_choice(
     alloc: Global,
     code: &Code,
@@ -167,7 +167,7 @@ pub fn after_choice(
     }
 }
 
-/// A machine that stands where this one does after its due member is notified; else as [`after_answer`].
+/// A copy of the machine after its due member was notified; otherwise as [`after_answer`].
 pub fn after_told(code: &Code, machine: &Machine) -> Result<Machine, AllocError>
     requires { IsSound code.now machine.now }
     ensures sound { IfOk result (IsSound code.now) }

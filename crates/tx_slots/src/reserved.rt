@@ -33,7 +33,7 @@ impl Drop for Lists {
     }
 }
 
-// So many places beside those that are reserved.
+// The number of the reserved places and of `more` beside them.
 fn beside(reserved: usize, more: usize) -> Result<usize, AllocError>
     ensures { IfOk result (λ places. places ≡ reserved + more) }
 {
@@ -57,7 +57,7 @@ impl Lists {
         }
     }
 
-    /// Reserves memory for one offer more.
+    /// Reserves memory for one more offer.
     pub fn reserve_offer(&mut self) -> Result<(), AllocError>
         ensures entries { self.new.entries.items ≡ self.old.entries.items }
         ensures queue { self.new.queue.items ≡ self.old.queue.items }
@@ -71,7 +71,7 @@ impl Lists {
         Ok(())
     }
 
-    /// The memory reserved for one offer is free for other entries again.
+    /// Makes the memory reserved for one offer free for other entries again.
     pub fn unreserve_offer(&mut self)
         requires { 1 ≤ self.old.reserved }
         ensures entries { self.new.entries.items ≡ self.old.entries.items }
@@ -81,7 +81,7 @@ impl Lists {
         self.reserved -= 1;
     }
 
-    /// An offer in reserved memory.
+    /// Adds an offer, in reserved memory.
     pub fn push_offer(&mut self, entry: Entry, waiting: Waiting)
         requires { 1 ≤ self.old.reserved }
         ensures entries { self.new.entries.items ≡ self.old.entries.items ++ entry ∷ [] }
@@ -93,7 +93,7 @@ impl Lists {
         self.queue.push_back_reserved(waiting);
     }
 
-    /// Makes sure of memory for an entry that is not an offer.
+    /// Makes sure that there is memory for an entry that is not an offer.
     pub fn reserve_entry(&mut self) -> Result<(), AllocError>
         ensures entries { self.new.entries.items ≡ self.old.entries.items }
         ensures queue { self.new.queue.items ≡ self.old.queue.items }
@@ -105,7 +105,7 @@ impl Lists {
         self.entries.try_reserve(places)
     }
 
-    /// Adds an entry that has memory.
+    /// Adds an entry for which there is memory.
     pub fn push_reserved(&mut self, entry: Entry)
         requires { vec_len self.old.entries + self.old.reserved < vec_capacity self.old.entries }
         ensures entries { self.new.entries.items ≡ self.old.entries.items ++ entry ∷ [] }
@@ -128,7 +128,7 @@ impl Lists {
         Ok(())
     }
 
-    /// Takes the queue's first out.
+    /// Takes the first context out of the queue.
     pub fn pop_first(&mut self)
         ensures entries { self.new.entries.items ≡ self.old.entries.items }
         ensures queue { self.new.queue.items ≡ drop 1 self.old.queue.items }
@@ -161,7 +161,7 @@ impl Lists {
         Ok(())
     }
 
-    /// No entry, and nothing reserved. The queue stays.
+    /// Removes all entries, and keeps no memory reserved. The queue stays.
     pub fn clear_entries(&mut self, alloc: Global)
         ensures entries { self.new.entries.items ≡ [] }
         ensures queue { self.new.queue.items ≡ self.old.queue.items }

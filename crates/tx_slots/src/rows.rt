@@ -1,4 +1,4 @@
-//! What an entry changes in the journal, of the machine after it.
+//! What an entry changes in the journal, by the machine after it.
 
 ghost use Rattle.std.specs.Prelude.{◌≡◌, IfOk, map, Some, None, false, true};
 ghost use Rattle.tx_machine.specs.Contract.{IsSound, tx_state};
@@ -45,7 +45,7 @@ fn names_of(alloc: Global, code: &Code, members: &[usize]) -> Result<Vec<Text>, 
     Ok(names)
 }
 
-/// The journal's row of a transaction; none where it has ended.
+/// The journal's row of a transaction; none if it has ended.
 pub fn row_of(alloc: Global, code: &Code, machine: &Machine) -> Result<Option<Row>, AllocError>
     requires { IsSound code.now machine.now }
     ensures { IfOk result (λ r. r ≡ row code.now (tx_state code.now machine.now)) }
@@ -71,7 +71,7 @@ pub fn row_of(alloc: Global, code: &Code, machine: &Machine) -> Result<Option<Ro
     }))
 }
 
-// What the shelf keeps of a transaction: its saved context with one try fewer, where it ends so.
+// What the shelf keeps of a transaction, if it ends there: its saved context, with one try fewer.
 fn shelved_of(alloc: Global, code: &Code, machine: &Machine) -> Result<Option<Waiting>, AllocError>
     requires { IsSound code.now machine.now }
     ensures { IfOk result (λ r. r ≡ shelved code.now (tx_state code.now machine.now) true) }
@@ -85,7 +85,7 @@ fn shelved_of(alloc: Global, code: &Code, machine: &Machine) -> Result<Option<Wa
     }
 }
 
-/// The change that an item makes, of the machine after it.
+/// The change that an item makes, by the machine after it.
 pub(crate) fn change_of(
     alloc: Global,
     code: &Code,

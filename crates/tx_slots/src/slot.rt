@@ -16,7 +16,7 @@ use tx_machine::{Due, Machine};
 pub enum Slot {
     /// No transaction.
     Free,
-    /// This one.
+    /// This transaction.
     Holding(Hold),
 }
 
@@ -103,7 +103,7 @@ pub fn is_held_by(code: &Code, breaks: &[bool], slot: &Slot) -> bool
     }
 }
 
-/// The slot's due call goes on, whatever breakpoint holds it.
+/// Lets the slot's due call go, whatever breakpoint holds it.
 pub fn let_slot_go(slot: &mut Slot)
     ensures { slot.new ≡ slot_let_go slot.old }
 {

@@ -1,4 +1,4 @@
-//! Acknowledgements: an advice that was forwarded is stored no more.
+//! Acknowledgements: an advice that was forwarded is no longer stored.
 
 ghost use Rattle.std.specs.Prelude.{◌≡◌, None, Some, MatchResult, false};
 ghost use Rattle.sw_base.specs.Refusals.{Accepts};
@@ -25,8 +25,8 @@ impl Engine {
         self.allow_entry()
     }
 
-    /// The advice that the member of this number of the transaction gave was forwarded: it is
-    /// stored no more. Answers the entry's number. Refuses, in this order, `NoAdvice` and
+    /// Records that the advice of the transaction's member of this number was forwarded: it is no
+    /// longer stored. Answers the entry's number. Refuses, in this order, `NoAdvice` and
     /// `HistoryFull`.
     pub fn acked(&mut self, id: u64, place: usize) -> Result<usize, EngineError>
         ensures { Accepts EngineError.OutOfMemory (ack_refusal self.old (id, place)) result
@@ -64,7 +64,7 @@ fn no_advice_at(id: u64, place: usize) -> Change
     }
 }
 
-// Takes the advice at a place out. That places rise is known by the map's length.
+// Takes out the advice at a place. That the places rise is known from the map's length.
 fn remove_advice(advices: &mut BTreeMap<(u64, usize), Bytes>, place: (u64, usize))
     ensures { advices.new.entries ≡ put_by place_lt place None advices.old.entries }
 {

@@ -22,7 +22,7 @@ fn any_set(flags: &[bool]) -> bool
 }
 
 impl Engine {
-    // The number of the participant of this name, where a breakpoint may be set on it or cleared.
+    // The number of the participant of this name, if a breakpoint may be set on it or cleared.
     fn allow_break(&self, name: &str) -> Result<usize, EngineError>
         ensures { MatchResult result
             (MayBreak self.now name.now)
@@ -63,7 +63,7 @@ impl Engine {
         Ok(number)
     }
 
-    /// Holds the calls of the participant of this name no more, and answers the entry's number.
+    /// Stops holding the calls of the participant of this name, and answers the entry's number.
     /// Clearing what is not set is accepted. Refuses, in this order, `NoParticipant` and
     /// `HistoryFull`.
     pub fn clear_break(&mut self, name: &str) -> Result<usize, EngineError>
@@ -97,8 +97,8 @@ impl Engine {
         self.allow_entry()
     }
 
-    /// Lets the session's held call go, whatever breakpoints do until its reply, and answers the
-    /// entry's number. Refuses, in this order, `NoSession`, `NotHeld` and `HistoryFull`.
+    /// Lets the session's held call go: no breakpoint holds it until its reply. Answers the entry's
+    /// number. Refuses, in this order, `NoSession`, `NotHeld` and `HistoryFull`.
     pub fn let_go(&mut self, s: usize) -> Result<usize, EngineError>
         ensures { Accepts EngineError.OutOfMemory (let_go_refusal self.old s) result
             (λ n. Recorded self.old (Event.LetGo s) n self.new)

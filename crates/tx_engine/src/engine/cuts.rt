@@ -15,7 +15,7 @@ use tx_history::{JournalView, Waiting};
 use tx_slots::{Slot, is_holding};
 
 impl Engine {
-    /// Whether a session holds a transaction, a recovered one too.
+    /// Whether a session holds a transaction; a recovered one counts too.
     pub fn is_in_use(&self) -> bool
         ensures { result ≡ is_in_use self.now }
     {
@@ -37,10 +37,10 @@ impl Engine {
         Ok(())
     }
 
-    /// The history begins anew, with no entry, from the journal as it is now: that is what
-    /// `opened` gives from then on, and it has no unfinished transaction. Queue, shelf, advices,
-    /// breakpoints and next id stay. Refuses, in this order, `InUse` while a session holds a
-    /// transaction, and `NotWritten` while an entry is above the mark.
+    /// Begins the history anew, without entries, from the journal as it is now: that is what `opened`
+    /// gives from then on, and it has no unfinished transaction. Queue, shelf, advices, breakpoints
+    /// and next id stay; no offer has reserved memory any more. Refuses, in this order, `InUse` while
+    /// a session holds a transaction, and `NotWritten` while an entry is above the mark.
     pub fn cut(&mut self, alloc: Global) -> Result<(), EngineError>
         ensures cut { Accepts EngineError.OutOfMemory (cut_refusal self.old) result
             (λ _. self.new ≡ cut_world self.old)

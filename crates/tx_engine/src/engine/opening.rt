@@ -1,5 +1,5 @@
-//! Opening an engine on a journal's view: the closing entries of those with nobody to notify, and the
-//! first transaction that is finished.
+//! Opening an engine on a journal's view: the closing entries of the transactions with nobody to notify,
+//! and the first one that is to be recovered.
 
 ghost use Rattle.std.specs.Prelude.{◌≡◌, ◌≤◌, ◌∷◌, [], IfErr, IfOk, None, OnOk, false, replicate, slice_set};
 ghost use Rattle.flow_model.specs.declared.flow.Flow.{Flow};
@@ -27,11 +27,12 @@ use tx_slots::{Lists, Slot, is_holding, is_over, next_slot};
 const MOST_SESSIONS: usize = 16;
 
 impl Engine {
-    /// An engine on a journal's view, with so many sessions, which hold nothing: its history has a
-    /// closing entry for each row with nobody to notify, and session 0 recovers the first other
-    /// one. The queue is empty, and no breakpoint is set. Refuses, in this order, `BadSessions`
-    /// unless there are 1 to 16, and `UnknownParticipant` of the least id, its members in order
-    /// and then the participant of `doing`; out of memory only where the number of sessions is good.
+    /// Opens an engine on a journal's view, with this many sessions. Its history has a closing entry
+    /// for each row with nobody to notify; session 0 recovers the first of the other rows, and the
+    /// other sessions hold nothing. The queue is empty, and no breakpoint is set. Refuses, in this
+    /// order, `BadSessions` unless there are 1 to 16, and `UnknownParticipant` of the least id, its
+    /// members in order and then the participant of `doing`; `OutOfMemory` only if the number of
+    /// sessions is good.
     pub fn open(
         alloc: Global,
         code: &Code,
@@ -125,7 +126,7 @@ pub(super) fn free_slots(alloc: Global, sessions: usize) -> Result<Vec<Slot>, Al
     Ok(slots)
 }
 
-// The slots of so many sessions, of which the first one has this slot.
+// The slots of this many sessions: this one for session 0, and free ones for the others.
 fn seated(alloc: Global, first: Slot, sessions: usize) -> Result<Vec<Slot>, AllocError>
     requires { 1 ≤ sessions }
     ensures { IfOk result (λ slots. slots.items ≡ slice_set (replicate sessions Free) 0 first) }
@@ -135,7 +136,7 @@ fn seated(alloc: Global, first: Slot, sessions: usize) -> Result<Vec<Slot>, Allo
     Ok(slots)
 }
 
-// Participants without a breakpoint.
+// The flags of participants without a breakpoint.
 fn no_breaks(alloc: Global, participants: usize) -> Result<Vec<bool>, AllocError>
     ensures { IfOk result (λ breaks. breaks.items ≡ replicate participants false) }
 {
@@ -146,7 +147,7 @@ fn no_breaks(alloc: Global, participants: usize) -> Result<Vec<bool>, AllocError
     Ok(breaks)
 }
 
-// Whether a participant of the flow has the name.
+// Refuses a name that no participant of the flow has.
 fn test_name(code: &Code, id: u64, name: &Text) -> Result<(), EngineError>
     ensures { Tells (unknown_in code.now id (name.now ∷ [])) result }
 {
@@ -169,7 +170,7 @@ fn test_names(code: &Code, id: u64, names: &[Text]) -> Result<(), EngineError>
     Ok(())
 }
 
-// Refuses a row that names a participant to notify which the flow does not have.
+// Refuses a row that names a participant to be notified that the flow does not have.
 fn test_row(code: &Code, id: u64, row: &Row) -> Result<(), EngineError>
     ensures { Tells (unknown_in code.now id (to_tell row.now row.now.doing)) result }
 {

@@ -1,4 +1,4 @@
-//! What an engine answers about itself, without memory; and the written mark.
+//! What an engine answers about itself; and the written mark.
 
 ghost use Rattle.std.specs.Prelude.{◌≡◌, ◌≤◌, ◌<◌, ⊤, drop, length, is_some, option_map, IfOk};
 ghost use Rattle.sw_base.specs.Refusals.{Accepts, refused};
@@ -30,7 +30,7 @@ impl Engine {
         Ok(self.next_of(s))
     }
 
-    // What a session that there is is to do.
+    // What a session that exists is to do.
     pub(super) fn next_of(&self, s: usize) -> Next
         requires { s < self.now.sessions }
         ensures { result ≡ next_of self.now s }
@@ -114,8 +114,8 @@ impl Engine {
         &self.lists.entries[self.mark..]
     }
 
-    /// The mark becomes `mark`. Refuses `BadMark` unless it is from the old mark to the number of
-    /// entries.
+    /// Sets the written mark to `mark`. Refuses `BadMark` unless it is from the old mark to the number
+    /// of entries.
     pub fn written(&mut self, mark: usize) -> Result<(), EngineError>
         ensures answer { result ≡ refused (mark_refusal self.old mark) }
         ensures world { self.new ≡ after_mark self.old mark }
@@ -127,7 +127,7 @@ impl Engine {
         Ok(())
     }
 
-    /// The advices that were not acknowledged, each under a transaction's id and the number of the
+    /// The advices that were not acknowledged, each under its transaction's id and the number of the
     /// member that gave it.
     pub fn advices(&self) -> &BTreeMap<(u64, usize), Bytes>
         ensures { result.now.entries ≡ advices self.now.flow self.now.start self.now.past }
@@ -188,8 +188,7 @@ impl Engine {
         }
     }
 
-    /// Where the transaction stands that the session holds, and its due call; none for an idle or
-    /// unknown session.
+    /// Where the session's transaction stands, and its due call; none for an idle or unknown session.
     pub fn at(&self, s: usize) -> Option<At>
         ensures { result ≡ at_of self.now s }
     {
@@ -204,9 +203,8 @@ impl Engine {
         )
     }
 
-    /// The places (group, index) of the entries to come of the transaction that the session holds,
-    /// the next one first; none for an idle or unknown session. The only refusal is out of
-    /// memory.
+    /// The places (group, index) of the entries that are still to come in the session's transaction,
+    /// the next one first; none for an idle or unknown session. The only refusal is out of memory.
     pub fn rest(&self, alloc: Global, s: usize) -> Result<Vec<(usize, usize)>, AllocError>
         ensures { IfOk result (λ places. places.items ≡ rest_of self.now s) }
     {

@@ -27,7 +27,7 @@ pub struct TakenTx {
 }
 
 impl Engine {
-    // Refuses where the history is full.
+    // Refuses if the history is full.
     pub(super) fn allow_entry(&self) -> Result<(), EngineError>
         ensures { MatchResult result
             (λ _. offer_refusal self.now ≡ None)
@@ -53,7 +53,7 @@ impl Engine {
         Ok(self.offer_reserved(offer))
     }
 
-    // Refuses where as many offers have memory as the history has entries left.
+    // Refuses if memory is reserved for as many offers as the history has entries left.
     fn allow_reserve(&self) -> Result<(), EngineError>
         ensures { MatchResult result
             (λ _. reserve_refusal self.now ≡ None)
@@ -66,9 +66,9 @@ impl Engine {
         }
     }
 
-    /// Reserves memory for one offer more, to be made by `offer_reserved`. The history does not
-    /// change. Refuses `HistoryFull` where as many offers have memory as the history has entries
-    /// left.
+    /// Reserves memory for one more offer, to be made by `offer_reserved`. The history does not
+    /// change. Refuses `HistoryFull` if memory is already reserved for as many offers as the history
+    /// has entries left.
     pub fn reserve_offer(&mut self) -> Result<(), EngineError>
         ensures { Accepts EngineError.OutOfMemory (reserve_refusal self.old) result
             (λ _. self.new ≡ with_reserved self.old (self.old.reserved + 1))
@@ -79,7 +79,7 @@ impl Engine {
         Ok(())
     }
 
-    /// Gives up the memory that was reserved for one offer. The history does not change.
+    /// Cancels the reservation of memory for one offer. The history does not change.
     pub fn unreserve_offer(&mut self)
         requires { 1 ≤ self.old.reserved }
         ensures { self.new ≡ with_reserved self.old (self.old.reserved - 1) }
@@ -88,7 +88,7 @@ impl Engine {
     }
 
     /// How many offers can be made by `offer_reserved`. Other calls leave the memory reserved, but
-    /// each entry that they add is one that the history has no longer left.
+    /// each entry that they add is one fewer that the history has left.
     pub fn spare(&self) -> usize
         ensures { result ≡ spare_of self.now }
     {
@@ -97,8 +97,8 @@ impl Engine {
             .min(MOST_ENTRIES.saturating_sub(self.lists.entries.len()))
     }
 
-    /// Puts a context at the end of the queue, as `offer` does, in reserved memory: it cannot be
-    /// refused. Answers the entry's number.
+    /// Puts a context at the end of the queue, as `offer` does, but in reserved memory, so that it
+    /// cannot be refused. Answers the entry's number.
     pub fn offer_reserved(&mut self, offer: Offer) -> usize
         requires { 1 ≤ spare_of self.old }
         ensures { Recorded (with_reserved self.old (self.old.reserved - 1)) (Event.Offered offer)
@@ -128,7 +128,7 @@ impl Engine {
         self.lists.entries.len() >= MOST_ENTRIES
     }
 
-    // The queue's first context, where the session may take it.
+    // The queue's first context, if the session may take it.
     fn allow_take(&self, s: usize) -> Result<&Waiting, EngineError>
         ensures { MatchResult result
             (λ w. IsFirst self.now s w.now)

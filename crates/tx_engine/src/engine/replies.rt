@@ -25,7 +25,7 @@ use tx_slots::{
 };
 
 impl Engine {
-    /// The transaction that the session may give a reply of this kind for.
+    /// The session's transaction, if a reply of this kind may be given for it.
     pub(super) fn allow_reply(&self, s: usize, kind: ReplyKind) -> Result<&Hold, EngineError>
         ensures { MatchResult result
             (λ h. Allows self.now s kind h.now)
@@ -73,8 +73,8 @@ impl Engine {
         Ok(number)
     }
 
-    /// The participant of the session's due preparation answered this byte and left this context.
-    /// Answers the entry's number; refuses `NoSession`, `NotDue` and `HistoryFull`.
+    /// Records that the participant of the session's due preparation answered this byte and left this
+    /// context. Answers the entry's number; refuses `NoSession`, `NotDue` and `HistoryFull`.
     pub fn answered(
         &mut self,
         alloc: Global,
@@ -105,8 +105,8 @@ impl Engine {
         self.give(alloc, given)
     }
 
-    /// The selector that was due selected the groups that this text names. Answers the entry's
-    /// number; refuses `NoSession`, `NotDue` and `HistoryFull`.
+    /// Records that the session's due selector selected the groups that this text names. Answers the
+    /// entry's number; refuses `NoSession`, `NotDue` and `HistoryFull`.
     pub fn chose(&mut self, alloc: Global, s: usize, text: &str) -> Result<usize, EngineError>
         ensures { Accepts EngineError.OutOfMemory
             (reply_refusal ReplyKind.Choice self.old s) result
@@ -130,8 +130,8 @@ impl Engine {
         self.give(alloc, given)
     }
 
-    /// The session's due member was notified of the outcome, and may have given an advice. Answers the
-    /// entry's number; refuses `NoSession`, `NotDue` and `HistoryFull`.
+    /// Records that the session's due member was notified of the outcome, and the advice that it may
+    /// have given. Answers the entry's number; refuses `NoSession`, `NotDue` and `HistoryFull`.
     pub fn told(
         &mut self,
         alloc: Global,
@@ -186,7 +186,7 @@ fn advice_at(
     }
 }
 
-// Before each outcome of session 0's journalled transactions the context is restored anew.
+// The context of session 0's journalled transactions is restored anew before each outcome.
 fn restored_after(restored: bool, session: usize) -> bool
     ensures { result ≡ (not (session == 0) && restored) }
 {

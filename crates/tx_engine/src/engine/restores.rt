@@ -25,9 +25,9 @@ fn touch(slot: &mut Slot, number: usize)
 }
 
 impl Engine {
-    /// The member that is due restored the context of the session's recovered transaction, which is
-    /// left as given here; the journal keeps the saved one. Answers the entry's number; refuses
-    /// `NoSession`, `NotDue` and `HistoryFull`.
+    /// Records that the due member restored the context of the session's recovered transaction to this
+    /// one; the journal keeps the saved one. Answers the entry's number; refuses `NoSession`, `NotDue`
+    /// and `HistoryFull`.
     pub fn recovered(&mut self, s: usize, context: &Context) -> Result<usize, EngineError>
         ensures { Accepts EngineError.OutOfMemory
             (reply_refusal ReplyKind.Recovered self.old s) result
