@@ -1,4 +1,4 @@
--- What a call that may lack memory answers, where it answers.
+-- What a call that may run out of memory answers, where it answers.
 -- for: tracer::Tracer
 use Rattle.std.proofs.Common.{◌≡◌, Ok, Err, Option, Some, None, String, Global, false, sym}
 use Rattle.std.specs.Prelude.{Result, IfOk, is_some, option_map, string_bytes}

@@ -1,4 +1,4 @@
--- Where a transaction stands that is taken, and what its row says of it.
+-- Where a transaction stands when it is taken, and what its row says of it.
 -- for: tracer::begun, tracer::Tracer::other
 use Rattle.std.proofs.Common.{◌≡◌, ℕ, ◌-◌, ◌<◌, Bool, true, false, List, [], ◌∷◌, length, Some, None, refl, sym, ◌∙◌, ap, arith, suc, zero}
 use Rattle.std.specs.Prelude.{if◌then◌else◌, slice_get, ◌==◌, nat_lt, codes, map}
@@ -109,7 +109,7 @@ row_opening f tries saved r h =
     let s : r.context ≡ saved = sym (ap (λ (x : Row). x.context) w) ∙ is.same_saved in
     rw (t, s) refl
 
--- where a transaction stands that is taken
+-- where a transaction stands when it is taken
 
 get_within : {A : Type 0} (xs : List A) (n : ℕ) → n < length xs → (x : A) × (slice_get xs n ≡ Some x)
 get_within [] n h = absurd (omega arith)

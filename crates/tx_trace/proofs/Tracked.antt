@@ -1,4 +1,4 @@
--- What a tracer keeps is of the transactions, entry by entry.
+-- What a tracer keeps agrees with the transactions, entry by entry.
 -- for: tracer::Tracer
 use Rattle.std.proofs.Common.{◌≡◌, ℕ, ◌<◌, ◌≤◌, Bool, true, false, not, ◌⊎◌, inl, inr, List, [], ◌∷◌, length, Option, Some, None, refl, sym, ◌∙◌, ap, subst}
 use Rattle.std.proofs.Common.{arith}

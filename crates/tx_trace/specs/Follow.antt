@@ -37,7 +37,7 @@ earlier n (e ∷ past) = if nat_lt n (length past + 1) then earlier n past else 
 abbrev pub machine_at : BTreeMap ℕ Machine → ℕ → Option Machine
 machine_at machines id = get nat_cmp machines id
 
--- of the transactions of the journal after an id the first with somebody to notify, before anybody is notified of an outcome
+-- the first transaction of the journal after an id that has somebody to notify, before anybody is notified of an outcome
 abbrev pub next_recovered : Flow → List (ℕ × Row) → ℕ → Option ℕ
 next_recovered f rows over = first_unfinished f (filter (λ (r : ℕ × Row). nat_lt over r.0) rows) (λ id. [])
 
@@ -47,7 +47,7 @@ pub record StandsFor (f : Flow) (v : Start) (past : List Event) (id : ℕ) (m : 
   pub sound : IsSound f m
   pub state : tx_state f m ≡ state_of f v past id
 
--- what a tracer keeps is of the transactions by these events
+-- what a tracer keeps agrees with the transactions after these events
 pub record Tracks (f : Flow) (v : Start) (past : List Event) (t : Tracer) : Type 0 where
   pub kept : (id : ℕ) (m : Machine) → machine_at t.machines id ≡ Some m → StandsFor f v past id m
   -- one that is not finished and of which no machine is kept has had no item, and stands as its row says
@@ -123,7 +123,7 @@ abbrev pub IsKept : Flow → Start → List Event → ℕ → Option Machine →
 IsKept f v past id None = is_ended f (state_of f v past id) ≡ true
 IsKept f v past id (Some m) = StandsFor f v past id m
 
--- the transactions but one stand where they stood
+-- the other transactions stand where they stood
 abbrev pub OthersStay : Flow → Start → List Event → Event → (ℕ → Type 0) → Type 0
 OthersStay f v past e Apart =
     (j : ℕ) → j < next_id v (e ∷ past) → Apart j → (j < next_id v past) × (state_of f v (e ∷ past) j ≡ state_of f v past j)
@@ -133,7 +133,7 @@ abbrev pub IsMove : Flow → Start → List Event → Event → Option (ℕ × O
 IsMove f v past e None = OthersStay f v past e (λ j. Unit {0})
 IsMove f v past e (Some move) = IsKept f v (e ∷ past) move.0 move.1 × OthersStay f v past e (λ j. move.0 ≡ j → ⊥)
 
--- which of the journalled transactions are over after a move
+-- the id up to which the journalled transactions are over after a move
 abbrev pub over_after : ℕ → ℕ → Option (ℕ × Option Machine) → ℕ
 over_after over first None = over
 over_after over first (Some (id, Some m)) = over
@@ -151,7 +151,7 @@ pub record IsTraced (f : Flow) (v : Start) (past : List Event) (e : Event) (t : 
 abbrev pub shelved_after : ℕ → Change → ℕ
 shelved_after count c = if c.emptied then 0 else if is_some c.shelved then count + 1 else count
 
--- the machine where its transaction has not ended
+-- the machine, if its transaction has not ended
 abbrev pub IsLeft : Flow → Machine → Option Machine → Type 0
 IsLeft f m None = is_ended f (tx_state f m) ≡ true
 IsLeft f m (Some left) = (left ≡ m) × (is_ended f (tx_state f m) ≡ false)
@@ -167,12 +167,12 @@ pub record IsBegun (f : Flow) (id s : ℕ) (st : TxState) (t : Traced) : Type 0 
   pub shown : t.shown ≡ Begun id s (due_of f st)
   pub moves : IsBegunMove f id st t.moved
 
--- the flow knows whom these rows name
+-- the flow has the participants that these rows name
 abbrev pub AreFound : Flow → List (ℕ × Row) → Type 0
 AreFound f rows =
     (id : ℕ) (r : Row) → look id rows ≡ Some r → All (λ n. number_of f n < length (parts_of f)) (to_tell r r.doing)
 
--- the map has this under the id, and all else as before
+-- the map has this under the id, and everything else as before
 pub record Puts (old new : BTreeMap ℕ Machine) (id : ℕ) (m : Option Machine) : Type 0 where
   pub here : machine_at new id ≡ m
   pub others : (j : ℕ) → (id ≡ j → ⊥) → machine_at new j ≡ machine_at old j

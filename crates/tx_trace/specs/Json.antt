@@ -42,7 +42,7 @@ due_members f (due.Abort p) = call_member (codes "abort") ++ participant_member 
 due_members f due.Shelve = call_member (codes "shelve")
 due_members f due.Done = call_member (codes "done")
 
--- the same; a `recover` call goes first, where one is there
+-- the same; instead of an outcome, the `recover` call that comes before it
 abbrev pub call_members : Flow → Option (ℕ × Bool) → Due → Text
 call_members f None d = due_members f d
 call_members f (Some call) d = call_member (codes "recover") ++ participant_member f call.0
@@ -50,7 +50,7 @@ call_members f (Some call) d = call_member (codes "recover") ++ participant_memb
 abbrev pub standing_members : Flow → Standing → Text
 standing_members f s = call_members f s.restores s.due
 
--- `,"next":{..}}`: what is due then, and the end of the object
+-- `,"next":{..}}`: what is due next, and the end of the object
 unfoldable pub next_members : Text → Text
 next_members members = codes ",\"next\":{" ++ (members ++ codes "}}")
 

@@ -111,12 +111,12 @@ event_text f (Chose s text) place bound = choice_text f text ++ bound_text bound
 event_text f (Told s advice) place bound = told_text (is_some advice) place
 event_text f _ place bound = []
 
--- the call that is due, or the end; a `recover` call goes first, where one is there
+-- the call that is due, or the end; instead of an outcome, the `recover` call that comes before it
 abbrev pub call_text : Flow → Option (ℕ × Bool) → Due → Text
 call_text f None d = due_text f d
 call_text f (Some call) d = codes "recover " ++ part_name f call.0
 
--- where a transaction stands, with the `recover` call that goes before its outcome: whom it goes to, and whether to
+-- where a transaction stands, with the `recover` call that comes before its outcome: its participant, and whether to
 -- commit
 pub record Point : Type 0 where
   pub state : TxState
@@ -135,7 +135,7 @@ standing_of f p = record {
   bound = p.state.bound;
 }
 
--- what an event on a transaction shows, which leads it from where it stood to where it stands; `recovering` says that the transaction
+-- what an event shows that leads a transaction from where it stood to where it stands; `recovering` says that the transaction
 -- comes from the journal
 abbrev pub moved_of : Flow → ℕ → Bool → Point → Point → Move
 moved_of f id recovering before after =
@@ -183,7 +183,7 @@ shown_text f (Moved m) event = moved_text f m event
 shown_text f (Begun id s d) event = begun_text f id s d
 shown_text f (Plain count) event = plain_text f count event
 
--- where no `recover` call goes before the outcome
+-- where a transaction stands, with no `recover` call before its outcome
 abbrev pub plain_point : TxState → Point
 plain_point s = record { state = s; restores = None }
 

@@ -4,7 +4,7 @@ use Rattle.tx_machine.specs.declared.values.Spot.{Spot}
 use Rattle.tx_slots.specs.declared.next.At.{At}
 use Rattle.tx_trace.specs.declared.places.Place.{Place}
 
--- the due call with its step, group and index, where it is of an entry
+-- the due call, with its step, group and index if it is an entry's
 abbrev pub place_at : At → Place
 place_at at = record {
   id = at.id;

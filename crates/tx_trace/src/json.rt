@@ -82,7 +82,7 @@ fn push_due(text: &mut Vec<u8>, names: Names<'_>, due: Due) -> Result<(), AllocE
     }
 }
 
-// The call that is due, or the end; a `recover` call goes first.
+// The call that is due, or the end; instead of an outcome, the `recover` call that comes before it.
 fn push_members(
     text: &mut Vec<u8>,
     names: Names<'_>,
@@ -101,7 +101,7 @@ fn push_members(
     }
 }
 
-// What is due then, and the end of the object.
+// What is due next, and the end of the object.
 #[tactic(auto, unfolding(crate::specs::Json::next_members))]
 fn push_next(
     text: &mut Vec<u8>,

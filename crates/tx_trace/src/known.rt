@@ -11,7 +11,7 @@ use std::alloc::{AllocError, Global};
 use std::fmt;
 use tx_machine::first_names;
 
-// The name of a group of the table, where one has the name.
+// The table's own copy of this name, if a group has it.
 fn find_start<'a>(groups: &'a [GroupStart], name: &[u8]) -> Option<&'a str>
     ensures found { IfSome result (λ found. found.now ≡ name.now) }
     ensures known { IfSome result (λ found. is_start name.now groups.entry.now ≡ true) }
@@ -25,7 +25,7 @@ fn find_start<'a>(groups: &'a [GroupStart], name: &[u8]) -> Option<&'a str>
     None
 }
 
-// A group's name, where one of the groups has the name.
+// The code's own copy of this name, if a group has it.
 fn find_name<'a>(code: &'a Code, name: &[u8]) -> Option<&'a str>
     ensures found { IfSome result (λ found. found.now ≡ name.now) }
     ensures known { IfSome result (λ found. is_named name.now code.entry.now.groups ≡ true) }
@@ -34,7 +34,7 @@ fn find_name<'a>(code: &'a Code, name: &[u8]) -> Option<&'a str>
     find_start(code.groups(), name)
 }
 
-// Adds a name, where one of the groups has it.
+// Adds a name, if one of the groups has it.
 fn add_known<'a>(names: &mut Vec<&'a str>, code: &'a Code, name: &[u8]) -> Result<(), AllocError>
     ensures { OnOk result (texts_of names.new.items
         ≡ texts_of names.old.items

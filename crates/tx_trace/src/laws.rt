@@ -7,7 +7,7 @@ ghost use Rattle.tx_engine.specs.World.{World, happened};
 ghost use Rattle.tx_trace.specs.declared.tracer.Tracer.{Tracer};
 ghost use Rattle.tx_trace.specs.Follow.{Follows};
 
-/// A tracer of an engine is one of it still when the engine has taken further entries, or its mark
+/// A tracer of an engine is still one of it after the engine has accepted further events, or its mark
 /// has moved.
 pub fn tracers_go_on()
     ensures entry { (w : World) (t : Tracer) (e : Event) → Follows w t → Follows (happened w e) t }

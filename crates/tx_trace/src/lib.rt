@@ -1,10 +1,10 @@
 //! The trace: one line for each entry of an engine's history, as text or as an object of JSON.
 //!
-//! Promised here, byte by byte, by the definitions in `specs/Lines.antt`, `specs/Trace.antt` and
-//! `specs/Json.antt`. An entry shows one value (`shown_at`), of which both forms are made:
+//! What is promised is defined, byte by byte, in `specs/Lines.antt`, `specs/Trace.antt` and
+//! `specs/Json.antt`. An entry shows one value (`shown_at`), from which both forms are made:
 //! - [`Tracer::next`] is the line of the next entry as text, for every kind of event, and
 //!   [`Tracer::next_json`] the line as JSON;
-//! - [`line`] is the line of the entry of a number, and there is none where there is no such entry;
+//! - [`line`] is the line of the entry of a number, if there is such an entry;
 //! - [`whereis`] and [`rest`] are where the transaction of a session stands, and what is still to
 //!   come;
 //! - [`step_line`] is the line of an answer, a choice or a told that leads from one state of a

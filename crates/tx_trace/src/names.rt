@@ -5,14 +5,14 @@ ghost use Rattle.tx_trace.specs.Trace.{group_name, part_name};
 
 use flow_asm::Code;
 
-/// The names that a flow's steps are kept with.
+/// The names of a flow's groups and participants.
 #[derive(Clone, Copy)]
 pub struct Names<'a> {
     pub code: &'a Code,
 }
 
 impl<'a> Names<'a> {
-    /// The name of the group of this number; empty where there is none.
+    /// The name of the group of this number; empty if there is none.
     pub fn group(&self, number: usize) -> &'a str
         ensures { result.now ≡ group_name self.now.code.now number }
     {
@@ -22,7 +22,7 @@ impl<'a> Names<'a> {
         }
     }
 
-    /// The name of the participant of this number; empty where there is none.
+    /// The name of the participant of this number; empty if there is none.
     pub fn participant(&self, number: usize) -> &'a str
         ensures { result.now ≡ part_name self.now.code.now number }
     {

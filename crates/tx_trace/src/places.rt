@@ -44,7 +44,7 @@ fn place_at(at: At) -> Place
     }
 }
 
-/// Where the transaction stands that the session holds; none for an idle or unknown session.
+/// Where the session's transaction stands; none for an idle or unknown session.
 pub fn whereis(engine: &Engine, s: usize) -> Option<Place>
     ensures { result ≡ option_map place_at (at_of engine.now s) }
 {

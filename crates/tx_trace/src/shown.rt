@@ -1,4 +1,4 @@
-//! What an entry shows, of which its line is made in either form.
+//! What an entry shows, from which its line is made in either form.
 
 ghost use Rattle.std.specs.Prelude.{◌≡◌};
 ghost use Rattle.tx_machine.specs.Contract.{IsSound};
@@ -13,7 +13,7 @@ pub struct Standing {
     pub phase: Phase,
     /// The call that is due, or the end.
     pub due: Due,
-    /// Where a `recover` call goes before the outcome: to which participant, and whether to commit.
+    /// The `recover` call that comes before the outcome: its participant, and whether to commit.
     pub restores: Option<(usize, bool)>,
     /// How many members were notified.
     pub told: usize,
@@ -50,10 +50,10 @@ pub struct Move {
 /// What an event shows beside itself.
 #[derive(Clone, Copy)]
 pub enum Shown {
-    /// A transaction is led from where it stood to where it stands.
+    /// The event led a transaction from where it stood to where it stands now.
     Moved(Move),
     /// A session took a transaction, with what is due to it.
     Begun { id: u64, session: usize, due: Due },
-    /// The event is of no transaction under way. So many contexts are on the shelf.
+    /// The event is of no transaction under way. `shelved` is how many contexts are on the shelf.
     Plain { shelved: usize },
 }

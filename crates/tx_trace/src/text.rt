@@ -1,4 +1,4 @@
-//! The pieces of a trace line, each as what it prints.
+//! The pieces of a trace line, each with what it prints.
 
 ghost use Rattle.std.specs.Prelude.{◌≡◌, ◌<◌, Some, ◌++◌, codes, if◌then◌else◌, map};
 ghost use Rattle.sw_participant.specs.Answers.{is_bad, is_readonly, stays_out};
@@ -92,11 +92,11 @@ impl fmt::Display for NextText<'_> {
     }
 }
 
-/// The call that is due, or the end; a `recover` call goes first, where one is there.
+/// The call that is due, or the end; instead of an outcome, the `recover` call that comes before it.
 #[derive(Drop)]
 pub struct CallText<'a> {
     pub next: NextText<'a>,
-    /// The participant that the `recover` call goes to, and whether to commit.
+    /// The participant of the `recover` call, and whether to commit.
     pub restores: Option<(usize, bool)>,
 }
 
@@ -194,14 +194,14 @@ fn context_word(byte: u8) -> &'static str
     }
 }
 
-/// `bound ` where the bound has dropped what was still to come.
+/// `bound ` if the bound has dropped what was still to come.
 pub fn bound_word(bound: bool) -> &'static str
     ensures { result.now ≡ bound_text bound }
 {
     if bound { "bound " } else { "" }
 }
 
-/// `recovering ` where the transaction comes from the journal.
+/// `recovering ` if the transaction comes from the journal.
 pub fn recovering_word(recovering: bool) -> &'static str
     ensures { result.now ≡ word_if recovering (codes "recovering ") }
 {
@@ -224,7 +224,7 @@ impl fmt::Display for AnswerText {
     }
 }
 
-/// `advice PLACE ` where an advice was given.
+/// `advice PLACE ` if an advice was given.
 #[derive(Drop)]
 pub struct ToldText {
     pub advised: bool,

@@ -35,13 +35,13 @@ use tx_history::{Change, Entry, Event, Row};
 use tx_machine::{Due, Machine};
 use tx_slots::{after_answer, after_choice, after_told};
 
-/// What has gone through the first entries of an engine's history. It keeps the machines of the
-/// transactions under way, so that the next line costs what its entry costs.
+/// Goes through the entries of an engine's history and gives the line of each. It keeps the machines of
+/// the transactions under way, so that the next line costs what its entry costs.
 pub struct Tracer {
     // How many entries it has gone through.
     done: usize,
-    // The machines of the transactions that are not finished, by their ids. Of those of the
-    // journal only the ones that had an entry.
+    // The machines of the transactions that are not finished, by their ids. Of the journal's
+    // transactions only those that had an entry.
     machines: BTreeMap<u64, Machine>,
     // How many contexts are on the shelf.
     shelved: usize,
@@ -68,7 +68,7 @@ impl Drop for Tracer {
 #[derive(Drop)]
 struct Traced {
     shown: Shown,
-    // The transaction whose machine is kept from now on, or is kept no more since it has ended.
+    // The transaction whose machine is kept from now on, or is no longer kept since it has ended.
     moved: Option<(u64, Option<Machine>)>,
 }
 
@@ -232,8 +232,8 @@ impl Tracer {
         Ok(())
     }
 
-    /// The line of the next entry, without a line feed; none where it has gone through all. The
-    /// only refusal is out of memory, and the entry is then still the next one.
+    /// The line of the next entry, without a line feed; none if it has gone through all. The only
+    /// refusal is out of memory, and the entry is then still the next one.
     ///
     /// The engine is the one that the tracer was made for, or goes on from what it was then: more
     /// entries may have come, but it was neither opened anew nor cut.
@@ -277,8 +277,8 @@ impl Tracer {
         Ok(Some(line))
     }
 
-    /// The line of the entry of this number, which it has not gone through; none where there is no
-    /// such entry. It goes on up to it. The only refusal is out of memory.
+    /// The line of the entry of this number, which it has not gone through yet; none if there is no
+    /// such entry. It goes through the entries up to that one. The only refusal is out of memory.
     ///
     /// The engine is as in [`Tracer::next`].
     pub fn line_at(
@@ -302,7 +302,7 @@ impl Tracer {
     }
 }
 
-// The machine, where the transaction has not ended.
+// The machine, if the transaction has not ended.
 fn kept(code: &Code, machine: Machine) -> Option<Machine>
     requires { IsSound code.now machine }
     ensures { IsLeft code.now machine result }
@@ -333,7 +333,7 @@ fn find_row<'a>(rows: &'a [(u64, Row)], id: u64) -> Option<&'a Row>
     None
 }
 
-// The machine of a transaction of the journal before its first entry; of another one that is over.
+// The machine of a transaction of the journal before its first entry; without a row, one that is over.
 fn reopened_at(
     alloc: Global,
     code: &Code,
@@ -351,8 +351,8 @@ fn reopened_at(
     }
 }
 
-// Of the transactions of the journal after an id the first one with somebody to notify. There are at
-// most 16 rows.
+// The first transaction of the journal after an id that has somebody to notify. There are at most 16
+// rows.
 fn next_recovered(
     alloc: Global,
     code: &Code,
@@ -373,7 +373,7 @@ fn next_recovered(
     Ok(None)
 }
 
-// A machine that stands where the event leads this one.
+// A copy of the machine, as the event leaves it.
 fn led(alloc: Global, code: &Code, machine: &Machine, event: &Event) -> Result<Machine, AllocError>
     requires { IsSound code.now machine.now }
     ensures sound { IfOk result (IsSound code.now) }
@@ -390,7 +390,7 @@ fn led(alloc: Global, code: &Code, machine: &Machine, event: &Event) -> Result<M
     }
 }
 
-// The `recover` call that is due to a transaction that stands here.
+// The `recover` call that is due to a transaction with this machine.
 fn restores_at(
     code: &Code,
     machine: &Machine,
@@ -421,7 +421,7 @@ fn restored_after(restored: bool, event: &Event) -> bool
     }
 }
 
-// Which of the journalled transactions are over after a move.
+// The id up to which the journalled transactions are over after a move.
 fn over_after(over: u64, first: u64, moved: &Option<(u64, Option<Machine>)>) -> u64
     ensures { result ≡ over_after over first moved.now }
 {
@@ -445,7 +445,7 @@ fn shelved_after(shelved: usize, change: &Change) -> usize
     }
 }
 
-// Keeps the machine under the id, or none.
+// Keeps the machine under the id, or removes the one that is kept there.
 fn put(
     machines: &mut BTreeMap<u64, Machine>,
     moved: Option<(u64, Option<Machine>)>,
@@ -504,7 +504,7 @@ fn begun(
     })
 }
 
-// What an entry shows that is of no transaction under way: it moves nothing.
+// What an entry shows if it is of no transaction under way: it moves nothing.
 fn plain(shelved: usize) -> Traced
     ensures shown { result.shown ≡ Plain shelved }
     ensures moved { result.moved ≡ None }
