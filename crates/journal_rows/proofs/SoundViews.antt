@@ -181,7 +181,7 @@ row_from next members r fits placed =
       context = fits.context;
     }
 
--- the rows are as many as are numbered below the most
+-- there are at most as many rows as the bound of their numbers
 room_from : (Fits : ℕ → Row → Type 0) (most k : ℕ) (rows : List Row) → ((n : ℕ) (r : Row) → Fits n r → n < most) → k ≤ most → IsFirstBad Fits k rows None →
     k + length rows ≤ most
 room_from Fits most k [] room low h = omega (arith, low)

@@ -67,7 +67,7 @@ quiet_given : (f : Flow) (v : IdView) (o : Option ℕ) (x : FullReply) (l : List
 quiet_given f v None x l id n h = refl
 quiet_given f v (Some i) x l id n h = quiet_if (i == id) (standing_of f (at f v l id)) x (core.advice f v l id) n h
 
--- an outcome that was told: it was due, and not a recover call before it
+-- an outcome of which a member was notified: it was due, and not a recover call before it
 
 abbrev call_from : ℕ → ℕ → Act → Call
 call_from id p a = record { id = id; participant = p; act = a }
@@ -97,7 +97,7 @@ told_at f st Undoing ms id again true lt h e =
     let back : restores f st q ≡ false = told_act id q false again st.recovered (restores f st q) (act.Abort again) refl (rw is at e) in
     (q, rw (is, back) refl)
 
--- what is due to a transaction as a member of it is told
+-- what is due to a transaction when a member of it is notified
 pub record ToTell (f : Flow) (v : Start) (past : List Event) (id : ℕ) : Type 0 where
   pub state : FullState
   pub stands : at f (id_view f v.view) (id_events f v past) id ≡ Some state

@@ -103,7 +103,7 @@ put_if p k o xs false false e h =
     put_parts p k o xs None None (advice_at p xs) (at_dropped (λ q. place_lt q k) p xs (λ q w. low_same q p k false w h)) (keyed_other p k o e)
     (at_kept (λ q. place_lt k q) p xs (λ q w. high_same q p k true w high))
 
--- what was put stands under its place, and all else where it stood
+-- what was put stands under its place, and everything else where it stood
 pub put_at_place : (p k : ℕ × ℕ) (o : Option (List ℕ)) (xs : List Advice) →
     advice_at p (put_by place_lt k o xs) ≡ (if same_place k p then o else advice_at p xs)
 put_at_place p k o xs = put_if p k o xs (same_place k p) (place_lt p k) refl refl

@@ -37,7 +37,7 @@ pub if_some : {A : Type 0} (b c : Bool) (o : Option A) (x : A) → (if b && c th
 if_some true c o x h = refl
 if_some false c o x h = absurd (cc)
 
--- at first
+-- before any event
 
 same_commit : (p : Phase) → is_committed p ≡ is_committing p
 same_commit Preparing = refl

@@ -23,7 +23,7 @@ pub length_same : (f : Flow) (v : Start) (past : List Event) → length (id_even
 length_same f v [] = refl
 length_same f v (e ∷ past) = ap suc (length_same f v past)
 
--- an event speaks of whom its session serves
+-- an event speaks of the transaction that its session serves
 pub speaks : (f : Flow) (v : Start) (past : List Event) (s : ℕ) (x : FullReply) → IsOrdered v.view → IsLawful f v past
     → event_of f (id_view f v.view) (plant.taken (id_view f v.view) (session_events f v past)) (id_events f v past) (Replied s x)
     ≡ given_to (serves f v past s) x

@@ -1,4 +1,4 @@
--- The closing entries of an opening are of the rows with nobody to tell, each once.
+-- The closing entries of an opening are of the rows with nobody to notify, each once.
 -- for: laws::views_fit
 use Rattle.std.proofs.Common.{◌≡◌, ℕ, ◌+◌, ◌<◌, ◌≤◌, Bool, true, false, List, [], ◌∷◌, ◌++◌, length, map, Option, Some, None, refl, sym, ◌∙◌, ap, arith}
 use Rattle.std.proofs.Common.{length-append}
@@ -21,7 +21,7 @@ use Rattle.tx_history.proofs.OwnItems.{old_outcome}
 use Rattle.outcome_history.specs.Looked.{numbered, id_view, stacked, closings}
 use Rattle.outcome_history.proofs.LookedRows.{FoundRow, found_row}
 
--- those who are told of a journalled transaction
+-- those who are notified of a journalled transaction's outcome
 
 pub map_push : (h : List ℕ → ℕ) (xs : List (List ℕ)) (x : List ℕ) → map h xs ++ h x ∷ [] ≡ map h (xs ++ x ∷ [])
 map_push h [] x = refl
@@ -34,7 +34,7 @@ listed_by f r (Some n) = map_push (number_of f) r.joined n
 pub listed_told : (f : Flow) (r : Row) → listed (numbered f r) ≡ map (number_of f) (to_tell r r.doing)
 listed_told f r = listed_by f r r.doing
 
--- nobody to tell
+-- nobody to notify
 
 none_left : (told : ℕ) (xs : List ℕ) → told ≡ 0 → not (nat_lt told (length xs)) ≡ true → xs ≡ []
 none_left told [] z h = refl
@@ -103,7 +103,7 @@ closings_hold f j (x ∷ rows) n m past rise all cs clear =
     (closings_hold f j rows (x.0 + 1) m past rise.2 behind cs (λ id le. clear id (omega arith)))
     (is_ended f (reopened f x.1)) refl
 
--- and each with nobody to tell is closed
+-- and each with nobody to notify is closed
 
 or_yes : (x y : Bool) → y ≡ true → (x || y) ≡ true
 or_yes true y h = refl

@@ -1,4 +1,4 @@
--- The table's bounds hold of every transaction of a lawful history, journalled ones among them.
+-- The table's bounds hold of every transaction of a lawful history, also of journalled ones.
 -- for: laws::journals_agree
 use Rattle.std.proofs.Common.{◌≡◌, ◌≢◌, ℕ, ◌-◌, ◌<◌, ◌≤◌, Bool, true, false, List, [], ◌∷◌, length, map, Option, Some, None, refl, sym, ◌∙◌, subst, arith}
 use Rattle.std.specs.Prelude.{if◌then◌else◌, slice_get, ◌==◌, nat_lt}
@@ -25,7 +25,7 @@ use Rattle.tx_history.proofs.Sessions.{state_given, state_more, state_released}
 use Rattle.tx_history.proofs.SoundJournals.{length_numbers, members_told, own_none}
 use Rattle.outcome_history.proofs.OpeningClosings.{more_names}
 
--- at first
+-- before any event
 
 none_proper : (f : Flow) → IsProper f no_state
 none_proper f = reopening_proper f false [] 0 0 [] (omega arith) (omega arith) (All-nil (λ p. p < length (parts_of f)))

@@ -44,7 +44,7 @@ and_first : (b c : Bool) → (b && c) ≡ true → b ≡ true
 and_first true c h = refl
 and_first false c h = absurd (cc)
 
--- so no preparation or selection is answered meanwhile
+-- so no preparation or selection is answered in that time
 pub no_reply : (f : Flow) (v : Start) (past : List Event) (s id k : ℕ) (c : Bool) → IsOrdered v.view → IsLawful f v past → recovering f v past ≡ Some k →
     holds f v past s ≡ Some id → (is_open (state_of f v past id).phase && c) ≡ true → ⊥
 no_reply f v past s id k c o law r h due =
@@ -53,7 +53,7 @@ no_reply f v past s id k c o law r h due =
     let opened = and_first (is_open (state_of f v past id).phase) c due in
     cc
 
--- what is recovered after an event was recovered before something was, too
+-- if something is being recovered after an event, something was before it
 was_recovering : (f : Flow) (v : Start) (past : List Event) (e : Event) (id : ℕ) (X : Type 0) → IsOrdered v.view → IsAccepted f v past e →
     recovering f v (e ∷ past) ≡ Some id → ((k : ℕ) → recovering f v past ≡ Some k → X)
     → (r : Option ℕ) → recovering f v past ≡ r → X
@@ -142,7 +142,7 @@ told_same f v past s a id k o law r =
 one_only : (i j : ℕ) → Some i ≡ Some j → i ≡ j
 one_only i j e = grind (arith, e)
 
--- of the one that is recovered it is told alike
+-- for the one that is being recovered both say the same
 pub restored_same : (f : Flow) (v : Start) (past : List Event) (id : ℕ) → IsOrdered v.view → IsLawful f v past → recovering f v past ≡ Some id →
     restored f v past id ≡ is_restored past
 restored_same f v [] id o law h = refl

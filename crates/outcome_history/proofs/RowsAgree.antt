@@ -76,7 +76,7 @@ rows_back : (f : Flow) (st : TxState) → AreNumbered (parts_of f) → IsProper 
 rows_back f st all p None e = refl
 rows_back f st all p (Some r) e = ap Some (sym (row_back f r all (row_bounded f st r p e)))
 
--- of one to whom something was told, or of this life
+-- of one with a member notified, or one of this life
 state_row : (f : Flow) (st : FullState) → AreNumbered (parts_of f) → IsProper f st.state → (o : Option TxRow) → st.opened ≡ o → o ≡ None →
     (standing f st).row ≡ option_map (numbered f) (row f st.state)
 state_row f st all p None e n = rw e (rows_back f st.state all p (row_of f st.state) refl)

@@ -1,4 +1,4 @@
--- Whom sessions serve, in the outcome law's words and in those of histories.
+-- The transactions that sessions serve, in the outcome law's words and in those of histories.
 -- for: laws::sessions_agree
 use Rattle.std.proofs.Common.{◌≡◌, ℕ, ◌+◌, ◌-◌, ◌<◌, ◌≤◌, Bool, true, false, List, [], ◌∷◌, Option, Some, None, refl, sym, ◌∙◌, ap, subst, arith, zero}
 use Rattle.std.proofs.Common.{suc}
@@ -110,7 +110,7 @@ seek_never test n (suc k) h =
     let failed : test n ≡ false = h n (omega arith) (omega arith) in
     rw failed (seek_never test (n + 1) k (λ j lo hi. h j (omega arith) (omega arith)))
 
--- whether a journalled transaction has somebody left to tell
+-- whether a journalled transaction has somebody left to notify
 abbrev pub open_at : Flow → Option Row → List Item → Bool
 open_at f None items = false
 open_at f (Some r) items = not (is_ended f (after_newest f (reopened f r) items))
@@ -173,14 +173,14 @@ unfinished_journalled f (Some r) false items back h = ap not
     (idle_seen f (record { state = after_newest f (reopened f r) items; opened = opened_since (numbered f r) items; recovered = true; restored = back })
     (due_of f (after_newest f (reopened f r) items)))
 
--- a closed transaction had nobody to tell
+-- a closed transaction had nobody to notify
 pub closed_idle : (f : Flow) (v : Start) (past : List Event) (id : ℕ) → IsOrdered v.view → IsLawful f v past → is_closed past id ≡ true →
     open_at f (look id v.view.rows) (own_items f v past id) ≡ false
 closed_idle f v past id o law h =
     let w = closed_over f v past id o law h in
     ap (λ (r : Option Row). open_at f r (own_items f v past id)) w.there ∙ ap not (ended_stays f w.row (own_items f v past id) w.over)
 
--- whom sessions serve, where transactions stand alike
+-- the transactions that sessions serve, where transactions stand alike
 
 abbrev pub States : Flow → Start → List Event → Type 0
 States f v past = (id : ℕ) → at f (id_view f v.view) (id_events f v past) id ≡ full_state f v past id

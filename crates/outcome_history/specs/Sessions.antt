@@ -53,7 +53,7 @@ opened_since r (item.Answer b c ∷ xs) = opened_since r xs
 opened_since r (item.Choice t ∷ xs) = opened_since r xs
 opened_since r (item.Told a ∷ xs) = None
 
--- whether its context was restored since a member was notified
+-- whether its context was restored since a member was last notified
 abbrev pub restored : Flow → Start → List Event → ℕ → Bool
 restored f v [] id = false
 restored f v (event.Recovered s c ∷ past) id = is_id (serves f v past s) id || restored f v past id

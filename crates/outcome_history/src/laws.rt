@@ -84,8 +84,8 @@ pub fn states_agree()
         → at f (id_view f v.view) (id_events f v past) id ≡ None }
 {}
 
-/// The same call is due to the transaction that a session serves, a `recover` call before an
-/// outcome among them. Both agree whether the context of the transaction that is recovered was
+/// The same call is due to the transaction that a session serves; that call may be a `recover` call
+/// before an outcome. Both agree on whether the context of the transaction that is being recovered was
 /// restored.
 pub fn calls_agree()
     ensures calls { (f : Flow) (v : Start) (past : List Event) (s id : ℕ)
@@ -98,15 +98,14 @@ pub fn calls_agree()
         → recovering f v past ≡ Some id }
 {}
 
-/// An advice that is put, or taken away, stands so under its place, and all others stand where they
-/// stood.
+/// Putting an advice, or taking one away, changes what is under its place, and nothing else.
 pub fn advices_by_place()
     ensures { (place key : ℕ × ℕ) (advice : Option (List ℕ)) (old : List ((ℕ × ℕ) × List ℕ))
         → advice_at place (put_by place_lt key advice old)
         ≡ (if same_place key place then advice else advice_at place old) }
 {}
 
-/// The journal that a lawful history leaves is, by look-up, the one that the outcome law has: of a
+/// The journal that a lawful history leaves is, by look-up, the one that the outcome law has: for a
 /// lawful history from a sound start, the next id, the rows and the advices are those that the
 /// outcome law makes of the same events.
 pub fn journals_agree()

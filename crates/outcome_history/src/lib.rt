@@ -3,10 +3,9 @@
 //!
 //! There is no code here, but laws of the definitions: sound journals are what the outcome law
 //! begins from ([`views_fit`]), sessions serve the same transactions ([`sessions_agree`]), these
-//! stand in the same places ([`states_agree`]), and the same calls are due to them
-//! ([`calls_agree`]). An advice that is put into a journal stands under its place alone
-//! ([`advices_by_place`]), and the journal that a history leaves is the outcome law's
-//! ([`journals_agree`]).
+//! have the same states ([`states_agree`]), and the same calls are due to them ([`calls_agree`]). An
+//! advice that is put into a journal changes only what is under its place ([`advices_by_place`]), and
+//! the journal that a history leaves is the outcome law's ([`journals_agree`]).
 #![tactic(auto)]
 
 mod laws;

@@ -650,7 +650,7 @@ pub ran : (f : Flow) (ts : List CoreMove) (c d : AbstractCore) → CoreFits f c 
 ran f [] c d k h = subst (λ (d : AbstractCore). CoreFits f d) (sym h) k
 ran f (t ∷ ts) c d k h = ran f ts h.0 d (turned f t c h.0 k h.1) h.2
 
--- The law holds after every list of turns, where it holds of the calls made before and the view that was opened.
+-- The law holds after every list of turns, if it holds of the calls made before and of the view that was opened.
 pub law_kept : (f : Flow) (j : IdView) (cs : List IdEvent) (calls : List PlantDeed) (ts : List CoreMove) (d : AbstractCore) → OutcomeLaw calls j →
     ViewFits j → Shuts j cs → CoreRun f ts (opened j cs calls) d
     → OutcomeLaw d.calls (written f d) × ViewFits (written f d)

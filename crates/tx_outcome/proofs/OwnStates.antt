@@ -1,4 +1,4 @@
--- An own transaction is the machine's standing after its own items.
+-- A transaction of this life stands where the machine does after its items.
 -- for: laws::table_words
 use Rattle.std.proofs.Common.{Some, None, Option, ◌≡◌, ℕ, ◌+◌, ◌<◌, Bool, true, false, List, [], ◌∷◌, length, refl, ◌∙◌, ap, arith}
 use Rattle.std.specs.Prelude.{if◌then◌else◌, slice_index, nat_lt, not, ◌&&◌}
@@ -124,7 +124,7 @@ pub reopens_due : (f : Flow) (r : Row) → r.told < length (listed r) → due f 
 reopens_due f r less = by_phase (is_committing r.phase) (due f (reopen r) ≡ outcome_due (recovers f (slice_index (listed r) r.told))
     (slice_index (listed r) r.told)) (λ h. reopened_commit f r h less) (λ h. reopened_abort f r h less)
 
--- the row of a recovered transaction once something was told
+-- the row of a recovered transaction once a member was notified
 abbrev pub more_told : Row → Phase → TxState
 more_told r ph = record {
   phase = ph;

@@ -162,7 +162,7 @@ law_dead t advice d = record {
   decided = d.decided;
 }
 
--- all were told
+-- all were notified
 pub good_told : (t : List Deed) (st : Standing) (advice : ℕ → Option (List ℕ)) → IsLive t st advice → st.told ≡ length st.members
     → (p : ℕ) → (k : ℕ) × (joins_of p t ≤ places_told p t 0 k)
 good_told t st advice g all p =

@@ -88,7 +88,7 @@ adds f (Stop cs) p q h = (
   λ ms. (h.0, ap (λ (z : AbstractPlant). with_calls z (Halted (view f p) ∷ ms)) h.1),
 )
 
--- who is notified after a stop is notified of the outcome that the row had
+-- whoever is notified after a stop is notified of the outcome that the row had
 
 follows_later : (a t : List Deed) → FollowsRows (a ++ t) → FollowsRows t
 follows_later [] t h = h

@@ -36,7 +36,7 @@ trail_of id (Halted v ∷ ms) = Stopped (v.row id) ∷ trail_of id ms
 abbrev pub OutcomeLaw : List PlantDeed → IdView → Type 0
 OutcomeLaw ms j = (id : ℕ) → IdLaw (trail_of id ms) (nat_lt id j.next_id) (j.row id) (j.advice id)
 
--- what the law needs of a view beside: it is part of what a sound journal is
+-- what the law needs of a view besides: it is part of what makes a journal sound
 pub record ViewFits (j : IdView) : Type 0 where
   pub rows : (id : ℕ) → nat_lt id j.next_id ≡ false → j.row id ≡ None
   pub advices : (id n : ℕ) → nat_lt id j.next_id ≡ false → j.advice id n ≡ None

@@ -56,7 +56,7 @@ chooser = record {
 }
 
 -- a selector that does not join chooses a group, whose participant is not prepared and asks for another try: it is notified of the
--- abort, and the transaction goes on the shelf, of which the journal keeps no row
+-- abort, and the transaction goes on the shelf, and the journal keeps no row of it
 abbrev pub shelving : List PlantMove
 shelving = Take 0 (1, []) ∷ Put ∷ Note 1 ∷ Call 0 (Answer 65 []) (Answered 0 65) ∷ Record 0 ∷ Put ∷ Note 2 ∷ Call 0 (Chosen (codes "card")) (Chose 0)
     ∷ Record 0 ∷ Put ∷ Note 3

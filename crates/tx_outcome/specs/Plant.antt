@@ -9,7 +9,7 @@ use Rattle.tx_outcome.specs.States.{FullState, Head, due, standing}
 use Rattle.tx_outcome.specs.Core.{IdView, IdEvent, Took, Given, Acked, Closed, Other, PlantDeed, Called, Halted, next_id, at, journal, put, none_kept, Shuts}
 use Rattle.tx_outcome.specs.Core.{AbstractCore, CoreFits}
 
--- A session takes, or was given a reply; an advice is acknowledged; a transaction is closed. Plain are the others: offers,
+-- A session takes, or was given a reply; an advice is acknowledged; a transaction is closed. The others are plain: offers,
 -- releases, breakpoints set and cleared, sessions let go.
 pub data SessionEvent : Type 0 where
   Taken : (s : ℕ) → (head : Head) → SessionEvent
@@ -46,7 +46,7 @@ seek test n (suc k) = if test n then Some n else seek test (n + 1) k
 abbrev pub recovering : Flow → IdView → List IdEvent → Option ℕ
 recovering f v l = seek (λ id. unfinished f (at f v l id)) 0 v.next_id
 
--- whom the session serves: what it took last; session 0 first the journalled ones, ids rising
+-- the transaction that the session serves: the one that it took last; before that, session 0 serves the journalled ones, ids rising
 abbrev pub serves_in : Flow → IdView → Option ℕ → ℕ → List IdEvent → Option ℕ
 serves_in f v (Some id) s l = Some id
 serves_in f v None s l = if s == 0 then recovering f v l else None

@@ -1,5 +1,5 @@
--- Where a transaction stands, journalled ones among them: its state in the specified table, the row that it was opened from,
--- and its recover calls; and what of that the outcome law needs.
+-- Where a transaction stands, also a journalled one: its state in the specified table, the row that it was opened from, and
+-- its recover calls; and what the outcome law needs of that.
 use Rattle.std.specs.Prelude.{◌≡◌, ℕ, ◌<◌, ◌≤◌, Bool, true, false, not, ◌&&◌, List, [], length, Option, Some, None, slice_get, nat_lt}
 use Rattle.flow_model.specs.declared.flow.Flow.{Flow}
 use Rattle.flow_model.specs.declared.numbering.Part.{Part}
@@ -69,11 +69,11 @@ seen f st Done = NoCall
 abbrev pub due : Flow → FullState → DueCall
 due f st = seen f st (due_of f st.state)
 
--- the journal's row of a state, its phase beside it
+-- the journal's row of a state, whose phase is given separately
 abbrev pub table_row : Due → Phase → TxState → Option Row
 table_row d ph s = row_at (record s { phase = ph }) d
 
--- the row that the journal has: of a journalled transaction of which no member was notified yet the one that it had
+-- the row that the journal has; for a journalled transaction of which no member was notified yet, the one that it had
 abbrev pub row_in : Option Row → Due → Phase → TxState → Option Row
 row_in (Some r) d ph s = Some r
 row_in None d ph s = table_row d ph s
@@ -84,7 +84,7 @@ decision Aborting = Undecided
 decision Committing = ToCommit
 decision Undoing = ToAbort
 
--- what the law needs of a state; phase and rest are given beside
+-- what the law needs of a state, whose phase and rest are given separately
 abbrev pub standing_at : Flow → FullState → Phase → List Upcoming → Standing
 standing_at f st ph ms = record {
   decision = decision ph;
@@ -98,7 +98,7 @@ standing_at f st ph ms = record {
 abbrev pub standing : Flow → FullState → Standing
 standing f st = standing_at f st st.state.phase st.state.rest
 
--- A journalled transaction, before anybody is notified: it is committed where it was committing and else aborted.
+-- A journalled transaction, before anybody is notified: it is committed if it was committing, and otherwise aborted.
 abbrev pub reopen : Row → FullState
 reopen r = record { state = reopening (is_committing r.phase) (listed r) r.told r.tries r.saved; opened = Some r; recovered = true; restored = false }
 

@@ -23,7 +23,7 @@ deed_of (act.Abort r) p n (station.Told a) = Some (Told false p n a)
 deed_of (act.Recover c) p n station.Recovered = Some (Recovered p n)
 deed_of _ p n _ = None
 
--- the act of the call that is due, of a station: before an outcome the recover call
+-- the act of a station's due call where an outcome is due: the recover call, if one comes first, or the outcome
 abbrev pub outcome_act : Bool → Bool → Bool → Act
 outcome_act true commit again = act.Recover commit
 outcome_act false true again = act.Commit again

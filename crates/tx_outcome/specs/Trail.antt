@@ -103,8 +103,8 @@ is_unstopped [] = true
 is_unstopped (Stopped row ∷ t) = not (has_open_call t)
 is_unstopped (_ ∷ t) = is_unstopped t
 
--- No stop stands between two preparations or selections, and none of them follows an outcome or a recover call. A member is
--- notified, or recovers, again only after a stop at which the journal did not have yet that it was notified.
+-- No stop comes between two preparations or selections, and no preparation or selection follows an outcome or a recover call. A
+-- member is notified, or recovers, again only after a stop at which the journal did not have yet that it was notified.
 abbrev pub InOrder : List Deed → Type 0
 InOrder [] = Unit {0}
 InOrder (Answered p b ∷ t) = (is_unstopped t ≡ true) × (has_outcome t ≡ false) × InOrder t
@@ -137,20 +137,20 @@ last_row [] = None
 last_row (Stopped row ∷ t) = row
 last_row (_ ∷ t) = last_row t
 
--- the outcome of a journalled transaction: to commit where its row was committing, and else to abort
+-- the outcome of a journalled transaction: the commit if its row was committing, and otherwise the abort
 abbrev pub IsOutcomeOf : Option Row → Bool → Type 0
 IsOutcomeOf None commit = Unit {0}
 IsOutcomeOf (Some r) commit = commit ≡ is_committing r.phase
 
--- who is notified after a stop at which the journal had the transaction is notified of that outcome
+-- whoever is notified after a stop at which the journal had the transaction is notified of that outcome
 abbrev pub FollowsRows : List Deed → Type 0
 FollowsRows [] = Unit {0}
 FollowsRows (Told c p n a ∷ t) = IsOutcomeOf (last_row t) c × FollowsRows t
 FollowsRows (_ ∷ t) = FollowsRows t
 
--- What the law says of a transaction with this row: commits only where it is committing and aborts only where it is not;
--- each member at a place below its `told` was notified; nobody prepared more often than the row has it; no advice of a place
--- that was not notified.
+-- What the law says of a transaction with this row: commits only if it is committing, and aborts only if it is not; each
+-- member at a place below its `told` was notified; nobody joined more often than the row lists it; no advice of a place that
+-- was not notified.
 pub record InRow (t : List Deed) (r : Row) (advice : ℕ → Option (List ℕ)) : Type 0 where
   pub no_commit : is_committing r.phase ≡ false → has_commit t ≡ false
   pub no_abort : is_committing r.phase ≡ true → has_abort t ≡ false
@@ -159,7 +159,7 @@ pub record InRow (t : List Deed) (r : Row) (advice : ℕ → Option (List ℕ)) 
   pub unadvised : (n : ℕ) → r.told ≤ n → advice n ≡ None
 
 -- The outcome law for one id, by its trail, whether it is below the journal's next id, its row and its advices by place:
--- one way (a): nobody is notified of the commit where anybody is notified of the abort;
+-- one way (a): nobody is notified of the commit if anybody is notified of the abort;
 -- all told (b): without a row in the journal, each participant was notified at as many places as it prepared without NO_JOIN;
 -- in order (c): calls come in the order above, each member notified once but for a stop that lost it;
 -- advised (d): an advice that the journal holds is what the last outcome call of its place gave;

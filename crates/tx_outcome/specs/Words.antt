@@ -5,7 +5,7 @@ use Rattle.flow_model.specs.declared.flow.Flow.{Flow}
 use Rattle.tx_outcome.specs.Core.{PlantDeed, AbstractCore, written, none_kept}
 use Rattle.tx_outcome.specs.Plant.{AbstractPlant, PlantMove, PlantMoves}
 
--- whether a stop stands here at which the Told entry of the place was not in the journal
+-- whether there is a stop at which the Told entry of the place was not in the journal
 abbrev pub has_untold : ℕ → List Deed → Bool
 has_untold n [] = false
 has_untold n (Stopped row ∷ t) = untold row n || has_untold n t
@@ -28,6 +28,6 @@ cut_of f c = record { start = written f c; late = []; gone = []; kept = none_kep
 abbrev pub with_calls : AbstractPlant → List PlantDeed → AbstractPlant
 with_calls p ms = record p { calls = ms }
 
--- the turn adds calls, whatever stands before them
+-- the turn adds calls, whatever calls come before them
 abbrev pub Adds : Flow → PlantMove → AbstractPlant → AbstractPlant → Type 0
 Adds f t p q = (new : List PlantDeed) × (q.calls ≡ new ++ p.calls) × ((ms : List PlantDeed) → PlantMoves f t (with_calls p ms) (with_calls q (new ++ ms)))

@@ -31,8 +31,8 @@ ghost use Rattle.tx_outcome.specs.Stations.{station_call, deed_of, with_context}
 ghost use Rattle.tx_outcome.specs.Example.{SomeRun, ShelvingRun};
 ghost use Rattle.tx_outcome.specs.Words.{has_untold, has_stop, is_open_call, cut_of, Adds};
 
-/// Whatever may happen to one transaction keeps what `OneFits` says of it, which gives the law; and
-/// so does an opening on a journal's view of which the law holds.
+/// Whatever may happen to one transaction keeps what `OneFits` says of it, and that gives the law. So
+/// does an opening on a journal's view of which the law holds.
 pub fn one_keeps()
     ensures opened { (known : Bool) (row : Option Row) (to : Option Standing) (t : List Deed)
         (advice : ℕ → Option (List ℕ))
@@ -43,7 +43,7 @@ pub fn one_keeps()
     ensures lawful { (a : One) → OneFits a → LawOfOne a }
 {}
 
-/// The specified table gives what the law needs: of a taken transaction, of one that is reopened, and
+/// The specified table gives what the law needs: for a taken transaction, for one that is reopened, and
 /// after each reply to the call that is due; and the row is one that can be reopened.
 pub fn table_is_sound()
     ensures begins { (f : Flow) (head : Head) → StateFits (begin f head) }
@@ -58,8 +58,8 @@ pub fn table_is_sound()
         → StateFits st → (standing f st).row ≡ Some r → PhaseFits r }
 {}
 
-/// Where the outcome law holds of the calls made before and of the journal's view that is opened,
-/// it holds after every list of moves of the core. It holds of a blank journal and no calls.
+/// If the outcome law holds of the calls made before and of the journal's view that is opened, it
+/// holds after every list of moves of the core. It holds of a blank journal and no calls.
 pub fn outcome_law()
     ensures kept { (f : Flow) (j : IdView) (cs : List IdEvent) (calls : List PlantDeed)
         (ts : List CoreMove) (d : AbstractCore)
@@ -69,9 +69,9 @@ pub fn outcome_law()
         → ((id n : ℕ) → j.advice id n ≡ None) → OutcomeLaw [] j }
 {}
 
-/// The outcome law of a plant: where it holds of the calls made before and of the journal's view as
-/// the plant is made, it holds of all calls and the journal's view after every list of its steps,
-/// stops among them.
+/// The outcome law of a plant: if it holds of the calls made before and of the journal's view as the
+/// plant is made, it holds of all calls and the journal's view after every list of the plant's steps,
+/// including stops.
 pub fn plant_law()
     ensures { (f : Flow) (j : IdView) (cs : List ℕ) (calls : List PlantDeed) (ts : List PlantMove)
         (q : AbstractPlant)
@@ -109,9 +109,9 @@ pub fn clauses()
         → Adds f t p q }
 {}
 
-/// What a state is in the machine's words: of a transaction of this life its table state after its
-/// items, with their row; of a journalled one the outcome of the member that the row's number
-/// names, after a recover call where its participant has the mark.
+/// What a state is in the machine's words: for a transaction of this life, its table state after its
+/// items, with the row of that state; for a journalled one, the outcome of the member that the row's
+/// number names, after a recover call if its participant has the mark.
 pub fn table_words()
     ensures items { (f : Flow) (s : TxState) (xs : List Item)
         → afters f (own s) (replies xs) ≡ own (table.after f s xs) }
