@@ -117,7 +117,7 @@ row_holding f None (Holding h) is = absurd is
 row_holding f (Some r) Free is = absurd is
 row_holding f (Some r) (Holding h) is = refl
 
--- whom an item is for
+-- which transaction an item is for
 
 taken_who : (f : Flow) (v : Start) (past : List Event) (s id : ℕ) → recovering f v past ≡ None → serves f v past s ≡ Some id → taken v past s ≡ Some id
 taken_who f v past s id none h = elim (serves_who f v past s id h) [

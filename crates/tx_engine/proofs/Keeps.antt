@@ -121,7 +121,7 @@ going_in : (f : Flow) (v : Start) (past : List Event) (o : Option ℕ) → going
 going_in f v past None = refl
 going_in f v past (Some id) = refl
 
--- whom a session holds
+-- which transaction a session holds
 pub holds_is : (f : Flow) (v : Start) (past : List Event) (s : ℕ) → holds f v past s ≡ going_on f (session_state f v past s)
 holds_is f v past s = sym (going_in f v past (serves f v past s))
 

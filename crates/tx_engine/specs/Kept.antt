@@ -45,7 +45,7 @@ world f n v es mark reserved = record { flow = f; sessions = n; start = v; past 
 abbrev pub AreBreaks : Flow → Start → List Event → List Bool → Type 0
 AreBreaks f v past breaks = (length breaks ≡ length (parts_of f)) × ((p : ℕ) → flag breaks p ≡ has_break v past p)
 
--- what an engine keeps beside its history
+-- what an engine keeps besides its history
 pub record Running : Type 0 where
   pub slots : List Slot
   pub queue : List Waiting

@@ -20,7 +20,7 @@ use tx_slots::{Lists, Slot};
 
 /// A transaction engine: sessions that take transactions from one queue. Contracts see its flow,
 /// its number of sessions, what its history began from, the history, the written mark, and for how
-/// many offers memory is reserved; all that it keeps beside them is a function of these.
+/// many offers memory is reserved; all that it keeps besides is a function of these.
 pub struct Engine {
     code: Code,
     // What the history began from.

@@ -277,7 +277,7 @@ pub not_true : (b : Bool) → (b ≡ true → ⊥) → b ≡ false
 not_true true h = absurd (h refl)
 not_true false h = refl
 
--- who holds what is unfinished
+-- which session holds what is unfinished
 
 pub ids_takes : (f : Flow) (v : IdView) (es : List SessionEvent) → takes (by_ids f v es) ≡ taken_count es
 ids_takes f v [] = refl

@@ -82,8 +82,9 @@ pub fn open_after(rows: &[(u64, Row)], id: u64) -> usize
     count
 }
 
-/// The machine of a transaction of the journal as it is recovered: the next member is notified, or,
-/// if it was not committing, the first one. The only refusal is out of memory.
+/// The machine of a transaction of the journal as it is recovered: its members from `told` on are
+/// notified of the commit if it was committing, and otherwise of the abort. The only refusal is out of
+/// memory.
 pub fn reopened(alloc: Global, code: &Code, row: &Row) -> Result<Machine, AllocError>
     requires { All (λ n. number_of code.now n < length (parts_of code.now))
         (to_tell row.now row.now.doing) }

@@ -33,7 +33,7 @@ impl Drop for Lists {
     }
 }
 
-// The number of the reserved places and of `more` beside them.
+// `reserved` places and `more` together.
 fn beside(reserved: usize, more: usize) -> Result<usize, AllocError>
     ensures { IfOk result (λ places. places ≡ reserved + more) }
 {

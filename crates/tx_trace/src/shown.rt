@@ -47,7 +47,7 @@ pub struct Move {
     pub after: Standing,
 }
 
-/// What an event shows beside itself.
+/// What an event shows besides itself.
 #[derive(Clone, Copy)]
 pub enum Shown {
     /// The event led a transaction from where it stood to where it stands now.

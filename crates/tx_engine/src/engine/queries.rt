@@ -170,7 +170,8 @@ impl Engine {
     }
 
     /// The id and the saved context of the transaction that the session holds: the context of its
-    /// last answer that was not read-only. Refuses `NoSession`.
+    /// last answer that was not read-only, or, without one, the context that it began with. Refuses
+    /// `NoSession`.
     pub fn saved(&self, alloc: Global, s: usize) -> Result<Option<(u64, Context)>, EngineError>
         ensures { Accepts EngineError.OutOfMemory (next_refusal self.now s) result
             (λ saved. option_map (λ held. (held.0, bytes_of held.1)) saved ≡ saved_of self.now s)
