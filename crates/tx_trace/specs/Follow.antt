@@ -37,7 +37,7 @@ earlier n (e ∷ past) = if nat_lt n (length past + 1) then earlier n past else 
 abbrev pub machine_at : BTreeMap ℕ Machine → ℕ → Option Machine
 machine_at machines id = get nat_cmp machines id
 
--- the first transaction of the journal after an id that has somebody to notify, before anybody is notified of an outcome
+-- after an id, the first transaction of the journal with somebody to notify, before anybody is notified of an outcome
 abbrev pub next_recovered : Flow → List (ℕ × Row) → ℕ → Option ℕ
 next_recovered f rows over = first_unfinished f (filter (λ (r : ℕ × Row). nat_lt over r.0) rows) (λ id. [])
 

@@ -351,8 +351,7 @@ fn reopened_at(
     }
 }
 
-// The first transaction of the journal after an id that has somebody to notify. There are at most 16
-// rows.
+// After an id, the first transaction of the journal with somebody to notify. There are at most 16 rows.
 fn next_recovered(
     alloc: Global,
     code: &Code,
