@@ -113,7 +113,7 @@ abbrev pub Unfinished : Point → Option (List ℕ) → Option (List ℕ) → Ty
 Unfinished p before after = GivesSome p before after ⊎ Given p before after
 
 -- all requests of an input were answered; then the queue and the shelf were emptied, up to an error
-pub record StopsBehind (step : AdviceStep) (threads : Bool) (input : Option (List ℕ)) (x : Stage) (after : Option (List ℕ)) : Type 0 where
+pub record StopsAfter (step : AdviceStep) (threads : Bool) (input : Option (List ℕ)) (x : Stage) (after : Option (List ℕ)) : Type 0 where
   pub end : StreamEnd
   pub frames : List (List ℕ)
   pub read : ReadTo end input frames
@@ -130,7 +130,7 @@ pub record Serving (step : AdviceStep) (threads : Bool) (input : Option (List �
   pub cut : List Line
   pub cuts : MayCut p cut begun
   pub ready : IsReady begun
-  pub serves : StopsWithin step threads input (stage advisor begun before) after ⊎ StopsBehind step threads input (stage advisor begun before) after
+  pub serves : StopsWithin step threads input (stage advisor begun before) after ⊎ StopsAfter step threads input (stage advisor begun before) after
 
 abbrev pub ServesSome : AdviceStep → Bool → Option (List ℕ) → Point → PlainAdvisor → Option (List ℕ) → Option (List ℕ) → Type 0
 ServesSome step threads input p advisor before after = Keeps before after ⊎ Serving step threads input p advisor before after

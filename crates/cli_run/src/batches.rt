@@ -225,7 +225,10 @@ impl Requests {
             if let Some(end) = end {
                 return Ok((switch, end));
             }
-            send_between(alloc, &mut switch, advisor, stderr)?;
+            if let Err(error) = send_between(alloc, &mut switch, advisor, stderr) {
+                let _lines = stderr.trace(alloc, switch.engine());
+                return Err(error);
+            }
         }
         Ok((switch, StreamEnd::Unread(ReadError::TooManyReads)))
     }

@@ -64,7 +64,7 @@ pub enum ServeError {
     #[error("the pool did not run: {0}")]
     Pool(Early),
     /// The first entry of the history that contradicts what a thread recorded, or the number after the last entry.
-    #[error("entry {0} of the history was not recorded by a thread")]
+    #[error("the history contradicts what its threads recorded, from entry {0} on")]
     Mismatch(usize),
     /// A transaction took more steps than a transaction has, or came back from the shelf more often than it may.
     /// No transaction does.
