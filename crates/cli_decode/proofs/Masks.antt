@@ -1,4 +1,4 @@
--- A masked text is that of what is not masked.
+-- A masked text depends only on what is not masked.
 -- for: laws::masked_texts_hide
 use Rattle.std.proofs.Common.{◌≡◌, ◌∙◌, ◌<◌, ◌-◌, ◌||◌, ◌==◌, inl, inr, ℕ, Bool, true, false, cond, ltb, List, [], ◌∷◌, ◌++◌, length, take}
 use Rattle.std.proofs.Common.{drop, refl, sym, ap}
@@ -30,7 +30,7 @@ number_same v w h =
           ∙ ap (λ n. both_ends n (take 6 w) (drop (length w - 4) w)) h.0
     ]
 
--- what one test and another make of a field's line
+-- a field's line, by whether it is field 2 and whether it is hidden
 abbrev line_for : Bool → Bool → ℕ → List ℕ → List ℕ
 line_for two hidden n v =
     cond (two || hidden) (decimal n ++ (codes "* " ++ (cond two (masked_number v) (masked_length v) ++ codes "\n"))) (line_of (form_of n) n v)

@@ -30,7 +30,7 @@ module _ (k : Masking) where
       omega arith in e)
       ∙ sym (append_assoc (frame_text k n f) (frames_text k (n + 1) fs) (frames_text k (length (f ∷ fs) + n) gs))
 
-  -- one piece more
+  -- one more piece
   pub turned : (first r0 r1 start w0 w1 : Option (List ℕ)) (reads0 reads1 : ℕ) (d e : Decoder) (piece text : List ℕ)
       → Consumes r0 r1 piece → length piece ≤ 65536 → reads0 < reads1 → reads1 ≤ 1048576 → DecodesPiece k d piece e [] text → Appends w0 w1 text
       → IsSoFar k first r0 start w0 reads0 d → IsSoFar k first r1 start w1 reads1 e

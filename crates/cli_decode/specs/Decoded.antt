@@ -75,7 +75,7 @@ is_err (Err e) = true
 unfoldable pub is_refused : List ℕ → Bool
 is_refused bytes = is_err (read bytes)
 
--- frames, the first of this number
+-- the texts of frames, the first with this number
 abbrev pub frames_text : Masking → ℕ → List (List ℕ) → List ℕ
 frames_text k n [] = []
 frames_text k n (f ∷ fs) = frame_text k n f ++ frames_text k (n + 1) fs
@@ -105,7 +105,7 @@ IsDecodedStream k unread written written_now refused =
     IfSome unread (λ bytes. (fs : List (List ℕ)) × (s : State) × Stream bytes fs s
     × Appends written written_now (stream_text k fs s) × (refused ≡ has_refusal fs s))
 
--- Frames of messages that differ in what is masked alone have the same masked text.
+-- Frames of messages that differ only in what is masked have the same masked text.
 abbrev pub MaskedTextsHide : Type 0
 MaskedTextsHide =
     (n : ℕ) (f g : List ℕ) (m k : PlainMessage) → read f ≡ Ok m → read g ≡ Ok k → AgreeMessages m k

@@ -18,7 +18,7 @@ abbrev pub error_of_write : WriteError → StreamError
 error_of_write write.OutOfMemory = OutOfMemory
 error_of_write e = Write e
 
--- that there were too many reads is reported of an input that has made all it may
+-- too many reads are reported only of an input that has made all the reads that it may make
 abbrev pub IsReadToSpent : ℕ → StreamError → Type 0
 IsReadToSpent reads (Read e) = IsSpentAt reads e
 IsReadToSpent reads _ = ⊤

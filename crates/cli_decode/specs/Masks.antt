@@ -43,7 +43,7 @@ AgreesAs true hidden v w = AgreesNumber v w
 AgreesAs false true v w = length v ≡ length w
 AgreesAs false false v w = v ≡ w
 
--- values of field n that differ in what is masked alone
+-- values of field n that differ only in what is masked
 abbrev pub Agrees : ℕ → List ℕ → List ℕ → Type 0
 Agrees n v w = AgreesAs (n == 2) (is_hidden n) v w
 
@@ -52,6 +52,6 @@ AgreeFields [] [] = Unit {0}
 AgreeFields (f ∷ fs) (g ∷ gs) = (f.0 ≡ g.0) × Agrees f.0 f.1 g.1 × AgreeFields fs gs
 AgreeFields _ _ = ⊥
 
--- messages of one type whose fields have the same numbers, and values that differ in what is masked alone
+-- messages of one type whose fields have the same numbers, and values that differ only in what is masked
 abbrev pub AgreeMessages : PlainMessage → PlainMessage → Type 0
 AgreeMessages m k = (m.mti ≡ k.mti) × AgreeFields m.fields k.fields

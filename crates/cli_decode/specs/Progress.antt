@@ -13,7 +13,7 @@ pub record IsDecoded (bytes : List ℕ) (fs : List (List ℕ)) (d : Decoder) : T
   pub counted : d.count ≡ length fs
   pub refused : d.refused ≡ list_any is_refused fs
 
--- a reader and a writer before, both now, and what was done between: so many reads of at most 65,536 bytes
+-- a reader and a writer before, both now, and what was done between: this many reads of at most 65,536 bytes
 pub record IsSoFar (k : Masking) (unread unread_now written written_now : Option (List ℕ)) (reads : ℕ) (d : Decoder) : Type 0 where
   pub bytes : List ℕ
   pub frames : List (List ℕ)

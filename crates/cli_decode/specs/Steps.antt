@@ -6,8 +6,8 @@ use Rattle.cli_decode.specs.declared.masking.Masking.{Masking}
 use Rattle.cli_decode.specs.Decoded.{frames_text}
 use Rattle.cli_decode.specs.Progress.{IsDecoded, IsSoFar}
 
--- After bytes that were these frames, a piece: frames more, and their text. Numbers stay below 2^64
--- where the stream has fewer bytes.
+-- After the bytes of these frames, a piece gives further frames and adds their text. The stream has fewer
+-- than 2^63 bytes, so that numbers stay below 2^64.
 abbrev pub DecodesPiece : Masking → Decoder → List ℕ → Decoder → List ℕ → List ℕ → Type 0
 DecodesPiece k d piece e old new =
     (bytes : List ℕ) (fs : List (List ℕ)) → IsDecoded bytes fs d → length (bytes ++ piece) < 2 ^ 63
@@ -26,7 +26,7 @@ pub record Moment : Type 0 where
   pub reads : ℕ
   pub decoder : Decoder
 
--- What was decoded so far goes on; where no more comes, the reader is at its end or the stream has failed.
+-- Decoding goes on from what was decoded so far; where no more comes, the reader is at its end or the stream has failed.
 abbrev pub DecodingGoesOn : Masking → Moment → Moment → Bool → Type 0
 DecodingGoesOn k m n more =
     ((first start : Option (List ℕ)) → IsSoFar k first m.unread start m.written m.reads m.decoder

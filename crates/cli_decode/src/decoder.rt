@@ -11,7 +11,7 @@ use crate::text::{push_frame, push_number};
 use std::alloc::{AllocError, Global};
 use sw_frame::{FrameError, Framer};
 
-/// What a stream has left so far.
+/// A decoder of one stream: what it keeps between the pieces.
 #[derive(Drop)]
 pub struct Decoder {
     framer: Framer,
@@ -27,7 +27,7 @@ fn either(one: bool, other: bool) -> bool
     one || other
 }
 
-// Adds the texts of messages, the first of this number, and answers whether one is refused.
+// Adds the texts of messages, the first with number `first`, and answers whether one is refused.
 fn push_frames(
     alloc: Global,
     text: &mut Vec<u8>,
@@ -52,7 +52,7 @@ fn push_frames(
     Ok(refused)
 }
 
-// Adds that the last frame is not whole: so many bytes of it came.
+// Adds the line for a last frame that is not whole: only `pending` bytes of it came.
 fn push_cut(text: &mut Vec<u8>, pending: u64) -> Result<(), AllocError>
     ensures { OnOk result (text.new.items ≡ text.old.items ++ cut_text pending) }
 {
@@ -68,7 +68,7 @@ impl Decoder {
     ghost use Rattle.cli_decode.specs.Decoded.{end_text, frames_text, is_cut, is_refused};
     ghost use Rattle.cli_decode.specs.Steps.{DecodesPiece};
 
-    /// A decoder of a stream of which nothing came yet.
+    /// A decoder of a stream of which nothing has come yet.
     pub fn new(alloc: Global) -> Decoder
         ensures framer { result.framer ≡ blank }
         ensures count { result.count ≡ 0 }
@@ -81,7 +81,7 @@ impl Decoder {
         }
     }
 
-    /// Whether a length was met that isn't four digits: nothing more comes then.
+    /// Whether a length was met that is not four digits: nothing more is decoded then.
     pub fn failed(&self) -> bool
         ensures { result ≡ self.now.framer.failed }
     {
@@ -89,7 +89,7 @@ impl Decoder {
     }
 
     /// Takes the next piece of the stream, and adds the texts of the messages that are whole now. The
-    /// only refusal is out of memory, after which the stream is not decoded on.
+    /// only refusal is out of memory, after which the rest of the stream cannot be decoded.
     pub fn piece(
         &mut self,
         alloc: Global,
@@ -115,8 +115,8 @@ impl Decoder {
         }
     }
 
-    /// Adds what stands at the end of the stream: nothing, or why it ends within a frame; and answers
-    /// whether anything of the stream was refused.
+    /// Adds the last line of the stream, if it has a bad length or ends within a frame, and answers
+    /// whether anything in the stream was refused.
     pub fn finish(&self, text: &mut Vec<u8>) -> Result<bool, AllocError>
         ensures text { OnOk result (text.new.items ≡ text.old.items ++ end_text self.now.framer) }
         ensures refused { IfOk result (λ b. b ≡ (self.now.refused || is_cut self.now.framer)) }

@@ -9,7 +9,7 @@ use std::alloc::{AllocError, AllocFailed};
 use std::fmt;
 use thiserror::Error;
 
-/// Why a stream is not decoded to its end. What was printed before stands.
+/// Why a stream is not decoded to its end. What was printed before remains.
 #[derive(Drop, Error)]
 pub enum StreamError {
     /// The input could not be read to its end.

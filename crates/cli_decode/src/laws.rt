@@ -2,7 +2,8 @@
 
 ghost use Rattle.cli_decode.specs.Decoded.{MaskedTextsHide};
 
-/// Messages that differ in what is masked alone have the same masked text: a law, and the function does nothing.
+/// Messages that differ only in what is masked have the same masked text. This is a law; the function does
+/// nothing.
 pub fn masked_texts_hide()
     ensures { MaskedTextsHide }
 {}

@@ -1,14 +1,14 @@
-//! `decode`: frames of a stream to the fields of their messages, as text.
+//! `decode`: from the frames of a stream to the fields of their messages, as text.
 //!
 //! Promised here: what [`decode_stream`] writes for the bytes that its input gives is the text that
-//! `specs/Decoded.antt` specifies for the frames of these bytes, however they came in pieces: a
+//! `specs/Decoded.antt` specifies for the frames of these bytes, in whatever pieces they came: a
 //! paragraph for each message, numbered from 1, or one line that says why it is refused, and a last
-//! line for a bad length or an unfinished frame. It answers whether anything was refused.
+//! line for a bad length or an unfinished frame. It also answers whether anything was refused.
 //!
-//! [`push_frame`] adds the text of one frame, for what shows messages that come otherwise.
+//! [`push_frame`] adds the text of one frame, for callers that get their messages in another way.
 //!
-//! With [`Masking::On`] sensitive fields are masked, and [`masked_texts_hide`] says what a masked text shows: frames
-//! whose messages differ in what is masked alone have the same text.
+//! With [`Masking::On`] sensitive fields are masked, and [`masked_texts_hide`] says what a masked text shows:
+//! frames whose messages differ only in what is masked have the same text.
 #![tactic(auto)]
 
 mod decoder;

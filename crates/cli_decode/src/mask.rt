@@ -6,7 +6,7 @@ ghost use Rattle.cli_decode.specs.Masks as spec;
 use crate::text::push_number;
 use std::alloc::AllocError;
 
-/// An account number of fewer digits is masked whole.
+/// An account number of fewer digits than this is masked whole.
 const SHORTEST: usize = 11;
 
 fn push_asterisks(text: &mut Vec<u8>, count: usize) -> Result<(), AllocError>

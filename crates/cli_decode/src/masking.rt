@@ -8,12 +8,12 @@ ghost use Rattle.cli_decode.specs.Masks as spec;
 pub enum Masking {
     /// Each field is shown whole.
     Off,
-    /// Field 2 is shown by its first six digits and its last four, and fields 35, 45, 52, 55, 64 and 128 by their
-    /// lengths.
+    /// Field 2 shows only its first six digits and its last four, and none of them if it has fewer than eleven.
+    /// Fields 35, 45, 52, 55, 64 and 128 show only their lengths.
     On,
 }
 
-// Whether a field is shown by its length alone.
+// Whether a field shows only its length.
 fn is_hidden(number: u8) -> bool
     ensures { result ≡ spec.is_hidden number }
 {

@@ -14,10 +14,10 @@ use cli_io::{Input, WriteError, write_out};
 use std::alloc::Global;
 use std::io::{Read, Write};
 
-/// How many bytes are read at once. Their text mostly takes less than half as much again.
+/// How many bytes are read at once. Their text mostly takes less than one and a half times as many.
 const PIECE: usize = 65_536;
 
-// Writes the texts of the messages that a piece makes whole.
+// Writes the texts of the messages that a piece completes.
 fn print_piece<W: Write>(
     alloc: Global,
     masking: Masking,
@@ -33,7 +33,7 @@ fn print_piece<W: Write>(
     Ok(out.write_all(text.as_slice())?)
 }
 
-// Reads a piece, and writes the texts of the messages that it makes whole. Answers whether more may
+// Reads a piece, and writes the texts of the messages that it completes. Answers whether more may
 // come.
 fn decode_piece<R: Read, W: Write>(
     alloc: Global,
@@ -79,11 +79,11 @@ fn finish<W: Write>(alloc: Global, decoder: &Decoder, out: &mut W) -> Result<boo
     Ok(refused)
 }
 
-/// Writes the text of the stream that an input gives, flushes, and answers whether anything of it was
+/// Writes the text of the stream that an input gives, flushes, and answers whether anything in it was
 /// refused. It keeps no more than a piece of 65,536 bytes, its text and an unfinished frame.
 ///
-/// Too many reads are reported only of an input that was read 1,048,576 times; what was written until an
-/// error stands.
+/// Too many reads are reported only for an input that was read 1,048,576 times. What was written before an
+/// error remains.
 pub fn decode_stream<R: Read, W: Write>(
     alloc: Global,
     masking: Masking,

@@ -45,7 +45,7 @@ fn push_plain(text: &mut Vec<u8>, form: Form, number: u8, value: &[u8]) -> Resul
     text.extend_from_slice(b"\n")
 }
 
-// Adds a field's line, masked where that is asked for and the field is sensitive.
+// Adds a field's line, masked if that is asked for and the field is sensitive.
 fn push_line(
     text: &mut Vec<u8>,
     masking: Masking,
@@ -186,7 +186,7 @@ fn push_refusal(text: &mut Vec<u8>, number: u64, error: DecodeError) -> Result<(
     text.extend_from_slice(b"\n")
 }
 
-// Puts the text of the message of this number in place of the earlier one.
+// Replaces the paragraph by the text of the message of this number.
 fn write_paragraph(
     paragraph: &mut Vec<u8>,
     masking: Masking,
@@ -202,8 +202,8 @@ fn write_paragraph(
     push_message(paragraph, masking, bytes)
 }
 
-/// Adds the text of the frame of this number, and answers whether it is refused. `paragraph` is where
-/// that of a message is written first; what was there is lost.
+/// Adds the text of the frame of this number, and answers whether it is refused. The text of a message is
+/// first written to `paragraph`, and what was there is lost.
 #[tactic(auto, unfolding(crate::specs::Decoded::frame_text, crate::specs::Decoded::is_refused))]
 pub fn push_frame(
     paragraph: &mut Vec<u8>,

@@ -1,4 +1,4 @@
--- What the errors of the parts become: out of memory is reported as such, and all else is carried.
+-- What the errors of the parts become: out of memory is reported as such, and every other error is carried.
 use Rattle.std.specs.Prelude.{◌≡◌, ⊤, ℕ, List, Option, None, IfSome, Err}
 use Rattle.std.specs.Str.{IsUtf8}
 use Rattle.cli_io.specs.declared.error.ReadError.{ReadError}
@@ -45,8 +45,8 @@ IsImageRefusal bytes OutOfMemory = line_fault bytes ≡ None
 IsImageRefusal bytes (Image e found) = load_of bytes ≡ Err e
 IsImageRefusal bytes _ = ⊥
 
--- The same of bytes that are read, where they are known: a fault of them is reported only where they have it,
--- and else the reading, the writing or the memory failed.
+-- The same of bytes that are read, where they are known: a fault of them is reported only where they have it;
+-- otherwise the reading, the writing or the memory failed.
 abbrev pub RefusesFile : Option (List ℕ) → FlowsError → Type 0
 RefusesFile unread (NotText e) = IfSome unread (λ bytes. IsFileRefusal bytes (NotText e))
 RefusesFile unread (File e found) = IfSome unread (λ bytes. IsFileRefusal bytes (File e found))

@@ -1,4 +1,4 @@
-//! Why a flow file or an image is not taken.
+//! Why a flow file or an image is refused.
 
 ghost use Rattle.std.specs.Prelude.{◌≡◌};
 ghost use Rattle.cli_flows.specs.Errors.{IsErrorOfFile, IsErrorOfImage, error_of_read, error_of_write};
@@ -13,8 +13,8 @@ use std::str::Utf8Error;
 use std::{fmt, io};
 use thiserror::Error;
 
-/// Why a flow file or an image is not taken. The text names the place in the file, what is expected
-/// there and what was found, and not the file.
+/// Why a flow file or an image is refused. The text names the place in the file, what is expected
+/// there and what was found, but not the file.
 #[derive(Drop, Error)]
 pub enum FlowsError {
     /// No memory was left.

@@ -14,7 +14,7 @@ use std::alloc::Global;
 use std::fs::{File, Files};
 use std::io::Read;
 
-/// The flow that the bytes of a flow file state.
+/// The flow that the bytes of a flow file describe.
 pub fn read_flow_bytes(alloc: Global, bytes: &[u8]) -> Result<Flow, FlowsError>
     ensures flow { IfOk result (λ flow. IsFlowFile flow bytes.now) }
     ensures checked { IfOk result (λ flow. IsChecked flow) }

@@ -7,7 +7,7 @@ use flow_toml::{FlowTomlError, Key, TablePath, value_at};
 use std::alloc::Global;
 use std::fmt;
 
-/// What a refusal quotes of the bytes, after the text of the fault; nothing where it quotes nothing.
+/// What a refusal quotes from the bytes, after the text of the fault; nothing if it quotes nothing.
 #[derive(Drop)]
 pub(crate) struct Finding<'a>(&'a Option<Quoted>);
 
@@ -24,7 +24,7 @@ impl fmt::Display for Finding<'_> {
     }
 }
 
-// Where the value of a flow file stands that its flow is refused for.
+// Which value of a flow file its flow is refused for, if it is refused for one.
 fn key_of(error: FlowError) -> Option<(TablePath, Key)> {
     match error {
         FlowError::BadRetries => Some((TablePath::Top, Key::Retries)),
@@ -44,8 +44,8 @@ fn value_in(alloc: Global, text: &str, at: Option<(TablePath, Key)>) -> Option<Q
     Some(Quoted::of(value.as_bytes()))
 }
 
-/// The key or the value of a flow file that is refused; nothing where the error names neither, and
-/// where memory is refused.
+/// The key or the value of a flow file that is refused; nothing if the error names neither, or if
+/// memory is refused.
 pub(crate) fn refused_in(alloc: Global, error: &FlowTomlError, text: &str) -> Option<Quoted> {
     match error {
         FlowTomlError::Unknown(key, _path) => Some(Quoted::of(key.as_str().as_bytes())),
@@ -55,7 +55,7 @@ pub(crate) fn refused_in(alloc: Global, error: &FlowTomlError, text: &str) -> Op
     }
 }
 
-// The line of an image on which a fault stands.
+// The number of the line of an image that is at fault, from 1.
 fn line_of(error: LoadError) -> Option<usize> {
     match error {
         LoadError::BadHeader => Some(1),
@@ -66,7 +66,7 @@ fn line_of(error: LoadError) -> Option<usize> {
     }
 }
 
-// What stands from the line of this number on, which is counted from 1.
+// The bytes from the line with this number on. Lines are counted from 1.
 fn text_from(bytes: &[u8], line: usize) -> Option<&[u8]> {
     let mut rest = bytes;
     for _ in 1..line {
@@ -78,7 +78,7 @@ fn text_from(bytes: &[u8], line: usize) -> Option<&[u8]> {
     Some(rest)
 }
 
-/// The line of an image on which a fault stands; nothing where the image has no such line.
+/// The line of an image that is at fault; nothing if the error names no line, or the image does not have it.
 pub(crate) fn line_at(bytes: &[u8], error: LoadError) -> Option<Quoted> {
     let rest = text_from(bytes, line_of(error)?)?;
     if rest.is_empty() {

@@ -15,7 +15,7 @@ use flow_toml::print_flow;
 use std::alloc::{AllocError, Global};
 use std::io::{Read, Write};
 
-/// Reads a flow file and writes the image of its steps. Nothing is written of a file that is refused.
+/// Reads a flow file and writes the image of its steps. If the file is refused, nothing is written.
 pub fn asm<R: Read + Drop, W: Write>(alloc: Global, input: R, out: &mut W) -> Result<(), FlowsError>
     ensures done { OnOk result (IsAssembled (R.remaining input) (W.contents out.old)
         (W.contents out.new)) }
@@ -29,7 +29,7 @@ pub fn asm<R: Read + Drop, W: Write>(alloc: Global, input: R, out: &mut W) -> Re
     Ok(())
 }
 
-// The steps whose image some bytes are.
+// The steps of which these bytes are the image.
 fn load_bytes(alloc: Global, bytes: &[u8]) -> Result<Code, FlowsError>
     ensures found { IfOk result (λ code. bytes.now ≡ image_of code) }
     ensures refused { IfErr result (IsImageRefusal bytes.now) }
@@ -60,7 +60,7 @@ fn list_bytes<W: Write>(alloc: Global, bytes: &[u8], out: &mut W) -> Result<(), 
     Ok(())
 }
 
-/// Reads an image and writes a flow file of its flow. Nothing is written of an image that is refused.
+/// Reads an image and writes a flow file of its flow. If the image is refused, nothing is written.
 pub fn list<R: Read + Drop, W: Write>(
     alloc: Global,
     input: R,

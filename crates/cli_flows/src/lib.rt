@@ -2,11 +2,11 @@
 //! of a flow file.
 //!
 //! Promised here:
-//! - where [`asm`] is done, the bytes that its reader gave are a flow file, and what it wrote is the
+//! - if [`asm`] succeeds, the bytes that its reader gave are a flow file, and what it wrote is the
 //!   image of that flow;
-//! - where [`list`] is done, the bytes that its reader gave are the image of a flow, and what it wrote
+//! - if [`list`] succeeds, the bytes that its reader gave are the image of a flow, and what it wrote
 //!   is a flow file of that flow;
-//! - where either refuses its bytes, they have the fault that is reported, and nothing is written.
+//! - if either refuses its bytes, they have the fault that is reported, and nothing is written.
 #![tactic(auto)]
 
 mod error;

@@ -40,7 +40,7 @@ impl fmt::Display for PictureText<'_> {
     }
 }
 
-/// The text of a flow's picture. A checked flow's names need no quoting; of any other flow they are put as they are.
+/// The text of a flow's picture. A checked flow's names need no quoting; any other names are written as they are.
 /// The only refusal is out of memory.
 pub fn picture(alloc: Global, form: Form, flow: &Flow) -> Result<Vec<u8>, AllocError>
     ensures { IfOk result (λ text. text.items ≡ spec.picture_of form flow.now) }
@@ -50,7 +50,7 @@ pub fn picture(alloc: Global, form: Form, flow: &Flow) -> Result<Vec<u8>, AllocE
     Ok(text.into_bytes())
 }
 
-/// Writes a flow's picture to an output. After an error a beginning of it is written.
+/// Writes a flow's picture to an output. After an error, what was written is a beginning of it.
 pub fn draw<W: Write>(alloc: Global, form: Form, flow: &Flow, out: &mut W) -> Result<(), WriteError>
     ensures written { OnOk result (Appends (W.contents out.old) (W.contents out.new)
         (spec.picture_of form flow.now)) }

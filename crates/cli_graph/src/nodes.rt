@@ -87,7 +87,7 @@ impl fmt::Display for EntryNodes<'_> {
     }
 }
 
-// What comes before a box's number, before its label and after that.
+// What comes before a box's number, before its label and after its label.
 fn box_open(form: Form) -> &'static str
     ensures { result.now ≡ spec.box_open form }
 {

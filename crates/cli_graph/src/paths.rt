@@ -64,7 +64,7 @@ impl fmt::Display for PlainSteps<'_> {
     }
 }
 
-// An arrow to an entry that is called while a transaction aborts; nothing for another one.
+// An arrow to an entry that is called while a transaction aborts; nothing for any other entry.
 #[derive(Drop)]
 struct AbortStep {
     form: Form,
@@ -222,7 +222,7 @@ impl fmt::Display for Selections<'_> {
     }
 }
 
-// The line of the path that an abort takes through a group; nothing where it calls nobody there.
+// The line of the path that an abort takes through a group; nothing if it calls no participant there.
 #[derive(Drop)]
 struct AbortPath<'a> {
     form: Form,
