@@ -1,4 +1,4 @@
--- What a line says is one thing.
+-- A line says only one thing.
 -- for: line, text
 use Rattle.std.proofs.Common.{◌≡◌, ◌∙◌, ◌<◌, ◌^◌, ℕ, true, false, List, [], ◌∷◌, ◌++◌, Option, Some, None, refl, sym, ap, subst, arith, leb, ◌||◌, ◌≤◌}
 use Rattle.std.specs.Prelude.{codes}
@@ -49,7 +49,7 @@ module _ (line word text : List ℕ) (whole : word ++ 32 ∷ text ≡ line) (cle
     (small, fits),
   )
 
--- ---- a value that is no binary one
+-- ---- a value that is not a binary one
 
 pub plain_value : (form : Option Form) (text : List ℕ) → (form ≡ Some Binary → ⊥) → has_byte 10 text ≡ false → (shown form text ≡ text) × IsOnLine form text
 plain_value None text other none = (refl, none)

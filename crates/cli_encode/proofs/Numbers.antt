@@ -51,7 +51,7 @@ some_is a b e = cc
 pub number_once : (n k : ℕ) → n < 256 → k < 256 → decimal n ≡ decimal k → n ≡ k
 number_once n k h l e = some_is n k (sym (number_read n h) ∙ ap number_of e ∙ number_read k l)
 
--- ---- words that are no number
+-- ---- words that are not a number
 
 pub too_long : (word : List ℕ) → 3 < length word → IsNoNumber word
 too_long word long n h e = absurd (let k = number_short n h in let l : length (decimal n) ≡ length word = ap length e in omega (arith, k, l, long))

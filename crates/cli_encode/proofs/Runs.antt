@@ -352,7 +352,7 @@ run_text (u ∷ us) p q e =
     let s = run_some us u p q (step p u) refl e in
     run_text us s.0 q s.2 ∙ ap (λ (t : List ℕ). t ++ text_of_lines us) (step_text p u s.0 s.1) ∙ append_assoc (text_of p) (ended_line u) (text_of_lines us)
 
--- ---- a text that cannot be read on is the text of no messages
+-- ---- a text that cannot be read further is the text of no messages
 
 all_after : (us vs : List PlainLine) → All IsLine (us ++ vs) → All IsLine vs
 all_after [] vs a = a
@@ -379,7 +379,7 @@ none_by text rest us p are reached is small none ms valid e =
 none_is_some : (q : Point) (o : Option Point) → o ≡ None → o ≡ Some q → ⊥
 none_is_some q o a b = absurd (let e : None ≡ Some q = sym a ∙ b in cc)
 
--- at a line that may not stand there
+-- at a line that is not allowed there
 pub none_there : (text bytes after : List ℕ) (us : List PlainLine) (p : Point) → All IsLine us → run start us ≡ Some p
     → text ≡ text_of_lines us ++ (bytes ++ 10 ∷ after) → length text < 2 ^ 63 → has_byte 10 bytes ≡ false
     → ((l : PlainLine) → IsLine l → line_bytes l ≡ bytes → step p l ≡ None) → IsNoText text

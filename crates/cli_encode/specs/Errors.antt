@@ -19,7 +19,7 @@ abbrev pub error_of_write : WriteError → EncodeError
 error_of_write write.OutOfMemory = OutOfMemory
 error_of_write e = Write e
 
--- too many reads are reported of an input that has made all it may
+-- too many reads are reported only of an input that has made all the reads that it may make
 abbrev pub IsReadToSpent : ℕ → EncodeError → Type 0
 IsReadToSpent reads (Read e) = IsSpentAt reads e
 IsReadToSpent reads _ = ⊤

@@ -8,7 +8,7 @@ use Rattle.cli_decode.specs.declared.masking.Masking.TheVariants.{Off}
 use Rattle.cli_decode.specs.Decoded.{stream_text}
 use Rattle.cli_encode.specs.Texts.{AreFramesOf, messages_text}
 
--- The frames of valid messages are a stream of these messages alone, whose text is theirs.
+-- The frames of valid messages are a stream of only these messages, and its text is theirs.
 abbrev pub AreDecodedBack : Type 0
 AreDecodedBack =
     (ms : List PlainMessage) (frames : List ℕ) → All IsMessage ms → AreFramesOf frames ms
@@ -24,8 +24,8 @@ AreOne =
 abbrev pub AreSpelled : List (List ℕ) → Type 0
 AreSpelled fs = (ms : List PlainMessage) × All IsMessage ms × (fs ≡ map spelling ms)
 
--- Frames of which each has the spelling that is written: what `decode` prints of them is the text of messages, and
--- they are the frames of these.
+-- What `decode` prints for frames that each have the spelling that is written is the text of messages, and they are
+-- the frames of these.
 abbrev pub AreEncodedBack : Type 0
 AreEncodedBack =
     (frames : List ℕ) (fs : List (List ℕ)) → Stream frames fs blank → AreSpelled fs

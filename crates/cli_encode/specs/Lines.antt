@@ -88,7 +88,7 @@ has_lower text = list_any (λ b. nat_le 97 b) text
 abbrev pub AreOctetsOf : List ℕ → List ℕ → Type 0
 AreOctetsOf text octets = (flat_map hex octets ≡ text) × IsOnLine (Some Binary) octets
 
--- what stands before the first byte of this kind, and what follows it
+-- what comes before the first of these bytes, and what follows it
 abbrev pub IsCut : ℕ → List ℕ → Bor (List ℕ) × Bor (List ℕ) → Type 0
 IsCut mark bytes p = (p.0.now ++ mark ∷ p.1.now ≡ bytes) × (has_byte mark p.0.now ≡ false)
 

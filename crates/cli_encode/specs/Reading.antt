@@ -21,7 +21,7 @@ pub record Point : Type 0 where
   pub done : List PlainMessage
   pub stage : Stage
 
--- the number of the last field, and of no field this number
+-- the number of the last field, or `low` where there is none
 abbrev pub last_from : ℕ → Fields → ℕ
 last_from low [] = low
 last_from low (f ∷ fs) = last_from f.0 fs
@@ -36,7 +36,7 @@ with_last m n value = record { mti = m.mti; fields = m.fields ++ (n, value) ∷ 
 abbrev pub follows : PlainMessage → ℕ → List ℕ → Bool
 follows m n value = nat_lt (last_of m.fields) n && is_none (refusal n value)
 
--- a field goes after the last one where it may, and else the message is as it was
+-- a field is added after the last one where it may follow it; otherwise the message stays as it was
 abbrev pub AddsField : PlainMessage → ℕ → List ℕ → PlainMessage → Bool → Type 0
 AddsField m n value m' true = (follows m n value ≡ true) × (m' ≡ with_last m n value)
 AddsField m n value m' false = (follows m n value ≡ false) × (m' ≡ m)
@@ -54,7 +54,7 @@ abbrev pub headed : List PlainMessage → List ℕ → Option Point
 headed done word =
     if bytes_eq word (decimal (length done + 1)) then Some (record { done = done; stage = Headed }) else None
 
--- what a line makes of it, if the line may stand there
+-- what a line makes of it, if the line is allowed there
 unfoldable pub step_at : List PlainMessage → Stage → PlainLine → Option Point
 step_at done Between (Heading word) = headed done word
 step_at done (Open m) (Heading word) = headed (done ++ m ∷ []) word
@@ -95,17 +95,17 @@ IsBlank e = (e.stage ≡ Between) × (e.count ≡ 0) × (e.frames.items ≡ [])
 abbrev pub Closes : Encoder → Encoder → Type 0
 Closes e e' = (p : Point) → IsAt p e → IsAt (closed p) e'
 
--- A line is taken; or it may not stand there, and what was read is as it was but for a message that may be ended.
+-- A line is taken; or it is not allowed there, and what was read stays as it was, but a message may have been ended.
 abbrev pub Takes : Encoder → PlainLine → Encoder → Bool → Type 0
 Takes e l e' true = (p : Point) → IsAt p e → (q : Point) × (step p l ≡ Some q) × IsAt q e'
 Takes e l e' false = (p : Point) → IsAt p e → (step p l ≡ None) × (q : Point) × ((q ≡ p) ⊎ (q ≡ closed p)) × IsAt q e'
 
--- The text ends: what was begun is ended; or a heading was last, and all is as it was.
+-- The text ends: what was begun is ended; or a heading came last, and everything stays as it was.
 abbrev pub Finishes : Encoder → Encoder → Bool → Type 0
 Finishes e e' true = (p : Point) → IsAt p e → (p.stage ≢ Headed) × IsAt (closed p) e'
 Finishes e e' false = (p : Point) → IsAt p e → (p.stage ≡ Headed) × IsAt p e'
 
--- what lines make of it, one after the other, if each may stand there
+-- what lines make of it, one after the other, if each is allowed there
 abbrev pub run : Point → List PlainLine → Option Point
 run p [] = Some p
 run p (l ∷ ls) = option_and_then (λ q. run q ls) (step p l)
@@ -113,7 +113,7 @@ run p (l ∷ ls) = option_and_then (λ q. run q ls) (step p l)
 abbrev pub start : Point
 start = record { done = []; stage = Between }
 
--- So much of a text was read, by an encoder that is now here: so many lines, each of which could stand where it did.
+-- A text was read up to this rest: this many lines, each of which was allowed where it was; the encoder is where they lead.
 pub record IsSoFar (text rest : List ℕ) (lines : ℕ) (e : Encoder) : Type 0 where
   pub read : List PlainLine
   pub point : Point
@@ -127,7 +127,7 @@ pub record IsSoFar (text rest : List ℕ) (lines : ℕ) (e : Encoder) : Type 0 w
 abbrev pub IsReadWhole : List ℕ → Encoder → Type 0
 IsReadWhole text e = (p : Point) × IsAt p e × (p.stage ≡ Between) × (text ≡ messages_text 1 p.done)
 
--- A text was read up to a line, after so many others: what comes before the line begins the text of messages that are
+-- A text was read up to a line, after this many others: what comes before the line begins the text of messages that are
 -- done and one that may be begun, and the text is that of no messages.
 pub record IsReadUpTo (text : List ℕ) (lines : ℕ) (e : Encoder) : Type 0 where
   pub point : Point
@@ -144,7 +144,7 @@ abbrev pub IsReading : List ℕ → Encoder → Option TextError → Type 0
 IsReading text e None = IsReadWhole text e
 IsReading text e (Some error) = (lines : ℕ) × (error.line ≡ lines + 1) × IsReadUpTo text lines e
 
--- a line of these bytes is taken, or none of these bytes may stand there
+-- a line of these bytes is taken, or no line of these bytes is allowed there
 abbrev pub TakesBytes : Encoder → List ℕ → Encoder → Bool → Type 0
 TakesBytes e bytes e' true = (l : PlainLine) × IsLine l × (line_bytes l ≡ bytes) × Takes e l e' true
 TakesBytes e bytes e' false = (p : Point) → IsAt p e

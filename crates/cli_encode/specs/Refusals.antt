@@ -28,7 +28,7 @@ IsHead n bytes = (bytes ≡ []) ⊎ (bytes ≡ codes "message " ++ (decimal n ++
 abbrev pub IsBegunOf : List PlainMessage → List ℕ → Type 0
 IsBegunOf ms bytes = (begun : List ℕ) × (bytes ≡ messages_text 1 ms ++ begun) × IsHead (length ms + 1) begun
 
--- A text is refused at a line of this number: it is the text of no messages, the lines before begin such a text and with
+-- A text is refused at a line of this number: it is the text of no messages, the lines before it begin such a text, but with
 -- this line they do not, and the frames of the messages that are whole before it are written.
 pub record IsRefusal (bytes : List ℕ) (line : ℕ) (written written_now : Option (List ℕ)) : Type 0 where
   pub messages : List PlainMessage

@@ -7,7 +7,7 @@ use Rattle.iso_codec.specs.Spelling.{spelling}
 use Rattle.sw_frame.specs.Stream.{AreFramed}
 use Rattle.cli_decode.specs.Decoded.{message_text}
 
--- the texts of messages, as `decode` prints them, the first of this number
+-- the texts of messages, as `decode` prints them, the first with this number
 abbrev pub messages_text : ℕ → List PlainMessage → List ℕ
 messages_text n [] = []
 messages_text n (m ∷ ms) = message_text n m ++ messages_text (n + 1) ms

@@ -4,7 +4,7 @@ ghost use Rattle.std.specs.Prelude.{◌≡◌, ◌≤◌, ◌<◌, ◌==◌, fal
 ghost use Rattle.std.specs.List.{position_or_len};
 ghost use Rattle.cli_encode.specs.Lines.{has_byte, IsCut, IsAfter, IsNotBefore};
 
-// Where the first of these bytes is, or the length where there is none.
+// The index of the first `mark`, or the length if there is none.
 fn mark_index(bytes: &[u8], mark: u8) -> usize
     ensures place { result ≡ position_or_len (λ b. b == mark) bytes.now }
     ensures within { result ≤ length bytes.now }
@@ -15,7 +15,7 @@ fn mark_index(bytes: &[u8], mark: u8) -> usize
         .unwrap_or(bytes.len())
 }
 
-/// What is before the first `mark` and what is after it; `None` where there is none.
+/// What is before the first `mark` and what is after it; `None` if there is none.
 pub fn cut_at(bytes: &[u8], mark: u8) -> Option<(&[u8], &[u8])>
     ensures { MatchOption result (has_byte mark bytes.entry.now ≡ false)
         (IsCut mark bytes.entry.now) }
@@ -27,7 +27,7 @@ pub fn cut_at(bytes: &[u8], mark: u8) -> Option<(&[u8], &[u8])>
     Some((&bytes[..place], &bytes[place + 1..]))
 }
 
-/// What is after `front`; `None` where the bytes begin otherwise.
+/// What comes after `front`; `None` if the bytes do not begin with it.
 pub fn after<'a>(bytes: &'a [u8], front: &[u8]) -> Option<&'a [u8]>
     ensures { MatchOption result (IsNotBefore front.now bytes.entry.now)
         (IsAfter front.now bytes.entry.now) }

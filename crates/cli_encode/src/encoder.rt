@@ -11,18 +11,18 @@ use itoa::Buffer;
 use std::alloc::{AllocError, Global};
 use sw_frame::{FrameError, frame};
 
-/// What was begun.
+/// What was read of the message that is not ended yet.
 #[derive(Drop)]
 pub enum Stage {
-    /// Nothing, or a message that is ended.
+    /// Nothing: no message is begun.
     Between,
-    /// A message of which the heading was read.
+    /// Its heading.
     Headed,
-    /// A message that may have more fields.
+    /// Its type and perhaps fields; it may have more.
     Open(Message),
 }
 
-/// What the lines of a text have made so far.
+/// An encoder of a text: what the lines that were taken so far have made.
 #[derive(Drop)]
 pub struct Encoder {
     pub(crate) stage: Stage,
@@ -44,7 +44,7 @@ fn push_frame(alloc: Global, frames: &mut Vec<u8>, message: &Message) -> Result<
     }
 }
 
-/// The number of the last field; 1 where there is none, since no field has it.
+/// The number of the last field; 1 if there is none, since no field has that number.
 pub fn last_number(message: &Message) -> u8
     ensures { result ≡ spec.last_of message.now.fields }
 {
@@ -55,7 +55,7 @@ pub fn last_number(message: &Message) -> u8
     message.field_at(count - 1).0
 }
 
-// Adds a field after the last one. Answers whether the field may stand there.
+// Adds a field after the last one. Answers whether the field is allowed there.
 fn add_field(
     alloc: Global,
     message: &mut Message,
@@ -64,7 +64,7 @@ fn add_field(
 ) -> Result<bool, AllocError>
     ensures { IfOk result (spec.AddsField message.old number value.now message.new) }
 {
-    // Asked for the proof alone: that the message is valid.
+    // Called only for the proof: that the message is valid.
     let _ = message.mti();
     if number <= last_number(message) {
         return Ok(false);
@@ -124,7 +124,7 @@ impl Encoder {
         Ok(true)
     }
 
-    // Takes a message's type, which may stand after the heading alone.
+    // Takes a message's type, which is allowed only after a heading.
     fn begin(&mut self, alloc: Global, mti: Mti) -> bool
         ensures taken { spec.Takes self.old (MessageType mti) self.new result }
         ensures counted { self.new.count ≡ self.old.count }
@@ -132,13 +132,13 @@ impl Encoder {
         let Stage::Headed = self.stage else {
             return false;
         };
-        // Asked for the proof alone: that the digits are four.
+        // Called only for the proof: that there are four digits.
         let _ = mti.digits();
         self.stage = Stage::Open(Message::new(alloc, mti));
         true
     }
 
-    // Takes a field, which may stand after the type and after fields of lower numbers.
+    // Takes a field, which is allowed after the type and after fields with lower numbers.
     fn add(&mut self, alloc: Global, number: u8, value: &[u8]) -> Result<bool, AllocError>
         ensures taken { IfOk result (spec.Takes self.old (Field number value.now) self.new) }
         ensures counted { self.new.count ≡ self.old.count }
@@ -149,7 +149,7 @@ impl Encoder {
         add_field(alloc, message, number, value)
     }
 
-    /// Takes a line, and answers whether it may stand there.
+    /// Takes a line, and answers whether it is allowed there.
     pub fn take(&mut self, alloc: Global, line: &Line<'_>) -> Result<bool, AllocError>
         requires { self.old.count < 2 ^ 63 }
         ensures taken { IfOk result (spec.Takes self.old (plain_line line.now) self.new) }
@@ -162,7 +162,7 @@ impl Encoder {
         }
     }
 
-    /// Ends the text. Answers whether it may end there, which is not so after a heading.
+    /// Ends the text. Answers whether it may end there: after a heading it may not.
     pub fn finish(&mut self, alloc: Global) -> Result<bool, AllocError>
         requires { self.old.count < 2 ^ 63 }
         ensures { IfOk result (spec.Finishes self.old self.new) }

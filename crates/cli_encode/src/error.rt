@@ -37,14 +37,14 @@ pub enum Fault {
     Masked(u8),
     /// The profile has no field of this number.
     UnknownField(u8),
-    /// The field stands before this one already.
+    /// The field before it has the same number.
     Repeated(u8),
-    /// The field stands after one of a higher number.
+    /// The field comes after one with a higher number.
     Order {
         number: u8,
         last: u8,
     },
-    /// The field does not take this value, which has so many bytes.
+    /// The field does not take this value, which has `length` bytes.
     Value {
         number: u8,
         found: Quoted,
@@ -52,7 +52,7 @@ pub enum Fault {
     },
 }
 
-// What a field's value is on a line.
+// What is expected on a line as the value of this field.
 #[derive(Clone, Copy)]
 struct ExpectedText(u8);
 
@@ -119,7 +119,7 @@ impl fmt::Display for Fault {
     }
 }
 
-/// A line that is refused, the first being 1, and why.
+/// A line that is refused, counted from 1, and why.
 #[derive(Drop, Error)]
 #[error("line {line}: {fault}")]
 pub struct TextError {

@@ -37,12 +37,12 @@ pub enum Line<'a> {
     Heading(&'a [u8]),
     /// `mti` and four digits.
     MessageType(Mti),
-    /// A field's number and its value, of which only the line's form is known: no line feed, and eight bytes in a
-    /// binary field.
+    /// A field's number and its value, of which only the form on the line is known: eight bytes in a binary field,
+    /// and no line feed in any other.
     Field(u8, Value<'a>),
 }
 
-/// The number below 256 whose digits a word is, without leading zeros.
+/// The number below 256 of which a word is the decimal digits, without leading zeros.
 pub fn number_in(word: &[u8]) -> Option<u8>
     ensures { MatchOption result (spec.IsNoNumber word.now) (spec.IsNumberOf word.now) }
 {
@@ -61,7 +61,7 @@ pub fn number_in(word: &[u8]) -> Option<u8>
     }
 }
 
-// Whether a hexadecimal digit is in lower case.
+// Whether any hexadecimal digit is in lower case.
 fn has_lower(text: &[u8]) -> bool
     ensures { result ≡ spec.has_lower text.now }
 {
@@ -118,7 +118,7 @@ fn read_field(line: &[u8]) -> Option<Line<'_>>
     Some(Line::Field(number, value))
 }
 
-/// What a line says, without its line feed; `None` where it has none of the three forms.
+/// What a line says, which is given without its line feed; `None` if it has none of the three forms.
 pub fn read_line(line: &[u8]) -> Option<Line<'_>>
     requires { spec.has_byte 10 line.now ≡ false }
     ensures { MatchOption result (spec.SaysNothing line.entry.now) (spec.Says line.entry.now) }

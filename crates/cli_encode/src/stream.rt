@@ -12,10 +12,10 @@ use cli_io::{Input, read_input, write_out};
 use std::alloc::Global;
 use std::io::{Read, Write};
 
-/// Writes the frames of the messages whose text an input gives, and flushes. The text is read whole, and the
-/// frames are written at its end, or where a line is refused: then those of the messages before the refused one.
+/// Writes the frames of the messages whose text an input gives, and flushes. The whole text is read first, and
+/// then the frames are written; if a line is refused, only those of the messages that end before it.
 ///
-/// Too many reads are reported only of an input that was read 1,048,576 times.
+/// Too many reads are reported only for an input that was read 1,048,576 times.
 pub fn encode_stream<R: Read, W: Write>(
     alloc: Global,
     input: &mut Input<R>,

@@ -11,7 +11,7 @@ use crate::explain::fault_of;
 use crate::line::read_line;
 use std::alloc::{AllocError, Global};
 
-// Takes a line, and answers whether it may stand there.
+// Takes a line, and answers whether it is allowed there.
 fn take_bytes(alloc: Global, encoder: &mut Encoder, line: &[u8]) -> Result<bool, AllocError>
     requires clean { has_byte 10 line.now ≡ false }
     requires room { encoder.old.count < 2 ^ 63 }

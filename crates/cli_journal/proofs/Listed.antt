@@ -16,7 +16,7 @@ front_is (e ∷ es) zero name value n v =
     ap (λ (z : Named). z ∷ es) (λ i. (first i, second i))
 front_is (e ∷ es) (suc i) name value n v = front_is es i name value n v
 
--- one entry more
+-- one more entry
 pub entry_more : (f : Named → List ℕ) (es : Pairs) (i : ℕ) (name value text new total : List ℕ) →
     Some name ≡ option_map (λ (e : Named). e.0) (slice_get es i) → Some value ≡ option_map (λ (e : Named). e.1) (slice_get es i)
     → text ++ flat_map f (drop i es) ≡ total → new ≡ text ++ f (name, value) → new ++ flat_map f (drop (i + 1) es) ≡ total

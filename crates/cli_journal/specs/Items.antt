@@ -15,6 +15,6 @@ abbrev pub verdict_name : Bool → Text
 verdict_name true = codes "commit"
 verdict_name false = codes "abort"
 
--- how many ids were given since this one, which counts too
+-- how many ids were given since this one, including this one
 abbrev pub age_of : ℕ → ℕ → ℕ
 age_of next_id id = next_id - id

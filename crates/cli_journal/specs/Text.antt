@@ -36,7 +36,7 @@ message_rest k id value = codes " " ++ (size_text value ++ frame_text k id value
 abbrev pub entry_rest : Masking → ℕ → Text → Text → Text
 entry_rest k id name value = if is_message name then message_rest k id value else note_rest (is_masked k name) value
 
--- the lines of an entry of the transaction of this id, which is also the number of its messages
+-- the lines of an entry of a context, whose transaction or item of the shelf has this id, which is also the number of its messages
 abbrev pub entry_text : Masking → ℕ → Text × Text → Text
 entry_text k id e = codes "entry " ++ (e.0 ++ entry_rest k id e.0 e.1)
 

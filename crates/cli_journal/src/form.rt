@@ -6,11 +6,11 @@ use cli_decode::Masking;
 #[derive(Clone, Copy)]
 pub enum Form {
     Text,
-    /// A line is an object.
+    /// Each line is an object.
     Json,
 }
 
-/// In which form a journal is shown, and what of it is masked.
+/// The form in which a journal is shown, and whether it is masked.
 #[derive(Clone, Copy)]
 pub struct Style {
     pub form: Form,

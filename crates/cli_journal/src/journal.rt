@@ -187,7 +187,7 @@ fn journal_in(
 }
 
 /// Writes the lines of a journal of this layout, without these rows at fault, to an output. After
-/// an error a beginning of them is written.
+/// an error, what was written is a beginning of them.
 pub fn show<W: Write>(
     alloc: Global,
     style: Style,

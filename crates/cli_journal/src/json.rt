@@ -17,7 +17,7 @@ fn push_rest(text: &mut Vec<u8>, names: &[Text]) -> Result<(), AllocError>
     Ok(())
 }
 
-/// Adds strings, parted by commas.
+/// Adds strings, separated by commas.
 #[tactic(auto, unfolding(sw_json::specs::Json::strings))]
 pub fn push_strings(text: &mut Vec<u8>, names: &[Text]) -> Result<(), AllocError>
     ensures { OnOk result (text.new.items ≡ text.old.items ++ strings names.now) }

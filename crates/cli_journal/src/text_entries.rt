@@ -44,7 +44,7 @@ fn push_note(text: &mut Vec<u8>, masked: bool, value: &[u8]) -> Result<(), Alloc
     }
 }
 
-/// Adds the lines of an entry of the transaction of this id.
+/// Adds the lines of an entry of a context. Its transaction, or its item of the shelf, has this id.
 pub fn push_entry(
     alloc: Global,
     text: &mut Vec<u8>,

@@ -41,7 +41,7 @@ fn push_joined(text: &mut Vec<u8>, joined: &[Text]) -> Result<(), AllocError>
     text.extend_from_slice(b"\n")
 }
 
-// Adds `doing NAME`, where a participant was being prepared.
+// Adds `doing NAME`, if a participant was being prepared.
 fn push_doing(text: &mut Vec<u8>, doing: &Option<Text>) -> Result<(), AllocError>
     ensures { OnOk result (text.new.items ≡ text.old.items ++ spec.doing_line doing.now) }
 {
@@ -55,7 +55,7 @@ fn push_doing(text: &mut Vec<u8>, doing: &Option<Text>) -> Result<(), AllocError
     }
 }
 
-// Adds the names of those whom a recovery notifies.
+// Adds the names of the participants that a recovery notifies.
 fn push_notified(text: &mut Vec<u8>, row: &Row) -> Result<(), AllocError>
     ensures { OnOk result (text.new.items
         ≡ text.old.items ++ flat_map spec.spaced (spec.to_notify row.now)) }

@@ -1,4 +1,4 @@
-//! Lines of one word, and numbers or names.
+//! Lines of one word with numbers or names after it.
 
 ghost use Rattle.std.specs.Prelude.{◌≡◌, ◌++◌, OnOk};
 ghost use Rattle.std.specs.List.{flat_map};

@@ -21,7 +21,7 @@ use Rattle.journal_copy.specs.Errors.{error_of_journal}
 use Rattle.journal_rows.specs.declared.error.BadRow.{BadRow}
 use Rattle.journal_copy.specs.Found.{IfBadRow, IfRest, IsFaultBy, IsFoundBy, IsOpenedBy, IsSpoilt, layout_by}
 
--- what is said of a bad row holds of it with what else the journal holds
+-- what is said of a bad row holds of it with the rest of the journal
 bad_spoilt : (P : BadRow → Type 0) (e : JournalError) (r : LookError) → IsSpoilt e r → IfBadRow P (error_of_journal e) → IfBadRow P r
 bad_spoilt P (journal.BadRow bad) r (inl is) h = subst (IfBadRow P) (sym is) tt
 bad_spoilt P (journal.BadRow bad) r (inr is) h = subst (IfBadRow P) (sym is.1) h
@@ -29,7 +29,7 @@ bad_spoilt P journal.OutOfMemory r is h = subst (IfBadRow P) (sym is) h
 bad_spoilt P journal.Failed r is h = subst (IfBadRow P) (sym is) h
 bad_spoilt P (journal.Store c) r is h = subst (IfBadRow P) (sym is) h
 
--- what else the journal holds
+-- the rest of the journal
 pub rest_spoilt : (e : JournalError) (r : LookError) → IsSpoilt e r → IfRest r
 rest_spoilt (journal.BadRow bad) r (inl is) = subst IfRest (sym is) tt
 rest_spoilt (journal.BadRow bad) r (inr is) = subst IfRest (sym is.1) is.2

@@ -14,7 +14,7 @@ abbrev pub error_of_read : ReadError → CopyError
 error_of_read read.OutOfMemory = copy.OutOfMemory
 error_of_read e = copy.Read e
 
--- a refusal of another database is that of a file that is not a journal
+-- another database is refused as a file that is not a journal
 abbrev pub error_of_journal : JournalError → LookError
 error_of_journal (journal.BadRow bad) = BadRow bad None
 error_of_journal journal.OutOfMemory = OutOfMemory

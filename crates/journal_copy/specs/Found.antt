@@ -19,7 +19,7 @@ use Rattle.journal_copy.specs.declared.rest.Rest.{Rest}
 use Rattle.journal_copy.specs.declared.error.LookError.{LookError}
 use Rattle.journal_copy.specs.declared.error.LookError.TheVariants as error
 
--- the layout of a journal with so many tables
+-- the layout of a journal with this many tables
 abbrev pub layout_by : ℕ → Option ℕ
 layout_by n = if n == 5 then Some 1 else if n == 7 then Some 2 else None
 
@@ -53,12 +53,12 @@ abbrev pub IsOtherFault : LookError → Type 0
 IsOtherFault (error.BadRow bad rest) = ⊥
 IsOtherFault _ = ⊤
 
--- what is left of a journal beside its bad rows is a journal, where the error has it
+-- what is left of a journal without its bad rows is a journal, where the error has it
 abbrev pub IfRest : LookError → Type 0
 IfRest (error.BadRow bad rest) = IfSome rest IsSomeRest
 IfRest _ = ⊤
 
--- the error of a journal's refusal; of a bad row with what else the journal holds, unless memory is refused
+-- the error of a journal's refusal; a bad row comes with the rest of the journal, unless memory is refused
 abbrev pub IsSpoilt : JournalError → LookError → Type 0
 IsSpoilt (journal.BadRow bad) e = (e ≡ error.OutOfMemory) ⊎ ((rest : Option Rest) × (e ≡ error.BadRow bad rest) × IfSome rest IsSomeRest)
 IsSpoilt cause e = e ≡ error_of_journal cause

@@ -63,6 +63,6 @@ pub record IsRest (layout : Layout) (rows : Rows) (rest : Rest) : Type 0 where
   pub sound : IsFaultOf layout others None
   pub view : rest.view ≡ read_of others.meta others.tx others.members others.shelf others.advices
 
--- some journal's
+-- the rest of some journal
 abbrev pub IsSomeRest : Rest → Type 0
 IsSomeRest rest = (layout : Layout) × (rows : Rows) × IsRest layout rows rest

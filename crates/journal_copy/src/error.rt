@@ -22,7 +22,7 @@ pub enum CopyError {
     /// It could not be read to its end.
     #[error("cannot read: {0}")]
     Read(ReadError),
-    /// Its log was begun anew each time that it was read.
+    /// Its log was begun anew while it was read, at every try.
     #[error("changed while it was read; try again")]
     Changed,
     /// No memory was left.
@@ -67,10 +67,10 @@ impl From<AllocError> for CopyError {
 /// Why a copy holds no journal to show. The text does not name the file.
 #[derive(Drop, Error)]
 pub enum LookError {
-    /// It is another file than a journal's.
+    /// It is not a journal's file.
     #[error("not a journal of cardswitch")]
     NotAJournal,
-    /// It begins as a database, which cannot be opened.
+    /// It begins as a database does, or has a log, but cannot be opened.
     #[error("cannot open: {0}")]
     Database(sqlite::Error),
     /// A row of its tables is at fault.

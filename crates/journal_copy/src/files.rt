@@ -6,10 +6,10 @@ use std::alloc::Global;
 use std::fs::{File, Files};
 use std::io::ErrorKind;
 
-/// How often the files are read at the most.
+/// How often the files are read at most.
 const TRIES: u8 = 10;
 
-/// The length of a log's header, which a new beginning of the log changes.
+/// The length of a log's header, which changes when the log is begun anew.
 const HEAD: usize = 32;
 
 /// The bytes of a database file and of the log beside it.
@@ -33,7 +33,7 @@ fn bytes_at<F: Files>(alloc: Global, files: &F, path: &str) -> Result<Vec<u8>, C
     }
 }
 
-// All bytes of a log; none where there is no such file.
+// All bytes of a log; none if there is no such file.
 fn log_at<F: Files>(alloc: Global, files: &F, path: &str) -> Result<Vec<u8>, CopyError> {
     match bytes_at(alloc, files, path) {
         Err(CopyError::Open(error)) if error.kind() == ErrorKind::NotFound => Ok(Vec::new(alloc)),
@@ -54,8 +54,8 @@ fn head_at<F: Files>(files: &F, path: &str) -> Result<[u8; HEAD], CopyError> {
     }
 }
 
-// Reads both files, the database first. None where the log was begun anew meanwhile: until then
-// the log has each page that is written into the database.
+// Reads both files, the database first. `None` if the log was begun anew while they were read: until
+// then the log has each page that is written into the database.
 fn copy_once<F: Files>(
     alloc: Global,
     files: &F,
@@ -72,9 +72,9 @@ fn copy_once<F: Files>(
     }
 }
 
-/// Reads the database file at a path and the log beside it, with its name and `-wal`. Nothing is
-/// written, and no lock is taken: where a program that writes to them begins the log anew
-/// meanwhile, they are read again, up to ten times.
+/// Reads the database file at a path and the log beside it, whose path ends with `-wal` in addition.
+/// Nothing is written, and no lock is taken: if a program that writes to them begins the log anew while
+/// they are read, they are read again, up to ten times in all.
 pub fn copy_files<F: Files>(alloc: Global, files: &F, path: &str) -> Result<Copy, CopyError> {
     let log_path = format!(in alloc; "{path}-wal")?;
     for _ in 0..TRIES {

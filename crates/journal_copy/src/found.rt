@@ -13,7 +13,7 @@ use tx_journal::{Journal, JournalError, Left, Stored, read_all, read_first};
 
 /// What a copy of a journal holds.
 pub struct Found {
-    /// How the journal has its tables: 1 or 2.
+    /// The layout of the journal's tables: 1 or 2.
     pub layout: u64,
     pub view: JournalView,
 }
@@ -25,7 +25,7 @@ impl Drop for Found {
     }
 }
 
-// The layout of a journal with so many tables.
+// The layout of a journal with this many tables.
 fn layout_by(tables: usize) -> Option<u64>
     ensures { result ≡ spec.layout_by tables }
 {
@@ -36,7 +36,7 @@ fn layout_by(tables: usize) -> Option<u64>
     }
 }
 
-// The error of a journal that is refused, where its rows could be read.
+// The error of a journal that is refused; `stored` has its rows, if they could be read.
 fn spoilt(
     alloc: Global,
     layout: Layout,
@@ -57,7 +57,7 @@ fn spoilt(
     }
 }
 
-// The error of a journal that is not opened; with a row at fault it has layout 1.
+// The error of a journal that is not opened. If a row is at fault, it has layout 1.
 fn unopened<S: Alter + Drop>(alloc: Global, error: JournalError, left: Left<S>) -> LookError
     ensures { spec.IsSpoilt error result }
 {

@@ -3,10 +3,10 @@
 //!
 //! Promised here: [`look`] gives the layout and the view of the journal that the bytes of a
 //! database file and of its log hold, as an opening of these files would find it, or its first row
-//! at fault (`specs/Copied.antt`). With a row at fault comes the journal of the rows that are not
-//! ([`Rest`], `specs/Rest.antt`); that those rows are the file's is only tested. No contract can
-//! say that [`copy_files`] returns the bytes of one moment: it reads again where the log was begun
-//! anew meanwhile.
+//! at fault (`specs/Copied.antt`). With a row at fault comes the journal of the rows that are not at
+//! fault ([`Rest`], `specs/Rest.antt`); that those rows are the file's is only tested. No contract
+//! can say that [`copy_files`] returns the bytes of one moment: it reads again if the log was begun
+//! anew while it read.
 #![tactic(auto)]
 
 mod disks;

@@ -10,15 +10,15 @@ use std::alloc::Global;
 use tx_history::JournalView;
 use tx_journal::Stored;
 
-/// The most rows at fault that are left out: each costs a look at all rows.
+/// With this many rows at fault nothing is left: each of them costs a look at all rows.
 const MOST_LEFT_OUT: u32 = 1_000;
 
 /// A journal without its rows at fault.
 pub struct Rest {
-    /// How the journal has its tables: 1 or 2.
+    /// The layout of the journal's tables: 1 or 2.
     pub layout: u64,
-    /// The rows that are left out, the first one at fault first: of its table all rows with that
-    /// id.
+    /// The rows that are left out, the first one at fault first. Each means all rows of its table with
+    /// that id.
     pub left_out: Vec<BadRow>,
     /// The journal that the other rows represent.
     pub view: JournalView,
@@ -56,8 +56,8 @@ fn leave_out(stored: &mut Stored, bad: BadRow)
     }
 }
 
-/// The journal that the rows without those at fault represent; `None` where `meta` is at
-/// fault, or a thousand rows or more are. The only refusal is out of memory.
+/// The journal that the rows without those at fault represent; `None` if `meta` is at
+/// fault, or if a thousand rows or more are. The only refusal is out of memory.
 pub fn rest_of(alloc: Global, layout: Layout, stored: Stored) -> Result<Option<Rest>, LookError>
     ensures { IfOk result (λ rest. IfSome rest (IsRest layout (rows_of stored))) }
 {
