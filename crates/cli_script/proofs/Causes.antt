@@ -1,4 +1,4 @@
--- The grammar refuses no line where memory ran out.
+-- No refusal of the grammar is out of memory.
 -- for: script::next_setting, actions::Actions::next
 use Rattle.std.proofs.Common.{◌≡◌, ◌∷◌, [], ℕ, Bool, not, true, false, List, Option, None, Some, Result, Ok, Err, refl, if◌then◌else◌}
 use Rattle.std.specs.Str.{bytes_eq}

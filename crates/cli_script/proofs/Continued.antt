@@ -98,7 +98,7 @@ or_parts false b none = (refl, none)
 any_parts : (p : Setting → Bool) (s : Setting) (ss : List Setting) → list_any p (s ∷ ss) ≡ false → (p s ≡ false) × (list_any p ss ≡ false)
 any_parts p s ss none = or_parts (p s) (list_any p ss) none
 
--- a line that is no setting does not end settings
+-- a line that is not a setting does not end settings
 pub no_settings : (has_file : Bool) (ss : List Setting) (xs line : List ℕ) → AreWhole xs → IsBehind ss (xs ++ line) []
     → list_any (is_misplaced has_file) ss ≡ false → line ≢ [] → IsNoSetting has_file line → ⊥
 no_settings has_file [] xs line whole behind placed some none = some (end xs line (sym behind)) where
@@ -121,7 +121,7 @@ few_behind [] xs rest behind = let same = ap length behind in omega arith
 few_behind (s ∷ ss) xs rest (begins, behind) =
     let later = few_behind ss (others_of xs) rest behind in let less = fewer xs begins.0 in omega arith
 
--- a script of settings alone, by its head
+-- a script of only settings, by its head
 pub only_settings : (file : Option Flow) (script head rest : List ℕ) → IsHead (is_some file) script head rest → IsOpenedAs file head None
     → IsOpenedAs file script None
 only_settings file script head rest is (ss, behind, placed) = by is.last where

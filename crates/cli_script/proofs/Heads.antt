@@ -109,7 +109,7 @@ pub action_refused : (number : ℕ) (text : List ℕ) (cause : LineError) → An
 action_refused number text cause answers =
     action_refused_as number text (meaning_of text) cause (memory_meant text) answers
 
--- memory may be wanting for a setting
+-- memory may run out at a setting
 pub setting_refused : (has_file : Bool) (script rest : List ℕ) (kept : Settings) (lines : ℕ) (s : Setting)
     → IsHeadRead has_file script kept rest lines → BeginsWith rest s → IsHeadRefused has_file script error.OutOfMemory
 setting_refused has_file script rest kept lines s head begins = record {

@@ -54,7 +54,7 @@ module _ {A : Type 0} where
   regroup front x None = refl
   regroup front x (Some es) = ap Some (sym (append_assoc front (x ∷ []) es))
 
-  -- one word more, as a loop reads it
+  -- one more word, as a loop reads it
   pub spelled_more : (spelled : List ℕ → Option A) (front new : List A) (words : List (Bor (List ℕ))) (i : ℕ) (d : Bor (List ℕ)) (x : A)
       (total : Option (List A))
       → new ≡ front ++ x ∷ [] → i < length words → Some x ≡ spelled (get_or words i d).now

@@ -22,7 +22,7 @@ pub record CommandRow : Type 0 where
 abbrev pub row : List ℕ → (List ℕ → Meaning) → CommandRow
 row word meaning = record { word = word; meaning = meaning }
 
--- the grammar of actions: those on the journal and the whole, those that show something, and those of the queue and
+-- the grammar of actions: those on the shelf, the journal and the whole plant, those that show something, and those of the queue and
 -- of sessions
 abbrev pub whole_rows : List CommandRow
 whole_rows = row (codes "release") (bare_line action.Release refusal.Release)
@@ -64,7 +64,7 @@ abbrev pub meaning_at : List CommandRow → List ℕ → List ℕ → Meaning
 meaning_at [] word rest = Err refusal.Command
 meaning_at (r ∷ rs) word rest = if bytes_eq word r.word then r.meaning rest else meaning_at rs word rest
 
--- the words of a line stand between single spaces; the text of a `choose` line may have any
+-- the words of a line are separated by single spaces; the text of a `choose` line may have any spaces
 abbrev pub has_stray_space : List ℕ → Bool
 has_stray_space line = not (bytes_eq (first_word line) (codes "choose")) && has_empty_word line
 
@@ -83,7 +83,7 @@ unless_refused (Some e) meaning = Err e
 abbrev pub meaning_of : List ℕ → Meaning
 meaning_of line = unless_refused (words_refusal line) (meaning_at rows (first_word line) (rest_of line))
 
--- what is answered is what was meant; out of memory is reported for what has a meaning alone
+-- what is answered is what was meant; out of memory is reported only for what has a meaning
 abbrev pub Answers : {A : Type 0} → Result A LineError → Result A LineError → Type 0
 Answers (Err e) answer = answer ≡ Err e
 Answers (Ok meant) (Ok answer) = answer ≡ meant

@@ -12,7 +12,7 @@ AreWhole bytes = (bytes ≡ []) ⊎ ((text : List ℕ) × (bytes ≡ text ++ 10 
 abbrev pub MayPrecede : List ℕ → List ℕ → Type 0
 MayPrecede bytes more = (more ≡ []) ⊎ AreWhole bytes
 
--- the line is a setting that may stand at the head
+-- the line is a setting that is allowed at the head
 abbrev pub IsPlacedSetting : Bool → List ℕ → Type 0
 IsPlacedSetting has_file line = (s : Setting) × BeginsWith line s × (is_misplaced has_file s ≡ false)
 
@@ -20,7 +20,7 @@ IsPlacedSetting has_file line = (s : Setting) × BeginsWith line s × (is_mispla
 abbrev pub IsNoSetting : Bool → List ℕ → Type 0
 IsNoSetting has_file line = (s : Setting) → BeginsWith line s → is_misplaced has_file s ≡ true
 
--- all lines are settings that may stand there
+-- all lines are settings that are allowed there
 abbrev pub AreSettings : Bool → List ℕ → Type 0
 AreSettings has_file bytes =
     (ss : List Setting) × IsBehind ss bytes [] × (list_any (is_misplaced has_file) ss ≡ false)

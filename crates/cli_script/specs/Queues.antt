@@ -9,7 +9,7 @@ use Rattle.cli_script.specs.declared.queues.Queues.{Queues}
 abbrev pub queue_at : {T : Type 0} → Queues T → List ℕ → List T
 queue_at q name = option_map_or (λ d. d.items) (get_by_text q.held name) []
 
--- x for the name q, and else y
+-- x where q is the name, and otherwise y
 abbrev pub at_name : {A : Type 0} → List ℕ → List ℕ → A → A → A
 at_name q name x y = if bytes_eq q name then x else y
 

@@ -36,12 +36,12 @@ others_of script = after_first is_line_feed script
 abbrev pub BeginsWith : List ℕ → Setting → Type 0
 BeginsWith script s = (script ≢ []) × (meaning_of (line_of script) ≡ Ok (line.Setting s))
 
--- the script begins with the lines of these settings, and this stands after them
+-- the script begins with the lines of these settings, and this comes after them
 abbrev pub IsBehind : List Setting → List ℕ → List ℕ → Type 0
 IsBehind [] script rest = rest ≡ script
 IsBehind (s ∷ ss) script rest = BeginsWith script s × IsBehind ss (others_of script) rest
 
--- the line has a meaning, as every line at which out of memory is reported
+-- the line has a meaning, as has every line at which out of memory is reported
 abbrev pub IsMeant : Result ScriptLine LineError → Type 0
 IsMeant meaning = (x : ScriptLine) × (meaning ≡ Ok x)
 
@@ -81,7 +81,7 @@ IsLineRefusal has_file number text meaning (error.Crowded n found) = ⊥
 IsLineRefusal has_file number text meaning (error.Flow n cause) = ⊥
 IsLineRefusal has_file number text meaning error.OutOfMemory = IsMeant meaning
 
--- the next line is refused, of which so many stand before
+-- the next line is refused, which comes after this many others
 abbrev pub IsRefusedAt : Bool → ℕ → List ℕ → ScriptError → Type 0
 IsRefusedAt has_file lines rest e =
     IsLineRefusal has_file (lines + 1) (line_of rest) (meaning_of (line_of rest)) e
@@ -111,13 +111,13 @@ pub record IsHeadRefused (has_file : Bool) (script : List ℕ) (e : ScriptError)
   pub some : rest ≢ []
   pub refused : IsRefusedAt has_file (length stated) rest e
 
--- why a script is refused after these settings: the next line, or at the first action the flow that they state
+-- why a script is refused after these settings: the next line is, or at the first action the flow that they state
 abbrev pub IsRefusalBehind : Option Flow → List Setting → List ℕ → ScriptError → Type 0
 IsRefusalBehind file ss rest (error.Flow n cause) =
     (n ≡ length ss + 1) × BeginsWithAction rest × (first_fault (stated_flow file ss) ≡ Some cause)
 IsRefusalBehind file ss rest e = IsRefusedAt (is_some file) (length ss) rest e
 
--- the lines before the one that is reported are settings where they may stand, so that it is the first fault
+-- the lines before the one that is reported are settings that are allowed there, so that it is the first fault
 pub record IsScriptRefused (file : Option Flow) (script : List ℕ) (e : ScriptError) : Type 0 where
   pub stated : List Setting
   pub rest : List ℕ
@@ -138,7 +138,7 @@ pub record IsOpened (file : Option Flow) (script : List ℕ) (s : Script) : Type
   pub sessions : s.sessions ≡ stated_sessions stated
   pub replies : IsRepliesOf stated s.replies
 
--- a script of settings alone has nothing to come
+-- a script of only settings has nothing to come
 abbrev pub IsOpenedAs : Option Flow → List ℕ → Option Script → Type 0
 IsOpenedAs file script None = (ss : List Setting) × IsBehind ss script [] × (list_any (is_misplaced (is_some file)) ss ≡ false)
 IsOpenedAs file script (Some s) = IsOpened file script s
@@ -164,7 +164,7 @@ pub record HasFlowFault (file : Option Flow) (settings : List ℕ) (cause : Flow
   pub placed : list_any (is_misplaced (is_some file)) stated ≡ false
   pub fault : first_fault (stated_flow file stated) ≡ Some cause
 
--- why they are not opened at the line of this number: a line of them is refused, or their flow
+-- why they are not opened at the line of this number: one of their lines is refused, or their flow is
 abbrev pub IsUnstated : Option Flow → List ℕ → ℕ → ScriptError → Type 0
 IsUnstated file settings line (error.Flow n cause) = (n ≡ line) × HasFlowFault file settings cause
 IsUnstated file settings line error.OutOfMemory = ⊤
@@ -191,7 +191,7 @@ IsActionRefusal number text meaning error.OutOfMemory = IsMeant meaning
 abbrev pub bytes_left : Actions → ℕ
 bytes_left a = length a.rest.now
 
--- the next action and what follows its line, or the end, or why the next line is refused; at the last two it stays there
+-- the next action and what follows its line, or the end, or why the next line is refused; the last two change nothing
 abbrev pub IsNextAction : Actions → Actions → Result (Option Action) ScriptError → Type 0
 IsNextAction old new (Ok None) = (old.rest.now ≡ []) × (new ≡ old)
 IsNextAction old new (Ok (Some a)) = (old.rest.now ≢ []) × (new.rest.now ≡ others_of old.rest.now)

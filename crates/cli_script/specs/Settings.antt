@@ -42,7 +42,7 @@ abbrev pub restores_in : List ℕ → Setting → List (List Put)
 restores_in q (setting.Restore name puts) = at_name q name (puts ∷ []) []
 restores_in q _ = []
 
--- what the last line says that says something
+-- what the last line that says something says
 abbrev pub last_in : (Setting → Option ℕ) → List Setting → Option ℕ
 last_in f [] = None
 last_in f (s ∷ ss) = or_else (last_in f ss) (f s)

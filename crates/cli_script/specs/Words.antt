@@ -13,7 +13,7 @@ cut_at c text = if nat_lt (position_or_len (λ b. b == c) text) (length text)
 abbrev pub parts_shown : Option (Bor (List ℕ) × Bor (List ℕ)) → Option (List ℕ × List ℕ)
 parts_shown = option_map (λ p. (p.0.now, p.1.now))
 
--- what stands before the first space, and what after it: nothing where there is none
+-- what comes before the first space, and what comes after it; where there is none, the whole text and nothing
 abbrev pub first_and_rest : List ℕ → List ℕ × List ℕ
 first_and_rest text = unwrap_or (cut_at 32 text) (text, [])
 
@@ -23,7 +23,7 @@ first_word text = (first_and_rest text).0
 abbrev pub rest_of : List ℕ → List ℕ
 rest_of text = (first_and_rest text).1
 
--- what stands between the spaces of a text
+-- the parts of a text between its spaces
 abbrev pub words_of : List ℕ → List (List ℕ)
 words_of text = slice_split (λ b. b == 32) text
 
@@ -39,7 +39,7 @@ is_control b = b == 9 || b == 13
 abbrev pub has_control : List ℕ → Bool
 has_control line = list_any is_control line
 
--- the line is empty, or a space leads, ends or is doubled
+-- the line is empty, or has a leading, trailing or doubled space
 abbrev pub has_empty_word : List ℕ → Bool
 has_empty_word line = list_any (λ w. length w == 0) (words_of line)
 

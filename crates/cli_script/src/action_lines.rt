@@ -11,7 +11,7 @@ use crate::setting_lines::{name_or, number_or};
 use crate::words::cut_at;
 use std::alloc::Global;
 
-/// A line of its first word alone.
+/// A line that is its first word and nothing else.
 fn bare(action: Action, error: LineError, rest: &str) -> Result<ScriptLine, LineError>
     ensures { result ≡ bare_line action error rest.now }
 {
@@ -51,7 +51,7 @@ fn read_write(rest: &str) -> Result<ScriptLine, LineError>
     Ok(ScriptLine::Action(Action::Write(Some(count))))
 }
 
-/// A line on the journal and the whole.
+/// A line that acts on the shelf, the journal or the whole plant.
 fn read_whole(word: &str, rest: &str) -> Result<ScriptLine, LineError>
     ensures { result ≡ meaning_at whole_rows word.now rest.now }
 {
@@ -66,7 +66,7 @@ fn read_whole(word: &str, rest: &str) -> Result<ScriptLine, LineError>
     }
 }
 
-/// A line that shows something, or one on the whole.
+/// A line that shows something, or one that acts on the shelf, the journal or the whole plant.
 #[tactic(auto, using(crate::proofs::Meant::parts_of_lines))]
 fn read_query(alloc: Global, word: &str, rest: &str) -> Result<ScriptLine, LineError>
     ensures { Answers (meaning_at query_rows word.now rest.now) result }

@@ -22,7 +22,7 @@ pub struct Actions<'a> {
 impl<'a> Actions<'a> {
     ghost use Rattle.cli_script.specs.Scripts.{IsNextAction, bytes_left};
 
-    /// The lines of `rest`, after so many others.
+    /// The lines of `rest`, which come after `lines` others.
     pub fn new(rest: &'a [u8], lines: usize) -> Actions<'a>
         requires { lines + length rest.now < 2 ^ 64 }
         ensures rest { result.rest.now ≡ rest.entry.now }
@@ -31,15 +31,15 @@ impl<'a> Actions<'a> {
         Actions { rest, lines }
     }
 
-    /// How many lines were read, the settings among them.
+    /// How many lines were read, including the settings.
     pub fn lines(&self) -> usize
         ensures { result ≡ self.now.lines }
     {
         self.lines
     }
 
-    /// The next action; `None` at the end of the script. After `None` and after an error nothing has
-    /// moved: the next call is at the same place again.
+    /// The next action; `None` at the end of the script. `None` and an error change nothing: the next
+    /// call reads the same line again.
     pub fn next(&mut self, alloc: Global) -> Result<Option<Action>, ScriptError>
         ensures next { IsNextAction self.old self.new result }
         ensures fewer { IfOk result (λ o. OnSome o (bytes_left self.new < bytes_left self.old)) }
@@ -66,7 +66,7 @@ impl<'a> Actions<'a> {
     }
 }
 
-/// The action that a line is; `None` where it is a setting.
+/// The action that a line is; `None` if it is a setting.
 fn action_of(line: ScriptLine) -> Option<Action>
     ensures { MatchOption result ((s : Setting) × (line ≡ Stated s)) (λ a. line ≡ Acts a) }
 {

@@ -18,7 +18,7 @@ pub enum LineError {
     NotText,
     /// The line has a tab or a carriage return.
     Control,
-    /// The line is empty, or a space leads, ends or is doubled.
+    /// The line is empty, or has a leading, trailing or doubled space.
     EmptyWord,
     /// The first word is not a command.
     Command,
@@ -158,10 +158,10 @@ impl<T: Drop> From<AllocFailed<T>> for LineError {
     }
 }
 
-/// Why a script is refused: at which line, the first being 1. The lines before it have run.
+/// Why a script is refused, and at which line, counted from 1. The lines before it have run.
 #[derive(Drop)]
 pub enum ScriptError {
-    /// The line is not of its form.
+    /// The line is malformed.
     Line {
         line: usize,
         cause: LineError,

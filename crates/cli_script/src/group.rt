@@ -69,7 +69,7 @@ fn has_bad_entry(text: &str) -> bool
     !text.is_empty() && text.split(' ').any(|word| entry_parts(word).is_none())
 }
 
-/// The entries of a text that may be empty. They are read once, and looked over again where that
+/// The entries of a text that may be empty. They are read once, and looked over again if that
 /// fails: unknown marks are reported before out of memory.
 fn read_entries(alloc: Global, text: &str) -> Result<Sequence<Entry>, LineError>
     ensures { Answers (or_refuse Marks (entries_spelled (further_words text.now))) result }

@@ -34,7 +34,7 @@ pub fn is_hex(word: &str) -> bool
     word.len() % 2 == 0 && has_hex_digits(word)
 }
 
-/// `HEX`: bytes of two hexadecimal digits each; `None` where the word has other bytes.
+/// `HEX`: bytes of two hexadecimal digits each; `None` if the word is anything else.
 pub fn read_hex(alloc: Global, word: &str) -> Result<Option<Vec<u8>>, AllocError>
     ensures { IfOk result (λ o. option_map (λ v. v.items) o ≡ hex_spelled word.now) }
 {

@@ -19,7 +19,7 @@ pub enum Setting {
     Retries(u64),
     /// `sessions N`: how many sessions there are.
     Sessions(u64),
-    /// `flow GROUP ENTRY ..`: one more group of the flow. Its names are not tested here.
+    /// `flow GROUP ENTRY ..`: one more group of the flow. Its names are not checked here.
     Flow(Group),
     /// `answer NAME HH [N=HEX ..]`: the participant's next preparation.
     Answer {
@@ -50,21 +50,21 @@ pub enum Action {
     Offer(Sequence<Put>),
     /// `take S`: the session takes the queue's first context.
     Take(u64),
-    /// `release`: the shelf goes to the end of the queue.
+    /// `release`: the contexts of the shelf go to the end of the queue.
     Release,
-    /// `ack ID PLACE`: the advice of this place of the transaction was forwarded.
+    /// `ack ID PLACE`: the advice that the member at this place of the transaction gave was forwarded.
     Ack { id: u64, place: u64 },
     /// `break NAME`: the participant's calls are held from now on.
     Break(Text),
-    /// `clear NAME`: they are held no more.
+    /// `clear NAME`: the participant's calls are no longer held.
     Clear(Text),
-    /// `go S`: the session's held call goes on.
+    /// `go S`: the session's held call is let go.
     Go(u64),
     /// `call S`: the session's due call is made.
     Call(u64),
-    /// `write [K]`: the oldest K unwritten entries are written, or all.
+    /// `write [K]`: the oldest K unwritten entries are written, or all of them.
     Write(Option<u64>),
-    /// `stop`: all is given up but the journal and the participants.
+    /// `stop`: everything but the journal and the participants is dropped.
     Stop,
     /// `cut`: the history begins anew from what is written.
     Cut,
@@ -74,7 +74,7 @@ pub enum Action {
     Rest(u64),
     /// `saved S`: shows the saved context.
     Saved(u64),
-    /// `calls NAME`: shows how many calls the participant was made.
+    /// `calls NAME`: shows how many calls were made of the participant.
     Calls(Text),
     /// `auto`: one transaction with an empty context, from its offer to its end.
     Auto,

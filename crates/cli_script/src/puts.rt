@@ -19,7 +19,7 @@ use sw_scripted::{Put, is_crowded};
 /// The most digits of a value: two for each of 65,535 bytes.
 const MOST_DIGITS: usize = 131_070;
 
-/// Whether what stands around the `=` of a word is a name and a value's digits.
+/// Whether the two sides of a word's `=` are a name and the digits of a value.
 fn is_pair(name: &str, digits: &str) -> bool
     ensures { result ≡ is_some (put_cut (Some (name.now, digits.now))) }
 {
@@ -81,7 +81,7 @@ fn has_bad_put(text: &str) -> bool
     !text.is_empty() && text.split(' ').any(|word| !is_put(word))
 }
 
-/// The entries of a text that may be empty. They are read once, and looked over again where that
+/// The entries of a text that may be empty. They are read once, and looked over again if that
 /// fails: a word that is invalid is reported before out of memory.
 pub fn read_puts(alloc: Global, text: &str) -> Result<Sequence<Put>, LineError>
     ensures { Answers (or_refuse Entry (puts_spelled (further_words text.now))) result }

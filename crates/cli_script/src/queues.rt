@@ -35,7 +35,7 @@ impl<T: Drop> Queues<T> {
         Ok(())
     }
 
-    /// Takes the queue of a name; an empty one where none is kept.
+    /// Takes the queue of a name; an empty one if none is kept.
     pub fn take(&mut self, alloc: Global, name: &str) -> VecDeque<T>
         ensures taken { result.items ≡ queue_at self.old name.now }
         ensures others { OthersStay (queue_at self.old) (queue_at self.new) name.now }

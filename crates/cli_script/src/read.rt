@@ -28,7 +28,7 @@ fn read_row(alloc: Global, word: &str, rest: &str) -> Result<ScriptLine, LineErr
     }
 }
 
-/// Whether a space stands where none may. The text of a `choose` line may have any.
+/// Whether a space is where none is allowed. The text of a `choose` line may have any spaces.
 fn has_stray_space(text: &str) -> bool
     ensures { result ≡ has_stray_space text.now }
 {
@@ -52,8 +52,8 @@ fn text_of(line: &[u8]) -> Result<&str, LineError>
     Ok(text)
 }
 
-/// What a line means, which stands here without its line feed. It is refused exactly where the specified
-/// grammar refuses it, for the grammar's reason; out of memory is reported for other lines alone.
+/// What a line means, which is given without its line feed. It is refused exactly if the specified grammar
+/// refuses it, and for the grammar's reason; out of memory is reported only for other lines.
 pub fn read_line(alloc: Global, line: &[u8]) -> Result<ScriptLine, LineError>
     ensures { Answers (meaning_of line.now) result }
 {

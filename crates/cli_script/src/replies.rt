@@ -44,7 +44,7 @@ impl Replies {
         }
     }
 
-    /// Queues the answer of a participant's next preparation but those that are queued.
+    /// Queues the answer of a preparation of a participant, after the answers that are queued already.
     pub fn queue_answer(&mut self, name: Text, answer: QueuedAnswer) -> Result<(), AllocError>
         ensures queued { OnOk result (PutsBehind (answers_at self.old)
             (answers_at self.new) name answer) }
@@ -53,7 +53,7 @@ impl Replies {
         self.answers.push(name.into_string(), answer)
     }
 
-    /// The same of the text of its next selection.
+    /// The same for the text of a selection.
     pub fn queue_choice(&mut self, name: Text, text: Text) -> Result<(), AllocError>
         ensures queued { OnOk result (PutsBehind (choices_at self.old)
             (choices_at self.new) name text) }
@@ -62,7 +62,7 @@ impl Replies {
         self.choices.push(name.into_string(), text)
     }
 
-    /// The same of the advice of its next commit or abort.
+    /// The same for the advice of a commit or an abort.
     pub fn queue_advice(&mut self, name: Text, body: Bytes) -> Result<(), AllocError>
         ensures queued { OnOk result (PutsBehind (advices_at self.old)
             (advices_at self.new) name body) }
@@ -71,7 +71,7 @@ impl Replies {
         self.advices.push(name.into_string(), body)
     }
 
-    /// The same of the entries that its next `recover` puts into the context.
+    /// The same for the entries that a `recover` puts into the context.
     pub fn queue_restore(&mut self, name: Text, puts: Sequence<Put>) -> Result<(), AllocError>
         ensures queued { OnOk result (PutsBehind (restores_at self.old)
             (restores_at self.new) name puts) }

@@ -14,15 +14,15 @@ use cli_io::Quoted;
 use flow_model::Flow;
 use std::alloc::Global;
 
-/// Whether the line gives a group beside a flow file.
+/// Whether a setting gives a group beside a flow file.
 fn is_misplaced(has_file: bool, setting: &Setting) -> bool
     ensures { result ≡ is_misplaced has_file setting.now }
 {
     has_file && matches!(setting, Setting::Flow(_))
 }
 
-/// The next setting and what follows its line; `None` at the end of the script or where the line is
-/// an action. So many lines stand before it.
+/// The next setting and what follows its line; `None` at the end of the script, or if the line is
+/// an action. `lines` lines come before it.
 pub fn next_setting(
     alloc: Global,
     has_file: bool,
@@ -52,7 +52,7 @@ pub fn next_setting(
     }
 }
 
-/// What stands after the settings at the head of a script.
+/// The settings at the head of a script, and what comes after them.
 #[derive(Drop)]
 struct Head<'a> {
     settings: Settings,
@@ -84,7 +84,7 @@ fn read_head(alloc: Global, has_file: bool, script: &[u8]) -> Result<Head<'_>, S
     })
 }
 
-/// A script from its first line on that is not a setting.
+/// A script that was read up to its first line that is not a setting.
 #[derive(Drop)]
 pub struct Script<'a> {
     /// The flow that the settings state. It is checked.
@@ -98,10 +98,10 @@ pub struct Script<'a> {
 }
 
 /// Opens a script over the flow of a flow file, if there is one: reads its settings and checks the flow
-/// that they state. `None` where it has nothing but settings, whose flow is then not looked at.
+/// that they state. `None` if it has nothing but settings, whose flow is then not checked.
 ///
-/// Refused are the first line that is not of its form or stands where it may not, up to the first that is
-/// not a setting, and at that one a flow that is refused.
+/// Refuses the first line that is malformed or not allowed where it is, up to the first that is not a
+/// setting, and at that one a flow that does not pass the check.
 pub fn open_script(
     alloc: Global,
     file: Option<Flow>,
@@ -147,7 +147,7 @@ pub struct Opening {
 }
 
 /// Opens the settings of a prompt over the flow of a flow file, if there is one: checks the flow that they state.
-/// `line` is the number of the line at which this is done, which a refused flow names.
+/// `line` is the number of the line at which this is done: the error of a refused flow names it.
 pub fn open_settings(
     alloc: Global,
     file: Option<Flow>,

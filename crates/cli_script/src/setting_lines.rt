@@ -1,4 +1,4 @@
-//! The lines of settings but `flow`.
+//! The lines of all settings but `flow`.
 ghost use Rattle.std.specs.Prelude.{◌≡◌, Some};
 ghost use Rattle.cli_script.specs.Bytes.{hex_spelled};
 ghost use Rattle.cli_script.specs.Forms.{advice_line, answer_line, choose_line, meant, name_or};

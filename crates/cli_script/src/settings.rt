@@ -10,7 +10,7 @@ use flow_model::{Flow, Group};
 use std::alloc::{AllocError, Global};
 use sw_participant::Sequence;
 
-/// The number of sessions where none is stated.
+/// The number of sessions if none is stated.
 const SESSIONS: u64 = 2;
 
 /// What is kept of settings.
@@ -59,7 +59,7 @@ impl Settings {
         Ok(())
     }
 
-    /// The number of sessions; 2 where none is stated.
+    /// The number of sessions; 2 if none is stated.
     pub fn sessions(&self) -> u64
         ensures { (ss : List Stated) → IsKeptOf ss self.now → result ≡ stated_sessions ss }
     {
@@ -92,8 +92,8 @@ impl Settings {
     }
 }
 
-/// The retries that are stated, or else the default. A number over 255 is kept as 255: a flow may
-/// have neither.
+/// The retries that are stated, or else the default. A number over 255 is kept as 255, which a flow
+/// may not have either.
 fn retries_or(default: u8, stated: Option<u64>) -> u8
     ensures { result ≡ retries_or default stated }
 {

@@ -1,4 +1,4 @@
--- What stands around the space, then each number: a search through all facts takes long.
+-- First the parts around the space, then each number: a search through all facts takes long.
 use Rattle.std.proofs.Common.{ap, arith}
 use Rattle.cli_script.specs.Forms.{ack_line}
 use Rattle.cli_script.proofs.action_lines.read_ack.Goals as goal
