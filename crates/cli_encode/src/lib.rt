@@ -3,8 +3,8 @@
 //! Promised here, of a text whose bytes are known: if [`encode_stream`] succeeds, the text is exactly what
 //! `decode` prints for some messages, numbered from 1, and what is written is the frames of these messages, each
 //! spelled as `iso_codec` writes it. A text is refused only if it is the text of no messages, or if memory, a read
-//! or a write fails. A refusal names the first line that is not allowed where it is, and the frames of the messages
-//! that end before it are written. [`texts_are_decoded`] says that `decode` prints the text again.
+//! or a write fails. A refusal names the first line that is not allowed where it is, and the frames of the
+//! messages that end before it are written. [`texts_are_decoded`] says that `decode` prints the text again.
 #![tactic(auto)]
 
 mod cut;

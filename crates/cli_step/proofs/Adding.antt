@@ -36,7 +36,7 @@ accepted_more : (os : List Outcome) (o : Outcome) → AreAccepted os → is_acce
 accepted_more [] o all one = (one, tt)
 accepted_more (x ∷ os) o all one = (all.0, accepted_more os o all.1 one)
 
--- so many steps were accepted
+-- this many steps were accepted
 abbrev pub Going : ℕ → Point → Text → Point → Type 0
 Going n p text q = (os : List Outcome) × AreAccepted os × (length os ≡ n) × Rounds os p text q
 

@@ -1,4 +1,4 @@
--- The number of calls of the first station of a name, by names and numbers alone.
+-- The number of calls of the first station of a name, by only names and numbers.
 -- for: shown::calls_line
 use Rattle.std.proofs.Common.{◌≡◌, ◌∷◌, [], ℕ, Bool, true, false, List, Option, Some, map, option_map, unwrap_or, refl, if◌then◌else◌}
 use Rattle.std.specs.List.{find}

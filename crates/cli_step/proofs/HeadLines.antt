@@ -1,4 +1,4 @@
--- A line that is refused where no flow is opened yet, and one at which the flow is refused.
+-- A line that is refused before a flow is opened, and one at which the flow is refused.
 -- for: opening::head_line, opening::run_prompted
 use Rattle.std.proofs.Common.{◌≡◌, ◌≢◌, ℕ, Bool, List, Option, Err, is_some, refl, subst, sym}
 use Rattle.cli_script.specs.Scripts.{IsNextSetting}

@@ -203,7 +203,7 @@ head_alone file None b head before after is opened kept = tt
 head_alone file (Some script) b head before after (rest, known, is) opened kept =
     inl (only_settings file script head rest is opened, kept)
 
--- what was written before stands
+-- what was written before remains
 
 pub grows_none : (before : Known) → Grows before before
 grows_none before = ([], Appends-nil before)

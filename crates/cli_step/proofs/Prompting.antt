@@ -80,7 +80,7 @@ other_fault n (plant.Journal cause) other = tt
 other_fault n (plant.Engine cause) other = λ is. let both : true ≡ false = sym is ∙ other in cc
 other_fault n (plant.Seating cause) other = λ is. cc
 
--- a fault is one still where more is known of plants
+-- a fault remains one where more is known of plants
 pub fault_more : {First Second : Type 0} → (First → Second) → (e : StepError) → IsFaultOf First e → IsFaultOf Second e
 fault_more f (error.Script e) h = absurd h
 fault_more f (error.Plant n e) h = λ is. f (h is)
@@ -95,7 +95,7 @@ line_fault a p before after n e (more, printed, beginning, inl writing) = writin
 line_fault a p before after n e (more, printed, beginning, inr why) =
     subst (IsFaultOf ⊤) (sym why.2.1) (action_fault n ⊤ tt why.2.0)
 
--- what was written before stands
+-- what was written before remains
 
 pub beginning_grows : (before after : Known) (text : Text) → AppendsBeginning before after text → Grows before after
 beginning_grows before after text (first, rest, joined, written) = (first, written)

@@ -1,4 +1,4 @@
--- The entries of a context from a place on.
+-- The entries of a context from an index on.
 -- for: shown::saved_text
 use Rattle.std.proofs.Common.{◌≡◌, ◌+◌, ◌++◌, ◌∷◌, [], ℕ, zero, suc, List, arith, drop, slice_get, refl, subst}
 use Rattle.std.specs.List.{flat_map}

@@ -195,7 +195,7 @@ only_one [] x y same = cc
 only_one (z ∷ []) x y same = cc
 only_one (z ∷ w ∷ ws) x y same = cc
 
--- the last outcome of one turn is its own
+-- the last outcome of a single turn is that turn's
 pub last_driven : (t : Turn) (os xs : List Outcome) (o : Outcome) (m : List Moved) (p q : Whole) → Driven (t ∷ []) os m p q → os ≡ xs ++ (o ∷ [])
     → Turned t (Ok o) m p q
 last_driven t os xs o m p q driven last =

@@ -21,11 +21,11 @@ abbrev pub is_idle : Outcome → Bool
 is_idle outcome.Idle = true
 is_idle _ = false
 
--- the lines of a step: that of every outcome but an idle session
+-- the lines of a step: one for every outcome except that the session is idle
 abbrev pub step_text : World → Outcome → Text
 step_text w o = if is_idle o then [] else whole_line (turn_line w 0 o)
 
--- the lines of every other turn: a refusal alone
+-- the lines of every other turn: only one for a refusal
 abbrev pub quiet_text : World → Outcome → Text
 quiet_text w o = if is_refused o then whole_line (turn_line w 0 o) else []
 
@@ -53,7 +53,7 @@ abbrev pub AreAccepted : List Outcome → Type 0
 AreAccepted [] = ⊤
 AreAccepted (o ∷ os) = (is_accepted o ≡ true) × AreAccepted os
 
--- the outcomes of steps until one is not accepted; it gives up after more than there are entries in a history
+-- the outcomes of steps until one is not accepted, or of more accepted steps than a history can have entries
 abbrev pub IsToEnd : List Outcome → Type 0
 IsToEnd os =
     ((ns : List Outcome) × (o : Outcome) × AreAccepted ns × (is_accepted o ≡ false) × (os ≡ ns ++ o ∷ []))

@@ -41,12 +41,12 @@ turn_of action.Stop = Some turn.Stop
 turn_of action.Cut = Some turn.Cut
 turn_of _ = None
 
--- the session that the line of a step names
+-- the session that a `call` line names, and 0 for any other line
 abbrev pub session_of : Action → ℕ
 session_of (action.Call s) = s
 session_of _ = 0
 
--- a plant between two turns: the plant, and of its stations the names and how many calls were made of each
+-- a plant between two turns, with the names of its stations and how many calls were made of each
 pub record Point : Type 0 where
   pub plant : Whole
   pub names : List Text

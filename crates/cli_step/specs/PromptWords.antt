@@ -1,4 +1,4 @@
--- The lines that a prompt has beside those of a script, and what they show.
+-- The lines that a prompt has besides those of a script, and what they show.
 use Rattle.std.specs.Prelude.{ℕ, zero, suc, List, [], ◌++◌, codes, length, Option, Some, None, option_and_then, option_map, if◌then◌else◌}
 use Rattle.std.specs.Fmt.{decimal}
 use Rattle.std.specs.Str.{bytes_eq}
@@ -12,7 +12,7 @@ use Rattle.cli_step.specs.declared.prompt_words.PromptWord.{PromptWord}
 use Rattle.cli_step.specs.declared.prompt_words.PromptWord.TheVariants as word
 use Rattle.cli_step.specs.declared.prompt_words.TheConstants.{HELP}
 
--- a line that is the word alone
+-- a line that is only the word
 abbrev pub prompt_word_of : List ℕ → Option PromptWord
 prompt_word_of line =
     if bytes_eq line (codes "help") then Some word.Help
@@ -25,11 +25,11 @@ abbrev pub each_session : (ℕ → Text) → ℕ → Text
 each_session text zero = []
 each_session text (suc n) = each_session text n ++ text n
 
--- `session S at step N`, where the session's transaction stands at a numbered step
+-- `session S at step N`, where the session's transaction is at a numbered step
 abbrev pub step_line : World → ℕ → Option Text
 step_line w s = option_map (λ n. codes "session " ++ decimal s ++ codes " at step " ++ decimal n) (option_and_then (λ p. p.step) (place_now w s))
 
--- `list`: the image of the flow, and at which of its steps the sessions stand
+-- `list`: the image of the flow, and at which of its steps the sessions are
 abbrev pub list_text : World → Text
 list_text w = image_of w.flow ++ each_session (λ s. whole_line (step_line w s)) w.sessions
 

@@ -113,7 +113,7 @@ pub record Talked (input : List ℕ) (a b : Scene) : Type 0 where
   pub err : b.err ≡ last.err
   pub at : b.at ≡ last.at
 
--- what a line of a script is where no flow is opened yet
+-- what a line of a script is before a flow is opened
 abbrev pub IsScriptHeadLine : Bool → List ℕ → HeadLine → Type 0
 IsScriptHeadLine has_file line head.Help = ⊥
 IsScriptHeadLine has_file line head.Setting = IsPlacedSetting has_file line
@@ -228,7 +228,7 @@ abbrev pub is_of_sessions : PlantError → Bool
 is_of_sessions (plant.Engine engine.BadSessions) = true
 is_of_sessions _ = false
 
--- why a session ends early: a fault that is not of a line. A refused number of sessions is one only of a plant that was made
+-- why a session ends early: a fault that is not of a line. A refused number of sessions is one only once a plant was made
 abbrev pub IsFaultOf : Type 0 → StepError → Type 0
 IsFaultOf Made (error.Script e) = ⊥
 IsFaultOf Made (error.Plant n cause) = is_of_sessions cause ≡ true → Made

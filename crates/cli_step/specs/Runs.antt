@@ -58,7 +58,7 @@ abbrev pub AreLines : List Action → List ℕ → List ℕ → Type 0
 AreLines [] script rest = rest ≡ script
 AreLines (a ∷ acts) script rest = Means script a × AreLines acts (others_of script) rest
 
--- so many lines of a script were run, and their texts written
+-- the lines of a script before those that are left were run, and their texts written
 pub record Ran (script left : Actions) (p : Point) (before : Option (List ℕ)) (q : Point) (after : Option (List ℕ)) : Type 0 where
   pub acts : List Action
   pub lines : AreLines acts script.rest.now left.rest.now
@@ -85,7 +85,7 @@ IsOfJournal (act.Plant plant.OutOfMemory) = ⊤
 IsOfJournal (act.Plant (plant.Journal cause)) = ⊤
 IsOfJournal _ = ⊥
 
--- something was written, and what was there before stands
+-- something was written, and what was there before remains
 abbrev pub Grows : Option (List ℕ) → Option (List ℕ) → Type 0
 Grows before after = (text : Text) × Appends before after text
 
@@ -107,7 +107,7 @@ IsOfNext rest p text = (text ≡ []) ⊎ ((a : Action) × Means rest a × (IsLef
 abbrev pub IsFailed : List ℕ → Text → Type 0
 IsFailed rest text = (a : Action) × Means rest a × IsLeft a text
 
--- why a run ends early after so many lines, and before these: `text` is of those, `more` of the next line
+-- why a run ends early after this many lines and before the rest: `text` is of the former, `more` of the next line
 abbrev pub IsCause : StepError → ℕ → List ℕ → Option (List ℕ) → Option (List ℕ) → Text → Text → Type 0
 IsCause (error.Script e) lines rest before after text more =
     (rest ≢ []) × IsActionRefusal (lines + 1) (line_of rest) (meaning_of (line_of rest)) e × Appends before after text
@@ -131,7 +131,7 @@ pub record Stopped (script : Actions) (p : Point) (before : Option (List ℕ)) (
   pub written : Appends before after (take count (text ++ more))
   pub cause : IsCause e (script.lines + length acts) rest before after text more
 
--- a plant was made of the flow, with so many sessions: its engine is opened on a journal that has not failed, and its stations
+-- a plant was made of the flow, with this many sessions: its engine is opened on a journal that has not failed, and its stations
 -- have the names of the flow's participants
 pub record Begun (flow : Flow) (sessions : ℕ) (p : Point) : Type 0 where
   pub journal : Seen
@@ -167,7 +167,7 @@ pub record Played (flow : Flow) (sessions : ℕ) (script : Actions) (before afte
   pub ran : Ran script left start before end after
   pub all : left.rest.now ≡ []
 
--- a whole script was run, over the flow of a flow file where there is one; one of settings alone writes nothing
+-- a whole script was run, over the flow of a flow file where there is one; a script of only settings writes nothing
 abbrev pub IsRun : Option Flow → List ℕ → Option (List ℕ) → Option (List ℕ) → Type 0
 IsRun file script before after =
     (IsOpenedAs file script None × Keeps before after)

@@ -29,7 +29,7 @@ abbrev pub calls_made : List Text → List ℕ → Text → ℕ
 calls_made (n ∷ names) (c ∷ calls) name = if bytes_eq n name then c else calls_made names calls name
 calls_made _ _ name = 0
 
--- the line of an action that only shows something; of another one none
+-- the line of an action that only shows something; any other action has none
 abbrev pub IsShown : Action → Point → Option Text → Type 0
 IsShown (action.Where s) p line = line ≡ Some (where_line (world_of p) s)
 IsShown (action.Rest s) p line = line ≡ Some (rest_text (world_of p).flow (rest_of (world_of p) s))

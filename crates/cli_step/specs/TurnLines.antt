@@ -32,7 +32,7 @@ refusal_name error.OutOfMemory = codes "OutOfMemory"
 refusal_name error.InUse = codes "InUse"
 refusal_name error.NotWritten = codes "NotWritten"
 
--- where the transaction stands that the session holds
+-- where the session's transaction stands
 abbrev pub place_now : World → ℕ → Option Place
 place_now w s = option_map place_at (at_of w s)
 
@@ -40,7 +40,7 @@ place_now w s = option_map place_at (at_of w s)
 abbrev pub held_line : World → ℕ → Text
 held_line w s = option_map_or (held_text w.flow s) (place_now w s) (codes "idle " ++ decimal s)
 
--- what came of a turn of this session that is not an entry
+-- the line of what came of a turn of this session, where that is not an entry
 abbrev pub outcome_line : World → ℕ → Outcome → Text
 outcome_line w s (outcome.Accepted n) = []
 outcome_line w s (outcome.Refused e) = codes "refused " ++ refusal_name e
@@ -51,7 +51,7 @@ outcome_line w s (outcome.Written n) = codes "written " ++ decimal n
 outcome_line w s (outcome.Restarted n) = codes "restart " ++ decimal n
 outcome_line w s (outcome.Cut n) = codes "cut " ++ decimal n
 
--- the line of what came of it: of an entry its line in the trace
+-- the line of what came of it: for an entry, its line in the trace
 abbrev pub turn_line : World → ℕ → Outcome → Option Text
 turn_line w s (outcome.Accepted n) = line_in w n
 turn_line w s o = Some (outcome_line w s o)

@@ -28,7 +28,7 @@ fn offer_of(alloc: Global, puts: &Sequence<Put>) -> Result<Turn, NoMemory>
     Ok(Turn::Offer(context))
 }
 
-/// The turn that a line is; `None` where it only shows something, or is `auto`. Out of memory is the only
+/// The turn that a line is; `None` if it only shows something, or is `auto`. Out of memory is the only
 /// refusal.
 pub fn turn_of(alloc: Global, action: &Action) -> Result<Option<Turn>, NoMemory>
     ensures { IfOk result (λ t. t ≡ turn_of action.now) }
@@ -51,7 +51,7 @@ pub fn turn_of(alloc: Global, action: &Action) -> Result<Option<Turn>, NoMemory>
     Ok(Some(turn))
 }
 
-// The session that the line of a step names.
+// The session that a `call` line names; 0 for any other line.
 fn session_of(action: &Action) -> usize
     ensures { result ≡ session_of action.now }
 {
@@ -82,7 +82,7 @@ fn run_turn<S: Alter>(
 }
 
 /// Runs a line, and adds what it prints. A line that is a turn does that turn, and the line of what came
-/// of it is added. Where it fails nothing is added, except what `auto` printed before.
+/// of it is added. If it fails, nothing is added, except what `auto` printed before.
 pub fn run_action<S: Alter>(
     alloc: Global,
     plant: &mut Plant<S>,

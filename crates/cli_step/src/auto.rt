@@ -15,7 +15,7 @@ use sw_context::Context;
 use tx_plant::{Outcome, Plant, Turn};
 use tx_trace::Tracer;
 
-/// More steps than there are entries in a history, so that each `auto` ends by itself.
+/// More steps than a history can have entries, so that each `auto` ends by itself.
 const MOST_STEPS: u32 = 1_048_577;
 
 fn is_refused(outcome: &Outcome) -> bool
@@ -36,7 +36,7 @@ fn is_accepted(outcome: &Outcome) -> bool
     matches!(outcome, Outcome::Accepted(_))
 }
 
-// Does a turn, and adds its line only where it is refused.
+// Does a turn, and adds its line only if it is refused.
 fn quiet_turn<S: Alter>(
     alloc: Global,
     plant: &mut Plant<S>,
@@ -58,7 +58,7 @@ fn quiet_turn<S: Alter>(
     push_turn(alloc, plant.engine(), tracer, 0, &outcome, text)
 }
 
-// Writes all, and makes the due call of session 0; whether there may be more to do.
+// Writes everything, and makes the due call of session 0. Answers whether there may be more to do.
 fn auto_step<S: Alter>(
     alloc: Global,
     plant: &mut Plant<S>,
@@ -82,8 +82,9 @@ fn auto_step<S: Alter>(
     Ok(is_accepted(&outcome))
 }
 
-/// Offers an empty context, takes with session 0, and makes that session's due calls, all written before
-/// each, until it is idle or held. Adds the lines of these calls, of refusals, and of a held call.
+/// Offers an empty context, takes with session 0, and makes that session's due calls until one is not
+/// accepted, as when the session is idle or its call is held. All entries are written before each call and
+/// at the end. Adds the lines of these calls, of refusals, and of a held call.
 pub fn auto<S: Alter>(
     alloc: Global,
     plant: &mut Plant<S>,

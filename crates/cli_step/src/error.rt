@@ -13,7 +13,7 @@ use thiserror::Error;
 use tx_journal::JournalError;
 use tx_plant::PlantError;
 
-/// Why the run of a script ends early, and at which line. What the lines before it printed stands.
+/// Why the run of a script ends early, and at which line. What the lines before it printed remains.
 #[derive(Debug, Drop, Error)]
 pub enum StepError {
     /// A line of the script or its flow is refused.

@@ -10,7 +10,7 @@ use cli_script::{ScriptError, next_setting};
 use std::alloc::Global;
 use std::io::Read;
 
-// Whether the line is a setting that may stand at the head of a script.
+// Whether the line is a setting that is allowed at the head of a script.
 fn is_setting(alloc: Global, has_file: bool, line: &[u8]) -> Result<bool, StepError>
     ensures setting { IfOk result (λ is. is ≡ true → IsPlacedSetting has_file line.now) }
     ensures none { IfOk result (λ is. is ≡ false → IsNoSetting has_file line.now) }

@@ -2,7 +2,7 @@
 //!
 //! Promised here, by the definitions in `specs/`:
 //! - each line that is a turn does that turn of the plant (`Plant::drive`), and prints the line of what came
-//!   of it: of an accepted event the line of its entry, by a tracer that goes along (`Says`);
+//!   of it: for an accepted event, the line of its entry, by a tracer that follows the history (`Says`);
 //! - `where` prints the place that `tx_trace::whereis` gives;
 //! - at a prompt a line that is refused is reported and changes nothing, and the session goes on (`IsPrompted`).
 #![tactic(auto)]

@@ -28,12 +28,12 @@ use tx_engine::EngineError;
 use tx_plant::{Plant, PlantError};
 use tx_trace::Tracer;
 
-/// What a line is where no flow is opened yet.
+/// What a line is before a flow is opened.
 #[derive(Drop)]
 enum HeadLine {
     /// `help`.
     Help,
-    /// A setting that may stand there.
+    /// A setting that is allowed there.
     Setting,
     /// An action, `list` or `info`: the flow is opened for it.
     Opens,
@@ -41,7 +41,7 @@ enum HeadLine {
     Refused(ScriptError),
 }
 
-// What a line is where no flow is opened yet. So many lines came before it.
+// What a line is before a flow is opened. `before` lines came before it.
 fn head_line(
     alloc: Global,
     has_file: bool,
@@ -74,7 +74,7 @@ fn code_of(alloc: Global, file: Option<Flow>) -> Result<Option<Code>, AllocError
     }
 }
 
-// Their flow.
+// The flow of these steps.
 fn flow_of(alloc: Global, file: &Option<Code>) -> Result<Option<Flow>, AllocError>
     ensures { IfOk result (λ flow. flow ≡ file.now) }
 {
@@ -102,8 +102,9 @@ fn plant_refused(cause: PlantError, line: usize) -> Result<StepError, StepError>
     Err(ActionError::Plant(cause).at_line(line))
 }
 
-// Answers a line over a plant of these stations with a journal in memory, and then all that are still to come; or gives
-// why no plant is made. (Apart, so that its proof does not carry their making.)
+// Answers a line over a plant of these stations with a journal in memory, and then all that are still to come; or
+// returns why no plant is made. (Apart from `open_over`, so that its proof does not carry how the stations are
+// made.)
 fn talk_over<R: Read, W: Write, E: Write>(
     alloc: Global,
     code: &Code,
@@ -142,8 +143,9 @@ fn talk_over<R: Read, W: Write, E: Write>(
     Ok(Ok(()))
 }
 
-// Makes a participant by the settings for each one of the flow, and answers a line over their plant, and then all that
-// are still to come; or gives why no plant is made. (It hands no station out, as `play`.)
+// Makes for each participant of the flow one that replies as the settings say, and answers a line over their
+// plant, and then all that are still to come; or returns why no plant is made. (Like `play`, it hands no station
+// out.)
 fn open_over<R: Read, W: Write, E: Write>(
     alloc: Global,
     opening: Opening,
@@ -233,8 +235,8 @@ fn open_or_tell<R: Read, W: Write, E: Write>(
     }
 }
 
-// Answers a line where no flow is opened yet, unless the flow is to be opened for it; whether it is. So many lines came
-// before it.
+// Answers a line before a flow is opened, unless the flow is to be opened for it. Returns whether it is. `before`
+// lines came before the line.
 fn answer_head<W: Write, E: Write>(
     alloc: Global,
     file: &Option<Code>,
@@ -273,11 +275,11 @@ fn answer_head<W: Write, E: Write>(
     }
 }
 
-/// Runs a session at a prompt: writes the prompt, reads a line, and answers it before the next prompt, up to the end of
-/// the input, which ends the last prompt's line. The settings stand first. At the first line that needs a plant the
-/// flow is the one that they state, over that of a flow file if there is one.
+/// Runs a session at a prompt: writes the prompt, reads a line, and answers it before the next prompt, up to the
+/// end of the input, where it ends the last prompt's line. The settings come first. At the first line that needs a
+/// plant, the flow that they state is opened, over that of a flow file if there is one.
 ///
-/// A line that is refused is reported on `err` and changes nothing, and the session goes on. Where the flow or the
+/// A line that is refused is reported on `err` and changes nothing, and the session goes on. If the flow or the
 /// number of sessions is refused, the settings stay, and more may follow.
 pub fn run_prompted<R: Read, W: Write, E: Write>(
     alloc: Global,

@@ -25,7 +25,7 @@ impl fmt::Display for CallText<'_> {
     }
 }
 
-/// ` GROUP/INDEX`, where an entry is called.
+/// ` GROUP/INDEX`, if an entry is called.
 #[derive(Drop)]
 struct CalledEntry<'a> {
     names: Names<'a>,
@@ -48,7 +48,7 @@ impl fmt::Display for CalledEntry<'_> {
     }
 }
 
-/// ` step N`, where there is one.
+/// ` step N`, if there is one.
 #[derive(Drop)]
 struct StepText {
     step: Option<usize>,

@@ -58,7 +58,7 @@ pub fn leave<W: Write>(out: &mut W) -> Result<(), StepError>
     Ok(write_out(out, b"\n")?)
 }
 
-// Where no line has the word, `help` is named.
+// Names `help` if the first word is not a command.
 fn hint(cause: &StepError) -> &'static str {
     match cause {
         StepError::Script(

@@ -1,4 +1,4 @@
-//! The lines that a prompt has beside those of a script, and what they show.
+//! The lines that a prompt has besides those of a script, and what they show.
 
 ghost use Rattle.std.specs.Prelude.{◌≡◌, ◌++◌, Some, IfOk, OnOk, option_map, string_bytes};
 ghost use Rattle.cli_script.specs.Scripts.{line_of};
@@ -16,12 +16,12 @@ use std::fmt;
 use tx_engine::Engine;
 use tx_trace::whereis;
 
-/// A line that a prompt has beside those of a script: its word alone.
+/// A line that a prompt has besides those of a script: a word and nothing else.
 #[derive(Clone, Copy)]
 pub enum PromptWord {
     /// `help`: the lines, each with its meaning.
     Help,
-    /// `list`: the numbered steps of the flow, and at which of them the sessions stand.
+    /// `list`: the numbered steps of the flow, and at which of them the sessions are.
     List,
     /// `info`: where each session stands, how many contexts wait, and how many entries are written.
     Info,
@@ -104,7 +104,7 @@ pub fn prompt_word_at(line: &[u8]) -> Option<PromptWord>
     prompt_word_of(&line[..line_end(line)])
 }
 
-// The line of `list` of a session whose transaction stands at a numbered step.
+// The line of `list` for a session whose transaction is at a numbered step; `None` for any other.
 fn step_line(alloc: Global, engine: &Engine, s: usize) -> Result<Option<String>, AllocError>
     ensures { IfOk result (λ line. option_map string_bytes line ≡ step_line engine.now s) }
 {
@@ -138,7 +138,7 @@ fn list_text(alloc: Global, engine: &Engine) -> Result<Vec<u8>, AllocError>
     Ok(text)
 }
 
-// The line of `info` of a session.
+// The line of `info` for a session.
 fn session_line(alloc: Global, engine: &Engine, s: usize) -> Result<String, AllocError>
     ensures { IfOk result (λ line. string_bytes line ≡ session_line engine.now s) }
 {

@@ -76,8 +76,8 @@ pub fn run_line<S: Alter, W: Write>(
     put_out(out, text.as_str(), ran, line)
 }
 
-/// Runs the lines after the settings over a plant, and writes what each prints. Where it ends early,
-/// what was written is what the lines before printed, and of the next one a beginning.
+/// Runs the lines after the settings over a plant, and writes what each prints. If it ends early, what
+/// was written is what the lines before printed, and a beginning of what the next one prints.
 pub fn run_actions<S: Alter, W: Write>(
     alloc: Global,
     plant: &mut Plant<S>,
@@ -134,8 +134,8 @@ fn run_rest<R: Read, S: Alter, W: Write>(
     Ok(())
 }
 
-// Runs these lines, and then those that are still to come, over a plant of these stations with a journal in memory
-// (apart, so that its proof does not carry their making).
+// Runs these lines, and then those that are still to come, over a plant of these stations with a journal in
+// memory. (Apart from `play`, so that its proof does not carry how the stations are made.)
 fn play_over<R: Read, W: Write>(
     alloc: Global,
     code: &Code,
@@ -165,9 +165,9 @@ fn play_over<R: Read, W: Write>(
     run_rest(alloc, &mut plant, &mut tracer, lines, out)
 }
 
-// Makes a participant by the script for each one of the flow, and runs the lines after the settings, those of the
-// script and those that are still to come. (It hands no station out, so that contracts know of every participant
-// whose it is.)
+// Makes for each participant of the flow one that replies as the script says, and runs the lines after the
+// settings: those of the script and those that are still to come. (It hands no station out, so that contracts know
+// whose each participant is.)
 fn play<R: Read, W: Write>(
     alloc: Global,
     script: Script<'_>,
@@ -210,8 +210,8 @@ fn play<R: Read, W: Write>(
 /// prints before the next one is read. The flow is the one that its settings state, over that of a flow file if
 /// there is one; its participants reply as the settings say.
 ///
-/// A line that is refused ends the run: what the lines before it printed stands. What an engine refuses
-/// is printed, and the run goes on.
+/// A line that is refused ends the run, and what the lines before it printed remains. What an engine
+/// refuses is printed, and the run goes on.
 pub fn run_lines<R: Read, W: Write>(
     alloc: Global,
     file: Option<Flow>,

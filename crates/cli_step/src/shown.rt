@@ -22,7 +22,7 @@ use tx_engine::{Engine, EngineError};
 use tx_plant::Plant;
 use tx_trace::{Hex, Names, rest};
 
-/// Adds a line to a text, where there is one.
+/// Adds a line to a text, if there is one.
 pub fn push_line(text: &mut String, line: Option<String>) -> Result<(), AllocError>
     ensures line { OnOk result (string_bytes text.new
         ≡ string_bytes text.old ++ whole_line (option_map string_bytes line)) }
@@ -78,7 +78,7 @@ fn push_hex(alloc: Global, text: &mut String, bytes: &[u8]) -> Result<(), AllocE
     Ok(())
 }
 
-// Adds ` N=HEX` for the entry at this place of the context.
+// Adds ` N=HEX` for the entry of the context with this index.
 fn push_put(
     alloc: Global,
     text: &mut String,
@@ -124,7 +124,7 @@ fn saved_line(alloc: Global, engine: &Engine, s: usize) -> Result<String, AllocE
     }
 }
 
-// How many calls were made of the station of this name; 0 where there is no such station.
+// How many calls were made of the station of this name; 0 if there is no such station.
 fn calls_made<S: Alter>(plant: &Plant<S>, name: &str) -> u64
     ensures { result ≡ calls_made (point_of S.Store plant.now).names
         (point_of S.Store plant.now).calls name.now }

@@ -38,7 +38,7 @@ pub fn refusal_name(error: &EngineError) -> &'static str
     }
 }
 
-// The call of the session that is held.
+// The line of the session's held call.
 fn held_line(alloc: Global, engine: &Engine, s: usize) -> Result<String, AllocError>
     ensures { IfOk result (λ line. string_bytes line ≡ held_line engine.now s) }
 {
@@ -74,7 +74,7 @@ pub fn where_line(alloc: Global, engine: &Engine, s: usize) -> Result<String, Al
     }
 }
 
-/// What `step` prints of a turn of this session that made no entry: a refusal, `idle S`, `unwritten S`,
+/// What `step` prints for a turn of this session that made no entry: a refusal, `idle S`, `unwritten S`,
 /// `held S NEXT`, `written MARK`, `restart UNFINISHED`, `cut NEXTID`. Empty for an entry, whose line is that of the
 /// trace.
 pub fn outcome_line(
@@ -109,7 +109,7 @@ pub fn outcome_line(
     }
 }
 
-// The line of what came of a turn of this session, without a line feed: of an entry its line in the
+// The line of what came of a turn of this session, without a line feed: for an entry, its line in the
 // trace.
 fn turn_line(
     alloc: Global,

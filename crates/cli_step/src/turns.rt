@@ -40,7 +40,7 @@ fn is_fresh(outcome: &Outcome) -> bool
     matches!(outcome, Outcome::Restarted(_) | Outcome::Cut(_))
 }
 
-/// Does a turn. Where it begins the history anew, the tracer begins anew too.
+/// Does a turn. If it begins the history anew, the tracer begins anew too.
 pub fn do_turn<S: Alter>(
     alloc: Global,
     plant: &mut Plant<S>,

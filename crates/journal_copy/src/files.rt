@@ -72,9 +72,9 @@ fn copy_once<F: Files>(
     }
 }
 
-/// Reads the database file at a path and the log beside it, whose path ends with `-wal` in addition.
-/// Nothing is written, and no lock is taken: if a program that writes to them begins the log anew while
-/// they are read, they are read again, up to ten times in all.
+/// Reads the database file at a path and the log beside it, whose path has `-wal` added. Nothing is
+/// written, and no lock is taken: if a program that writes to them begins the log anew while they are
+/// read, they are read again, up to ten times in all.
 pub fn copy_files<F: Files>(alloc: Global, files: &F, path: &str) -> Result<Copy, CopyError> {
     let log_path = format!(in alloc; "{path}-wal")?;
     for _ in 0..TRIES {

@@ -30,7 +30,8 @@ fn refusal(error: Error) -> LookError
 
 /// The journal that the bytes of a database file and of its log hold, as an opening of these files
 /// would find it. A journal with rows at fault is refused with the first of them and the journal that
-/// is left without them; a file that is not a journal is refused too. Out of memory is reported as such.
+/// is left without them, if there is one; a file that is not a journal is refused too. Out of memory is
+/// reported as such.
 pub fn look(alloc: Global, db: &[u8], log: &[u8]) -> Result<Found, LookError>
     ensures found { IfOk result (λ f.
         HoldsJournal (image_of db.now log.now) f.layout f.view) }

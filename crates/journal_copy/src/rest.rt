@@ -10,7 +10,7 @@ use std::alloc::Global;
 use tx_history::JournalView;
 use tx_journal::Stored;
 
-/// With this many rows at fault nothing is left: each of them costs a look at all rows.
+/// With this many rows at fault there is no [`Rest`]: each of them costs a look at all rows.
 const MOST_LEFT_OUT: u32 = 1_000;
 
 /// A journal without its rows at fault.
