@@ -217,7 +217,7 @@ def written(words):
 
 # What `help` shows.
 HELP = """\
-Settings stand first; the flow is opened at the first other line but help.
+Settings come first. The first other line, except help, opens the flow.
 retries N                  how often a transaction that aborts with RETRY is tried again
 sessions N                 the number of sessions, 1 to 16
 flow GROUP [ENTRY ..]      adds a group to the flow; an entry is NAME or NAME:MARKS
@@ -231,19 +231,19 @@ take S                     session S takes the first context of the queue
 call S                     makes the due call of session S
 go S                       lets the held call of session S go
 break NAME                 holds the calls of the participant from now on
-clear NAME                 holds them no more
-where S                    shows where the transaction of session S stands
-rest S                     shows its entries that are to come
-saved S                    shows the context that a stop would leave it
-calls NAME                 shows how many calls the participant was made
+clear NAME                 holds them no longer
+where S                    shows where the transaction of session S is
+rest S                     shows its entries that are still to come
+saved S                    shows its saved context
+calls NAME                 shows how many calls of the participant were made
 write [K]                  writes all entries, or the oldest K
 release                    puts the shelf at the end of the queue
-ack ID PLACE               says that the advice of this place was forwarded
-stop                       gives up all but the journal and the participants
+ack ID PLACE               reports that the advice of this place was forwarded
+stop                       discards all but the journal and the participants
 cut                        begins the history anew, without a stop
 auto                       runs one transaction with an empty context to its end
 
-list                       shows the steps of the flow, and where the sessions stand
+list                       shows the steps of the flow, and where the sessions are
 info                       shows each session, the queue, the shelf and what is written
 help                       shows these lines
 """.splitlines()

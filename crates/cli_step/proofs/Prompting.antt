@@ -1,5 +1,5 @@
 -- A session at a prompt, one line after the other.
--- for: prompt::ask, prompt::leave, prompt::tell, prompt::show_request, prompt::answer, prompt::talk, opening::talk_over, opening::run_prompted
+-- for: prompt::ask, prompt::leave, prompt::tell, prompt::show_word, prompt::answer, prompt::talk, opening::talk_over, opening::run_prompted
 use Rattle.std.proofs.Common.{◌≡◌, ◌≢◌, ◌∙◌, ◌++◌, ◌∷◌, [], ℕ, ◌+◌, Bool, true, false, List, Option, None, Some, IfSome, Result, Err, Ok}
 use Rattle.std.proofs.Common.{IfErr, OnOk, inl, inr, refl, sym, subst}
 use Rattle.std.specs.Bool.{⊤}

@@ -1,5 +1,5 @@
 -- The journal that disks in memory hold.
--- for: look::look
+-- for: looking::look
 use Rattle.std.proofs.Common.{◌≡◌, ℕ, Bool, true, List, [], ◌∷◌, length, Option, Some, None, arith, refl, sym, ap, subst, inl, inr, ◌∙◌}
 use Rattle.std.specs.List.{AllZip}
 use Rattle.std.proofs.lemmas.Bool.{and_from}
