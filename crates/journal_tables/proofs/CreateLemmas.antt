@@ -23,7 +23,7 @@ pub record MakesTable (schema next : Schema) (table : Table) (text : List ℕ) :
   pub statement : statement_of text (understood schema text) ≡ text
   pub plain : IsPlain (understood schema text)
 
--- a table more, which is empty; the others are as they were
+-- one more table, which is empty; the others are as they were
 pub record IsCreated (schema next : Schema) (old new : State) : Type 0 where
   pub schema_is : new.now.schema ≡ next
   pub sound : IsDatabase new.now

@@ -1,4 +1,4 @@
--- The rows of a table as pairs of a rowid and the columns behind it, in the order of the rowids.
+-- The rows of a table as pairs of a rowid and the columns after it, in the order of the rowids.
 -- for: whoever reads or changes a table, here and in tx_journal
 use Rattle.std.proofs.Common.{◌≡◌, ◌<ℤ◌, ℤ, List, [], ◌∷◌, map, drop, true, Less, IsTrue, refl, sym, ap, subst, ◌∙◌, true≢false}
 use Rattle.std.specs.List.{AllByRecursion}

@@ -1,8 +1,8 @@
-//! Two disks whose calls are counted together: one of them fails, once or with all that follow; for
+//! Two disks whose calls are counted together: one call fails, alone or with all that follow it; for
 //! tests of what a fault leaves.
 //!
-//! Of both disks holds what `sqlite_disk` asks of a disk, and they begin as the disks that they are over
-//! ([`pair`]), which they give back ([`Once::into_inner`]). Which call fails no contract says.
+//! What `sqlite_disk` asks of a disk holds of both. They begin as the disks that they are over
+//! ([`pair`]), and give these back ([`Once::into_inner`]). No contract says which call fails.
 #![tactic(auto)]
 
 ghost use Rattle.std.specs.Prelude.{◌≡◌, ◌+◌, ◌&&◌, not, false, IfOk, IsErr};
@@ -18,17 +18,18 @@ use std::sync::Arc;
 use std::sync::atomic::{AtomicU64, Ordering};
 use std::thread::yield_now;
 
-/// What comes of the call that finds the counter at 0.
+/// What happens at the call that finds the counter at 0.
 #[derive(Clone, Copy)]
 pub enum Fault {
-    /// It fails, after so many yields, and those that follow do not.
+    /// It fails, after this many yields of its thread, and those that follow do not.
     Once { yields: u64 },
-    /// It fails and all that follow do, until a crash: the machine has stopped. (The calls come from
-    /// one thread.)
+    /// It fails, and so do all that follow, until a crash: the machine has stopped. (The calls come
+    /// from one thread.)
     Stop,
 }
 
-/// It passes each call on, but for those that its fault lets fail.
+/// A disk that passes each call on to the one that it is over, except those that its fault makes
+/// fail.
 #[derive(Drop)]
 pub struct Once<D: Disk> {
     inner: D,
@@ -38,8 +39,8 @@ pub struct Once<D: Disk> {
     sync_refused: bool,
 }
 
-/// Two disks over these two, with one counter: of their calls together the one after `calls` others
-/// meets the fault.
+/// Makes two disks over these two, with one counter: of all their calls together, the one after
+/// `calls` others meets the fault.
 pub fn pair<D: Disk + Drop>(
     alloc: Global,
     first: D,
@@ -73,7 +74,7 @@ pub fn pair<D: Disk + Drop>(
 }
 
 impl<D: Disk> Once<D> {
-    /// The disk that it is over.
+    /// Hands back the disk that it is over.
     pub fn into_inner(self) -> D
         ensures { result ≡ self.inner }
     {

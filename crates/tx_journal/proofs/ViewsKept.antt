@@ -1,4 +1,4 @@
--- The view that a database has is that of the journal that is opened of it.
+-- The view that a database has is that of the journal that is opened on it.
 -- for: journal::Journal::open
 use Rattle.std.proofs.Common.{◌≡◌, ◌∙◌, None, inl, inr, refl, sym, subst}
 use Rattle.sqlite.specs.Effect.{Database}
@@ -23,7 +23,7 @@ first_sound d first = subst (λ (s : Schema). IsSound s d.trees) first.schema_is
 new_fine : IsFaultIn new_tables None
 new_fine = record { in_tx = None; in_shelf = None; is_tx = refl; is_shelf = refl; first = refl }
 
--- tables of which an opening is made have the view
+-- the tables that an opening makes have the view
 view_opened : (db : Database) (v : JournalView) (t : Tables) → IsViewOf db v → OpensAs db.trees t → IsViewIn t v
 view_opened db v t (inl is) o = subst (λ (u : Tables). IsViewIn u v) (sym (opens_sound db.trees t (journal_sound db is.0) o)) is.1
 view_opened db v t (inr (inl is)) o =
@@ -32,7 +32,7 @@ view_opened db v t (inr (inl is)) o =
 view_opened db v t (inr (inr is)) o = subst (λ (u : Tables). IsViewIn u v) (sym (opens_empty db.trees t is.0 o))
     (record { sound = new_fine; reads = sym is.1 })
 
--- of a database that has a view an opening is made
+-- a database that has a view can be opened
 opened_of : (db : Database) (v : JournalView) → IsViewOf db v → (t : Tables) × OpensAs db.trees t
 opened_of db v (inl is) = (tables_of db.trees, inl (journal_sound db is.0, refl))
 opened_of db v (inr (inl is)) = (turned (first_tables_of db.trees), inr (inl (first_sound db is.0, is.1, refl)))

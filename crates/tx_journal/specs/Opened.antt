@@ -28,7 +28,7 @@ IsViewOf db v =
 abbrev pub HasView : JournalState → JournalView → Type 0
 HasView j v = IsViewIn j.tables v × ((t : Tables) → j.may_leave t → IsViewIn t v)
 
--- the view that a database had is that of the journal that was opened of it
+-- the view that a database had is that of the journal that was opened on it
 abbrev pub KeepsView : Trees → JournalState → Type 0
 KeepsView was j = (db : Database) (v : JournalView) → db.trees ≡ was → IsViewOf db v → HasView j v
 
