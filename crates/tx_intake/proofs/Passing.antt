@@ -9,7 +9,7 @@ use Rattle.crossbeam_queue.proofs.Lists.{at_set, at_snoc}
 use Rattle.tx_intake.specs.Rule.{side, Fits, Passed, HeldOfPut}
 use Rattle.tx_intake.specs.declared.rule.Side.{Side}
 
--- what stands in a longer list, and not in the list, stands after it
+-- what is in a longer list, but not in the list, comes after it
 at_end : (l : List Side) (a b : Side) (j : ℕ) → get_elem? l j ≢ some b → get_elem? (l ++ a ∷ []) j ≡ some b → j ≡ length l
 at_end [] a b zero n e = refl
 at_end [] a b (suc j) n e = absurd (some-ne-none b (sym e))

@@ -22,7 +22,7 @@ pub record Passage : Type 0 where
 abbrev pub passage : IntakeId → ℕ → Passage
 passage id capacity = record { id = id; capacity = capacity }
 
--- an end: of which intake it is, and what has passed it
+-- an end: to which intake it belongs, and what has passed it
 pub record End : Type 0 where
   pub intake : IntakeId
   pub passed : Offers
@@ -40,7 +40,7 @@ pub record IsNew (places : ℕ) (made : Passage) (putter getter : End) : Type 0 
   pub puts : putter ≡ end_of made.id []
   pub gets : getter ≡ end_of made.id []
 
--- at a moment the intake was full: what had been put was what had been got, and then as many offers as it holds at most
+-- at a moment the intake was full: what had been put was what had been got, followed by as many offers as it holds at most
 abbrev pub WasFull : Passage → End → Type 0
 WasFull full putter = Held full.capacity (λ held. (got : Offers) × (putter.passed ≡ got ++ held))
 

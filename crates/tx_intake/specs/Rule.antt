@@ -1,4 +1,4 @@
--- The rule of an intake: what was put is what was got, and then what it holds, which is no more than the largest capacity.
+-- The rule of an intake: what was put is what was got, followed by what it holds, which is no more than the largest capacity.
 -- At most one pass may put, and it knows what was put. The same for getting.
 use Rattle.std.specs.Prelude.{◌≡◌, ◌≤◌, ◌^◌, ◌%◌, ℕ, Bool, true, ◌++◌, List, length}
 use mathlib.Core.Option.{some}

@@ -6,7 +6,7 @@ ghost use Rattle.tx_intake.specs.declared.error.IntakeError.TheVariants.{OutOfMe
 use std::alloc::AllocError;
 use thiserror::Error;
 
-/// Why no intake is made. The numbers of the refusals are, as the pool counts its own: 6
+/// Why no intake is made. The numbers of the refusals are those that the pool has for them: 6
 /// `OutOfMemory`, 7 `BadCapacity`.
 #[derive(Clone, Copy, Debug, PartialEq, Eq, Error)]
 pub enum IntakeError {

@@ -18,7 +18,7 @@ use tx_engine::Offer;
 /// The largest capacity.
 const MOST_OFFERS: usize = 4_096;
 
-/// A bounded queue of offers, which threads share. Contracts see which it is and its capacity.
+/// A bounded queue of offers, which threads share. Contracts see which one it is, and its capacity.
 pub struct Intake {
     line: Line,
 }
@@ -41,8 +41,8 @@ impl Model for Intake {
     ghost invariant = { λ i. i.line.cap ≤ 4096 };
 }
 
-/// The end of an intake at which offers are put. Contracts see of which intake it is, and what was
-/// put, oldest first.
+/// The end of an intake at which offers are put. Contracts see to which intake it belongs, and what
+/// was put, oldest first.
 pub struct Putter {
     pass: Pass<Offer, Side>,
     /// How many offers were put, modulo 2^64.
@@ -81,8 +81,8 @@ impl Model for Putter {
         × IsCounted p.count (view_of p.pass).put };
 }
 
-/// The end of an intake at which offers are got. Contracts see of which intake it is, and what was
-/// got, oldest first.
+/// The end of an intake at which offers are got. Contracts see to which intake it belongs, and what
+/// was got, oldest first.
 pub struct Getter {
     pass: Pass<Offer, Side>,
     /// How many offers were got, modulo 2^64.
@@ -122,8 +122,8 @@ impl Model for Getter {
 }
 
 impl Intake {
-    /// An empty intake that holds so many offers at most, with its two ends. Refuses `BadCapacity`
-    /// unless that is 1 to 4,096.
+    /// Makes an empty intake that holds at most `capacity` offers, with its two ends. Refuses
+    /// `BadCapacity` unless the capacity is 1 to 4,096.
     pub fn new(alloc: Global, capacity: usize) -> Result<(Intake, Putter, Getter), IntakeError>
         ensures { Accepts IntakeError.OutOfMemory (capacity_refusal capacity) result
             (λ r. IsNew capacity r.0 r.1 r.2) ⊤ }
@@ -146,8 +146,8 @@ impl Intake {
         ))
     }
 
-    /// Puts an offer at the end of the queue. It comes back, and nothing has changed, only where
-    /// the intake was full at a moment of the call. It takes no memory.
+    /// Puts an offer at the end of the queue. The offer comes back, and nothing has changed, only if
+    /// the intake was full at a moment of the call. The call takes no memory.
     pub fn put<R: Wait>(&self, rt: &R, putter: &mut Putter, offer: Offer) -> Result<(), Offer>
         requires own { putter.old.intake ≡ self.now.id }
         ensures own { putter.new.intake ≡ putter.old.intake }
@@ -161,10 +161,10 @@ impl Intake {
         Ok(())
     }
 
-    /// Gets the oldest offer, or none where the intake was empty at a moment of the call. No clause
-    /// says that it was empty: the queue tells of that moment only by what this end knows, and a
-    /// getter does not know what was put, so such a clause would hold of every moment. It takes no
-    /// memory.
+    /// Gets the oldest offer, or `None` if the intake was empty at a moment of the call. No clause
+    /// says that it was empty: the queue tells of that moment only in terms of what this end knows,
+    /// and a getter does not know what was put, so such a clause would hold of every moment. The call
+    /// takes no memory.
     pub fn get<R: Wait>(&self, rt: &R, getter: &mut Getter) -> Option<Offer>
         requires own { getter.old.intake ≡ self.now.id }
         ensures own { getter.new.intake ≡ getter.old.intake }
@@ -176,7 +176,7 @@ impl Intake {
         Some(offer)
     }
 
-    /// Ends the intake, and answers whether all that was put was got: what was got is in any case
+    /// Ends the intake, and returns whether all that was put was got. In any case, what was got is
     /// the beginning of what was put.
     pub fn settle(self, putter: Putter, getter: Getter) -> bool
         requires putter { putter.intake ≡ self.id }
@@ -185,8 +185,8 @@ impl Intake {
         ensures all { result ≡ true → getter.passed ≡ putter.passed }
         ensures left { result ≡ false → getter.passed ≢ putter.passed }
     {
-        // The queue's own test does not say that it answers false only where something is left.
-        // The counts do, since no more than 4,096 offers are held.
+        // The queue's own test does not promise to return false only if something is left. The
+        // counts do, since no more than 4,096 offers are held.
         let all_got = putter.count == getter.count;
         let mut pass = putter.into_pass();
         self.line.absorb::<Ends>(&mut pass, getter.into_pass());

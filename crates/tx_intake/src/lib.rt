@@ -1,8 +1,8 @@
-//! The way of offers from the thread that reads them to the engine's lock.
+//! The way that offers take from the thread that reads them to the engine's lock.
 //!
 //! - A [`Source`] gives contexts one after the other; [`Listed`] is one that gives a list in order.
 //! - An [`Intake`] is a bounded queue between two threads: one holds its [`Putter`], the other its
-//!   [`Getter`]. Its one rule: what was put is what was got, and then what the queue holds.
+//!   [`Getter`]. Its one rule: what was put is what was got, followed by what the queue holds.
 #![tactic(auto)]
 
 mod error;

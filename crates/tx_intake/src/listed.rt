@@ -42,7 +42,7 @@ impl Model for Listed {
 }
 
 impl Listed {
-    /// Of these contexts, of which none was given. It takes no memory.
+    /// Makes a source of these contexts, none of which was given yet. It takes no memory.
     pub fn new(contexts: Vec<Context>) -> Listed
         ensures { result ≡ listing contexts.items 0 false }
     {

@@ -8,7 +8,7 @@ use crossbeam_queue::protocol::{Join, Lesson, Outcome, Protocol, Split};
 use std::collections::LinkedList;
 use tx_engine::Offer;
 
-/// What a pass may do, and what it has put and got. No value of it is made.
+/// What a pass may do, and what it has put and got. No value of this type is made.
 pub struct Side {
     pub puts: bool,
     pub gets: bool,
@@ -16,7 +16,7 @@ pub struct Side {
     pub got: LinkedList<Offer>,
 }
 
-/// What was put is what was got, and then what the queue holds.
+/// What was put is what was got, followed by what the queue holds.
 pub struct InOrder;
 
 impl Protocol<Offer, Side> for InOrder {
@@ -49,7 +49,7 @@ impl Join<Side> for Ends {
     ghost spent = { side false false [] [] };
 }
 
-/// What a put changes, and what the putter learns where it is refused.
+/// What a put changes, and what the putter learns if it is refused.
 pub struct Puts;
 
 impl Outcome<Offer, Side> for Puts {
@@ -64,8 +64,8 @@ impl Lesson<Offer, Side> for Puts {
     ghost fact = { HeldOfPut };
 }
 
-/// What a get changes. Where there is nothing the getter learns nothing, as it does not know what
-/// was put.
+/// What a get changes. If there is nothing to get, the getter learns nothing, since it does not know
+/// what was put.
 pub struct Gets;
 
 impl Outcome<Offer, Side> for Gets {

@@ -15,11 +15,11 @@ pub trait Source: Drop {
     /// Whether it has answered that none is left.
     ghost ended: { Self → Bool };
 
-    /// Which contexts it may have given when it answers that none is left. A call allows no
-    /// others, so who hands a source out and gets it back ended knows what it gave.
+    /// Which contexts it may have given when it answers that none is left. A call never allows
+    /// further ones, so whoever hands a source out and gets it back ended knows what it gave.
     ghost ends_with: { Self → List Pairs → Type 0 };
 
-    /// The next context, or `None` where none is left. `NoMemory` changes nothing.
+    /// Gives the next context, or `None` if none is left. `NoMemory` changes nothing.
     fn next(&mut self) -> Result<Option<Context>, NoMemory>
         ensures given { IfOk result (λ next.
             given self.new ≡ given self.old ++ option_to_list next) }

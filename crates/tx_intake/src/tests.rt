@@ -1,5 +1,5 @@
-//! What passes an intake, in one thread and from one to another, and what a list gives. In which
-//! order it came is seen in the history of an engine that it was offered to.
+//! What passes an intake, in one thread and from one to another, and what a list gives. The order
+//! in which it came is seen in the history of an engine that it was offered to.
 
 ghost use Rattle.std.specs.Prelude.{◌≡◌};
 
@@ -26,7 +26,7 @@ fn numbered(alloc: Global, number: usize) -> Result<Context, Fail> {
     Ok(context)
 }
 
-// An engine of one session, in which so many offers have memory.
+// An engine of one session, in which this many offers have memory.
 fn opened(alloc: Global, offers: usize) -> Result<Engine, Fail> {
     let mut groups = Vec::new(alloc);
     groups.push(Group::of(alloc, "main", &[("p", Kind::PLAIN)])?)?;
@@ -142,7 +142,7 @@ fn offers_of(alloc: Global, mut source: Listed) -> Result<Vec<Offer>, Fail> {
     Ok(offers)
 }
 
-// Puts an offer, as often as it comes back.
+// Puts an offer, again each time that it comes back.
 fn put_one<R: Wait>(rt: &R, intake: &Intake, putter: &mut Putter, offer: Offer)
     requires { putter.old.intake ≡ intake.now.id }
     ensures { putter.new.intake ≡ putter.old.intake }
@@ -195,7 +195,8 @@ fn get_all<R: Wait>(
     (getter, engine)
 }
 
-// What one thread puts another gets: the engine that it was offered to, and whether all was got.
+// One thread puts what another gets. Returns the engine that it was offered to, and whether all was
+// got.
 fn handed_over<R: Threads + Wait + Sync>(
     rt: &R,
     alloc: Global,
@@ -229,7 +230,7 @@ fn from_thread_to_thread(rt: HostRuntime) -> Result<(), Fail> {
     Ok(())
 }
 
-// A proof that is missing would show only at a `join` in a crate above.
+// A missing proof would show only at a `join` in a crate above.
 fn crosses<T: Send>() {}
 
 fn is_shared<T: Sync>() {}

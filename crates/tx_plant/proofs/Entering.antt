@@ -89,7 +89,7 @@ seated_is seats s id o l b h e f i n t = (l.context, taken_seat seats s o l h e 
   none_by_reply o true e = ap not e
   none_by_reply o false e = ap not e
 
--- the seats stay as many as the sessions, and the next id stays
+-- there are still as many seats as sessions, and the next id stays
 pub entered_running : (p q : Core) (s a b : ℕ) (call : Call) (reply : Reply) (y : Pairs) (r : Result (ℕ × Pairs) EngineError) →
     length p.seats ≡ p.world.sessions → a ≡ next_id p.world.start p.world.past → b ≡ a → IfOk r (λ z. Entered p s call reply z.1 y z.0 q) →
     OnErr r (q ≡ p) → (length q.seats ≡ q.world.sessions) × (b ≡ next_id q.world.start q.world.past)

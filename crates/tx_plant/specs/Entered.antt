@@ -1,4 +1,4 @@
--- The record of a call that was made elsewhere: with the step of its session that it is.
+-- The record of a call that was made elsewhere, and the step of its session that it is.
 use Rattle.std.specs.Prelude.{◌≡◌, ℕ, ◌==◌, Bool, true, false, cond, not, is_none, ◌&&◌, [], ◌∷◌, Option, Some, None, Result, Ok}
 use Rattle.sw_base.specs.Refusals.{refused_if, first_of}
 use Rattle.sw_context.specs.Pairs.{Pairs}

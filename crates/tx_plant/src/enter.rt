@@ -72,7 +72,7 @@ fn is_seated(seats: &Seats, s: usize, id: u64) -> bool
     }
 }
 
-// What becomes of the session's seat; hands back the context that was there.
+// Replaces the session's seat; hands back the context that was there.
 fn put_seat(seats: &mut Seats, s: usize, left: Option<Seat>) -> Context
     requires there { s < length seats.old.by_session.items }
     requires held { (id : ℕ) × (x : Pairs)
@@ -129,7 +129,7 @@ fn enter_seated(
     }
 }
 
-/// Records the reply of a call that was due to the session and was made, with the context that it
+/// Records the reply to a call that was due to the session and was made, with the context that it
 /// left, and hands back the context before it.
 pub(crate) fn enter(
     alloc: Global,

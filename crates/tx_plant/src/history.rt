@@ -1,4 +1,4 @@
-//! What is so of every engine.
+//! What holds of every engine.
 
 ghost use Rattle.std.specs.Prelude.{◌≡◌, ◌≤◌, ◌<◌, ◌∷◌, List, false, length};
 ghost use Rattle.tx_history.specs.declared.event.Event.{Event as Happening};
@@ -17,7 +17,7 @@ pub(crate) fn is_engine(engine: &Engine)
     let _ = engine.mark();
 }
 
-/// States what follows for its ids and its room. It does nothing.
+/// States what follows for the engine's ids and its room. It does nothing.
 pub(crate) fn state_history(engine: &Engine)
     ensures start { StartFits engine.now.flow engine.now.start }
     ensures next { next_id engine.now.start engine.now.past ≤ 9223372036854775807 }
