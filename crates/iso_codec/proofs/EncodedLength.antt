@@ -23,7 +23,7 @@ most_text (Some (Fixed content exact)) = exact
 most_text (Some (Variable content places most)) = 3 + most
 most_text (Some Binary) = 16
 
--- nor are those of so many numbers from n on
+-- nor are the texts of this many numbers from n on, taken together
 abbrev most_texts : ℕ → ℕ → ℕ
 most_texts zero n = 0
 most_texts (suc count) n = most_text (form_of n) + most_texts count (suc n)

@@ -41,7 +41,7 @@ pub chosen : {A : Type 0} (b : Bool) (x y z : A) → cond b x y ≡ z → ((b �
 chosen true x y z e = inl (refl, e)
 chosen false x y z e = inr (refl, e)
 
--- so many bytes that were taken from the front
+-- this many bytes that were taken from the front
 pub record Taken (k : ℕ) (bytes front rest : List ℕ) : Type 0 where
   pub whole : bytes ≡ front ++ rest
   pub len : length front ≡ k

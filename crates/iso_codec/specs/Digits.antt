@@ -22,7 +22,7 @@ abbrev pub nibble : ℕ → ℕ → List ℕ
 nibble n d =
     bit n (nat_le 8 d) ++ bit (n + 1) (nat_le 4 (d % 8)) ++ bit (n + 2) (nat_le 2 (d % 4)) ++ bit (n + 3) (nat_le 1 (d % 2))
 
--- the numbers of the set bits of a text of hexadecimal digits, of which the first bit has number n
+-- the numbers of the set bits of a text of hexadecimal digits, whose first bit has number n
 unfoldable pub bits_at : ℕ → List ℕ → Option (List ℕ)
 bits_at n [] = Some []
 bits_at n (c ∷ cs) = both (λ d ns. nibble n d ++ ns) (hex_value c) (bits_at (n + 4) cs)

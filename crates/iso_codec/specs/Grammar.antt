@@ -1,6 +1,6 @@
 -- The grammar: which bytes spell which message. A message is its type, one bitmap or two, and the
 -- texts of its fields in the order of their numbers, and nothing else. Digits of bitmaps and binary
--- fields may have either case, and an empty secondary bitmap may stand; all else has one spelling.
+-- fields may have either case, and there may be an empty secondary bitmap; everything else has one spelling.
 use Rattle.std.specs.Prelude.{◌≡◌, ◌≤◌, ◌⊎◌, ℕ, true, List, [], ◌∷◌, ◌++◌, length, Option, Some, None}
 use Rattle.iso_msg.specs.declared.table.Form.{Form}
 use Rattle.iso_msg.specs.declared.table.Form.TheVariants.{Fixed, Variable, Binary}
@@ -10,8 +10,8 @@ use Rattle.iso_msg.specs.Messages.{Fields, PlainMessage, IsMti, numbers_of}
 use Rattle.iso_codec.specs.Digits.{bits_at, octets}
 use Rattle.sw_base.specs.Digits.{number_of}
 
--- The text of a value: the value itself, of its exact length; or after as many digits of length as
--- the form has, that tell the value's length; or sixteen hexadecimal digits of eight bytes.
+-- The text of a value: the value itself, of its exact length; or the value after as many digits as
+-- the form has for its length, which tell it; or the sixteen hexadecimal digits of eight bytes.
 abbrev pub SpellsValue : Option Form → List ℕ → List ℕ → Type 0
 SpellsValue None text value = ⊥
 SpellsValue (Some (Fixed content exact)) text value =

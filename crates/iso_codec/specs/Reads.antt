@@ -24,7 +24,7 @@ abbrev pub or_fault : {A : Type 0} → Option A → DecodeError → Result A Dec
 or_fault None e = Err e
 or_fault (Some x) e = Ok x
 
--- so many bytes, and those after them
+-- this many bytes, and those after them
 abbrev pub part : ℕ → List ℕ → Result (List ℕ × List ℕ) DecodeError
 part count bytes = if nat_lt (length bytes) count then Err Short else Ok (take count bytes, drop count bytes)
 
@@ -68,7 +68,7 @@ front_at bytes = do
   ok ← known (field_numbers ns.0)
   Ok (front.0, field_numbers ns.0, ns.1)
 
--- a text after digits of its length
+-- a text after the digits of its length
 unfoldable pub behind_length : ℕ → ℕ → ℕ → List ℕ → Result (List ℕ × List ℕ) DecodeError
 behind_length places most n bytes = do
   digits ← part places bytes

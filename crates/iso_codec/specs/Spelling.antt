@@ -1,5 +1,5 @@
 -- The one spelling that is written: hexadecimal digits in upper case, and a secondary bitmap only
--- where a field above 64 is there.
+-- where there is a field above 64.
 use Rattle.std.specs.Prelude.{ℕ, zero, suc, ◌+◌, ◌*◌, ◌/◌, ◌%◌, ◌==◌, nat_lt, List, [], ◌∷◌, ◌++◌, length, Option, Some, None, if◌then◌else◌}
 use Rattle.std.specs.List.{flat_map, list_any}
 use Rattle.iso_msg.specs.declared.table.Form.{Form}
@@ -11,7 +11,7 @@ use Rattle.iso_msg.specs.Messages.{PlainMessage, numbers_of}
 abbrev pub upper : ℕ → ℕ
 upper d = if nat_lt d 10 then 48 + d else 55 + d
 
--- 1 where the number is one of these, and else 0
+-- 1 where the number is one of these, and otherwise 0
 abbrev pub bit_in : List ℕ → ℕ → ℕ
 bit_in ns n = if list_any (λ m. m == n) ns then 1 else 0
 
@@ -19,7 +19,7 @@ bit_in ns n = if list_any (λ m. m == n) ns then 1 else 0
 abbrev pub digit_in : List ℕ → ℕ → ℕ
 digit_in ns n = 8 * bit_in ns n + 4 * bit_in ns (n + 1) + 2 * bit_in ns (n + 2) + bit_in ns (n + 3)
 
--- so many digits of a bitmap, of which the first bit has number n
+-- this many digits of a bitmap, whose first bit has number n
 unfoldable pub bitmap : List ℕ → ℕ → ℕ → List ℕ
 bitmap ns n zero = []
 bitmap ns n (suc digits) = upper (digit_in ns n) ∷ bitmap ns (n + 4) digits

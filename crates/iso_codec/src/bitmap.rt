@@ -1,4 +1,4 @@
-//! The numbers that bitmaps tell of.
+//! The numbers of the bits that are set in bitmaps.
 
 ghost use Rattle.std.specs.Prelude.{◌≡◌, ◌<◌, ◌≤◌, ◌+◌, [], length, option_map};
 ghost use Rattle.iso_codec.specs.Digits.{bits_at};
@@ -10,7 +10,7 @@ use crate::numbers::Numbers;
 use crate::parts::{hex_digit, split};
 use iso_msg::form_at;
 
-/// Adds the numbers of the set bits of hexadecimal digits, of which the first bit has this number.
+/// Adds the numbers of the set bits of hexadecimal digits, whose first bit has this number.
 fn read_bits(text: &[u8], first: u8, numbers: &mut Numbers) -> Option<()>
     requires digits { length text.now ≡ 16 }
     requires first { first ≤ 65 }
@@ -58,7 +58,7 @@ fn is_first_1(numbers: &[u8]) -> bool
     }
 }
 
-/// Collects the numbers of the set bits of one bitmap or two, and answers the bytes after them.
+/// Collects the numbers of the set bits of one bitmap or two, and returns the bytes after them.
 #[tactic(auto, unfolding(crate::specs::Reads::bitmaps_at))]
 pub fn read_bitmaps<'a>(bytes: &'a [u8], numbers: &mut Numbers) -> Result<&'a [u8], DecodeError>
     requires { numbers.old ≡ [] }

@@ -1,4 +1,4 @@
-//! Looking bytes over without memory: which fault they have, if they have one.
+//! Looking bytes over without memory: which fault they have, if any.
 
 ghost use Rattle.std.specs.Prelude.{◌≡◌};
 ghost use Rattle.iso_msg.specs.Table.{form_of, IsForm};
@@ -59,7 +59,7 @@ fn check_fields<'a>(numbers: &[u8], bytes: &'a [u8]) -> Result<&'a [u8], DecodeE
     Ok(rest)
 }
 
-/// The type of the message that the bytes are; refuses bytes that are not a message.
+/// The type of the message that the bytes spell; refuses bytes that spell none.
 #[tactic(auto, unfolding(crate::specs::Reads::read_over))]
 pub fn check(bytes: &[u8]) -> Result<Mti, DecodeError>
     ensures { Exactly (λ m. m) result (read_over bytes.now) }
@@ -74,7 +74,7 @@ pub fn check(bytes: &[u8]) -> Result<Mti, DecodeError>
     Ok(mti)
 }
 
-/// The type of the message that the bytes spell, `None` where they spell none. The bytes are looked over, which
+/// The type of the message that the bytes spell, or `None` if they spell none. It looks the bytes over, which
 /// takes no memory.
 pub fn type_in(bytes: &[u8]) -> Option<Mti>
     ensures { result ≡ type_of (read bytes.now) }

@@ -8,9 +8,9 @@ use iso_msg::{ExpectedValue, FieldLabel, MessageError};
 use std::alloc::AllocError;
 use thiserror::Error;
 
-/// The first fault from the left, or out of memory. Fields have their number, and the text of a
-/// fault tells their name and what was expected. Their numbers are 0 of out of memory, and 1 to 7 in
-/// this order.
+/// The first fault from the left, or out of memory. The fault of a field has the field's number, and
+/// its text also tells the field's name and what was expected. The numbers of the faults are 0 for
+/// out of memory, and then 1 to 7 in this order.
 #[derive(Clone, Copy, Debug, PartialEq, Eq, Drop, Error)]
 pub enum DecodeError {
     /// The allocator has refused memory. The bytes are those of a message.
@@ -22,19 +22,19 @@ pub enum DecodeError {
     /// The first four bytes are not digits.
     #[error("message type: expected 4 digits")]
     BadMti,
-    /// A bitmap has another character than a hexadecimal digit.
+    /// A bitmap has a character that is not a hexadecimal digit.
     #[error("bitmap: expected 16 hexadecimal digits")]
     BadBitmap,
-    /// The least number that a bitmap tells of and the profile does not have.
+    /// The lowest field number that is set in a bitmap and that the profile does not have.
     #[error("field {0}: the profile has no field of this number")]
     FieldNotInProfile(u8),
-    /// The digits of a variable length are not digits, or are more than the field takes.
+    /// The length of a variable field is not written in digits, or is more than the field takes.
     #[error("{}: bad length, expected {}", FieldLabel(*.0), ExpectedValue(*.0))]
     BadLength(u8),
     /// The value has a byte that the field does not take.
     #[error("{}: a byte that the field does not take, expected {}", FieldLabel(*.0), ExpectedValue(*.0))]
     BadContent(u8),
-    /// Bytes stand after the last field.
+    /// There are bytes after the last field.
     #[error("there are bytes after the last field")]
     Trailing,
 }

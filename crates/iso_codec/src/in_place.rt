@@ -11,7 +11,8 @@ use crate::numbers::Numbers;
 use crate::parts::{mti_of, split};
 use iso_msg::{Form, fits_content};
 
-/// The digits of the type, and the bytes of the fields whose numbers are added.
+/// Reads the type and the bitmaps. Returns the digits of the type and the bytes of the fields, and
+/// adds the numbers of the set bits.
 #[tactic(auto, unfolding(crate::specs::Reads::front_at))]
 pub fn read_front<'a>(
     bytes: &'a [u8],

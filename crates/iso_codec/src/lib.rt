@@ -2,17 +2,17 @@
 //!
 //! On the wire a message is its type, a primary bitmap of 64 bits, a secondary one where bit 1 is
 //! set, and then the fields with set bits in rising order. The grammar (`Spells` in
-//! `specs/Grammar.antt`) relates bytes and messages, apart from both directions.
+//! `specs/Grammar.antt`) relates bytes and messages, independently of both directions.
 //!
-//! - `decode` answers a message exactly where the grammar relates it to the bytes, and else the
+//! - `decode` returns a message exactly if the grammar relates it to the bytes, and otherwise the
 //!   first fault from the left, which `read` of `specs/Reads.antt` names. It reads the bytes once
-//!   and copies only the values. Out of memory is reported only of bytes that are readable.
-//! - `type_in` answers the type of the message alone, and takes no memory.
-//! - `encode` answers the one spelling with upper case digits and without an empty secondary
-//!   bitmap (`spelling` of `specs/Spelling.antt`), and what `decode` reads of it is the message. It
+//!   and copies only the values. Out of memory is reported only of bytes that spell a message.
+//! - `type_in` returns only the type of the message, and takes no memory.
+//! - `encode` returns the one spelling with upper case digits and without an empty secondary
+//!   bitmap (`spelling` of `specs/Spelling.antt`), and what `decode` reads from it is the message. It
 //!   has at most 9,999 bytes.
 //! - `read_front`, `split`, `read_variable`, `read_binary` and `check_content` are the steps of the same
-//!   reading, for a caller that keeps no message: what each of them answers is that step of `read`.
+//!   reading, for a caller that keeps no message: what each of them returns is that step of `read`.
 #![tactic(auto)]
 
 mod bitmap;

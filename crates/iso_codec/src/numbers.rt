@@ -7,7 +7,7 @@ ghost use Rattle.iso_codec.specs.Reads.{field_numbers};
 use crate::bitmap::fields_of;
 use std::marker::Model;
 
-/// A list of up to 128 numbers of fields, bit 1 among them where there is a second bitmap. Contracts see
+/// A list of up to 128 field numbers, with bit 1 among them if there is a second bitmap. Contracts see
 /// the list.
 #[derive(Drop)]
 pub struct Numbers {

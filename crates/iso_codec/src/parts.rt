@@ -8,7 +8,7 @@ use crate::error::DecodeError;
 use iso_msg::Mti;
 use sw_base::decimal;
 
-/// So many bytes, and those after them.
+/// The first `count` bytes, and those after them; `Short` if there are fewer.
 pub fn split(bytes: &[u8], count: usize) -> Result<(&[u8], &[u8]), DecodeError>
     ensures parts { Exactly (λ x. (x.0.now, x.1.now)) result (part count bytes.now) }
     ensures len { IfOk result (λ x. length x.0.now ≡ count) }
@@ -46,7 +46,8 @@ pub fn hex_digit(c: u8) -> Option<u8>
     None
 }
 
-/// The value of an LLVAR or LLLVAR field, after digits of its length, and the bytes after it.
+/// The value of an LLVAR or LLLVAR field, which comes after the digits of its length, and the bytes
+/// after it. Refuses `Short` and `BadLength`; the content is not looked at.
 #[tactic(auto, unfolding(crate::specs::Reads::behind_length))]
 pub fn read_variable(
     length_digits: u16,
@@ -93,7 +94,7 @@ fn read_octets(text: &[u8]) -> Option<[u8; 8]>
     Some(bytes)
 }
 
-/// The bytes of a binary field, and the bytes after its digits.
+/// The bytes that a binary field represents, and those after its sixteen digits.
 #[tactic(auto, unfolding(crate::specs::Reads::octets_at))]
 pub fn read_binary(number: u8, bytes: &[u8]) -> Result<([u8; 8], &[u8]), DecodeError>
     ensures { Exactly (λ x. (x.0, x.1.now)) result (octets_at number bytes.now) }

@@ -147,7 +147,7 @@ fn read_fields<'a>(
     Ok(rest)
 }
 
-/// Reads a message, all of the bytes, or stops where memory is refused.
+/// Reads the message that all the bytes spell, or stops where memory is refused.
 #[tactic(auto, unfolding(crate::specs::GrowingMessage::read_grown))]
 fn read_message(alloc: Global, bytes: &[u8]) -> Result<Message, DecodeError>
     ensures { Gives (λ m. m) result (read_grown bytes.now) }
@@ -165,7 +165,7 @@ fn read_message(alloc: Global, bytes: &[u8]) -> Result<Message, DecodeError>
     Ok(message)
 }
 
-/// The refusal to tell where reading stopped with this one. Where that was out of memory, the
+/// The refusal to report after reading stopped with this one. If that was out of memory, the
 /// bytes are looked over for a fault, which would come first.
 fn settled(e: DecodeError, bytes: &[u8]) -> DecodeError
     requires { Fails e (read bytes.now) }
@@ -189,11 +189,11 @@ fn answer(alloc: Global, bytes: &[u8]) -> Result<Message, DecodeError>
     }
 }
 
-/// The message that the bytes spell, all of them. A refusal is the first fault from the left, in
-/// the order of reading: each part is taken whole (`Short`), and then looked at. The numbers are
+/// Decodes the message that all the bytes spell. A refusal is the first fault from the left, in the
+/// order of reading: each part is taken whole (`Short`), and then looked at. The field numbers are
 /// looked at after the bitmaps, and before the fields.
 ///
-/// Out of memory is reported only where the bytes are those of a message.
+/// Out of memory is reported only if the bytes are those of a message.
 pub fn decode(alloc: Global, bytes: &[u8]) -> Result<Message, DecodeError>
     ensures found { IfOk result (λ m. Spells bytes.now m) }
     ensures only { (m : PlainMessage) → Spells bytes.now m

@@ -43,7 +43,7 @@ fn take_digit(number: u8, numbers: &[u8]) -> (u8, &[u8])
     (8 * a + 4 * b + 2 * c + d, after)
 }
 
-/// The first digit where bit 1 is set.
+/// The first digit if bit 1 is set.
 fn take_digit_1(numbers: &[u8]) -> (u8, &[u8])
     ensures digit { (result.0, result.1.now) ≡ digit_of 1 (1 ∷ numbers.now) }
     ensures small { result.0 < 16 }
@@ -177,15 +177,15 @@ fn write_message(alloc: Global, message: &Message) -> Result<Vec<u8>, AllocError
     Ok(out)
 }
 
-/// The bytes of a message: hexadecimal digits in upper case, and a second bitmap only where a field
-/// above 64 is there. No message has more than 9,999 bytes, so each has a frame.
+/// Encodes a message, with hexadecimal digits in upper case, and with a second bitmap only if there
+/// is a field above 64. No message has more than 9,999 bytes, so each fits a frame.
 pub fn encode(alloc: Global, message: &Message) -> Result<Vec<u8>, AllocError>
     ensures spelled { IfOk result (λ v. v.items ≡ spelling message.now) }
     ensures related { IfOk result (λ v. Spells v.items message.now) }
     ensures short { IfOk result (λ v. length v.items ≤ 9999) }
     ensures read_back { IfOk result (λ v. read v.items ≡ Ok message.now) }
 {
-    // Asked for the proof alone: that the message is valid.
+    // Asked only for the proof that the message is valid.
     let _ = message.mti();
     write_message(alloc, message)
 }

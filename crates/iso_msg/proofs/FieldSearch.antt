@@ -72,7 +72,7 @@ behind_all [] n v under = refl
 behind_all (f ∷ fs) n v under = rw (lt-ltb f.number n (under 0 f (omega arith)))
     (ap (λ (x : Fields). pair f ∷ x) (behind_all fs n v (λ i d l. under (suc i) d (omega arith))))
 
--- those of all are lower where that of the last one is
+-- the numbers of all are lower where that of the last one is
 pub above_last : (fs : List Field) (n : ℕ) (f : Field) → AreFields 1 (pairs fs) → slice_get fs (length fs - 1) ≡ Some f → f.number < n → (v : List ℕ) →
     with_value n v (pairs fs) ≡ pairs fs ++ (n, v) ∷ []
 above_last fs n f a last less v =

@@ -24,8 +24,8 @@ use Rattle.iso_msg.specs.declared.table.Content.TheVariants.{Numeric, Printable}
 abbrev pub FieldRow : Type 0
 FieldRow = ℕ × FieldName × Form
 
--- The forms as the standard writes them: so many digits (n) or characters (ans), at most so many after two
--- digits of length (LLVAR) or three (LLLVAR), and 64 bits (b).
+-- The forms as the standard writes them: a fixed number of digits (n) or characters (ans), at most a given number of them
+-- after two digits of length (LLVAR) or three (LLLVAR), and 64 bits (b).
 abbrev n : ℕ → Form
 n length = Fixed Numeric length
 
@@ -114,7 +114,7 @@ definition_of n = definition_in n rows
 unfoldable pub form_of : ℕ → Option Form
 form_of n = option_map (λ d. d.form) (definition_of n)
 
--- the definitions of so many numbers from n on
+-- the definitions of this many numbers from n on
 abbrev pub definitions : ℕ → ℕ → List (Option Definition)
 definitions n zero = []
 definitions n (suc count) = definition_of n ∷ definitions (suc n) count

@@ -8,9 +8,10 @@ use std::alloc::{AllocError, AllocFailed};
 use std::fmt;
 use thiserror::Error;
 
-/// A refusal. One that a field gets has the field's number; its text tells the name and what was
-/// expected too. The refusals of `Message::set` are tested in this order, out of memory last. Their
-/// numbers are 0 of out of memory, 1, 2 and 3 of a field's and 4 of a message type's.
+/// A refusal. That of a field has the field's number, and its text also tells the field's name and
+/// what was expected. `Message::set` tests for its refusals in this order, with out of memory last.
+/// Their numbers are 0 for out of memory, 1, 2 and 3 for those of a field and 4 for that of a message
+/// type.
 #[derive(Clone, Copy, Debug, PartialEq, Eq, Drop, Error)]
 pub enum MessageError {
     /// The allocator has refused memory.
@@ -63,7 +64,7 @@ impl fmt::Display for FieldLabel {
     }
 }
 
-/// A field's number, shown as what its values are, as in "at most 19 digits".
+/// A field's number, shown as what its values may be, as in "at most 19 digits".
 #[derive(Clone, Copy, PartialEq, Eq)]
 pub struct ExpectedValue(pub u8);
 

@@ -2,10 +2,10 @@
 
 ghost use Rattle.iso_msg.specs.Messages.{ReadsBack, KeepsOthers, TakesOut, LeavesOthers, IsDetermined};
 
-/// Lists of fields with `value_at`, `with_value` and `without`, by which the contracts of `Message`
-/// speak, are finite maps: a value that was put is there and the others stay, a number that was
-/// taken out is gone and the others stay, and two lists of fields that have the same value at each
-/// number are one.
+/// Lists of fields with `value_at`, `with_value` and `without`, in terms of which the contracts of
+/// `Message` are written, are finite maps: a value that was put is there and the others stay, a
+/// number that was taken out is not there and the others stay, and two lists of fields that have the
+/// same value at each number are equal.
 pub fn fields_are_a_map()
     ensures put { ReadsBack }
     ensures put_others { KeepsOthers }

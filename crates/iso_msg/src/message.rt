@@ -45,7 +45,7 @@ impl Message {
     pub fn new(alloc: Global, mti: Mti) -> Message
         ensures { result ≡ record { mti = mti; fields = [] } }
     {
-        // The digits are looked at for the proof alone: that they are four.
+        // The digits are looked at only for the proof that they are four.
         let _ = mti.digits();
         Message {
             mti,
@@ -53,7 +53,7 @@ impl Message {
         }
     }
 
-    /// The type. That every message is valid is said here, for callers that stand on it.
+    /// The type. The contract also says that every message is valid, for callers that rely on it.
     pub fn mti(&self) -> Mti
         ensures mti { result ≡ self.now.mti }
         ensures valid { IsMessage self.now }
@@ -62,7 +62,8 @@ impl Message {
     }
 
     /// Puts a value at a number, in place of one that is there. The refusals are those of the
-    /// table, in the order of `MessageError`, and out of memory where the table has none.
+    /// table, in the order of `MessageError`, and out of memory if the table has none. A refusal
+    /// leaves the message as it was.
     pub fn set(&mut self, alloc: Global, number: u8, value: &[u8]) -> Result<(), MessageError>
         ensures ok { OnOk result (self.new
             ≡ record {
@@ -80,7 +81,7 @@ impl Message {
         storage::put(&mut self.fields, number, value)
     }
 
-    /// The value at a number.
+    /// The value at a number, if there is one.
     pub fn get(&self, number: u8) -> Option<&[u8]>
         ensures value { option_map (λ v. v.now) result ≡ value_at number self.now.fields }
         // Whatever calls were made, a value that is there fits its field.
@@ -89,7 +90,7 @@ impl Message {
         storage::get(&self.fields, number)
     }
 
-    /// Takes the value at a number out.
+    /// Removes the value at a number, and returns it if there was one.
     pub fn remove(&mut self, number: u8) -> Option<Vec<u8>>
         ensures value { option_map (λ v. v.items) result ≡ value_at number self.old.fields }
         ensures others { self.new
@@ -116,7 +117,7 @@ impl Message {
         })
     }
 
-    /// How many fields there are, for a walk by `field_at`.
+    /// How many fields there are, for a walk with `field_at`.
     pub fn field_count(&self) -> usize
         ensures count { result ≡ length self.now.fields }
         ensures small { result < 128 }

@@ -9,8 +9,8 @@ use crate::table::Content;
 use crate::value::takes_all;
 use std::marker::Model;
 
-/// A message type indicator: four digits, as `0100` of an authorization request. Contracts see the
-/// digits.
+/// A message type indicator: four digits, such as `0100` of an authorization request. Contracts see
+/// the digits.
 #[derive(Clone, Copy, PartialEq, Eq)]
 pub struct Mti {
     digits: [u8; 4],

@@ -55,7 +55,7 @@ fn put_among(fields: &mut Vec<Field>, number: u8, value: Vec<u8>) -> Result<(), 
     Ok(())
 }
 
-/// Decoding puts each field after the others, which needs no search.
+/// Puts a value at a number. Decoding puts each field after the others, which needs no search.
 pub fn put(fields: &mut Vec<Field>, number: u8, value: Vec<u8>) -> Result<(), MessageError>
     requires { AreFields 1 (pairs fields.old.items) }
     ensures ok { OnOk result (pairs fields.new.items

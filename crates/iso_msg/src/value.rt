@@ -49,8 +49,8 @@ pub fn fits_content(form: Form, value: &[u8]) -> bool
     }
 }
 
-/// Why a field does not take the value, or `None` where it does: the number is not in the profile,
-/// then the length is wrong, then a byte is.
+/// Why a field does not take the value, or `None` if it does: the number is not in the profile, then
+/// the length is wrong, then a byte is.
 pub(crate) fn refused(number: u8, value: &[u8]) -> Option<MessageError>
     ensures { result ≡ refusal number value.now }
 {

@@ -1,4 +1,4 @@
--- What follows of a run in which all that its threads left agrees.
+-- What follows for a run in which all that its threads left agrees.
 -- for: ending::conclude, running::run_in
 use Rattle.std.proofs.Common.{Result, Ok, Err, IfErr, IfOk, ◌≡◌, ◌⊎◌, ◌≤◌, ◌+◌, ℕ, zero, suc, false, Bool, List, [], ◌∷◌, ◌++◌, length, take, drop, refl, sym}
 use Rattle.std.proofs.Common.{ap, subst, arith, ◌∙◌, inl, inr, append_assoc}
@@ -264,7 +264,7 @@ pub ok_both : {A E : Type 0} (P Q R : A → Type 0) (r : Result A E) → IfOk r 
 ok_both P Q R (Ok a) p q f = f a p q
 ok_both P Q R (Err e) p q f = tt
 
--- what holds where a run was given up, said otherwise
+-- what holds where a run was given up, in other words
 pub err_with : {A : Type 0} {E : Type 0} (P : E → Type 0) (Q : E → Type 0) (r : Result A E) → IfErr r P → ((e : E) → P e → Q e) → IfErr r Q
 err_with P Q (Ok a) h k = h
 err_with P Q (Err e) h k = k e h

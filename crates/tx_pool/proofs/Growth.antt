@@ -1,4 +1,4 @@
--- One thing more, since a run began.
+-- One more thing since a run began.
 -- for: locked::Locked
 use Rattle.std.proofs.Common.{◌≡◌, ◌≤◌, ◌<◌, arith, take, ◌+◌, ◌-◌, ℕ, List, [], ◌∷◌, ◌++◌, length, None, refl, sym, ap, subst, ◌∙◌}
 use Rattle.std.proofs.lemmas.List.{length-take-le}
@@ -71,7 +71,7 @@ since_write start p q got t made k h some few e i =
     } in
     record { steps = Writes (take k (late p.world)) ∷ h.steps; does = (p, h.does, marks, i); offers = h.offers; counts = h.counts; calls = h.calls }
 
--- memory that is reserved for an offer, and then used or given up
+-- memory that is reserved for an offer, and then used or given back
 reserved_back : (w : World) → with_reserved (with_reserved w (w.reserved + 1)) ((w.reserved + 1) - 1) ≡ w
 reserved_back w = let e : (w.reserved + 1) - 1 ≡ w.reserved = omega arith in ap (λ (z : ℕ). record w { reserved = z }) e
 

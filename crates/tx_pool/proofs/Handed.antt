@@ -45,7 +45,7 @@ drove_whole of to own object count counted ps qs ss ts v w a b c d drove =
     (sym (same_shown to of object ts qs c))
     (subst (λ cs. Drove (rule_at (λ s. own (of s)) ps) (map (λ s. object (of s)) ps) (map count ps) v (map (λ s. object (of s)) qs) cs w) (sym d) drove))))
 
--- the refusal that is due, which is never where memory ran out
+-- the refusal that is due, which is never out of memory
 pub early_is : (b : Bool) (c : Bool) (d : Bool) (e : Early) → first_of (refused_if b BreakSet ∷ refused_if c InUse ∷ refused_if d BadCapacity ∷ []) ≡ Some e
     → IsEarly e (first_of (refused_if b BreakSet ∷ refused_if c InUse ∷ refused_if d BadCapacity ∷ []))
 early_is b c d BadCapacity h = h

@@ -1,4 +1,4 @@
--- One call more of a station.
+-- One more call of a station.
 -- for: station::StationLog::make
 use Rattle.std.proofs.Common.{◌≡◌, ◌+◌, ◌-◌, ◌^◌, min, ℕ, List, [], ◌∷◌, ◌++◌, refl, sym, subst, ap, ◌∙◌}
 use Rattle.sw_participant.specs.Chains.{Rule}

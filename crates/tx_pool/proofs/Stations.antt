@@ -17,7 +17,7 @@ pub there_more : (n : ℕ) (ms : List MadeCall) (m : MadeCall) → AllThere n ms
 there_more n [] m a h = (h, tt)
 there_more n (x ∷ ms) m (b, a) h = (b, there_more n ms m a h)
 
--- one station more
+-- one more station
 
 get_end : {A : Type 0} (xs : List A) (x y : A) (k : ℕ) → slice_get (xs ++ x ∷ []) k ≡ Some y → (slice_get xs k ≡ Some y) ⊎ ((k ≡ length xs) × (x ≡ y))
 get_end [] x y zero h = let e : x ≡ y = cc in inr (refl, e)

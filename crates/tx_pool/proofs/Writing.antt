@@ -1,4 +1,4 @@
--- The journal's writes of a run: what was written is what stands between the marks.
+-- The journal's writes in a run: what was written is what is between the marks.
 -- for: running::run_in
 use Rattle.std.proofs.Common.{drop_of_length-le, ◌≡◌, ◌⊎◌, ◌≤◌, ◌<◌, ◌+◌, ℕ, zero, suc, false, List, [], ◌∷◌, ◌++◌, length, take, drop, refl, sym, ap, subst}
 use Rattle.std.proofs.Common.{arith, ◌∙◌, inl, inr}
@@ -30,7 +30,7 @@ pub record WroteSeen (j : Seen) (es : List Entry) (k : Seen) : Type 0 where
 none_seen : (j : Seen) → WroteSeen j [] j
 none_seen j = record { clean = omega arith; fresh = λ h. h; none = λ e. refl; ok = inl refl; tables = λ a b. refl }
 
--- between the journal before all writes and the one after the last stand journals of the writes before
+-- between the journal before all writes and the one after the last are those after the writes before it
 
 some_written : (es b : List Entry) (k : Seen) → 0 < length b → (es ++ b ≡ []) ⊎ (k.failed ≡ false) → k.failed ≡ false
 some_written es b k some (inl e) = absurd (not_empty es b some e)
@@ -83,7 +83,7 @@ pub record Between (ss : List RunStep) (p q : Core) : Type 0 where
   pub few : q.world.mark ≤ length (all_of q.world)
   pub is : written_of ss ≡ drop p.world.mark (take q.world.mark (all_of q.world))
 
--- one entry more
+-- one more entry
 more : (ss tt2 : List RunStep) (p w q : Core) (e : Event) → written_of tt2 ≡ written_of ss → q.world ≡ happened w.world e → Between ss p w → Between tt2 p q
 more ss tt2 p w q e same h b =
     let xs = all_of w.world in

@@ -10,7 +10,7 @@ use Rattle.tx_pool.specs.declared.refusal.PoolError.TheVariants as refused
 use Rattle.tx_pool.specs.declared.refusal.Early.{Early}
 use Rattle.tx_pool.specs.declared.refusal.Early.TheVariants.{BadCapacity, BreakSet, InUse, OutOfMemory}
 
--- a participant has a breakpoint, a session holds a transaction, the intake has no such number of places; out of memory aside
+-- a participant has a breakpoint, a session holds a transaction, no intake has this capacity; out of memory aside
 abbrev pub early_refusal : World → ℕ → Option Early
 early_refusal w capacity =
     first_of (refused_if (is_broken w) BreakSet

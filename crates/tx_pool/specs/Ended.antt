@@ -1,4 +1,4 @@
--- What is known of a run when all that its threads left was compared.
+-- What is known of a run when all that its threads left has been compared.
 use Rattle.std.specs.Prelude.{◌≡◌, ℕ, Bool, List, drop}
 use Rattle.sw_context.specs.Pairs.{Pairs}
 use Rattle.sw_participant.specs.Chains.{Rule}

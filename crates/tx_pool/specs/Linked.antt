@@ -7,7 +7,7 @@ use Rattle.sw_participant.specs.Chains.{Rule}
 use Rattle.sw_participant.specs.Callers.{Within}
 use Rattle.tx_pool.specs.declared.station.MadeCall.{MadeCall}
 
--- each call was one by the rule, from the object that the last one left
+-- each call was one that the rule allows, from the object that the last one left
 abbrev pub Linked : Rule → List ℕ → List MadeCall → List ℕ → Type 0
 Linked rule o [] p = p ≡ o
 Linked rule o (m ∷ ms) p =
@@ -19,7 +19,7 @@ count_up n [] = n
 count_up n (m ∷ ms) = count_up (min (n + 1) (2 ^ 64 - 1)) ms
 
 -- A station in a run, which began with this rule, object and count: its calls lead from that object to the one that it has,
--- the count counts them, and what its rule allows the first one allows.
+-- the count counts them, and the first rule allows what its rule allows.
 pub record IsStation (first : Rule) (o : List ℕ) (c : ℕ) (rule : Rule) (p : List ℕ) (d : ℕ) (log : List MadeCall) : Type 0 where
   pub within : Within rule first
   pub linked : Linked first o log p

@@ -15,7 +15,7 @@ all_of w = entries w.flow w.start w.past
 abbrev pub run_entries : World → World → List Entry
 run_entries start w = drop (length start.past) (all_of w)
 
--- the event is one that this session gave
+-- the event is one that this session made
 abbrev pub is_own_event : ℕ → Event → Bool
 is_own_event s (event.Taken t) = t == s
 is_own_event s (event.Answered t byte context) = t == s
@@ -27,7 +27,7 @@ is_own_event s _ = false
 abbrev pub is_own : ℕ → Entry → Bool
 is_own s e = is_own_event s e.event
 
--- the numbers of the entries that this session gave
+-- the numbers of the entries that this session made
 abbrev pub own_numbers : ℕ → List Entry → List ℕ
 own_numbers s es = map (λ e. e.number) (filter (is_own s) es)
 

@@ -1,4 +1,4 @@
--- What is left to do of a run: nothing.
+-- That nothing is left to do in a run.
 use Rattle.std.specs.Prelude.{◌≡◌, false, [], length}
 use Rattle.tx_engine.specs.World.{World}
 use Rattle.tx_engine.specs.Calls.{waits}

@@ -1,4 +1,4 @@
--- What stands under the engine's lock in a run.
+-- What is under the engine's lock in a run.
 use Rattle.std.specs.Prelude.{◌≡◌, ℕ, List}
 use Rattle.tx_plant.specs.Core.{Core}
 use Rattle.tx_pool.specs.declared.station.MadeCall.{MadeCall}

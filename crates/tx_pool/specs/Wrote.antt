@@ -7,7 +7,7 @@ use Rattle.tx_history.specs.declared.event.Entry.{Entry}
 use Rattle.tx_journal.specs.Kept.{IsCleanJournal, JournalState}
 use Rattle.tx_plant.specs.Plant.{seen}
 
--- what a stop leaves of the one it leaves of the other
+-- what a stop may leave of the second, it may leave of the first
 abbrev pub LeavesLess : JournalState → JournalState → Type 0
 LeavesLess j k = (t : Tables) → k.may_leave t → j.may_leave t
 

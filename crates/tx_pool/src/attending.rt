@@ -12,7 +12,7 @@ use sw_context::Context;
 use sw_participant::{Call, Caller, NoMemory};
 
 /// Runs one session until it leaves. Each time that it takes the engine's lock, or is woken with it, it
-/// does one event at most.
+/// makes at most one event.
 fn attend<K: Run, C: Caller, G: Gate, R: Wait>(
     rt: &R,
     alloc: Global,
@@ -93,7 +93,7 @@ fn make<K: Run, C: Caller, G: Gate, R: Wait>(
     }
 }
 
-/// Runs all sessions, each in a thread. None where memory was refused.
+/// Runs all sessions, each in a thread. `None` if memory was refused.
 pub(crate) fn attend_all<
     K: Run + Send + Sync,
     C: Caller + Send,

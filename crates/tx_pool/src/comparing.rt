@@ -71,7 +71,7 @@ pub(crate) fn are_same(entries: &[Entry], others: &[Entry]) -> bool
     true
 }
 
-// Whether the session gave the event.
+// Whether the session made the event.
 fn is_own(session: usize, event: &Event) -> bool
     ensures { result ≡ is_own_event session event.now }
 {
@@ -169,7 +169,7 @@ pub(crate) fn is_settled(engine: &Engine) -> bool
     engine.mark() == engine.history().len()
 }
 
-/// Whether both are so. (A function, so that what follows from each is known where both are.)
+/// Whether both are true. (A function, so that what follows from each is known if both are.)
 pub(crate) fn both(one: bool, other: bool) -> bool
     ensures one { result ≡ true → one ≡ true }
     ensures other { result ≡ true → other ≡ true }

@@ -32,7 +32,7 @@ use tx_intake::Source;
 use tx_journal::Journal;
 use tx_plant::Running;
 
-/// What a run leaves that ended well.
+/// What is left of a run that ended well.
 #[derive(Drop)]
 pub(crate) struct Ran<S: Alter, C: Caller, O: Source> {
     pub(crate) running: Running,
@@ -42,7 +42,7 @@ pub(crate) struct Ran<S: Alter, C: Caller, O: Source> {
     pub(crate) report: Report,
 }
 
-/// What comes back of a run that was given up, and why it was.
+/// What is left of a run that was given up, and why it was.
 #[derive(Drop)]
 pub(crate) struct Lost<S: Alter, C: Caller> {
     pub(crate) fault: Fault,
@@ -50,8 +50,8 @@ pub(crate) struct Lost<S: Alter, C: Caller> {
     pub(crate) stations: Vec<StationParts<C>>,
 }
 
-// Whether what the threads left agrees with the history that the run made of one with so many
-// entries, of which so many were written.
+// Whether what the threads left agrees with the history, which had `from` entries when the run
+// began, `mark` of them written.
 fn agree(
     engine: &Engine,
     mark: usize,
@@ -79,12 +79,12 @@ fn agree(
     are_all_own(&history[from..], receipts)
 }
 
-// What contradicts the history is after its last entry.
+// The fault of a run that contradicts its history: the number is the one after its last entry.
 fn mismatch(engine: &Engine) -> Fault {
     Fault::ReceiptMismatch(engine.history().len().saturating_add(1))
 }
 
-/// What the threads left of a run that began with so many entries, of which so many were written.
+/// What the threads left of a run that began with `from` entries, `mark` of them written.
 pub(crate) struct Remains<S: Alter, K: Run, C: Caller, O: Source> {
     pub(crate) mark: usize,
     pub(crate) from: usize,
@@ -108,7 +108,7 @@ struct Settled<O: Source> {
     is_settled: bool,
 }
 
-// Takes apart what the threads left, but for journal and stations.
+// Takes apart what the threads left, except the journal and the stations.
 fn take_back<K: Run, O: Source>(
     locked: Locked<K>,
     intake: RunIntake<K>,
@@ -163,7 +163,7 @@ fn take_back<K: Run, O: Source>(
     })
 }
 
-// What comes back of a run that is given up.
+// What is left of a run that is given up.
 fn give_up<S: Alter + Drop, C: Caller>(fault: Fault, kept: Kept<S>, back: Back<C>) -> Lost<S, C>
     ensures journal { result.journal ≡ kept.journal }
     ensures stations { result.stations ≡ back.stations }
@@ -185,7 +185,7 @@ fn give_up<S: Alter + Drop, C: Caller>(fault: Fault, kept: Kept<S>, back: Back<C
     }
 }
 
-// What comes back of a run that ended well and began with so many entries.
+// What is left of a run that ended well and began with `from` entries.
 fn finish<S: Alter + Drop, C: Caller, O: Source>(
     from: usize,
     settled: Settled<O>,

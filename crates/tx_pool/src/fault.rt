@@ -8,17 +8,17 @@ use tx_journal::JournalError;
 pub enum Fault {
     /// The journal refused a write.
     Journal(JournalError),
-    /// The first entry that a receipt, a station's call, an offer or a written copy contradicts, or
-    /// the number after the last one.
+    /// A receipt, a station's call, an offer, a written copy or a session contradicts the history. The
+    /// number is the one after the last entry, or 1 if the keeper found nothing to write.
     ReceiptMismatch(usize),
-    /// The engine refused an event, as where the ids are spent.
+    /// The engine refused an event, for example because the ids are spent.
     Engine(EngineError),
     /// Memory was refused, or a thread could not be started.
     OutOfMemory,
 }
 
 impl Fault {
-    /// What a refusal of the engine is reported as.
+    /// The fault as which a refusal of the engine is reported.
     pub(crate) fn of_engine(error: EngineError) -> Fault {
         match error {
             EngineError::OutOfMemory => Fault::OutOfMemory,

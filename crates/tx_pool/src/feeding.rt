@@ -14,7 +14,7 @@ use tx_engine::Offer;
 use tx_intake::{Putter, Source};
 
 /// A source with the putter of the run's intake, and whether all that it has was given and put.
-/// Contracts see the latter alone.
+/// Contracts see only the latter.
 #[derive(Drop)]
 pub(crate) struct Fed<K: Run, O: Source> {
     source: O,
@@ -36,7 +36,7 @@ impl<K: Run, O: Source> Model for Fed<K, O> {
 }
 
 impl<K: Run, O: Source> Fed<K, O> {
-    // Of this source, of which all was put or not.
+    // Of this source and this putter, with whether all was put.
     fn new(source: O, putter: Putter, all_put: bool) -> Fed<K, O>
         requires { IsFed K.intake K.given K.ends_with (O.given source) (O.ended source)
             putter.intake putter.passed all_put }
@@ -64,7 +64,7 @@ impl<K: Run, O: Source> Fed<K, O> {
     }
 }
 
-// The next context, prepared to be offered; `None` where the source has ended.
+// The next context, prepared to be offered; `None` if the source has ended.
 fn next_offer<O: Source>(source: &mut O) -> Result<Option<Offer>, NoMemory>
     ensures gives { IfOk result (λ next. FeedsOne (O.given source.old) (O.given source.new) next) }
     ensures ends { IfOk result (λ next. IfNone next (O.ended source.new ≡ true)) }
@@ -78,7 +78,7 @@ fn next_offer<O: Source>(source: &mut O) -> Result<Option<Offer>, NoMemory>
     }
 }
 
-// Puts the offer, once there is room. False where the run is given up meanwhile.
+// Puts the offer as soon as there is room. Returns false if the run is given up before that.
 fn put<K: Run, C: Caller, R: Wait>(
     rt: &R,
     shared: &Shared<K, C>,
@@ -91,8 +91,8 @@ fn put<K: Run, C: Caller, R: Wait>(
 {
     let mut offer = offer;
     for _ in rt.forever() {
-        // Offers are got under the lock alone. So where there is no room under it, there is none until
-        // something has changed.
+        // Offers are got only under the lock. So if there is no room while it is held, there is none
+        // until something has changed.
         let locked = shared.locked.lock(rt);
         if locked.is_stopped() {
             return false;
@@ -113,7 +113,7 @@ fn put<K: Run, C: Caller, R: Wait>(
     false
 }
 
-/// Puts what the source gives until it ends, and says so.
+/// Puts what the source gives until it ends, and then tells the sessions so.
 pub(crate) fn feed<K: Run, C: Caller, O: Source, R: Wait>(
     rt: &R,
     shared: &Shared<K, C>,

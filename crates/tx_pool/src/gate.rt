@@ -1,9 +1,9 @@
-//! What a caller may have done round each call of a participant.
+//! What a caller may have run before and after each call of a participant.
 
 use sw_participant::Call;
 
-/// Called round each call of a participant in a run, with no lock of the engine held, by the thread
-/// of the session that makes the call. For tests.
+/// Called before and after each call of a participant in a run, by the thread of the session that
+/// makes the call, which does not hold the engine's lock. For tests.
 pub trait Gate {
     fn enter(&self, session: usize, call: &Call);
 

@@ -50,7 +50,7 @@ fn next_batch<K: Run, C: Caller, R: Wait>(
     }
 }
 
-// Writes the entries, of which there is one at least.
+// Writes the entries, of which there must be at least one.
 fn write<S: Alter>(journal: &mut Journal<S>, late: &[Entry]) -> Result<(), Fault>
     requires { All IsEntrySmall late.now }
     ensures some { IfOk result (λ _. 0 < length late.now) }
@@ -66,8 +66,8 @@ fn write<S: Alter>(journal: &mut Journal<S>, late: &[Entry]) -> Result<(), Fault
     }
 }
 
-/// Writes the entries as they come, all that are unwritten in one transaction, until the run is
-/// over. No lock is held while it writes.
+/// Writes the entries as they come, all unwritten ones in one transaction, until the run is over. No
+/// lock is held while it writes.
 pub(crate) fn keep<S: Alter + Drop, K: Run, C: Caller, R: Wait>(
     rt: &R,
     alloc: Global,

@@ -10,8 +10,8 @@ ghost use Rattle.tx_pool.specs.Drives.{Drove};
 use sw_participant::Rules;
 
 /// A run is one call of `drive` with the turns that it did. So the outcome law, which holds after any
-/// calls of `drive` (`plant_outcome::plants_keep_the_law`), holds after runs among them, and the seats
-/// of the sessions are as `plant_outcome::seats_are_held` says.
+/// calls of `drive` (`plant_outcome::plants_keep_the_law`), also holds if runs are among them, and
+/// the seats of the sessions are as `plant_outcome::seats_are_held` says.
 pub fn runs_are_drives<K, R: Rules<K>>()
     ensures { (types : List K) (os ps : List (List ℕ)) (cs ds : List ℕ) (p q : Whole)
         → Drove (rule_at R.rule types) os cs p ps ds q

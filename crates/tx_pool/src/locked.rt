@@ -1,4 +1,4 @@
-//! What stands under the engine's lock.
+//! What is under the engine's lock.
 
 ghost use Rattle.std.specs.Prelude.{All, ◌≡◌, ◌+◌, ◌≤◌, ◌<◌, ℕ, [], ◌∷◌, length, IfOk, OnErr};
 ghost use Rattle.sw_context.specs.Pairs.{Pairs};
@@ -41,13 +41,13 @@ pub(crate) struct Locked<K: Run> {
     getter: Getter,
     book: Book<K>,
     made: Vec<MadeCall>,
-    // Of the same calls, the numbers of their entries.
+    // The numbers of the entries of these calls.
     numbers: Vec<usize>,
     // How many sessions have left.
     left: usize,
-    // Whether the source has ended, and all that it gave is in the intake.
+    // Whether the source has ended, and all that it gave was put into the intake.
     fed: bool,
-    // Whether no call was due when the last write ended: calls take less time than a write.
+    // Whether no call was due when the last write ended, so that calls take less time than a write.
     is_quick: bool,
     // Whether the keeper waits until no call is due.
     gathers: bool,
@@ -87,13 +87,13 @@ fn take(running: &mut Running, alloc: Global, session: usize) -> Result<usize, F
     }
 }
 
-// What contradicts the history is after its last entry.
+// The fault of a run that contradicts its history: the number is the one after its last entry.
 fn mismatch(running: &Running) -> Fault {
     Fault::ReceiptMismatch(running.engine().history().len().saturating_add(1))
 }
 
 impl<K: Run> Locked<K> {
-    /// As it is when the run begins.
+    /// What is under the lock when the run begins.
     pub(crate) fn new(alloc: Global, running: Running, getter: Getter, book: Book<K>) -> Locked<K>
         requires start { core running.engine running.seats ≡ K.start }
         requires queue { getter.intake ≡ K.intake }
@@ -200,12 +200,13 @@ impl<K: Run> Locked<K> {
         }
     }
 
-    // Offers a context of the intake. Where there is none, and none will come, the session leaves.
+    // Offers a context from the intake. If there is none, and none will come, the session leaves.
     fn admit<R: Wait>(&mut self, rt: &R, intake: &RunIntake<K>) -> Plan {
         if let Err(error) = self.running.reserve_offer() {
             return self.stop(Fault::of_engine(error));
         }
-        // What is got is put first: so it was put before the source's end is seen here.
+        // The source's end is noted only after all was put: so if it is seen here and nothing is got
+        // below, nothing will come.
         let fed = self.fed;
         match intake.intake.get(rt, &mut self.getter) {
             Some(offer) => {
@@ -277,7 +278,7 @@ impl<K: Run> Locked<K> {
         self.stop(fault)
     }
 
-    /// Gives the run up. The first fault stands.
+    /// Gives the run up. The first fault is the one that is kept.
     pub(crate) fn stop(&mut self, fault: Fault) -> Plan {
         if self.fault.is_none() {
             self.fault = Some(fault);
@@ -285,7 +286,7 @@ impl<K: Run> Locked<K> {
         Plan::Again
     }
 
-    /// The source has ended, and all that it gave is in the intake.
+    /// Notes that the source has ended, and that all that it gave was put into the intake.
     pub(crate) fn end(&mut self) {
         self.fed = true;
     }
@@ -305,8 +306,8 @@ impl<K: Run> Locked<K> {
         self.is_left() && self.running.unwritten().is_empty()
     }
 
-    /// Whether the keeper has nothing to do: the run was not given up, goes on, and there is nothing
-    /// that it is time to write.
+    /// Whether the keeper has nothing to do: the run was not given up, it goes on, and it is not time to
+    /// write anything.
     pub(crate) fn is_quiet(&self) -> bool {
         if self.fault.is_some() {
             return false;
@@ -334,7 +335,7 @@ impl<K: Run> Locked<K> {
         self.gathers
     }
 
-    /// Whether the keeper waited for calls, and no more is due. It waits no longer.
+    /// Whether the keeper waited for calls, and none is due any more. Then it waits no longer.
     pub(crate) fn has_gathered(&mut self) -> bool {
         if !self.gathers || self.is_called() {
             return false;
@@ -343,7 +344,7 @@ impl<K: Run> Locked<K> {
         true
     }
 
-    // Whether a call is due to a session: it is made, or will be.
+    // Whether a call is due to a session: it is being made, or will be.
     fn is_called(&self) -> bool {
         let engine = self.running.engine();
         for session in 0..engine.sessions() {
@@ -361,7 +362,7 @@ impl<K: Run> Locked<K> {
         copies(alloc, self.running.unwritten())
     }
 
-    /// Moves the mark over so many entries, which are written.
+    /// Moves the mark over this many entries, which were written.
     pub(crate) fn wrote(&mut self, count: usize) {
         if count == 0 {
             return;

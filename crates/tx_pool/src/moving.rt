@@ -47,7 +47,7 @@ pub(crate) fn lock_stations<K: Run, C: Caller>(
     locks
 }
 
-/// A session for each part but one, the last one first.
+/// Opens a session for each part of the share but one, the last session first.
 pub(crate) fn open_sessions<K: Run>(
     alloc: Global,
     count: usize,
@@ -94,8 +94,8 @@ pub(crate) fn close_sessions<K: Run>(
     receipts
 }
 
-/// What comes back of the stations: their parts, with the calls that each made, and whether each
-/// stands where it stood.
+/// What comes back from the stations: their parts, with the calls that each made, and whether each
+/// is where it was.
 #[derive(Drop)]
 pub(crate) struct Back<C: Caller> {
     pub(crate) stations: Vec<StationParts<C>>,
@@ -103,7 +103,7 @@ pub(crate) struct Back<C: Caller> {
     pub(crate) in_order: bool,
 }
 
-/// The stations out of their locks, of which the last one stands first.
+/// Takes the stations out of their locks, the first of which is that of the last station.
 pub(crate) fn unlock_stations<K: Run, C: Caller>(
     locks: Vec<Mutex<StationLog<K, C>>>,
     stations: Vec<StationParts<C>>,

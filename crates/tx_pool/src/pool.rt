@@ -28,7 +28,7 @@ use tx_plant::Plant;
 
 type Boxed = Box<dyn Participant + Send>;
 
-// The parts of the stations, into a list with room for them.
+// Puts the parts of the stations into a list with room for them.
 fn take_apart(stations: Vec<Station>, parts: Vec<StationParts<Boxed>>) -> Vec<StationParts<Boxed>>
     requires room { vec_len stations ≤ vec_capacity parts }
     requires empty { parts.items ≡ [] }
@@ -49,7 +49,7 @@ fn take_apart(stations: Vec<Station>, parts: Vec<StationParts<Boxed>>) -> Vec<St
     parts
 }
 
-// The stations of these parts, into a list with room for them.
+// Puts the stations of these parts into a list with room for them.
 fn put_together(parts: Vec<StationParts<Boxed>>, stations: Vec<Station>) -> Vec<Station>
     requires room { vec_len parts ≤ vec_capacity stations }
     requires empty { stations.items ≡ [] }
@@ -91,7 +91,7 @@ fn allow(engine: &Engine, capacity: usize) -> Result<(), Early>
     Ok(())
 }
 
-/// What a run needs beside the plant, with its memory.
+/// What a run needs besides the plant, with its memory.
 struct Needs {
     intake: Intake,
     putter: Putter,
@@ -126,7 +126,7 @@ fn make_needs(alloc: Global, capacity: usize, stations: usize) -> Result<Needs, 
     })
 }
 
-// The plant of what a run left.
+// Makes the plant of what a run left.
 fn plant_of<S: Alter + Drop, O: Source>(
     ran: Ran<S, Boxed, O>,
     stations: Vec<Station>,
@@ -177,11 +177,11 @@ fn late<S: Alter + Drop>(lost: Lost<S, Boxed>, stations: Vec<Station>) -> Late<S
 }
 
 impl Pool {
-    /// Runs all sessions of the plant, each in a thread, until the source has ended, every offer was
-    /// taken and every session is idle; the calling thread writes the journal.
+    /// Runs all sessions of the plant, each in a thread, until the source has ended, every offer has
+    /// been taken and every session is idle; the calling thread writes the journal.
     ///
     /// Refuses `Early`, with the plant as it was, in this order: `BreakSet`, `InUse`, `BadCapacity`,
-    /// `OutOfMemory`. A run that cannot go on is `Late`: it hands journal and stations back.
+    /// `OutOfMemory`. A run that cannot go on is `Late`: it hands the journal and the stations back.
     pub fn run<S: Alter + Drop, O: Source + Send, G: Gate + Sync, R: Threads + Wait + Sync>(
         rt: &R,
         alloc: Global,

@@ -1,4 +1,4 @@
-//! Why a pool did not run, or gave a run up.
+//! Why a pool did not begin a run, or gave it up.
 
 use crate::fault::Fault;
 use sqlite::Alter;
@@ -16,16 +16,16 @@ pub enum Early {
     /// A session holds a transaction.
     #[error("a session holds a transaction; a pool begins with idle sessions")]
     InUse = 4,
-    /// Memory was refused. All else was right.
+    /// Memory was refused. Everything else was right.
     #[error("out of memory")]
     OutOfMemory = 6,
-    /// The intake is to have 1 to 4,096 places.
+    /// The intake's capacity is not one of 1 to 4,096.
     #[error("bad capacity: expected 1 to 4096")]
     BadCapacity = 7,
 }
 
-/// What a run leaves that was given up. A new plant may be made of journal and stations, on what
-/// the journal holds.
+/// What is left of a run that was given up. A new plant may be made of the journal and the stations,
+/// on what the journal holds.
 #[derive(Drop)]
 pub struct Late<S: Alter> {
     pub cause: Fault,

@@ -34,8 +34,9 @@ use tx_intake::{Getter, Intake, Putter, Source};
 use tx_journal::Journal;
 use tx_plant::Running;
 
-/// Empty lists with the room that a run needs on its way in and back, and its sessions. All its
-/// memory is taken before the threads start, so that journal and stations can always be handed back.
+/// Empty lists with the room that a run needs on its way in and back, and its sessions. All this
+/// memory is taken before the threads start, so that the journal and the stations can always be
+/// handed back.
 #[derive(Drop)]
 struct Rooms<K: Run, C: Caller> {
     sessions: Vec<Session<K>>,
@@ -82,7 +83,7 @@ pub(crate) struct Work<S: Alter, C: Caller, O: Source> {
     pub(crate) getter: Getter,
 }
 
-// A run, by the names of its ledger, its intake and its start.
+// A run, under the names of its ledger, its intake and its start.
 fn run_in<
     S: Alter + Drop,
     K: Run + Send + Sync,
@@ -195,7 +196,7 @@ fn run_in<
     })
 }
 
-/// A run of stations that are outside of their plant: a drive of the plant, by their own rules, from
+/// Runs stations that were taken out of their plant: a drive of the plant, by their own rules, from
 /// their own objects and counts.
 pub(crate) fn run_parts<
     S: Alter + Drop,

@@ -36,7 +36,7 @@ impl<K: Run> Session<K> {
 pub(crate) enum Plan {
     /// It asks again.
     Again,
-    /// It got an offer of the intake, which has room now, and asks again.
+    /// It got an offer from the intake, which has room now, and asks again.
     Admitted,
     /// It waits until its last entry is written.
     AwaitWrite,

@@ -9,7 +9,7 @@ use std::sync::{Condvar, Mutex, MutexGuard, Wait};
 use std::time::Duration;
 use sw_participant::Caller;
 
-/// How long the keeper waits for calls at most, in milliseconds.
+/// The longest time that the keeper waits for calls, in milliseconds.
 const GATHERING: u64 = 1;
 
 /// What the threads of a run share: the engine under its lock, each station under its own, the
@@ -18,7 +18,7 @@ const GATHERING: u64 = 1;
 /// round.
 ///
 /// No wake-up is lost. A thread waits only after it found, under the engine's lock, that it has
-/// nothing to do, and `wait` gives the lock up in one step with falling asleep. What it waits for
+/// nothing to do, and `wait` releases the lock and falls asleep in one step. What it waits for
 /// changes under the same lock, and the thread that changes it notifies afterwards:
 ///
 /// - `work`: the keeper waits while `is_quiet`. A session ends this by an entry that is not an
@@ -28,12 +28,12 @@ const GATHERING: u64 = 1;
 /// - `written`: a session waits for the mark to pass its last entry. Only the keeper moves the
 ///   mark, and it notifies all after that. It will, since the session's entry keeps `is_quiet`
 ///   false.
-/// - `offers`: a session waits where queue and intake are empty and the source goes on. The
+/// - `offers`: a session waits while the queue and the intake are empty and the source goes on. The
 ///   feeder notifies one session after each put, and all at the source's end. Whichever session
-///   comes first takes the offer. The one that is woken looks before it waits again, and so does
-///   each that was awake: no offer is left while all sessions sleep. What a session admits it
-///   takes itself, or another one does.
-/// - `room`: the feeder waits where the intake is full. A session that got an offer notifies it.
+///   comes first gets the offer. The one that is woken looks before it waits again, and so does
+///   each that was awake: no offer is left while all sessions sleep. What a session admits is
+///   taken by itself or by another one.
+/// - `room`: the feeder waits while the intake is full. A session that got an offer notifies it.
 /// - A fault ends each of these waits. A session or the keeper that finds one leaves, and wakes
 ///   all others by `tell_all` when it does; so does `stop`.
 ///
@@ -63,7 +63,7 @@ impl<K: Run, C: Caller> Shared<K, C> {
         self.tell_all();
     }
 
-    /// Wakes the keeper, if there is something for it to do now that a session rests or has left.
+    /// Wakes the keeper, if there is something for it to do now that a session waits or has left.
     pub(crate) fn tell_keeper(&self, locked: &mut Locked<K>) {
         if locked.has_gathered() {
             self.gathered.fetch_add(1, Ordering::SeqCst);
@@ -74,7 +74,7 @@ impl<K: Run, C: Caller> Shared<K, C> {
         }
     }
 
-    /// Waits until no call is due, but not for long.
+    /// Waits until no call is due, but not for longer than `GATHERING`.
     pub(crate) fn gather<'a, R: Wait>(
         &'a self,
         rt: &R,

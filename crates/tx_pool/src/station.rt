@@ -132,7 +132,7 @@ impl<K: Run, C: Caller> StationLog<K, C> {
         Ok(())
     }
 
-    /// Makes the call with this context, and answers the reply and the context that it left. At
+    /// Makes the call with this context, and returns the reply and the context that it left. After
     /// `NoMemory` the run has to end: the call may have been made.
     pub(crate) fn call(
         &mut self,

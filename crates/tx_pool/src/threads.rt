@@ -21,8 +21,8 @@ use sw_participant::Caller;
 use tx_intake::{Putter, Source};
 use tx_journal::Journal;
 
-/// What comes back of the threads. The source or the sessions are missing where no thread could be
-/// started, and the sessions where memory was refused.
+/// What comes back from the threads. The source or the sessions are missing if their thread could
+/// not be started, and the sessions also if memory was refused.
 #[derive(Drop)]
 pub(crate) struct Worked<S: Alter, K: Run, O: Source> {
     pub(crate) fed: Option<Fed<K, O>>,
@@ -30,9 +30,8 @@ pub(crate) struct Worked<S: Alter, K: Run, O: Source> {
     pub(crate) kept: Kept<S>,
 }
 
-/// Runs all threads until each has ended: the feeder's, that of the sessions, each of which has one
-/// of its own, and the calling one, which keeps the journal. Where one cannot be started the run is
-/// given up.
+/// Runs all threads until each has ended: the feeder's, one that runs a thread for each session, and
+/// the calling one, which writes the journal. If one cannot be started, the run is given up.
 pub(crate) fn work<
     R: Threads + Wait + Sync,
     S: Alter + Drop,
