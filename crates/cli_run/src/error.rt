@@ -63,8 +63,9 @@ pub enum ServeError {
     /// The pool did not run.
     #[error("the pool did not run: {0}")]
     Pool(Early),
-    /// The first entry of the history that contradicts what a thread recorded, or the number after the last entry.
-    #[error("the history contradicts what its threads recorded, from entry {0} on")]
+    /// The history of a batch contradicts what its threads recorded. No batch does so. The number is the one after its
+    /// last entry, or 1, as `tx_pool` has it.
+    #[error("the history of a batch contradicts what its threads recorded")]
     Mismatch(usize),
     /// A transaction took more steps than a transaction has, or came back from the shelf more often than it may.
     /// No transaction does.

@@ -74,7 +74,8 @@ fn make<K: Run, C: Caller, G: Gate, R: Wait>(
     let number = usize::from(call.participant);
     let count = shared.stations.len();
     if number >= count {
-        shared.stop(rt, Fault::OutOfMemory);
+        // Each participant of the flow has its station, so no due call names another one.
+        shared.contradict(rt);
         return;
     }
     let mut station = shared.stations[count - 1 - number].lock(rt);

@@ -272,8 +272,8 @@ impl<K: Run> Locked<K> {
             )
     }
 
-    // Gives the run up, since it contradicts its history.
-    fn contradict(&mut self) -> Plan {
+    /// Gives the run up, since it contradicts its history.
+    pub(crate) fn contradict(&mut self) -> Plan {
         let fault = mismatch(&self.running);
         self.stop(fault)
     }

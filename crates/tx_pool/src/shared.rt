@@ -63,6 +63,12 @@ impl<K: Run, C: Caller> Shared<K, C> {
         self.tell_all();
     }
 
+    /// Gives the run up, since it contradicts its history.
+    pub(crate) fn contradict<R: Wait>(&self, rt: &R) {
+        let _ = self.locked.lock(rt).contradict();
+        self.tell_all();
+    }
+
     /// Wakes the keeper, if there is something for it to do now that a session waits or has left.
     pub(crate) fn tell_keeper(&self, locked: &mut Locked<K>) {
         if locked.has_gathered() {
