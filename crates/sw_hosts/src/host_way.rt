@@ -96,9 +96,11 @@ impl<C: Clock + Drop> HostWay<C> {
         }
     }
 
-    // Hands a frame to the thread that writes; whether it took the frame.
+    // Hands a frame to the thread that writes; whether it took the frame. None is written while no answer can be
+    // read: the host would act on a request that the switch stands in for.
     fn hand_over(&self, frame: Frame) -> bool {
-        if self.shared.to.state() != DirectionState::Open {
+        let (to, from) = (self.shared.to.state(), self.shared.from.state());
+        if to != DirectionState::Open || from == DirectionState::Closed {
             return false;
         }
         let Some(mut outbox) = locked(&self.clock, &self.shared.outbox) else {

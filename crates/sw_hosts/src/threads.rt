@@ -98,16 +98,14 @@ impl<R: Wait + Clock> HostThread<'_, R> {
         true
     }
 
-    // Writes an echo test, if there is memory for one; whether the direction stays open. The answer of a silent
-    // host needs the other direction, which no message orders.
+    // Writes an echo test, if there is memory for one; whether the direction stays open. Its answer needs the other
+    // direction, which no message orders.
     fn write_test<W: Write>(&self, watch: &mut Watch, writer: &mut W) -> bool {
         let shared = self.shared;
         let (now, heard) = (Moment::now(self.rt), shared.heard());
         let before = watch.tests;
         watch.tested(now, heard, shared.times.timeout);
-        if shared.tested_from(heard).is_some() {
-            let _ = shared.from.order(now);
-        }
+        let _ = shared.from.order(now);
         match echo_frame(self.alloc, seconds(self.rt), watch.next_stan()) {
             Ok(frame) => {
                 let is_written = write_whole(writer, &frame).is_ok();
