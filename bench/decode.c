@@ -1,6 +1,6 @@
-/* What `cardswitch decode` does, in plain C: reads frames, checks each message by the table of fields
- * and prints its fields. It keeps no message: a field is checked where it lies, and printed when the
- * whole message is found to be one. */
+/* What `cardswitch decode` does, in plain C: reads frames, checks each message with the table of fields
+ * and prints its fields. It keeps no message: a field is checked where it lies, and printed once the
+ * whole message is found to be valid. */
 
 #include <stdint.h>
 #include <stdio.h>
@@ -13,7 +13,7 @@ enum content { NONE, N, ANS, B };
 struct form {
     uint8_t content;
     uint8_t length_digits; /* 0, 2 for LLVAR, 3 for LLLVAR */
-    uint16_t length;       /* the only or the greatest one */
+    uint16_t length;       /* the fixed or the greatest one */
 };
 
 static const struct form FORMS[129] = {
@@ -107,7 +107,7 @@ static int hex_value(uint8_t c)
     return -1;
 }
 
-/* The numbers of the set bits of a bitmap, or -1. */
+/* Adds the numbers of the set bits of a bitmap, and returns how many there are then, or -1. */
 static int numbers_of(const uint8_t *digits, int first, uint8_t *numbers, int count)
 {
     for (int i = 0; i < 16; i++) {
@@ -121,7 +121,7 @@ static int numbers_of(const uint8_t *digits, int first, uint8_t *numbers, int co
     return count;
 }
 
-/* Why the field at the front is invalid, or NULL; the bytes move past it. */
+/* Why the field at the front is invalid, or NULL, with the bytes moved past it. */
 static const char *take_field(const uint8_t **bytes, size_t *left, struct field *field)
 {
     struct form form = FORMS[field->number];

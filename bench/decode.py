@@ -3,7 +3,7 @@
 (bench/decode.c, compiled here) and a plain copy of the bytes.
 
 Build the program first: (cd crates/cardswitch && rt run < stdin -- step). Another program may be named as
-the only argument. All runs are pinned to one core where the machine has taskset, and take turns. The requests
+the only argument. All runs are pinned to one core if the machine has taskset, and take turns. The requests
 differ in card, amount, time, STAN and terminal.
 """
 

@@ -1,6 +1,6 @@
 /* What `test_bench engine` does, in plain C: transactions of two participants, one after the other, with a queue, a history
  * that keeps every event with its context, and for each entry the row that the journal is to have afterwards. Each copy that
- * the engine makes is made here too; nothing is proved, and nobody else's call is looked for. */
+ * the engine makes is made here too; nothing is proved, and calls of others are not looked for. */
 
 #include <stdint.h>
 #include <stdio.h>

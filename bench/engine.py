@@ -1,11 +1,11 @@
 #!/usr/bin/env python3
-"""Events a second of the engine at 10,000, 100,000 and 1,000,000 entries of one history, and what an entry keeps.
+"""Events a second of the engine at 10,000, 100,000 and 1,000,000 entries of one history, and the memory of an entry.
 
 Run from the top of the repository after `(cd crates/test_bench && rt run)`, which leaves the program in
-crates/test_bench/out/test_bench. Beside it stands a plain C program (bench/engine.c, compiled here) that keeps the same
-queue, history and rows with the same copies: what somebody would write who wants an engine and no proof. No journal is
-written on either side; bench/journal.py times that. All runs are pinned to one core where the machine has taskset, and
-take turns; the best of each counts, less a run without transactions. What an entry keeps is the growth of the most memory
+crates/test_bench/out/test_bench. It is compared with a plain C program (bench/engine.c, compiled here) that keeps the same
+queue, history and rows with the same copies: what somebody who wants an engine and no proof would write. No journal is
+written on either side; bench/journal.py times that. All runs are pinned to one core if the machine has taskset, and
+take turns; the best of each counts, less a run without transactions. The memory of an entry is the growth of the peak memory
 from 100,000 to 1,000,000 entries: below that the runner's own memory hides it.
 """
 import os
@@ -23,7 +23,7 @@ ENTRIES = 6
 
 
 def run(program, count):
-    """Seconds, and the most memory in bytes, of so many transactions."""
+    """The seconds and the peak memory in bytes of this many transactions."""
     command = [*program, str(count)]
     if shutil.which("taskset"):
         command = ["taskset", "-c", "0", *command]
@@ -38,7 +38,7 @@ def run(program, count):
 
 
 def measure(programs, transactions):
-    """The best time, less a run without transactions, and the least memory, of each program."""
+    """The best time, less a run without transactions, and the least peak memory of each program."""
     nothing, runs = ({name: [] for name in programs} for _ in range(2))
     for _ in range(ROUNDS):
         for name, program in programs.items():

@@ -26,7 +26,7 @@ def largest_flow():
 
 
 def far_flow():
-    """A selector that asks for the last of 256 groups, after 32,000 steps, which asks for itself again."""
+    """A flow with the selector `loop` in `main`, and again, after 32,000 steps, in the last of 256 groups."""
     lines = ['[[group]]\nname = "main"\n[[group.entry]]\nparticipant = "loop"\nselector = true']
     for group in range(254):
         lines.append(f'[[group]]\nname = "group-{group}"')

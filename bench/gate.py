@@ -1,11 +1,11 @@
 #!/usr/bin/env python3
 """Runs the gate and tells where its time goes: processor minutes of each crate's proof, tests and edits.
 
-    bench/gate.py [--cores 0,1] [COMMAND ..]        the command is ./test where none is given
+    bench/gate.py [--cores 0,1] [COMMAND ..]        the command is ./test if none is given
 
 The prover's processes are looked at four times a second while the gate runs. Ctrl-C, or a SIGTERM, ends it, and what was
-seen until then is printed. The last lines are a table in Markdown, the sum, the minutes by the clock, what share of the cores'
-time the host took for others meanwhile (on a shared machine, else none), and the longest chain of crates that stand on one
+seen up to then is printed. The last lines are a table in Markdown, the sum, the minutes by the clock, the share of the cores'
+time that the host took for others (none if the machine is not shared), and the longest chain of crates that depend on one
 another, whose proofs no number of cores can run side by side.
 """
 
@@ -24,7 +24,7 @@ KINDS = ("proof", "tests", "edits")
 
 
 def is_below(pid, top):
-    """Whether a process is one that the command has started, or that one of those has."""
+    """Whether a process is the command, or descends from it."""
     while pid > 1:
         if pid == top:
             return True
@@ -61,7 +61,7 @@ def watch(seen, done, top):
 
 
 def times(cores):
-    """The ticks of these processors, of all where none are named: in all, and those that the host took for others."""
+    """The ticks of these processors, or of all if none are named: the sum, and those that the host took for others."""
     ends = [it.split("-") for it in cores.split(",")] if cores else []
     wanted = {f"cpu{it}" for end in ends for it in range(int(end[0]), int(end[-1]) + 1)} or {"cpu"}
     with open("/proc/stat") as it:
@@ -71,7 +71,7 @@ def times(cores):
 
 
 def crates_below():
-    """Each crate of crates.txt with the crates that it stands on."""
+    """Each crate of crates.txt with the crates that it depends on."""
     below = {}
     with open(f"{ROOT}/crates.txt") as it:
         for line in it:

@@ -1,22 +1,22 @@
 #!/usr/bin/env python3
-"""Times `cardswitch run --config` with two hosts, of which one is silent: how long the other one's requests wait.
+"""Times `cardswitch run --config` with two hosts, one of which is silent: how long the other one's requests wait.
 
     bench/hosts.py [--program PATH] [--requests N] [--rounds N] [--flying N] [--sessions N] [--timeout MS] [--retry MS] [--echo S]
                    [--dead] [--first]
 
-Both hosts are examples/hosts/host.py at named pipes. Alpha answers at once. Beta gives no answer to a request, so that each waits for
-the timeout. With --retry one of them does, and beta is not asked for so long after that. Beta accepts the advices that follow. With
---echo it gets echo tests, and answers them. With --dead it reads all that it is sent, and never answers anything: then its first request
-comes before those that are timed. The requests come over a pipe, so many in flight, and of a hundred of them 0, 1, 10 or 50 are of beta's
-cards, at random places. With threads the responses of a batch leave when all of it has ended, so that a request of alpha waits for those
-of beta in its batch.
+Both hosts are examples/hosts/host.py at named pipes. Alpha answers at once. Beta gives no answer to a request, so each of its requests
+waits for the timeout. With --retry only one of them does, and then beta is not asked for --retry milliseconds. Beta accepts the advices that follow.
+With --echo it gets echo tests, and answers them. With --dead it reads all that it is sent, and never answers anything: then its first
+request comes before those that are timed. The requests come over a pipe, with --flying of them in flight, and 0, 1, 10 or 50 of a hundred
+are for beta's cards, at random places. With threads the responses of a batch leave when the whole batch has ended, so that a request to
+alpha waits for those to beta in its batch.
 
-With --first the first request of beta is one of those that are timed, with --dead too. Two more rows say what it costs: how long alpha's
-requests wait at most, and how many of them wait for over half the timeout. That is to be far above what they wait without beta.
+With --first the first request to beta is one of those that are timed, with --dead too. Two more rows say what it costs: how long alpha's
+requests wait at most, and how many of them wait for over half the timeout, which should be far longer than they wait without beta.
 
-It prints one table: the requests a second, and of alpha's requests the median time until the response, and what 99 of 100 stay below.
-So many sessions as threads stand beside the same run without threads. Each figure is the middle one of the rounds, in which
-both take turns. In brackets stands how many times the figure without threads each is. The journal is in memory.
+It prints one table: the requests a second, and for alpha's requests the median time until the response, and what 99 of 100 stay below,
+with --sessions sessions as threads and without threads. Each figure is the median of the rounds, in which both take turns. In brackets
+is its ratio to the figure without threads. The journal is in memory.
 """
 
 import argparse
@@ -34,9 +34,9 @@ import run
 from threads import EARLY, cells, in_turns, percentile, talk
 
 HOST = os.path.join(run.TOP, "examples", "hosts", "host.py")
-# Of a hundred requests so many are of beta.
+# How many of a hundred requests are for beta.
 SHARES = (0, 1, 10, 50)
-# The amount of which a host's answer comes at once, and of which none comes (host.py).
+# An amount that a host answers at once, and one that it does not answer (host.py).
 ANSWERED, SILENT = 100, 191
 CONFIG = """
 [[host]]
@@ -64,7 +64,7 @@ group = "beta"
 
 
 def frame(number, is_beta):
-    """The frame of an authorization, of a card of its own."""
+    """The frame of an authorization, with a card of its own."""
     card = b"%d%015d" % (5 if is_beta else 4, number)
     amount = SILENT if is_beta else ANSWERED
     message = b"0100722000000080800016" + card + b"000000%012d" % amount + b"0102030405%06d" % number + b"TERM0001978"
@@ -72,14 +72,14 @@ def frame(number, is_beta):
 
 
 def kinds(share, count):
-    """Which of so many requests are of beta."""
+    """Which of this many requests are for beta."""
     betas = set(random.Random(share).sample(range(count), count * share // 100))
     return [number in betas for number in range(count)]
 
 
 @contextlib.contextmanager
 def hosts(room, is_dead):
-    """Both hosts at their pipes. (Each end is opened for both ways, so that no opening waits.)"""
+    """Both hosts at their pipes. (Each pipe is opened for reading and writing, so that no opening waits.)"""
     answers = [sys.executable, HOST]
     with contextlib.ExitStack() as ends:
         for name, command in ("alpha", answers), ("beta", ["sh", "-c", "exec cat > /dev/null"] if is_dead else answers):
@@ -107,7 +107,7 @@ def measured(given, side, share):
         with open(f"{room}/config.toml", "w", encoding="utf-8") as it:
             it.write(CONFIG.format(timeout=given.timeout, retry=given.retry, echo=given.echo))
         with subprocess.Popen(words, cwd=room, **streams) as process:
-            # (some are sent before, while the program begins and opens the pipes)
+            # (some are sent first, while the program starts and opens the pipes)
             collections.deque(talk(process, early, given.flying), maxlen=0)
             began = time.perf_counter()
             took = list(talk(process, frames, given.flying))

@@ -1,5 +1,5 @@
 #!/usr/bin/env python3
-"""Commits a second of the journal beside SQLite's C library, side by side in one run.
+"""Commits a second of the journal and of SQLite's C library, side by side in one run.
 
 Run from the top of the repository after `(cd crates/test_bench && rt run)`, which leaves the program in
 crates/test_bench/out/test_bench. Both sides run the same statements: a transaction is taken (next id and a row with
@@ -42,7 +42,7 @@ def write_entry(run, n):
 
 
 def c_library(path, commits, entries):
-    """Seconds for so many commits of so many entries through Python's sqlite3."""
+    """The seconds of these commits, each of this many entries, through Python's sqlite3."""
     conn = sqlite3.connect(path, isolation_level=None)
     conn.execute("PRAGMA foreign_keys = ON")
     if path != ":memory:":
@@ -61,7 +61,7 @@ def c_library(path, commits, entries):
 
 
 def journal(path, commits, entries):
-    """Seconds for the same through the journal, what a run without commits takes aside."""
+    """The seconds of the same through the journal, less those of a run without commits."""
     def run(count):
         start = time.perf_counter()
         done = subprocess.run([PROGRAM, "journal", path(), str(count), str(entries)], capture_output=True)

@@ -5,9 +5,9 @@
 
 The crate is checked from nothing by one process, over the libraries that earlier checks built (`rt check` in its folder
 builds them). The checker leaves a file for each module as the module ends, so the time between two files is that of the
-second one, with what it was the first to load. The dearest are printed, 30 where no COUNT is given.
+second one, with what it was the first to load. The COUNT modules that took longest are printed, 30 if it is not given.
 
-The names are the checker's own: those of a function begin with its path, and what stands after it (`Lts`, `Proof`, `Tie`,
+The names are the checker's own: those of a function begin with its path, and what comes after it (`Lts`, `Proof`, `Tie`,
 ..) is a part of its proof. `Lts` was seen to grow with the values that may be dropped at early returns.
 """
 
@@ -25,7 +25,7 @@ KIT = os.path.dirname(os.path.realpath(shutil.which("rt") or sys.exit("no rt on 
 
 
 def kit():
-    """The library of the command rt, which knows the words of a check."""
+    """The library of the command rt, which knows the arguments of a check."""
     loader = importlib.machinery.SourceFileLoader("rtlib", f"{KIT}/rtlib.py")
     made = importlib.util.module_from_spec(importlib.util.spec_from_loader("rtlib", loader))
     sys.modules["rtlib"] = made
@@ -34,7 +34,7 @@ def kit():
 
 
 def check(name, room):
-    """Checks the crate into the room, and answers whether it is proved."""
+    """Checks the crate into the room, and returns whether it is proved."""
     rtlib, folder = kit(), f"{TOP}/crates/{name}"
     os.chdir(folder)
     crate = rtlib.Crate(folder, TOP, {}, name=name)

@@ -4,8 +4,8 @@
 Run from the top of the repository after `(cd crates/test_bench && rt run)`, which leaves the program in
 crates/test_bench/out/test_bench. The oldest key is answered each time, as by an issuer that answers in order.
 Beside it, in the same run: the program's `map`, which puts the same keys into a hash map of the standard library and
-takes them out (what one writes who needs neither an order nor deadlines), and a dict of Python, which most test tools
-of the trade use. Each counts by the best of some rounds, what the same run without requests takes taken away.
+takes them out (what one writes if one needs neither an order nor deadlines), and a dict of Python, which most test tools
+of the trade use. The best of some rounds counts; for the programs, less what the same run without requests takes.
 """
 
 import os
@@ -33,14 +33,14 @@ def program(what, keys):
 
 
 def key_of(message):
-    """The key of a message: its type, that of a response as its request's, terminal and STAN."""
+    """The key of a message: its type (for a response that of its request), terminal and STAN."""
     mti = message["mti"]
     digit = {"1": "0", "3": "2", "5": "4"}.get(mti[2], mti[2])
     return mti[:2] + digit + message[41].strip().rjust(16, "0") + message[11]
 
 
 def python_dict(keys):
-    """The same by a dict, on messages that are dicts."""
+    """The same with a dict, on messages that are dicts."""
     requests = deque({"mti": "0100", 41: "TERM0001", 11: f"{number:06}"} for number in range(keys + 1))
     responses = deque({**message, "mti": "0110"} for message in requests)
     waiting = {}

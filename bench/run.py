@@ -3,11 +3,11 @@
 
     bench/run.py [--program PATH] [--requests N]
 
-Two flows are timed: the least one (limits, an issuer, the response: five commits an authorization), and that of
+Two flows are timed: the smallest one (limits, an issuer, the response: five commits an authorization), and that of
 examples/ (thirteen). Beside each, in the same run, SQLite's C library (through Python's sqlite3) makes the commits of as
 many transactions in a journal of the same tables, WAL and synchronous FULL on the file: the rows of one approved
-authorization, a commit for each of its entries, by the same statements; on a file once with pages of its own size (4,096
-bytes), and once with those that a journal has (512). Then the time and the memory of 1,000, 10,000 and 100,000 requests,
+authorization, a commit for each of its entries, with the same statements; on a file once with pages of its default size
+(4,096 bytes), and once with those of a journal (512). Then the time and the memory of 1,000, 10,000 and 100,000 requests,
 in memory.
 """
 
@@ -43,7 +43,7 @@ ADD_ROW = "INSERT INTO tx VALUES (?1, ?2, ?3, ?4, 0, ?5)"
 CHANGE_ROW = "UPDATE tx SET phase = ?2, told = ?3, doing = ?4, tries = 0, context = ?5 WHERE id = ?1"
 ADD_PART = "INSERT INTO part VALUES (?1, ?2)"
 ADD_MEMBER = "INSERT INTO joined VALUES (?1, ?2, ?3)"
-# The rows of an approved authorization after each of its entries but the last, which drops it: phase, members, told, doing,
+# The row of an approved authorization after each of its entries but the last, which drops it: phase, members, told, doing,
 # and the bytes of its context.
 LEAST_ROWS = [
     (0, [], 0, "limits", 94),
@@ -65,13 +65,13 @@ EXAMPLE_ROWS = [
     (2, ["limits", "reverse", "forward"], 1, "", 224),
     (2, ["limits", "reverse", "forward"], 2, "", 224),
 ]
-# Each side takes turns, ours first in every other turn. The time of a sync varies, and so does what a shared machine gives, by
-# half within a minute: of each side the best and the middle one are told, and of the turns' own ratios the middle one.
+# The sides take turns, ours first in every other turn. The time of a sync varies, and so does what a shared machine gives, by
+# half within a minute: the best and the median of each side are printed, and the median and quartiles of the turns' ratios.
 ROUNDS = 15
 
 
 def requests(count):
-    """So many approved authorizations, each of a card of its own."""
+    """This many approved authorizations, each with a card of its own."""
     made = []
     for number in range(count):
         card = b"4%015d" % number
@@ -81,7 +81,7 @@ def requests(count):
 
 
 def timed(command, count, environment=None):
-    """The seconds of a command on so many requests, and the most memory that it had, in kilobytes."""
+    """The seconds of a command on this many requests, and its peak memory in kilobytes."""
     with tempfile.TemporaryFile() as given, tempfile.TemporaryFile() as made:
         given.write(requests(count))
         given.seek(0)
@@ -97,12 +97,12 @@ def timed(command, count, environment=None):
 
 
 def run(program, flow, count, journal=None):
-    """The same of a run by a flow."""
+    """The same for a run with this flow."""
     return timed([program, "run", "--flow", flow] + (["--journal", journal] if journal else []), count)
 
 
 def commits(rows, count, path, page=4096):
-    """The seconds of SQLite's C library for the commits of so many authorizations with these rows."""
+    """The seconds of SQLite's C library for the commits of this many authorizations with these rows."""
     journal = sqlite3.connect(path, isolation_level=None)
     journal.execute(f"PRAGMA page_size = {page}")
     journal.execute("PRAGMA journal_mode = WAL")
@@ -132,7 +132,7 @@ def commits(rows, count, path, page=4096):
 
 
 def turn_of(program, flow, rows, count, room, turn):
-    """The seconds of both sides in a turn: ours, the C library's, and over files its on pages of 512 bytes."""
+    """The seconds of both sides in a turn: ours, the C library's, and on files the C library's with pages of 512 bytes."""
     sides = [
         ("ours", lambda: run(program, flow, count, room and f"{room}/ours-{turn}.db")[0]),
         ("theirs", lambda: commits(rows, count, f"{room}/theirs-{turn}.db" if room else ":memory:")),

@@ -1,5 +1,5 @@
-/* A library for LD_PRELOAD: fsync and fdatasync wait so many microseconds more (SYNC_WAIT), as on a plain disk, and are counted in
- * the file that SYNC_COUNT names, eight bytes in this machine's order. */
+/* A library for LD_PRELOAD: fsync and fdatasync wait SYNC_WAIT microseconds longer, as on a plain disk, and are counted in the
+ * file that SYNC_COUNT names, eight bytes in this machine's order. */
 
 #define _GNU_SOURCE
 #include <errno.h>

@@ -3,12 +3,12 @@
 
     bench/threads.py [--program PATH] [--requests N] [--rounds N]
 
-It prints one table: beside 1, 2, 4, 8 and 16 sessions as threads stand the same program without threads, and SQLite's C library
-(through Python's sqlite3), which makes for each entry of the authorizations a commit of its own, as bench/run.py says. Each figure
-is the middle one of the rounds, in which all take turns; a run without requests is taken away from the throughput. A file is
-synced as the machine does it, and again with syncs that take 2 ms more, as those of a plain disk do (bench/slow_sync.c, over
-the C library's fsync and fdatasync, which counts them too). Latencies are of so many requests in flight over a pipe: the median,
-and what 99 of 100 stay below. In brackets stands how many times the figure without threads each is.
+It prints one table: beside 1, 2, 4, 8 and 16 sessions as threads, it has the same program without threads, and SQLite's C library
+(through Python's sqlite3), which makes a commit for each entry of the authorizations, as bench/run.py says. Each figure is the
+median of the rounds, in which all take turns; the time of a run without requests is not part of the throughput. A file is synced
+as the machine does it, and again with syncs that take 2 ms longer, as those of a plain disk do (bench/slow_sync.c replaces the C
+library's fsync and fdatasync, and counts them too). Latencies are those of 1 and of 16 requests in flight over a pipe: the median,
+and what 99 of 100 stay below. In brackets is the ratio of each figure to the one without threads.
 """
 
 import argparse
@@ -24,10 +24,10 @@ import run
 
 HERE = os.path.dirname(os.path.abspath(__file__))
 SESSIONS = (1, 2, 4, 8, 16)
-# The sides of a row: C SQLite, no threads, and so many sessions.
+# The sides of a row: C SQLite, no threads, and these numbers of sessions.
 SIDES = ("C SQLite", "no threads", *SESSIONS)
 FLOWS = (("thirteen commits", run.EXAMPLE, "EXAMPLE_ROWS"), ("five commits", None, "LEAST_ROWS"))
-# What syncs take more, in microseconds.
+# Where the journal is, and how much longer syncs take, in microseconds.
 PLACES = (("memory", None), ("file", 0), ("file, 2 ms more", 2_000))
 # The bytes of a request's frame, and how many requests are sent before those that are timed.
 FRAME, EARLY = 87, 32
@@ -48,7 +48,7 @@ class Timer:
         return f"{self.room}/{self.number}.{suffix}"
 
     def syncing(self, wait):
-        """The environment in which syncs take so much more, and the file that counts them; as it is in memory."""
+        """The environment in which syncs take this much longer, and the file that counts them; None for both in memory."""
         if wait is None:
             return None, None
         counts = self.new("count")
@@ -60,7 +60,7 @@ class Timer:
         return [self.program, "run", "--flow", flow or self.least, *threads, *journal]
 
     def throughput(self, flow, rows, side, wait, count):
-        """The seconds of so many authorizations, and how often was synced."""
+        """The seconds of this many authorizations, and the number of syncs."""
         environment, counts = self.syncing(wait)
         if side == "C SQLite":
             path = ":memory:" if wait is None else self.new("db")
@@ -72,8 +72,8 @@ class Timer:
         return took, synced(counts)
 
     def latencies(self, flow, side, wait, count, flying):
-        """The seconds that each of so many requests waits for its response, so many being in flight. (Some are sent before,
-        while the program begins.)"""
+        """The seconds that each of `count` requests waits for its response, with `flying` of them in flight. (Some are sent
+        first, while the program starts.)"""
         environment, _ = self.syncing(wait)
         text = run.requests(count + EARLY)
         frames = collections.deque(text[at : at + FRAME] for at in range(0, len(text), FRAME))
@@ -85,7 +85,7 @@ class Timer:
 
 
 def talk(process, frames, flying):
-    """Sends frames, so many of which wait for their responses at once; how long each does."""
+    """Sends frames, at most `flying` of which wait for their responses at once; yields how long each waits."""
     sent, came = collections.deque(), b""
     while frames or sent:
         while frames and len(sent) < flying:
@@ -129,7 +129,7 @@ def throughput_rows(timer, name, flow, rows, given):
 
 
 def latency_rows(timer, name, flow, given):
-    """What requests wait, one at a time, and sixteen."""
+    """How long requests wait, one and sixteen at a time."""
     for place, wait in PLACES:
         count = max(given.requests // (10 if wait else 2), 2)
         for flying in (1, 16):
@@ -140,7 +140,7 @@ def latency_rows(timer, name, flow, given):
 
 
 def cells(figures, form):
-    """Figures, each with how many times that without threads it is."""
+    """Figures, each with its ratio to the one without threads."""
     return [f"{form.format(it)} ({it / figures['no threads']:.2f})" for it in figures.values()]
 
 

@@ -12,7 +12,7 @@ import argparse
 import sys
 import time
 
-# The fields that this host reads: the digits of a variable length, or the size of a fixed one.
+# The fields that this host reads: how many digits a variable length has, or how long a fixed field is.
 VARIABLE = {2: 2, 32: 2, 33: 2, 35: 2, 44: 2, 45: 2, 48: 3, 54: 3, 55: 3, 60: 3, 61: 3, 62: 3, 63: 3, 100: 2, 102: 2, 103: 2}
 FIXED = {3: 6, 4: 12, 5: 12, 6: 12, 7: 10, 9: 8, 10: 8, 11: 6, 12: 6, 13: 4, 14: 4, 15: 4, 16: 4, 17: 4, 18: 4, 19: 3, 22: 3, 23: 3}
 FIXED |= {24: 3, 25: 2, 26: 2, 37: 12, 38: 6, 39: 2, 41: 8, 42: 15, 43: 40, 49: 3, 50: 3, 51: 3, 52: 16, 53: 16, 64: 16}
