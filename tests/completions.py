@@ -1,10 +1,11 @@
 #!/usr/bin/env python3
-"""Has bash complete command lines of `cardswitch` by contrib/cardswitch.bash.
+"""Has bash complete command lines of `cardswitch` with contrib/cardswitch.bash.
 
     tests/completions.py [--program PATH]
 
 What bash offers has to be what the program's own help lists: the subcommands, and the options of each one. After an option that
-takes a path it has to be the files that are there, after `--trace=` the forms of the trace. The last line counts; the status is 1 where something is wrong.
+takes a path it has to be the files that are there, and after `--trace=` the forms of the trace. The last line has the counts; the
+status is 1 if something is wrong.
 """
 
 import argparse
@@ -18,7 +19,7 @@ import tempfile
 TOP = os.path.dirname(os.path.dirname(os.path.abspath(__file__)))
 BUILT = os.path.join(TOP, "crates", "cardswitch", "out", "cardswitch")
 SCRIPT = os.path.join(TOP, "contrib", "cardswitch.bash")
-# Sets what bash itself would set as Tab is pressed at the end of these words, and prints what is offered.
+# Sets what bash itself would set when Tab is pressed at the end of these words, and prints what is offered.
 ASK = """
 source "$1" || exit 1
 shift
@@ -51,7 +52,7 @@ def commands_in(text):
 
 
 def cases(program, folder):
-    """Each completion that is asked for: its words, what is offered, and what is wanted."""
+    """Each completion that is asked for: its words, and what is wanted."""
     whole = helped(program)
     commands = commands_in(whole)
     yield [""], sorted([*commands, *options_in(whole)])

@@ -1,16 +1,17 @@
 #!/usr/bin/env python3
-"""Lets calls on the files of a journal fail under `cardswitch run`, one after the other, by a shim in C (shims/disk.c).
+"""Makes calls of `cardswitch run` on the files of a journal fail, one after the other, with a shim in C (shims/disk.c).
 
     tests/disks.py [--all] [--first N] [--seed N] [--count N] [--program PATH]
 
-A run with `--trace` on a new journal's file answers requests, some with a silent issuer, and counts its calls that open, write, sync,
-cut or link that file and those beside it. Then it runs again with the Nth of them failed, once or from then on, a write torn in half or
-not, with EIO or ENOSPC. Its responses have to be a beginning of the undisturbed ones, and so have the lines of its trace, and the status
-0, 3 (the journal refused) or 1. Then `recover` runs without faults. It has to leave a sound file without a row, and what it prints and
-leaves is what the plain model makes of the rows. No transaction whose response was read is unfinished; a stored reversal is of a
-request that got no response, or whose issuer is silent. A run without faults goes on with the file, whatever was made of it.
+A run with `--trace` on a new journal's file answers requests, some with a silent issuer, and its calls that open, write, sync, cut,
+link or remove that file and those beside it are counted. Then it runs again with the Nth of them failing, once or from then on, a write
+torn in half or not, with EIO or ENOSPC. Its responses have to be a beginning of the undisturbed ones, and so do the lines of its trace;
+the status has to be 0, 3 (the journal refused) or 1. Then `recover` runs without faults. It has to leave a file without a row, and what it
+prints and leaves is what the plain model makes of the rows. No transaction whose response was read is unfinished; a stored reversal is of
+a request that got no response, or whose issuer is silent. A run without faults goes on with the file, whatever is in it, and leaves it
+sound.
 
---all takes every call, --first the first N, each failed in each way; else so many of them are taken, spread evenly (--count).
+--all takes every call, --first the first N, and each fails in each way; otherwise --count of them are taken, spread evenly.
 """
 
 import argparse
@@ -48,7 +49,7 @@ def ran(shim, program, path, stdin, at=0, failure=(False, False, errno.EIO)):
 
 
 def trace_of(came):
-    """What a run wrote to standard error, without the cause for which it ended."""
+    """What a run wrote to standard error, without the line that says why it ended."""
     return b"".join(line for line in came.stderr.splitlines(True) if not line.startswith(b"cardswitch: "))
 
 
@@ -94,9 +95,9 @@ def arguments():
     """The words of the command line."""
     parser = argparse.ArgumentParser(description="Lets calls on the files of a journal fail.")
     parser.add_argument("--all", action="store_true", help="every call, in each way")
-    parser.add_argument("--first", type=int, default=0, help="the first so many calls alone, in each way")
+    parser.add_argument("--first", type=int, default=0, help="only the first N calls, in each way")
     parser.add_argument("--seed", type=int, default=random.SystemRandom().randrange(10**9))
-    parser.add_argument("--count", type=int, default=150, help="how many calls that fail, in all")
+    parser.add_argument("--count", type=int, default=150, help="how many calls fail, in all")
     parser.add_argument("--program", default=kills.BUILT)
     return parser.parse_args()
 

@@ -5,7 +5,7 @@
 
 Graphviz's `gc` reads each picture and counts its nodes and edges. There is a node for each group and each entry; edges lead through
 the entries of each group, through those that an abort calls, and from each selector to each group. The pictures are not laid out: on some
-random flows `dot` gives up ("trouble in init_rank"). Without Graphviz it says that it is skipped.
+random flows `dot` fails ("trouble in init_rank"). Without Graphviz the test says that it is skipped.
 """
 
 import argparse

@@ -5,8 +5,8 @@
 
 Each case is a row of `docs/HOSTS.md`: what the host does, and what the switch then answers, stores and sends. The hosts are played frame
 by frame (`harness/hosts.py`). One case runs `examples/hosts/host.py`, and one `examples/hosts/try.sh`, in which socat carries the frames
-over connections on the loopback, where it is installed. Two cases run commands of the pages as they stand there. WORD picks the cases whose
-name has these letters. The last line counts; the status is 1 where something is wrong.
+over connections on the loopback, if it is installed. Two cases run commands exactly as the pages have them. WORD picks the cases whose
+name has these letters. The last line has the counts; the status is 1 if something is wrong.
 """
 
 import argparse
@@ -29,8 +29,8 @@ from harness import pages  # noqa: E402
 from harness.hosts import EXAMPLES, NETWORK_TEST, SECONDS, Run, Wire, Wrong, played, reply, request, small, wanted, worked  # noqa: E402
 from model import messages  # noqa: E402
 
-# How long a query waits, in seconds, how long a case may take, and what is at once on a busy machine. And how long a query may wait on
-# a busy machine: shorter than one without a `timeout_ms`.
+# How long a query waits, in seconds, how long a case may take, and what counts as at once on a busy machine. And how long a query may
+# wait on a busy machine: less than one without a `timeout_ms`.
 TIMEOUT, CASE, AT_ONCE, MOST = 1.5, 120, 1.1, 8
 CONFIG = """
 [[host]]
@@ -76,20 +76,20 @@ def code(response):
 
 
 def waited(began):
-    """The switch stood in after the timeout of a request that was sent then, or later."""
+    """The switch stood in after the timeout of a request that was sent at this time, or later."""
     took = time.monotonic() - began
     if not TIMEOUT - 0.01 <= took <= MOST:
         raise Wrong(f"the switch stood in after {took:.2f} seconds, wanted {TIMEOUT}")
 
 
 def advices_in(room):
-    """The types of the advices in the journal, ids and places rising."""
+    """The types of the advices in the journal, in the order of ids and places."""
     left = kills.tables_of(os.path.join(room, "journal.db"))
     return [body[:4] for _, body in sorted(left.advice.items())]
 
 
 def answers(wire, *codes):
-    """The host answers so many messages, each as it comes; their types."""
+    """The host answers a message with each of these codes, as it comes; returns the types of the messages."""
     came = []
     for its in codes:
         message = wire.get()
@@ -149,12 +149,12 @@ def late(program, room):
 
 
 def late_of_the_same_key(program, room):
-    """A late answer is dropped also where the next request has its key (type, terminal and STAN)."""
+    """A late answer is dropped even if the next request has its key (type, terminal and STAN)."""
     with switch(program, room) as (run, wire):
         run.send(request(1, 400))
         first = wire.get()
         wanted("the first response's code", code(run.receive()), b"00")
-        # (the answer was taken from the pipe once the bad length behind it was found)
+        # (the answer was taken from the pipe once the bad length after it was found)
         wire.put(reply(first, b"51") + b"xxxx")
         wire.cut_off()
         run.send(request(1, card=b"4000000000000010"))
@@ -324,7 +324,7 @@ def echo(message):
 
 
 def asked(wire):
-    """The next message that is no echo test; each of those is answered."""
+    """The next message that is not an echo test; echo tests before it are answered."""
     until = time.monotonic() + SECONDS
     while (message := wire.get())[:4] == b"0800":
         wire.put(reply(message))
@@ -334,7 +334,7 @@ def asked(wire):
 
 
 def echo_answered(program, room):
-    """A host that gets nothing for a second is sent an echo test. Its answer is dropped, and it is asked as ever."""
+    """A host that gets nothing for a second is sent an echo test. Its answer is dropped, and requests are sent to it as before."""
     with switch(program, room, "--stats", alpha="echo_s = 1") as (run, wire):
         began = time.monotonic()
         run.send(request(1))
@@ -419,7 +419,7 @@ def retried(program, room):
 
 
 def asked_for(run, stans, seconds):
-    """Sends a request each quarter of a second, for so long; how long each response took."""
+    """Sends a request each quarter of a second, for this many seconds; returns how long each response took."""
     until, took = time.monotonic() + seconds, []
     while time.monotonic() < until:
         response = run.ask(small(next(stans)))
@@ -437,7 +437,7 @@ def at_once(took):
 
 
 def back(run, player, stans, seconds, answered=ANSWERED):
-    """The host answers messages of these types: after so long at most it is asked again, and no request waits meanwhile."""
+    """The host now answers messages of these types: within this many seconds it is asked again, and until then no request waits."""
     began, player.answered = time.monotonic(), answered
     while time.monotonic() - began < seconds:
         response = run.ask(small(next(stans)))
@@ -457,7 +457,7 @@ def silent_and_tested(program, room):
                 raise Wrong("the switch did not wait for the first answer")
             at_once(asked_for(run, stans, 5))
             wanted("requests at the silent host", player.came.count(b"0100"), 1)
-            # (a second and a half after the first of them the direction is closed, for a second)
+            # (a second and a half after the first echo test the direction is closed, for a second)
             tests = player.came.count(b"0800")
             if not 3 <= tests <= 6:
                 raise Wrong(f"{tests} echo tests came in five seconds, wanted about one a second")
@@ -486,7 +486,7 @@ def silent_and_back(program, room):
 
 
 def tested_and_never_answered(program, room):
-    """A host that answers echo tests alone is asked again, after `retry_ms` each time: one request waits, and the others do not."""
+    """A host that answers only echo tests is asked again each time after `retry_ms`: one request waits then, and the others do not."""
     with switch(program, room, alpha=TESTED) as (run, wire), played(wire) as player:
         player.answered = (b"0800",)
         took = asked_for(run, itertools.count(1), 9)
@@ -499,7 +499,7 @@ def tested_and_never_answered(program, room):
 
 
 def late_ends_silence(program, room):
-    """A host that answers late is not silent: it is asked again after `retry_ms`, and needs to answer no echo test for that."""
+    """A host that answers late is not silent: it is asked again after `retry_ms`, and need not answer an echo test for that."""
     with switch(program, room, alpha=TESTED) as (run, wire):
         began = time.monotonic()
         run.send(small(1))
@@ -556,7 +556,7 @@ def asked_at_once(program, room):
 
 
 def silent_in_a_batch(program, room):
-    """With threads the responses of a batch wait for a silent host: for each of its requests, and with `retry_ms` for one of them. Its
+    """With threads the responses of a batch wait for a silent host: for each of its requests, and with `retry_ms` only for one of them. Its
     advices go to that host, one after the other like its requests."""
     words = ["--threads", "--sessions", "4"]
     for more, waits in ("", 2), ("\nretry_ms = 60000", 1), ("\nretry_ms = 60000\necho_s = 30", 1):
@@ -619,14 +619,14 @@ def behind_socat(program, room):
 
 
 def block_of(page, begin):
-    """The block of a page whose first line begins so, as lines."""
+    """The block of a page whose first line begins like this, as lines."""
     with open(os.path.join(os.path.dirname(EXAMPLES), "docs", page), encoding="utf-8") as file:
         blocks = [block for _, block in pages.blocks_of(file.read())]
     return next(block for block in blocks if block[0].startswith(begin))
 
 
 def furnished(program, room):
-    """The examples, and the program on PATH: what a folder has in which the commands of pages are run."""
+    """Puts the examples and the program into the folder in which commands of pages are run; returns the environment for them."""
     for folder in EXAMPLES, os.path.join(EXAMPLES, "hosts"):
         for entry in filter(os.DirEntry.is_file, os.scandir(folder)):
             shutil.copy(entry.path, room)

@@ -1,13 +1,13 @@
 #!/usr/bin/env python3
-"""Kills `cardswitch run` at random moments of a run on a journal's file, and starts it again on the rest.
+"""Kills `cardswitch run` at random moments of a run on a journal's file, and starts it again on the rest of the requests.
 
     tests/kills.py [--threads] [--seed N] [--count N] [--program PATH]
 
 With --threads the runs have 8 sessions as threads, and the requests come in pieces, each of which is a batch: a kill may leave
-several transactions unfinished. After each kill, and at the end, SQLite's own library reads the journal. Of each kill holds: no
+several transactions unfinished. After each kill, and at the end, SQLite's own library reads the journal. After each kill: no
 transaction whose response was read is unfinished, so that no later run aborts it; a stored reversal is of a request that got no
 response, or whose issuer is silent; no row is at fault, and what `recover` prints and leaves, on a copy, is what the plain model
-makes of the rows. No id is given twice, and an advice that a kill leaves stays in the journal until a run has answered all. That run
+makes of the rows. No id is given twice, and an advice that a kill leaves stays in the journal until a run has answered all requests. That run
 delivers as many advices as were stored before it and in it. At the end every row is gone and the file is sound.
 """
 
@@ -41,7 +41,7 @@ ADVICES = re.compile(rb" advices-stored=(\d+) advices-delivered=(\d+) ")
 
 
 def frames(chosen):
-    """So many authorizations, some with a silent issuer, as frames; and which these are."""
+    """The frames of REQUESTS authorizations, some with a silent issuer; and the numbers of these."""
     made, silent = [], set()
     for number in range(REQUESTS):
         last = chosen.choice([0, 0, 0, 5, 91])
@@ -52,7 +52,7 @@ def frames(chosen):
 
 
 def pieces(chosen, made):
-    """These frames in pieces of some each."""
+    """These frames in pieces of 1 to 16."""
     at = 0
     while at < len(made):
         count = chosen.randint(1, 16)
@@ -62,7 +62,7 @@ def pieces(chosen, made):
 
 @contextlib.contextmanager
 def copied(path):
-    """A copy of the journal, which stays as it is."""
+    """A copy of the journal; the journal itself stays as it is."""
     with tempfile.TemporaryDirectory() as room:
         for name in glob.glob(glob.escape(path) + "*"):
             shutil.copy(name, room)
@@ -70,8 +70,8 @@ def copied(path):
 
 
 def tables_of(path):
-    """The journal's tables, None where it is not made yet. A run that is killed before that may leave a file which is no
-    database, where a file of an earlier kill stands beside it (see `journal_file.rt`); the next run takes it."""
+    """The journal's tables, or None if it is not made yet. A run that is killed before that may leave a file that is no
+    database, if there is a file of an earlier kill beside it (see `journal_file.rt`); the next run accepts it."""
     try:
         with copied(path) as copy:
             return journal.read(copy)
@@ -82,7 +82,7 @@ def tables_of(path):
 
 
 def answer_faults(tables, answered, silent):
-    """What is wrong with the rows by what was answered: ids begin with 1, one for each request."""
+    """What is wrong with the rows, given what was answered: ids begin with 1, one for each request."""
     for number in tables.tx:
         if number - 1 in answered:
             yield f"transaction {number} was answered and is unfinished"
@@ -96,7 +96,7 @@ def recovery_faults(program, tables, path):
     with open(FLOW, "rb") as file:
         engine = Engine(flows.read_flow(file.read()), 1, Participants(0))
     engine.written = journal.view(journal.turned(tables) if tables.layout == 1 else tables)
-    # (what a recovery finds and leaves stands before and after them)
+    # (without the first and the last line, which show what a recovery finds and leaves)
     wanted = "".join(f"{line}\n" for line in [*stops.recovery_lines(engine)][1:-1]).encode()
     with copied(path) as copy:
         command = [program, "recover", "--flow", FLOW, "--journal", copy]
@@ -135,7 +135,7 @@ def lost_faults(before, after, has_answered_all, told):
 
 
 def soundness_faults(path):
-    """Whether the file is no sound database."""
+    """What is wrong with the file as a database."""
     with copied(path) as copy, contextlib.closing(sqlite3.connect(copy)) as database:
         if database.execute("PRAGMA integrity_check").fetchall() != [("ok",)]:
             yield "the file is not sound"
@@ -150,7 +150,7 @@ def end_faults(path):
 
 
 def ran(chosen, given, path, made, seconds=None):
-    """What comes of a run on these frames, killed after so many seconds."""
+    """What comes of a run on these frames, killed after this many seconds, if any."""
     command = [given.program, "run", "--flow", FLOW, "--journal", path, "--stats"]
     command += ["--threads", "--sessions", str(SESSIONS)] * given.threads
     given_in = [*pieces(chosen, made)] if given.threads else [b"".join(made)]
@@ -165,7 +165,7 @@ def whole(given, room):
 
 
 def one(chosen, given, room, most, left):
-    """One journal, with runs that are killed, each after so many seconds at most, until one ends. How many transactions each
+    """One journal, with runs that are killed, each after at most this many seconds, until one ends. How many transactions each
     kill leaves is added to `left`."""
     made, silent = frames(chosen)
     path = os.path.join(room, f"{chosen.random()}.db")

@@ -7,8 +7,8 @@ pipe      Each request is sent once the response and the lines of the one before
 one read  All requests come at once, and both outputs go into one pipe: the lines of each transaction come before the response of the
           next one.
 
-Random requests, with each form of the trace. What has to come is what the plain model answers. The last line counts; the status is 1 where
-something is wrong.
+Random requests, with each form of the trace. What has to come is what the plain model answers. The last line has the counts; the status
+is 1 if something is wrong.
 """
 
 import argparse
@@ -49,7 +49,7 @@ def text_of(form, lines):
 
 
 def came(stream, wanted):
-    """What came on a stream of which so much is wanted, and a little longer."""
+    """What came on a stream up to the length of what is wanted, and shortly after that."""
     text, until = b"", time.monotonic() + SECONDS
     while len(text) < len(wanted) and (piece := read(stream, until - time.monotonic())):
         text += piece
@@ -57,13 +57,13 @@ def came(stream, wanted):
 
 
 def read(stream, seconds):
-    """The next bytes of a stream, none at its end or where none come in so many seconds."""
+    """The next bytes of a stream, none at its end or if none come in this many seconds."""
     ready, _, _ = select.select([stream], [], [], max(seconds, 0))
     return os.read(stream.fileno(), 65_536) if ready else b""
 
 
 def pipe_faults(words, form, made):
-    """What is wrong where each request is sent once the one before is answered, and its lines are there."""
+    """What is wrong if each request is sent once the one before it is answered and its lines are there."""
     streams = {"stdin": subprocess.PIPE, "stdout": subprocess.PIPE, "stderr": subprocess.PIPE, "bufsize": 0}
     with subprocess.Popen([*words, f"--trace{form}"], **streams) as process:
         for number, (frame, response, lines) in enumerate(answers(form, made), 1):
@@ -83,7 +83,7 @@ def pipe_faults(words, form, made):
 
 
 def read_faults(words, form, made):
-    """What is wrong where all requests come at once, and both outputs go into one pipe."""
+    """What is wrong if all requests come at once, and both outputs go into one pipe."""
     wanted = list(answers(form, made))
     frames = b"".join(frame for frame, _, _ in wanted)
     text = b"".join(response + lines for _, response, lines in wanted)

@@ -1,12 +1,12 @@
 #!/usr/bin/env python3
-"""Serves a long stream of requests with `cardswitch run --trace`, and looks at what it writes and takes.
+"""Serves a long stream of requests with `cardswitch run --trace`, and looks at what it writes and how much memory it takes.
 
     tests/long.py [--requests N] [--kind test|authorization|silent] [--form text|json] [--most MEGABYTES] [--program PATH]
 
 Each request has to be answered, in order, and each line of the trace has to come once, in order: the plain model says which lines a
-request has, and what its response is. However long the stream is, at most 64 MB may be taken, and for authorizations what the book
+request has, and what its response is. However long the stream is, at most 64 MB may be taken, and for authorizations also what the book
 keeps of each, and the advices of those whose issuer is silent. The default, 125,000 network tests, makes a history of a million entries;
-1,000,000 requests by hand take some minutes. The last line counts; the status is 1 where something is wrong.
+1,000,000 requests by hand take some minutes. The last line has the counts; the status is 1 if something is wrong.
 """
 
 import argparse
@@ -34,7 +34,7 @@ def network_test(stan):
 
 
 def authorization(stan, amount=b"000000000100"):
-    """One of a card of its own, which is approved."""
+    """One with a card of its own, which is approved."""
     fields = {2: b"4000000000" + stan, 3: b"000000", 4: amount, 7: b"0102030405", 11: stan, 41: b"TERM0001", 49: b"978"}
     return messages.encode(b"0100", fields)
 
@@ -45,7 +45,7 @@ def silent(stan):
 
 
 KINDS = {"test": network_test, "authorization": authorization, "silent": silent}
-# A STAN that stands in a text only where it was put.
+# A STAN that occurs in a text only where it was put.
 MARK = b"271828"
 
 
@@ -54,7 +54,7 @@ def stan_of(number):
 
 
 class Worked:
-    """The first request of a kind: its response, its lines with a number in the place of the id, and the places of its advices."""
+    """The first request of a kind: its response, its lines with `{}` in place of the id, and the places of its advices."""
 
     def __init__(self, make, form):
         switch = Switch(requests.whole_flow(), 10_000)
@@ -76,7 +76,7 @@ def filled(line, number):
 
 
 def lines_of(worked, count):
-    """The lines of so many requests, one after the other."""
+    """The lines of this many requests, one after the other."""
     for number in range(1, count + 1):
         yield from (filled(line, number) for line in worked.lines)
     yield from (worked.ack(number, place) for number in range(1, count + 1) for place in worked.places)
@@ -86,12 +86,12 @@ def frames_of(worked, count):
     """The frames of their responses."""
     for number in range(1, count + 1):
         stan = stan_of(number)
-        # (the switch's own approval code ends in four digits of the STAN)
+        # (the switch's own approval code ends in the last four digits of the STAN)
         yield worked.response.replace(b"SI" + MARK[-4:], b"SI" + stan[-4:]).replace(MARK, stan)
 
 
 def requests_of(make, count):
-    """Their own frames."""
+    """The frames of the requests themselves."""
     first = messages.framed(make(MARK))
     for number in range(1, count + 1):
         yield first.replace(MARK, stan_of(number))
@@ -117,7 +117,7 @@ class Reader(threading.Thread):
 
 
 def served(program, make, count, form):
-    """What is wrong with a run of so many requests; its status, the memory that it took in MB, and its seconds."""
+    """What is wrong with a run of this many requests; its status, the memory that it took in MB, and its seconds."""
     with tempfile.TemporaryDirectory() as room:
         flow = f"{room}/flow.toml"
         with open(flow, "wb") as file:

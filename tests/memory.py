@@ -1,26 +1,26 @@
 #!/usr/bin/env python3
-"""Refuses programs their requests for memory, one after the other, by a shim in C (shims/memory.c).
+"""Refuses programs their requests for memory, one after the other, with a shim in C (shims/memory.c).
 
     tests/memory.py [WORD] [--all] [--seed N] [--count N] [--program PATH] [--scripts PATH] [--pool PATH]
 
 Each command runs once undisturbed, which counts its requests for memory. Then it runs again with the Nth of them refused, and again
-with all from the Nth on. The commands are those of `cardswitch`, and two of programs for tests that go on where memory was refused.
+with all from the Nth on. The commands are those of `cardswitch`, and two of test programs, which go on after memory was refused.
 
-The status of `cardswitch` has to be 4 (out of memory) or 3 (the journal is out of memory), or 0 where the program can do without.
-What it wrote has to be a beginning of what the undisturbed run wrote, and all of it at status 0. `run` may have given what a silent
-issuer leads to for one request, as it does where memory is refused after a query was sent; the plain model says what that is. The
+The status of `cardswitch` has to be 4 (out of memory) or 3 (the journal is out of memory), or 0 if the program can do without.
+What it wrote has to be a beginning of what the undisturbed run wrote, and all of it at status 0. `run` may have answered one request as
+if its issuer were silent, as it does if memory is refused after a query was sent; the plain model says what that gives. The
 lines of its trace are judged in the same way. A journal's file has to be sound, without a row at fault, and `recover` has to leave no
 transaction in it.
 
-`test_switch again` does each turn of a script again that is refused for memory. With one request refused, what it prints has to be
-what the model prints; or, where memory was refused to the journal's store, what it prints with a stop before or after one line.
+`test_switch again` does a turn of a script again if it is refused for lack of memory. With one request refused, what it prints has to
+be what the model prints; or, if memory was refused to the journal's store, what the model prints with a stop before or after one line.
 
-`test_pool again` runs eight offers by four sessions as threads, twice. A run that is refused memory is given up, and a new plant
-recovers on what it left and goes on: no transaction has both a commit and an abort, and all offers of a run that is not given up are
+`test_pool again` runs eight offers with four sessions as threads, twice. A run that is refused memory is given up, and a new plant
+recovers what it left and goes on: no transaction has both a commit and an abort, and all offers of a run that is not given up are
 taken.
 
-WORD picks the commands whose name has these letters. --all takes every number, else so many of each command, spread evenly (--count,
-the numbers in all).
+WORD picks the commands whose name has these letters. --all refuses every request in turn, otherwise some of each command, spread evenly
+(--count of them in all).
 """
 
 import argparse
@@ -44,9 +44,9 @@ from model import flows, journal, messages, script, switch  # noqa: E402
 TOP = os.path.dirname(os.path.dirname(os.path.abspath(__file__)))
 FLOW = os.path.join(TOP, "examples", "switch.toml")
 RELEASED = os.path.join(TOP, "tests", "run", "released_layout_1.db")
-# Of the threads: so many sessions, and so many offers in each of two runs.
+# Of the threads: the number of sessions, and of offers in each of two runs.
 SESSIONS, OFFERS = 4, 8
-# So many requests read the words and the input of a program that goes on; it does not go on where one of them is refused.
+# How many requests a program that goes on needs to read its arguments and its input; it does not go on if one of them is refused.
 READING = 12
 SCRIPTS = {
     "a retry": "retries 1\nflow main p\nanswer p 02 v=41\nanswer p 02\nauto\nrelease\ntake 0\nwrite\ncall 0\nwrite\ncall 0\nwrite\n",
@@ -92,13 +92,13 @@ def ending(came):
 
 @dataclass
 class Command:
-    """A command of `cardswitch`, its input, and where it has a journal's file."""
+    """A command of `cardswitch`, its input, and the path of its journal's file, if it has one."""
 
     name: str
     words: list
     stdin: bytes
     path: str = None
-    # What it may write at best beside what the undisturbed run writes.
+    # What it may write at most, other than what the undisturbed run writes.
     others: list = field(default_factory=list)
     # The journal's file that it begins with.
     begins_with: str = None
@@ -134,15 +134,15 @@ class Command:
 
 
 def without(text, *begins):
-    """The lines of a text that do not begin so."""
+    """The lines of a text that do not begin like this."""
     return b"".join(line for line in text.splitlines(True) if not line.startswith(begins))
 
 
 @dataclass
 class Traced(Command):
-    """A run with `--trace`, the lines of which are judged too."""
+    """A run with `--trace`, whose lines are judged too."""
 
-    # The lines that it may write at best beside those of the undisturbed run.
+    # The lines that it may write at most, other than those of the undisturbed run.
     traces: list = field(default_factory=list)
 
     def faults(self, whole, came, at, goes_on):
@@ -155,7 +155,7 @@ class Traced(Command):
 
 @dataclass
 class Again(Command):
-    """A script whose turns are done again where they are refused, and what it may print."""
+    """A script whose turns are done again if they are refused, and what it may print."""
 
     may_print: list = field(default_factory=list)
 
@@ -171,7 +171,7 @@ class Again(Command):
 
 @dataclass
 class Threads(Command):
-    """Sessions as threads, of which a run is given up where it is refused memory."""
+    """Runs of sessions as threads. A run is given up if it is refused memory."""
 
     def faults(self, whole, came, at, goes_on):
         if not came.stdout and came.status in (1, 2, 4) and (goes_on or at <= READING):
@@ -191,7 +191,7 @@ class Threads(Command):
 
 
 def with_silence(requests):
-    """What `run` writes where the issuer of one request is silent, for each authorization in turn: the responses, and the trace."""
+    """What `run` writes if the issuer of one request is silent, for each authorization in turn: the responses, and the trace."""
     flow = flows.read_flow(read("examples/switch.toml"))
     heard = switch.issued
     for silent in filter(lambda it: it[:4] == b"0100", requests):
@@ -206,15 +206,15 @@ def with_silence(requests):
 
 
 def printed(lines):
-    """The lines that `step` prints of a script."""
+    """The lines that `step` prints for a script."""
     text, fault, _ = script.step("".join(f"{line}\n" for line in lines).encode())
     assert fault is None, fault
     return text.splitlines()
 
 
 def with_a_stop(text):
-    """What may be printed of a script: the model's lines, and those with a stop before a line or after it, whose own line is then
-    lost."""
+    """What may be printed for a script: the model's lines, and those with a stop before a line, or after it: then the line is done
+    again, and what it printed at first is lost."""
     lines = text.splitlines()
     first = next(at for at, line in enumerate(lines) if line.startswith("offer"))
     yield printed(lines)

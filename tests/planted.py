@@ -11,8 +11,8 @@ a file has after a stop, what is written after an error) only tests can see. An 
     program: tests/NAME.py WORD ..   this test of the whole program, with these words and `--program`
 
 A test of the whole program also has to pass on the program without an edit, which is built once for all edits. Tests and programs are
-built by `rt try`, without proof (harness/tried.py): some minutes each. The last line counts; the status is 1 where a bug is not
-seen, or where a test fails without one.
+built by `rt try`, without proof (harness/tried.py): some minutes each. The last line has the counts; the status is 1 if a bug is
+not seen, or if a test fails without one.
 """
 
 import glob
@@ -90,7 +90,7 @@ def tests_of(room, crate):
 
 
 def test_of(program, words):
-    """Whether a test of the whole program was run, whether it passed, and what it said. Its last line counts."""
+    """Whether a test of the whole program was run, whether it passed, and what it said. Its last line has the counts."""
     words = [sys.executable, os.path.join(TOP, words[0]), *words[1:], "--program", program]
     try:
         ran = subprocess.run(words, cwd=TOP, capture_output=True, text=True, errors="replace", timeout=SECONDS)
@@ -114,7 +114,7 @@ class Unedited:
         self.room, self.program, self.said = room, f"{room}/cardswitch", {}
 
     def fault(self, words):
-        """Why this test tells nothing; None where it passes."""
+        """Why this test tells nothing; None if it passes."""
         if not os.path.exists(self.program):
             lay(self.room)
             tried.build(self.room, "cardswitch", self.program)
@@ -125,7 +125,7 @@ class Unedited:
 
 
 def judge(edit, unedited):
-    """Why the tests have not seen the bug; None where they have."""
+    """Why the tests have not seen the bug; None if they have."""
     with tempfile.TemporaryDirectory() as room:
         lay(room)
         plant(room, edit.changes)

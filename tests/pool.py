@@ -1,6 +1,6 @@
 #!/usr/bin/env python3
 """Runs `test_pool`, a plant whose sessions are threads and whose participants reply at random, on
-each flow of pool/, and judges what it did by the model.
+each flow of pool/, and judges what it did with the model.
 
     tests/pool.py [--seed N] [--offers N] [--sessions N ..] [--program PATH]
 

@@ -3,11 +3,11 @@
 
     tests/prompt.py [--seed N] [--count N] [--program PATH]
 
-Random scripts come over a pipe, one line after the other, and after each line has to come, within a few seconds, what the plain model
-prints of it, and nothing more. A line that the model refuses has to end the run with status 1, before another line is sent.
+Random scripts come over a pipe, one line after the other. After each line, what the plain model prints for it has to come within a few
+seconds, and nothing more. A line that the model refuses has to end the run with status 1, before another line is sent.
 
-With `--prompt` each line is asked for by a prompt, a line that the model refuses is reported and changes nothing, and the run goes on. Lines
-`help`, `list` and `info` and refused ones come among the others. The sessions that docs/DEBUGGER.md shows are typed on a pseudo-terminal,
+With `--prompt` each line is asked for by a prompt, a line that the model refuses is reported and changes nothing, and the run goes on. The
+lines `help`, `list` and `info` and refused ones come among the others. The sessions that docs/DEBUGGER.md shows are typed on a pseudo-terminal,
 and what is on the screen has to be what the page shows.
 """
 
@@ -35,13 +35,13 @@ SECONDS, QUIET = 20, 0.002
 
 
 def came(stream, seconds):
-    """The next bytes of a stream, none at its end; `None` where none come in so many seconds."""
+    """The next bytes of a stream, none at its end; `None` if none come in this many seconds."""
     ready, _, _ = select.select([stream], [], [], seconds)
     return os.read(stream, 65_536) if ready else None
 
 
 def answer(stream, wanted):
-    """What came of a line of which so much is wanted, and a little longer."""
+    """What came on a stream up to the length of what is wanted, and shortly after that."""
     text, until = b"", time.monotonic() + SECONDS
     while len(text) < len(wanted):
         piece = came(stream, until - time.monotonic())
@@ -52,7 +52,7 @@ def answer(stream, wanted):
 
 
 def printed(run, line):
-    """What the model prints of a line, with whether the run goes on."""
+    """What the model prints for a line, and whether the run goes on."""
     try:
         return "".join(f"{it}\n" for it in run.line(line)).encode(), True
     except (script.Malformed, flows.Fault):
@@ -106,7 +106,7 @@ def refused_line(chosen):
 
 
 def told(stream, begins):
-    """A line of standard error that begins so; what came where it is another one."""
+    """None if a line that begins like this comes on standard error (if nothing comes, for None); otherwise what came."""
     text = b""
     until = time.monotonic() + SECONDS
     while begins is not None and not text.endswith(b"\n"):
@@ -154,7 +154,7 @@ def screens():
 
 
 def read_to(terminal, text, end, seconds=SECONDS):
-    """What is on the screen once it ends so, or after some seconds."""
+    """What is on the screen once it ends like this, or after some seconds."""
     until = time.monotonic() + seconds
     while not text.endswith(end):
         piece = came(terminal, until - time.monotonic())

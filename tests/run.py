@@ -1,7 +1,7 @@
 #!/usr/bin/env python3
-"""Runs the built program on the cases of this folder, on the examples of docs/, and on random cases.
+"""Runs the built program on the cases of this folder, on the examples of README.md and docs/, and on random cases.
 
-    tests/run.py [WORD] [--seed N] [--count N] [--many] [--program PATH] [--show]
+    tests/run.py [WORD] [--seed N] [--count N] [--many] [--every] [--program PATH] [--show]
 
 README.md beside this file says how a case is written.
 """
@@ -21,7 +21,7 @@ from model import generate  # noqa: E402
 
 HERE = os.path.dirname(os.path.abspath(__file__))
 TOP = os.path.dirname(HERE)
-# How many failed cases are shown whole.
+# How many failed cases are shown in full.
 SHOWN = 20
 BUILT = os.path.join(TOP, "crates", "cardswitch", "out", "cardswitch")
 
@@ -30,10 +30,10 @@ def arguments():
     """The words of the command line."""
     parser = argparse.ArgumentParser(description="Runs the built program on the cases.")
     parser.add_argument("word", nargs="?", default="", help="only cases whose name has this word")
-    parser.add_argument("--seed", type=int, help="the seed of the random cases; else a new one")
+    parser.add_argument("--seed", type=int, help="the seed of the random cases; default a new one")
     parser.add_argument("--count", type=int, default=4000, help="how many random cases; default 4000")
     parser.add_argument("--many", action="store_true", help="a hundred times as many random cases, and the files many.cases, for a night")
-    parser.add_argument("--every", action="store_true", help="each byte of both spoilt images by every other")
+    parser.add_argument("--every", action="store_true", help="each byte of both spoilt images is replaced by every other")
     parser.add_argument("--program", default=BUILT, help="the program; default the one that rt ci built")
     parser.add_argument("--show", action="store_true", help="print what came of each case, judge nothing")
     given = parser.parse_args()
@@ -49,7 +49,7 @@ def all_cases(seed, given):
 
 
 def told(program, case, came):
-    """What is wrong with what came of a case, of a random one by the fewest lines that show it; None: nothing."""
+    """What is wrong with what came of a case, for a random one with the fewest lines that show it; None: nothing."""
     wrong = case.wrong(came)
     if wrong and case.remake:
         case = smallest(program, case)

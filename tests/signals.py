@@ -4,9 +4,10 @@
     tests/signals.py [--program PATH]
 
 A run answers some requests over a pipe, and then gets SIGTERM or SIGINT, or its output is closed before the next request. It has to
-end at once: by that signal, or with status 1 where its output is closed (SIGPIPE is ignored, so that the failed write is reported). The journal that it leaves has to recover, as after a
-kill (kills.py): no answered transaction is unfinished, and what is recovered is what the plain model makes of the rows. A run
-whose standard error is closed has to answer all and end with status 0, also with --trace. Each with threads and without.
+end at once: by that signal, or with status 1 if its output is closed (SIGPIPE is ignored, so that the failed write is reported). The
+journal that it leaves has to recover, as after a kill (kills.py): no answered transaction is unfinished, and what is recovered is what
+the plain model makes of the rows. A run whose standard error is closed has to answer all requests and end with status 0, also with
+--trace. Each case is run with threads and without.
 """
 
 import argparse
@@ -29,7 +30,7 @@ WAYS = {"SIGTERM": signal.SIGTERM, "SIGINT": signal.SIGINT, "closed output": Non
 
 
 def answered_by(process, count):
-    """Reads so many responses."""
+    """Reads this many responses."""
     came = b""
     while len(messages.frames(came)) < count and (piece := os.read(process.stdout.fileno(), 65_536)):
         came += piece
@@ -37,7 +38,7 @@ def answered_by(process, count):
 
 
 def ended(process):
-    """The status of a process that has to end, and what is wrong where it does not."""
+    """The status of a process that has to end, and what is wrong if it does not."""
     try:
         return process.wait(SECONDS), None
     except subprocess.TimeoutExpired:
@@ -46,13 +47,13 @@ def ended(process):
 
 
 def heed():
-    """Signals end the program, also where this one was started without them, as a job in the background is."""
+    """Signals end the program, even if this one was started with them ignored, as a job in the background is."""
     for sent in signal.SIGTERM, signal.SIGINT:
         signal.signal(sent, signal.SIG_DFL)
 
 
 def stopped(command, made, sent):
-    """Runs a command, answers some requests and ends it in this way. The responses, the status, and what is wrong."""
+    """Runs a command until it has answered some requests, and ends it in this way. The responses, the status, and what is wrong."""
     streams = {"stdin": subprocess.PIPE, "stdout": subprocess.PIPE, "stderr": subprocess.DEVNULL, "bufsize": 0}
     with subprocess.Popen(command, preexec_fn=heed, **streams) as process:
         process.stdin.write(b"".join(made[:EARLY]))

@@ -1,19 +1,19 @@
 #!/usr/bin/env python3
-"""Runs `cardswitch run --threads` on random requests, and judges what comes by the plain model.
+"""Runs `cardswitch run --threads` on random requests, and judges the results with the plain model.
 
     tests/threads.py [WORD] [--seed N] [--count N] [--program PATH]
 
 apart     Transactions that do not see one another. For 1, 2, 4 and 16 sessions, in memory and on a file, however the input
-          comes, the run writes the bytes that the model has for one request after the other, and so does `run` without threads.
-crowd     Transactions of all classes that meet. The model follows the trace line by line (model/threads.py), and has then the
+          comes, the run writes the bytes that the model has for the requests one after the other, and so does `run` without threads.
+crowd     Transactions of all classes that meet. The model follows the trace line by line (model/threads.py), and then has the
           responses and the journal of the run.
-crush     The same with more messages than a batch has. Two transactions at least are under way at once: `--threads` is not ignored.
+crush     The same with more messages than a batch has. At least two transactions are under way at once: `--threads` is not ignored.
 ends      A stream that ends within a frame, or with a bad length, and messages that cannot be read: what came before is
           answered, and text and status are those of `run` without threads.
-refusing  A journal's file that may not grow: responses and trace are those of whole batches, and no transaction of them is
-          unfinished.
+refusing  A journal's file that may not grow: responses and trace are those of whole batches, and none of their
+          transactions is unfinished.
 
-WORD picks the runs whose names have these letters. The last line counts; the status is 1 where a run failed.
+WORD picks the runs whose names have these letters. The last line has the counts; the status is 1 if a run failed.
 """
 
 import argparse
@@ -42,11 +42,11 @@ SECONDS = 60
 SESSIONS = (1, 2, 4, 16)
 LIMITS = (10_000, 10_000, 10_000, 700, 999_999_999_999_999)
 FLOWS = {"whole": requests.whole_flow(), "short": requests.short_flow()}
-# The messages of a batch where the journal's file may not grow.
+# How many messages a batch has if the journal's file may not grow.
 FEW = 4
 
 
-# Ways of the input. Each gives what runs a command on it, and the numbers of the messages with which batches begin, if known.
+# Ways in which the input comes. Each gives what runs a command on it, and the numbers of the messages with which batches begin, if known.
 
 
 def on_file(room, _, made, text):
@@ -58,7 +58,7 @@ def on_file(room, _, made, text):
 
 
 def in_packets(_, chosen, made, text):
-    # (a greater piece is several packets)
+    # (a larger piece is several packets)
     pieces = [piece[at : at + 4096] for piece in inputs.cut(chosen, text) for at in range(0, len(piece), 4096)]
     return (lambda words: inputs.run_in_packets(words, pieces, SECONDS, {})), threads.begins(made, map(len, pieces))
 
@@ -131,7 +131,7 @@ def unnumbered(lines):
     return sorted(re.sub(r"^part \d+ ", "part ", line) for line in lines)
 
 
-# The kinds of runs. Each raises what is wrong, and answers how many transactions were under way at once, as far as it knows.
+# The kinds of runs. Each raises what is wrong, and returns how many transactions were under way at once, as far as it knows.
 
 
 def apart(run):
@@ -157,7 +157,7 @@ def crush(run):
 
 
 def followed(run, count):
-    """Follows the trace of a run of so many messages."""
+    """Follows the trace of a run of at least this many messages."""
     made = requests.crowd(run.chosen, run.limit, count)
     give, begins = run.input_of(made)
     came = run.ran(give, *run.threads, "--trace")

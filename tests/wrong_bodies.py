@@ -7,8 +7,8 @@ The gate tries the edits of each crate's must-fail/ again in every run. Those of
 here by `rt must-fail`, on a copy: all of them, or those of the crates named. Run it when you change a contract of such a crate.
 It costs a check of each crate and of those below it, and some 30 seconds for each edit.
 
-An edit that falls only because a proof file names what it takes away counts as failed. The last line counts; the status is
-1 where a wrong body is not refused.
+An edit that is refused only because a proof file names what it takes away counts as failed. The last line has the counts;
+the status is 1 if a wrong body is not refused.
 """
 
 import glob
@@ -32,7 +32,7 @@ def edits_by_crate():
 
 
 def lay(room, crates):
-    """Copies the crates into the room, with the edits of these where `rt ci` looks for them."""
+    """Copies all crates into the room, with the wrong bodies of these crates where `rt must-fail` looks for edits."""
     shutil.copytree(f"{TOP}/crates", f"{room}/crates", ignore=shutil.ignore_patterns("out"))
     for name in "crates.txt", "HANDLES":
         shutil.copy(f"{TOP}/{name}", room)

@@ -12,10 +12,10 @@ from harness import inputs
 # Long enough for recoveries that are cut at each of their calls, on a busy machine.
 SECONDS = 300
 HERE = os.path.dirname(os.path.abspath(__file__))
-# Prints the tables of a journal's file. And SQLite's command-line program, for the examples of pages.
+# What prints the tables of a journal's file; and SQLite's command-line program, for the examples of pages.
 TABLES, SQL_SHELL = os.path.join(HERE, "tables.py"), os.path.join(HERE, "sql_shell.py")
 CRATES = os.path.join(HERE, "..", "..", "crates")
-# The programs for tests that stand on PATH beside cardswitch.
+# The programs for tests that are on PATH beside cardswitch.
 BESIDE = ("test_switch",)
 
 
@@ -65,13 +65,13 @@ def at(lines, number):
 
 
 def printable(text):
-    """Bytes as text in which each control character and each byte that is no UTF-8 is escaped."""
+    """Bytes as text in which each control character and each byte that is not UTF-8 is escaped."""
     text = text.decode("utf-8", "backslashreplace")
     return "".join(c if c >= " " and c != "\x7f" else c.encode("unicode_escape").decode() for c in text)
 
 
 def difference(name, wanted, came):
-    """The lines by which two texts differ, the first forty of them."""
+    """The lines in which two texts differ, the first forty of them."""
     split = [[printable(line) for line in text.split(b"\n")] for text in (wanted, came)]
     lines = list(difflib.unified_diff(*split, f"{name} wanted", f"{name} came", n=1, lineterm=""))
     more = [f".. and {len(lines) - 40} lines more"] * (len(lines) > 40)
@@ -80,7 +80,7 @@ def difference(name, wanted, came):
 
 @dataclass
 class Came:
-    """What came of a case: the two streams (one, where a page shows both), and the status."""
+    """What came of a case: the two streams (one, if a page shows both), and the status."""
 
     stdout: bytes
     stderr: bytes
@@ -94,15 +94,15 @@ class Case:
     name: str
     command: str
     stdin: bytes = b""
-    # Where the input comes in pieces, one for each read of the program.
+    # The pieces in which the input comes, if it does, one for each read of the program.
     pieces: list = None
     files: dict = field(default_factory=dict)
     stdout: object = None
     stderr: object = None
     status: int = 0
-    # Why the case itself is invalid, as where nothing is expected of it.
+    # Why the case itself is invalid, such as that nothing is expected of it.
     fault: str = None
-    # Of a random case: the case of another input, and the parts that the input may lack, where they are no lines.
+    # For a random case: how to make the case of another input, and the parts that the input may lack, if they are not its lines.
     remake: object = None
     parts: list = None
 
@@ -127,7 +127,7 @@ class Case:
         return "\n".join([f"$ {self.command}", *self.input_shown(), *found])
 
     def input_shown(self):
-        """The input, where it is short."""
+        """The input, or its first 25 lines."""
         given = self.stdin if self.pieces is None else b"|".join(self.pieces)
         lines = [f"< {printable(line[:500])}" for line in given.split(b"\n")] if given else []
         return lines if len(lines) <= 25 else [*lines[:25], f"< .. of {len(given)} bytes"]
@@ -146,7 +146,7 @@ def shown(case, came):
 
 
 def smallest(program, case):
-    """A failing random case without the parts of its input, its lines as a rule, that it fails without too."""
+    """A failing random case, less the parts of its input (as a rule its lines) without which it fails too."""
     parts = case.parts or case.stdin.splitlines(keepends=True)
     remake, at = case.remake, 0
     while at < len(parts) <= 300:
@@ -183,10 +183,10 @@ class Program:
         shutil.rmtree(self.room, ignore_errors=True)
 
     def run(self, case):
-        """What comes of a case: a Came, or a text where nothing could be had."""
+        """What comes of a case: a Came, or a text that says why there is none."""
         if case.fault:
             return case.fault
-        # (a command of the program alone writes no file)
+        # (a command that only runs the program writes no file)
         is_plain = all(c.isalnum() or c in " _-./=" for c in case.command)
         words = case.command.split(" ") if is_plain else ["sh", "-c", case.command]
         if words[0] == "cardswitch":

@@ -37,7 +37,7 @@ def unescaped(text):
 
 
 def repeated(lines):
-    """The lines, `N * TEXT` standing for N lines of TEXT."""
+    """The lines, with N lines of TEXT for `N * TEXT`."""
     for line in lines:
         found = re.fullmatch(r"([0-9]+) \* (.*)", line)
         yield from [found[2]] * int(found[1]) if found else [line]
@@ -68,7 +68,7 @@ def check_of(section, lines):
 
 
 def test_words(section):
-    """Refuses a section whose name is followed by words that say nothing."""
+    """Refuses a section whose name is followed by unknown words."""
     kind, *words = section.split()
     known = KNOWN.get(kind, SPELLED)
     if kind != "status" and not known.issuperset(words):
@@ -90,7 +90,7 @@ def sections_of(lines):
 
 
 def rows_of(section, lines):
-    """Pairs of an input and what is wanted of it: inputs of which the same is wanted stand together."""
+    """Pairs of an input and what is wanted of it: what is wanted comes once, after all inputs that it is for."""
     inputs, wanted = [], []
     for line in [*lines, ""]:
         if line.startswith("    "):
@@ -166,7 +166,7 @@ def cut_at(case, place):
 
 
 def cases_in(path, name):
-    """The cases of one file; where it is not one, a case that fails and says why."""
+    """The cases of one file; in place of an invalid one, a case that fails and says why."""
     with open(path, encoding="utf-8") as file:
         lines = file.read().split("\n")
     heads = [number for number, line in enumerate(lines) if line.startswith("== ")]
@@ -182,7 +182,7 @@ def cases_in(path, name):
 
 def cases_below(folder, with_many):
     """The cases of all files NAME.cases below a folder, by their paths. Those named many.cases take minutes, and are read only
-    where they are wanted."""
+    if they are wanted."""
     for at, folders, files in sorted(os.walk(folder)):
         folders.sort()
         for file in sorted(files):

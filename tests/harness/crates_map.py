@@ -1,10 +1,10 @@
 #!/usr/bin/env python3
-"""Prints the picture of docs/ARCHITECTURE.md: which crate stands on which, as Mermaid, from crates.txt.
+"""Prints the picture of docs/ARCHITECTURE.md: which crate depends on which, as Mermaid, from crates.txt.
 
     tests/harness/crates_map.py
 
-An edge that others imply is left out. `cases_of` gives a case that fails where the page has another picture, or its table of
-crates another order than crates.txt.
+An edge that others imply is left out. `wrong` says if the page has another picture, or if its table of crates has another
+order than crates.txt.
 """
 
 import os
@@ -16,7 +16,7 @@ TOP = os.path.dirname(os.path.dirname(os.path.dirname(os.path.abspath(__file__))
 
 
 def parts_of(text):
-    """The headings of crates.txt, each with its crates, and what each crate stands on."""
+    """The headings of crates.txt, each with its crates, and what each crate depends on."""
     parts, below = [], {}
     for line in text.splitlines():
         if line.startswith("# ") and not line.endswith("."):
@@ -29,7 +29,7 @@ def parts_of(text):
 
 
 def all_below(below, name, found=None):
-    """All crates that a crate stands on, through others too."""
+    """All crates that a crate depends on, through others too."""
     found = set() if found is None else found
     for it in below[name]:
         if it not in found:
@@ -39,7 +39,7 @@ def all_below(below, name, found=None):
 
 
 def edges_of(below):
-    """What each crate stands on, less what those stand on."""
+    """What each crate depends on, less what those depend on."""
     reached = {name: all_below(below, name) for name in below}
     for name, its in below.items():
         implied = set().union(*(reached[it] for it in its)) if its else set()
@@ -58,7 +58,7 @@ def mermaid(text):
 
 
 def wrong(top):
-    """What docs/ARCHITECTURE.md has otherwise than crates.txt, or None."""
+    """How docs/ARCHITECTURE.md differs from crates.txt, or None."""
     with open(os.path.join(top, "crates.txt"), encoding="utf-8") as it:
         text = it.read()
     with open(os.path.join(top, "docs", "ARCHITECTURE.md"), encoding="utf-8") as it:

@@ -48,7 +48,7 @@ class Wire:
         return b""
 
     def come(self, seconds):
-        """The next message from the switch, if one comes within so long."""
+        """The next message from the switch, if one comes within this many seconds."""
         until = time.monotonic() + seconds
         while time.monotonic() < until:
             if len(self.bytes) >= 4 and len(self.bytes) >= 4 + int(self.bytes[:4]):
@@ -67,7 +67,7 @@ class Wire:
         return message
 
     def quiet(self, seconds):
-        """Nothing comes to the host for so long."""
+        """Nothing comes to the host for this many seconds."""
         time.sleep(seconds)
         wanted("at the host", self.read(0), b"")
 
@@ -114,7 +114,7 @@ def request(stan, amount=2500, card=b"4000000000000002"):
 
 
 def small(stan):
-    """A request that the switch approves where it stands in, of a card of its own, so that many of them stay below its limit."""
+    """A request that the switch approves when it stands in, with a card of its own, so that many of them stay below the limit."""
     return request(stan, 400, b"4%015d" % stan)
 
 
@@ -156,7 +156,7 @@ class Run:
         return self.receive()
 
     def end(self, status=0):
-        """The input ends; all that is left comes, and what was written to standard error."""
+        """The input ends, and then the run; returns what was written to standard error."""
         self.process.stdin.close()
         try:
             got = self.process.wait(SECONDS)
@@ -172,7 +172,7 @@ class Run:
 
 
 class Player(threading.Thread):
-    """Plays a host beside the requests: notes the types of the messages that come, and answers those of some types."""
+    """Plays a host while requests are sent: notes the types of the messages that come, and answers those of some types."""
 
     def __init__(self, wire):
         super().__init__(daemon=True)
@@ -185,7 +185,7 @@ class Player(threading.Thread):
                 if message is not None:
                     self.came.append(message[:4])
                     if message[:4] in self.answered:
-                        # (an answer is lost where the switch has closed its end)
+                        # (an answer is lost if the switch has closed its end)
                         with contextlib.suppress(BrokenPipeError):
                             self.wire.put(reply(message))
         except Exception as fault:  # pylint: disable=broad-except
@@ -194,7 +194,7 @@ class Player(threading.Thread):
 
 @contextlib.contextmanager
 def played(wire):
-    """A host that answers nothing yet. What goes wrong at the host is reported after what goes wrong in the case."""
+    """A host that answers nothing yet. What goes wrong at the host is reported only if nothing goes wrong in the case."""
     player = Player(wire)
     player.start()
     try:
@@ -208,7 +208,7 @@ def played(wire):
 
 @contextlib.contextmanager
 def worked(room, name):
-    """`examples/hosts/host.py` at its pipes, once it has answered a network test. (Each is opened for both ways: no opening waits.)"""
+    """`examples/hosts/host.py` at its pipes, once it has answered a network test. (Each pipe is opened both ways: no opening waits.)"""
     ends = [os.open(os.path.join(room, f"{name}.{it}"), os.O_RDWR) for it in ("to", "from")]
     host = subprocess.Popen([sys.executable, HOST], stdin=ends[0], stdout=ends[1])
     try:

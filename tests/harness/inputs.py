@@ -1,5 +1,5 @@
-"""How a program gets its input: a file, a pipe in pieces, or a talk. What comes of it are both streams and the status, which is
-None where the program was killed after so many seconds."""
+"""How a program gets its input: a file, a pipe in pieces, or a talk. The result is both streams and the status, which is
+None if the program was killed after the given number of seconds."""
 
 import contextlib
 import os
@@ -26,7 +26,7 @@ def run_on_file(words, path, seconds, how):
 
 
 def run_in_packets(words, pieces, seconds, how):
-    """Runs a command whose every read of its input gives one piece: over a pipe that keeps packets apart."""
+    """Runs a command so that each read of its input gives one piece: over a pipe that keeps packets apart."""
     return run_on_pipe(words, [(0, piece) for piece in pieces if piece], seconds, how, os.O_DIRECT)
 
 
@@ -44,7 +44,7 @@ def run_on_pipe(words, pieces, seconds, how, flags=0):
 
 
 def feed(to_write, pieces):
-    # (where the program has read what it wanted nobody takes the rest)
+    # (once the program has read what it wanted, nobody takes the rest)
     with contextlib.suppress(BrokenPipeError), os.fdopen(to_write, "wb", buffering=0) as pipe:
         for pause, piece in pieces:
             time.sleep(pause)
@@ -61,7 +61,7 @@ def ended(process, seconds):
 
 
 def kill(process):
-    """Kills a process, and its group where it leads one: else what it has started would keep its pipes open."""
+    """Kills a process, and its group if it leads one: otherwise what it has started would keep its pipes open."""
     try:
         os.killpg(process.pid, signal.SIGKILL)
     except ProcessLookupError:
@@ -69,8 +69,7 @@ def kill(process):
 
 
 def run_in_talk(words, turns, count, seconds, how):
-    """Runs a command in turns: pairs of a piece, and of how much output has to come before the next one goes, as `count` counts
-    it."""
+    """Runs a command in turns: pairs of a piece, and of how much output has to come before the next one is sent, by `count`."""
     until, out = time.monotonic() + seconds, b""
     with tempfile.TemporaryFile() as told:
         streams = {"stdin": subprocess.PIPE, "stdout": subprocess.PIPE, "stderr": told, "bufsize": 0}
@@ -90,6 +89,6 @@ def run_in_talk(words, turns, count, seconds, how):
 
 
 def next_of(pipe, until):
-    """The next bytes; none at the end, and where none come until then."""
+    """The next bytes; none at the end, or if none come until then."""
     ready, _, _ = select.select([pipe], [], [], max(until - time.monotonic(), 0))
     return os.read(pipe.fileno(), 65_536) if ready else b""

@@ -1,12 +1,12 @@
 """Runs the examples of README.md and docs/*.md, so that a page with a wrong example fails.
 
 An indented block that begins with `$ ` is an example: after each `$ ` line comes what the command prints on both
-streams, as on a terminal. A block right after a line that ends in `NAME`: is the file NAME, for the examples of
-the page below it. A line of two dots represents lines that the page leaves out, two dots at the end of a line for its
-rest.
+streams, as on a terminal. A block right after a line that ends in a name in backquotes and a colon is that file, for
+the examples of the page below it. A line of two dots represents lines that the page leaves out, and two dots at the end
+of a line represent its rest.
 
 Other blocks are run too, or compared with what they show, each by its form (`FORMS`), and a block that nothing here knows fails. So does a
-page with a sentence that is too long, and docs/ARCHITECTURE.md where it shows other crates than crates.txt.
+page with a sentence that is too long, and docs/ARCHITECTURE.md if it shows other crates than crates.txt.
 """
 
 import glob
@@ -42,7 +42,7 @@ def pattern_of(line):
 
 
 def blocks_of(text):
-    """The indented blocks of a page, each with the last line of text before it. What stands in fences is left out."""
+    """The indented blocks of a page, each with the last line of text before it. Fenced blocks are left out."""
     before, block = "", []
     for line in [*FENCED.sub("", text).split("\n"), "end"]:
         if line.startswith("    $ ") and block and not block[0].startswith("$ "):
@@ -72,7 +72,7 @@ def commands_of(block):
     return commands
 
 
-# What README runs by the toolchain, run by the built program: the words after `--`.
+# What README runs through the toolchain, run with the built program: the words after `--`.
 RT = 'rt() { while [ "$1" != -- ]; do shift; done; shift; cardswitch "$@"; }'
 LAID_OUT = "mkdir -p crates/cardswitch examples && cp switch.toml crates/cardswitch && cp switch.toml requests.frames examples"
 
@@ -116,7 +116,7 @@ def turned_case(name, block, page, _examples):
 
 
 def config_case(name, block, _page, _examples):
-    """A part of a configuration: the plain reader takes it."""
+    """A part of a configuration: the plain reader accepts it."""
     read = config.read("".join(f"{line}\n" for line in block))
     return judged(f"{name}: its configuration", read if isinstance(read, str) else None)
 
@@ -125,7 +125,7 @@ def elsewhere(_name, _block, _page, _examples):
     """What other tests run: the gate, and `hosts.py`."""
 
 
-# How a block begins that is neither an example nor a file of one, and what is made of it.
+# How blocks begin that are neither an example nor a file of one, and what is made of each.
 FORMS = [
     ("(cd crates/cardswitch && rt ", built_case),
     ("cd examples; PATH=", path_case),
@@ -142,7 +142,7 @@ FORMS = [
 
 
 def lines_of(page, begin):
-    """The lines of a page's blocks that begin so."""
+    """The lines of a page's blocks that begin like this."""
     return [line for _, block in blocks_of(page) for line in block if line.startswith(begin)]
 
 
@@ -155,7 +155,7 @@ def other_case(name, block, page, examples):
 
 
 def code_cases(name, text, top):
-    """Code that a page shows as a file's, after `This is PATH`: the file ends in just that code."""
+    """Code that a page shows as a file's, after `This is PATH`: the file ends with exactly that code."""
     for path, code in re.findall(r"This is `([a-z_/]+\.rt)`[^`]*```rust\n(.*?)```", text, re.DOTALL):
         with open(os.path.join(top, path), encoding="utf-8") as file:
             whole = file.read()
@@ -192,12 +192,12 @@ def picture_case(name, text, examples):
 
 
 def judged(name, fault):
-    """A case that fails where there is a fault."""
+    """A case that fails if there is a fault."""
     return Case(name, "true", fault=fault or None)
 
 
 def cases_of(top):
-    """The examples of all pages, run beside the files of examples/, and what else is wanted of a page."""
+    """The examples of all pages, run in a folder with the files of examples/, and what else is wanted of a page."""
     examples = {}
     for path in filter(os.path.isfile, glob.glob(os.path.join(glob.escape(top), "examples", "*"))):
         with open(path, "rb") as file:

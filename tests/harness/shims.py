@@ -1,4 +1,4 @@
-"""Libraries in C, laid before the C library's (LD_PRELOAD), that count calls of a program and let one of them fail."""
+"""Libraries in C, loaded before the C library (LD_PRELOAD), that count calls of a program and make one of them fail."""
 
 import os
 import shutil
@@ -28,7 +28,7 @@ class Shim:
         subprocess.run(["cc", "-O2", "-shared", "-fPIC", "-o", self.path, f"{SHIMS}/{name}.c"], check=True)
 
     def run(self, words, stdin, at=0, goes_on=False, **more):
-        """Runs a command of which the call of this number fails (0: none), or all from that one on."""
+        """Runs a command in which the call of this number fails (0: none), or all from that one on."""
         self.number += 1
         counts = f"{self.room}/{self.number}.count"
         its = {"AT": str(at), "COUNT": counts} | ({"ON": "1"} if goes_on else {}) | more
@@ -44,7 +44,7 @@ class Shim:
 
 
 def skip_without_compiler(what):
-    """Ends the program, with a count of nothing, where no C compiler is there."""
+    """Ends the program, with counts of 0, if there is no C compiler."""
     if not shutil.which("cc"):
         print(f"skipped: {what} need a C compiler, `cc`")
         print("0 passed, 0 failed")
@@ -52,7 +52,7 @@ def skip_without_compiler(what):
 
 
 def spread(chosen, count, most):
-    """So many numbers from 1 to the count, spread evenly, each drawn at random within its share; all, where there are fewer."""
+    """`most` numbers from 1 to `count`, spread evenly, each drawn at random within its share; all, if there are no more."""
     if count <= most:
         return list(range(1, count + 1))
     return sorted({chosen.randint(share * count // most + 1, (share + 1) * count // most) for share in range(most)})

@@ -4,7 +4,7 @@
     tables PATH
 
 A line for each row: the table's name and the values, in the order of the table's key; bytes as hexadecimal digits. In
-layout 2 the table `member` of layout 1 is shown too where it has rows, which it never should.
+layout 2 the table `member` of layout 1 is shown too if it has rows, which it never should.
 """
 
 import contextlib

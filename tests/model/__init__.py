@@ -1,7 +1,7 @@
 """A plain model of what the program prints, written from docs/ and from nothing in crates/.
 
 flows       a flow, its check, its image, and what an image or a flow file states
-table       the written table of a transaction, and its trace
+table       the specified table of a transaction, and its trace
 engine      several sessions, their queue and their journal
 script      the lines of a script
 stops       runs of a script whose journal is cut, and their recoveries
@@ -13,7 +13,7 @@ messages    messages of ISO 8583:1987, their frames, and what `decode` prints
 switch      the participants of the switch, and what `run` answers
 requests    random requests for `run`
 traces      the lines of the trace as JSON
-threads     what the trace of `run --threads` tells, followed line by line
+threads     the trace of `run --threads`, followed line by line
 texts       how the program's messages begin
 generate    random inputs, each with what the model answers
 """

@@ -6,7 +6,7 @@ import re
 from model import flows, texts
 
 NAME, DIGITS = r"[a-zA-Z0-9_.-]{1,%d}", r"[0-9]{1,%d}"
-# What the times of a host are where the file does not say.
+# The times of a host that the file does not state.
 TIMES = {"timeout_ms": 10_000, "retry_ms": 0, "echo_s": 0}
 
 
@@ -44,8 +44,8 @@ PATH = is_path, "a path that is not empty"
 FLAG = flows.is_flag, "true or false"
 SIMULATION = is_simulation, 'true or "silent"'
 
-# For each key of a table what may stand there and how a message says it, whether it is required, and
-# whether it excludes `simulated`.
+# For each key of a table: which values it may have and how a message says so, whether it is required,
+# and whether it excludes `simulated`.
 TOP = {
     "host": (TABLES, False, False),
     "limits": (TABLE, False, False),
@@ -102,7 +102,7 @@ def in_order(keys):
 
 
 def faults_of(table, keys, at):
-    """The faults of a table by itself, the first one first."""
+    """The faults of a table by itself, in order."""
     for key in in_order(table):
         if key not in keys:
             yield f"{at}: unknown key: expected one of {', '.join(keys)}; found {quoted(key)}"
@@ -118,14 +118,14 @@ def faults_of(table, keys, at):
 
 
 def doubles_of(tables, key, word):
-    """The faults of tables of which an earlier one has the same value at a key."""
+    """The faults of tables that have the same value at a key as an earlier one."""
     for number, table in enumerate(tables):
         if table[key] in [earlier[key] for earlier in tables[:number]]:
             yield f"{word} {number}: an earlier table has the same {key}: expected another; found {quoted(table[key])}"
 
 
 def all_faults(document):
-    """The faults of a document. A later one is looked for only where the earlier tables have none."""
+    """The faults of a document. A later one is looked for only if the earlier tables have none."""
     yield from faults_of(document, TOP, "top table")
     for word, keys in (("host", HOST), ("route", ROUTE)):
         for number, table in enumerate(document.get(word, [])):
@@ -156,7 +156,7 @@ def stated(document):
 
 
 def read(text):
-    """The configuration that a text states, or the text of its first fault, of which the beginning where it is no TOML."""
+    """The configuration that a text states, or the text of its first fault; only how that begins, if the text is no TOML."""
     try:
         document = flows.document_of(text.encode())
     except flows.Fault:

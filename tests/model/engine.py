@@ -1,7 +1,7 @@
 """Several sessions on one queue, their journal, breakpoints, stops and recoveries: what the lines of a script print.
 
-The journal is kept twice: `now`, by all entries, and `written`, by those that were written. A stop leaves `written`.
-What participants reply is asked of `replies`, by the transaction and its due call.
+The journal is kept twice: `now`, with all entries, and `written`, with those that were written. A stop leaves `written`.
+`replies` is asked what participants reply, given the transaction and its due call.
 """
 
 import copy
@@ -12,7 +12,7 @@ from model.table import READONLY, next_text, reading
 
 
 class Refused(Exception):
-    """What the engine refuses an event with."""
+    """The error with which the engine refuses an event."""
 
 
 @dataclass
@@ -156,7 +156,7 @@ class Engine:
         """Begins from what is written."""
         self.now = copy.deepcopy(self.written)
         self.history, self.mark, self.queue, self.breaks = [], 0, [], set()
-        # The live contexts of the transactions that ended by `done`, by their ids.
+        # The live contexts of the transactions that ended with `done`, by their ids.
         self.ended = {}
         self.sessions = [None] * len(self.sessions)
         self.recovering = []
@@ -177,7 +177,7 @@ class Engine:
         return len(self.recovering) + isinstance(self.sessions[0], Recovered)
 
     def enter(self, change=lambda view: None):
-        """One more entry: its change of the journal is made now, and again where it is written."""
+        """One more entry: its change of the journal is made now, and again when it is written."""
         change(self.now)
         self.history.append(change)
         return len(self.history)

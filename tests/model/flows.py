@@ -122,14 +122,14 @@ def image(flow):
 
 
 def number_of(word, most=MAX_NUMBER):
-    """The number that a word spells in decimal without leading zeros; None where it is not one or too large."""
+    """The number that a word spells in decimal without leading zeros; None if it is not one, or is too large."""
     if not re.fullmatch(r"0|[1-9][0-9]*", word) or len(word) > 6 or int(word) > most:
         return None
     return int(word)
 
 
 def words_of(line, count):
-    """So many words with single spaces between them, as text; None where the line is no such thing."""
+    """The words of a line, as text; None if they are not this many, with single spaces between them."""
     try:
         words = line.decode("ascii").split(" ")
     except UnicodeDecodeError:
@@ -176,7 +176,7 @@ def step_of(line):
 def lines_of(text):
     """The header, and what the lines of each kind say, each line read by itself."""
     lines = text.split(b"\n")
-    # What stands after the last line feed is a line without one.
+    # What comes after the last line feed is a line without one.
     whole, tail = lines[:-1], lines[-1]
     if not whole:
         raise Fault("BadHeader")
@@ -297,7 +297,7 @@ def integers_of(value):
 
 
 def float_of(digits):
-    """A float of TOML; one out of range is not one."""
+    """A float of TOML; one that is out of range is no TOML."""
     value = float(digits)
     if value in (float("inf"), float("-inf")) and "inf" not in digits:
         raise Fault("NotToml")

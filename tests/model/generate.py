@@ -160,7 +160,7 @@ def spoil_document(random, document):
 
 
 def under_headers(random, document):
-    """The document as a text whose tables stand under headers."""
+    """The document as a text whose tables are under headers."""
     lines = [f"{key} = {value_of(random, it)}" for key, it in document.items() if key != "group"]
     for group in document["group"]:
         lines += ["[[group]]"]
@@ -171,7 +171,7 @@ def under_headers(random, document):
 
 
 def has_tables(document):
-    """Whether all arrays of tables are such, so that headers can spell them."""
+    """Whether all that should be arrays of tables are, so that headers can spell them."""
     groups = document.get("group")
     if not isinstance(groups, list) or not groups:
         return False
@@ -188,7 +188,7 @@ def flow_file(random, made):
     else:
         text = "".join(f"{key} = {value_of(random, value)}\n" for key, value in its.items())
     text = text.encode()
-    # (in inline tables the program takes line ends and last commas, as TOML 1.1 does, and the model does not)
+    # (in inline tables the program accepts line ends and trailing commas, as TOML 1.1 does, and the model does not)
     if random.random() < 0.1 and b"{" not in text:
         text = spoil_bytes(random, text, SPOILT_TOML)
     return text
@@ -276,7 +276,7 @@ def numbered(version, retries, parts, groups, steps):
 
 
 def spoil_layout(random, text):
-    """An image whose lines are of their form and in their place, and say something else together."""
+    """An image whose lines each have their form and their place, and together say something else."""
     version, retries, parts, groups, steps = flows.lines_of(text)
     parts = [(part.participant, part.kind.word) for part in parts]
     steps = [(word,) if part is None else (word, part) for word, part in steps]
@@ -302,7 +302,7 @@ def spoil_layout(random, text):
 
 def list_case(random, name):
     made = any_flow(random)
-    # Of a flow that its check refuses there is an image all the same.
+    # There is an image even of a flow that its check refuses.
     made.retries = min(made.retries, 100)
     text = flows.image(made)
     how = random.random()
@@ -332,7 +332,7 @@ TWO_GROUPS = flows.image(Flow(7, [Group("main", [PICK, Entry("b")]), Group("b", 
 
 
 def spoilt_images(random, is_every):
-    """Each proper prefix of two images, each byte of the first by every other, and of the second by some others, or by every other."""
+    """Each proper prefix of two images, and each byte replaced: of the first by every other, of the second by some or by every other."""
     for title, text, whole in (("two entries", SENDING, True), ("two groups", TWO_GROUPS, is_every)):
         for size in range(len(text)):
             yield listed(f"spoilt/list: {title}: the first {size} bytes", text[:size])
@@ -383,7 +383,7 @@ SPOILT += ["answer  p 01", "answer p 01 02", "flow g p:", "choose  g", "retries 
 
 
 def script_lines(random, made, has_file):
-    """The lines of a script over a flow: settings in any order, but for the groups, then some transactions."""
+    """The lines of a script over a flow: settings in any order, except for the groups, then some transactions."""
     settings = []
     if made.retries or random.random() < 0.2:
         settings.append(f"retries {random.choice(['', '0', '00'])}{made.retries}")
@@ -404,7 +404,7 @@ def script_lines(random, made, has_file):
 
 
 def looping(random, made):
-    """Lines that let a selector name groups again and again, so that the bound is met."""
+    """Lines that make a selector name groups again and again, so that the bound is reached."""
     names = [entry.participant for _, entry in made.places() if entry.kind.selector]
     for name in names[:2]:
         text = ", ".join(random.sample([group.name for group in made.groups], 1) + [choice(random, made)])
@@ -431,7 +431,7 @@ def step_case(random, name):
 
 
 def stepped(name, text, file):
-    """The case of `step` on a script, and on a flow file where there is one."""
+    """The case of `step` on a script, and on a flow file if there is one."""
     case = Case(name, "cardswitch step", text, remake=lambda other: stepped(name, other, file))
     if file is not None:
         case.command, case.files = "cardswitch step --flow flow.toml", {"flow.toml": file}
@@ -491,7 +491,7 @@ class Lawful(Exactly):
 
 
 def whole_script(random, sizes):
-    """A script of all lines over a checked flow, of so many lines after the settings."""
+    """A script of all lines over a checked flow, with one of these numbers of lines after the settings."""
     made, sessions = flow(random), random.choice([1, 2, 2, 3, 16])
     names = [entry.participant for entry in made.participants()] or ["nobody"]
     lines = [f"retries {made.retries}", f"sessions {sessions}", *map(group_line, made.groups)]
@@ -532,7 +532,7 @@ def stopped(name, text):
 
 
 def value(random, number):
-    """The text of a field's value, now and then a spoilt one."""
+    """A valid value of a field, as text."""
     content, digits, size = messages.FORMS[number]
     if digits:
         size = random.choice([0, 1, size // 2, size, random.randint(0, size)])
@@ -548,7 +548,7 @@ def message(random):
     text = messages.encode(b"%04d" % random.randrange(10_000), {it: value(random, it) for it in numbers})
     size = 36 if text[4:5] in b"89ABCDEF" else 20
     if size == 20 and random.random() < 0.1:
-        # An empty second bitmap may stand.
+        # There may be an empty second bitmap.
         text = text[:4] + b"%X" % (int(text[4:5], 16) + 8) + text[5:20] + b"0" * 16 + text[20:]
         size = 36
     return text[:size].lower() + text[size:] if random.random() < 0.2 else text
@@ -561,7 +561,7 @@ def spoil_message(random, text):
     if what == 1:
         return text + bytes(random.choices(b"0x \xff", k=random.randint(1, 3)))
     if what == 2:
-        # A bit of the first bitmap, or of the second.
+        # A digit of the first bitmap, or of the second.
         at = random.choice([4, 20]) + random.randrange(16)
         return text[:at] + random.choice(b"0123456789ABCDEFabcdefgG").to_bytes() + text[at + 1 :]
     return spoil_bytes(random, text, b"0123456789ABCDEFabcdefG \x00\x1f\x7f\xff")
@@ -573,7 +573,7 @@ def any_message(random):
 
 
 def stream(random):
-    """Frames, the last of them cut off now and then, or something after it that is not a frame."""
+    """Frames, now and then with the last of them cut off, or with something after it that is not a frame."""
     made = []
     for _ in range(random.choice([0, 1, 2, 10, 30])):
         text = message(random)
@@ -651,7 +651,7 @@ def encoded(name, text):
 
 
 def decoded(name, text, random=None, is_masked=False):
-    """The case of `decode` on a stream, in random pieces where there is randomness."""
+    """The case of `decode` on a stream, in random pieces if there is randomness."""
     case = Case(name, "cardswitch decode --mask" if is_masked else "cardswitch decode", text)
     if random:
         case.pieces = inputs.cut(random, text)
@@ -665,7 +665,7 @@ NETWORK = b"080080200000000000000400000000000000000001301"
 
 
 def spoilt_messages():
-    """Each proper prefix of a message, and each byte of it by each other value: a frame for each, in one stream."""
+    """Each proper prefix of a message, and each byte of it replaced by each value: for each byte a stream with a frame for each."""
     for at in range(len(NETWORK)):
         texts = [NETWORK[:at]] + [NETWORK[:at] + bytes([byte]) + NETWORK[at + 1 :] for byte in range(256)]
         stream = b"".join(map(messages.framed, texts))
@@ -700,7 +700,7 @@ def limits():
 
 
 def cases(random, count, is_every=False):
-    """So many random cases, and those that are made of worked inputs."""
+    """This many random cases, some that take longer, and those that are made of worked inputs."""
     yield from limits()
     yield from spoilt_messages()
     yield from spoilt_images(random, is_every)

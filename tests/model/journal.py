@@ -50,7 +50,7 @@ class Tables:
 
 
 def context_of(data):
-    """The context of which these are the bytes, which have one spelling; None: there is none."""
+    """The context that these bytes spell, which has only one spelling; None: there is none."""
     if not data:
         return None
     count, at, context = data[0], 1, {}
@@ -91,7 +91,7 @@ def are_placed(members):
 
 
 def fault(tables):
-    """The table and the id of the first row at fault; None."""
+    """The table and the id of the first row at fault; None: there is none."""
     low = [k for k in tables.meta if k < 1]
     if low:
         return "Meta", min(low)
@@ -128,7 +128,7 @@ TABLES = {"Part": "part", "Tx": "tx", "Shelf": "shelf", "Advice": "advice"}
 
 
 def rest(tables):
-    """The rows at fault that are left out, each once those before it are, and the tables without them; None where meta is at fault."""
+    """The rows at fault that are left out, each once those before it are, and the tables without them; None if meta is at fault."""
     left, names, out = copy.deepcopy(tables), tables.names(), []
     # Members have the names that their parts had.
     left.names = lambda: names
@@ -299,14 +299,14 @@ def spoilt(random, tables):
 
 
 def is_database(tables):
-    """Whether each member is of a transaction and of a part that are there: a database in which a reference leads nowhere is
+    """Whether the transaction and the part of each member are there: a database in which a reference leads nowhere is
     not opened."""
     members = [*tables.member, *tables.joined]
     return all(number in tables.tx for number, _ in members) and all(n in tables.part for n in tables.joined.values())
 
 
 def opening_lines(tables):
-    """What `test_switch opened` prints, and the rows that stand then."""
+    """What `test_switch opened` prints, and the rows that are there then."""
     layout = tables.meta.get(1, "none")
     bad = fault(tables)
     if bad:

@@ -9,7 +9,7 @@ class Told:
     def __init__(self, stops):
         self.stops = stops
         self.outcome = None
-        # Who joined, and who was notified of the outcome: one that a stop left in doubt once.
+        # Who joined, and who was notified of the outcome: only once, if a stop left it in doubt.
         self.joined, self.told = [], []
         self.told_at = None
 
@@ -32,9 +32,9 @@ class Told:
         return None
 
     def end(self):
-        """What is wrong with it where it is over: each one who joined is notified in order, and who was being prepared."""
+        """What is wrong with it once it is over: all who joined are notified in order, then possibly the one that was being prepared."""
         if len(set(self.joined)) < len(self.joined):
-            # (one that stands twice may be notified again or for its second place)
+            # (one that joined twice may be notified again, or for its second joining)
             return None
         if self.told[: len(self.joined)] != self.joined or len(self.told) > len(self.joined) + 1:
             return f"is notified to {' '.join(self.told)}, and {' '.join(self.joined)} joined"
@@ -52,12 +52,12 @@ def calls_of(lines):
 
 
 def unlawful(lines):
-    """What calls of a trace break the outcome law, or are not counted; None: nothing."""
+    """How calls of a trace break the outcome law, or what is wrong with their counts; None: nothing."""
     return broken(lines, {}) or uncounted(lines)
 
 
 def broken(lines, transactions):
-    """The same; the transactions are kept."""
+    """How calls break the outcome law; the transactions are kept."""
     for stops, number, _, call, name, marks in calls_of(lines):
         its = transactions.setdefault(number, Told(stops))
         wrong = None
@@ -71,7 +71,7 @@ def broken(lines, transactions):
 
 
 def undecided(lines):
-    """What the calls after a stop have against the journal that it left: `found`, with its rows and their phases."""
+    """How the calls after a stop contradict the journal that it left: `found`, with its rows and their phases."""
     committing = None
     for line in lines:
         words = line.split(" ")
@@ -85,7 +85,7 @@ def undecided(lines):
 
 
 def uncounted(lines):
-    """What is wrong with the calls that the stations count: `calls`, with those that the lines of their plant show."""
+    """What is wrong with the counts of the stations: `calls`, compared with the calls that the lines of their plant show."""
     made = []
     for line in lines:
         made = [] if line.startswith("found ") else made
@@ -97,7 +97,7 @@ def uncounted(lines):
 
 
 def unfinished(lines):
-    """What is wrong with a run that was recovered to its end: `left`, with no row."""
+    """What is wrong with a run that was recovered to its end: `left` has to be without a row."""
     transactions = {}
     wrong = broken(lines, transactions) or uncounted(lines) or undecided(lines)
     for number, its in transactions.items():

@@ -6,7 +6,7 @@ N, TEXT, BINARY = rb"[0-9]*", rb"[ -~]*", rb"[0-9a-fA-F]*"
 
 
 def forms():
-    """By number: what the content is, the digits of a variable length (0: fixed), and the most bytes."""
+    """By number: what the content is, how many digits a variable length has (0: fixed), and the most bytes."""
     made = {}
     fixed = {3: 6, 4: 12, 5: 12, 6: 12, 7: 10, 9: 8, 10: 8, 11: 6, 12: 6, 13: 4, 14: 4, 15: 4, 16: 4, 17: 4, 18: 4}
     fixed |= {19: 3, 22: 3, 23: 3, 24: 3, 25: 2, 26: 2, 53: 16, 70: 3, 90: 42}
@@ -113,7 +113,7 @@ def shown(text):
     return b"\n".join([*made, text[sum(map(len, made)) :]])
 
 
-# The fields that `--mask` shows by their length alone.
+# The fields of which `--mask` shows only the length.
 HIDDEN = {35, 45, 52, 55, 64, 128}
 
 
@@ -172,7 +172,7 @@ def encode(mti, fields):
 
 
 def fits(fields, line):
-    """The number and the value of a field's line, which may stand after these fields; or None."""
+    """The number and the value of a field's line, if it may come after these fields; or None."""
     found = re.fullmatch(rb"([1-9][0-9]{0,2}) (.*)", line, re.DOTALL)
     if not found or int(found[1]) not in FORMS or int(found[1]) <= max(fields, default=0):
         return None

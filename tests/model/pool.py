@@ -1,9 +1,9 @@
 """What `test_pool` prints of runs with threads, judged by the engine and the law of this folder.
 
-Each line of the trace is played again: it has to be the line that the engine prints of the same
-event, where the participant of a call replies as the line shows. So each transaction's lines are
+Each line of the trace is played again: it has to be the line that the engine prints for the same
+event, if the participant of a call replies as the line shows. So each transaction's lines are
 those of the table for its own replies, each offer is taken once, and ids rise in the order of the
-offers. All else that the program prints has to be what follows from these events.
+offers. Everything else that the program prints has to be what follows from these events.
 """
 
 from collections import Counter, defaultdict
@@ -13,7 +13,7 @@ from model import law
 from model.engine import Engine, Refused
 from model.law import calls_of
 
-# The lines that stand between two runs.
+# The lines that come between two runs.
 BETWEEN = ("release", "ack")
 
 
@@ -54,7 +54,7 @@ class Played(Engine):
         names = [entry.participant for entry in flow.participants()]
         self.numbers = {name: number & 0x7F for number, name in enumerate(names)}
         super().__init__(flow, sessions, Shown(self.numbers))
-        # Of each entry of a session that session; of each transaction that is done its context.
+        # The session of each entry that a session made; the context of each transaction that is done.
         self.owners, self.ended = {}, {}
         # How many contexts were offered.
         self.offers = 0
@@ -130,7 +130,7 @@ class Output:
 
 
 def play_all(engine, lines, ends):
-    """Plays the lines. Where a run ends nothing waits, and no session holds a transaction."""
+    """Plays the lines. When a run ends, nothing waits, and no session holds a transaction."""
     for number, line in enumerate(lines, 1):
         try:
             came = engine.play(line)
@@ -141,7 +141,7 @@ def play_all(engine, lines, ends):
 
 
 def check_run(engine, run, lines):
-    """Of one run: its events are those of sessions, each session's receipts are the numbers of its
+    """Checks one run: its events are those of sessions, each session's receipts are the numbers of its
     entries, in order, and as many transactions ended as it says."""
     first, to = run["from_to"]
     need(not any(map(is_between, lines[first:to])), f"the run from {first} releases the shelf")
@@ -173,8 +173,8 @@ def check_runs(engine, output, offers):
 
 
 def check_law(engine, output):
-    """The outcome law of the lines, and the stations' counts. As no stop comes between, each member
-    is notified just once, in order."""
+    """The outcome law of the lines, and the stations' counts. As there is no stop, each member is
+    notified just once, in order."""
     names = [line.split(" ")[1] for line in output.calls]
     need(names == list(engine.numbers), f"the stations that count their calls are {names}")
     transactions = {}
@@ -198,7 +198,7 @@ def check_called(engine, output):
 
 
 def by(calls, at):
-    """The calls, by what stands at this place of them."""
+    """The calls, grouped by what is at this place in them."""
     groups = defaultdict(list)
     for call in calls:
         groups[call[at]].append(call)
@@ -215,7 +215,7 @@ def check_ended(engine, output):
 
 
 def wrong_with(flow, sessions, offers, text):
-    """What is wrong with the output of a run over so many offers; None: nothing."""
+    """What is wrong with the output of a run over this many offers; None: nothing."""
     engine = Played(flow, sessions)
     try:
         output = Output(text)

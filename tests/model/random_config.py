@@ -32,7 +32,7 @@ def route(random):
 
 
 def document(random):
-    """A document that is mostly right: two hosts may have one name, and two routes one prefix."""
+    """A document that is mostly right: two hosts may have the same name, and two routes the same prefix."""
     made = {
         "host": [host(random) for _ in range(random.choice([0, 1, 2, 3]))],
         "route": [route(random) for _ in range(random.choice([0, 1, 2, 3]))],
@@ -86,7 +86,7 @@ def key_text(key):
 
 
 def headed(made):
-    """The document with its tables under headers, where they can be."""
+    """The document with its tables under headers, if they can be."""
     plain = {key: its for key, its in made.items() if not is_headed(its)}
     yield from (f"{key_text(key)} = {value_text(its)}\n" for key, its in plain.items())
     for key, its in made.items():

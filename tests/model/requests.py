@@ -27,7 +27,7 @@ def whole_flow():
 
 
 def short_flow():
-    """The flow that knows authorizations alone."""
+    """The flow that knows only authorizations."""
     made = [group("main", ("check", PLAIN), ("limits", PLAIN), ("route", SELECTOR), ("respond", ABORT_AWARE))]
     return Flow(0, made + [group(name, (f"query_{name}", PLAIN)) for name in QUERIES])
 
@@ -84,7 +84,7 @@ def request(random, before):
     return made
 
 
-# Values that a field takes and that are no good, or good for nothing.
+# Values that a field accepts, but that are wrong for a request, or useless.
 USELESS = {
     2: [b"", b"4" * 11, b"4" * 12, b"9" * 19],
     4: [b"0" * 12, b"9" * 12],
@@ -99,7 +99,7 @@ USELESS = {
 
 
 def foreign(random, number, value):
-    """A value with a byte that its field does not take: the message cannot be read."""
+    """A value with a byte that its field does not accept: the message cannot be read."""
     bad = b"x/:\x00" if messages.FORMS[number][0] is messages.N else b"\x1f\x7f\x80\n"
     at = random.randrange(len(value)) if value else 0
     return value[:at] + bytes([random.choice(bad)]) + value[at + 1 :]
@@ -107,7 +107,7 @@ def foreign(random, number, value):
 
 def spoilt(random, fields):
     """The fields without one of them, with one of them spoilt, or as they are."""
-    # A message that came before may have lost all of them.
+    # A message that came before may have lost all its fields.
     if not fields:
         return fields
     chance, number, fields = random.random(), random.choice(list(fields)), dict(fields)
@@ -168,7 +168,7 @@ def stream(random):
 
 
 def apart(random, count):
-    """Messages whose transactions do not see one another: no card stands in two of them that its limit is asked for."""
+    """Messages whose transactions do not see one another: no card whose limit is asked for is in two of them."""
     made = []
     for number in range(count):
         mti, fields = request(random, [])
@@ -183,7 +183,7 @@ def apart(random, count):
 
 
 def meeting(random, limit, before):
-    """Requests that meet where they are under way at once."""
+    """Requests that meet if they are under way at once."""
     original = mti, fields = authorization(random)
     what = random.randrange(5)
     if what == 0:
@@ -198,7 +198,7 @@ def meeting(random, limit, before):
 
 
 def crowd(random, limit, count):
-    """Messages of all classes, at least so many, of which those that meet stand together."""
+    """Messages of all classes, at least this many; those that meet come one after the other."""
     before, made = [], []
     while len(made) < count:
         for mti, fields in meeting(random, limit, before):
@@ -221,8 +221,8 @@ def run_case(random, name):
 
 
 def served(name, flow, limit, made, is_file, form=None, every=None):
-    """The case of a run over a journal in memory, or on a file, whose tables are then shown; with the trace where it has a form, else
-    with `--stats` where it is said after how many requests there is a line (0: at the end alone)."""
+    """The case of a run over a journal in memory, or on a file, whose tables are then shown; with the trace if it has a form, otherwise
+    with `--stats` if `every` says after how many requests there is a line (0: only at the end)."""
     command = f"cardswitch run --flow flow.toml --limit {limit}" + ("" if form is None else f" --trace{form}")
     if every is not None:
         command += f" --stats {every}" if every else " --stats"
@@ -251,7 +251,7 @@ def tables(switch):
 
 
 class Frames(Exactly):
-    """Exactly these frames, each of which is shown as a line where they differ."""
+    """Exactly these frames, each of which is shown as a line if they differ."""
 
     def wrong(self, name, came):
         return None if came == self.text else difference(name, *map(messages.shown, (self.text, came)))
@@ -266,7 +266,7 @@ TIME = re.compile(rb"requests=(\d+) .* seconds=(\d+)\.(\d{3}) per-second=(\d+)")
 
 
 class Lines:
-    """On standard error: lines that begin like these, and no others. Of lines of numbers the rate has to be that of the time."""
+    """On standard error: lines that begin like these, and no others. In lines of numbers the rate has to be that of the time."""
 
     def __init__(self, beginnings):
         self.beginnings = beginnings
@@ -292,7 +292,7 @@ def shown_in(form, it):
 
 
 class Told:
-    """On standard error: the trace, where it has a form, and a line for each message that cannot be read, each in its place."""
+    """On standard error: the trace, if it has a form, and a line for each message that cannot be read, each in its place."""
 
     def __init__(self, told, form=None):
         self.told = [it for it in told if isinstance(it, int) or form is not None]

@@ -48,7 +48,7 @@ def next_of(queue, otherwise):
 
 
 class Replies:
-    """What the participants reply, each by queues in the order of the lines."""
+    """What the participants reply, each from queues in the order of the lines."""
 
     def __init__(self):
         self.answers, self.choices = defaultdict(deque), defaultdict(deque)
@@ -270,7 +270,7 @@ ACTIONS = {
 
 
 def refused(fault):
-    """How the message begins that a flow or the number of sessions is refused."""
+    """How the message begins when a flow or the number of sessions is refused."""
     if fault.name == "BadSessions":
         return "the engine refused: bad number of sessions"
     return f"the flow is refused: {texts.told(fault)}"

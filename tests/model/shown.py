@@ -89,7 +89,7 @@ def objects(tables, out, is_clear):
 
 
 def printed(tables, is_json, is_clear):
-    """What is printed of tables: without their rows at fault, and nothing where meta is at fault."""
+    """What is printed of tables: without their rows at fault, and nothing if meta is at fault."""
     left = journal.rest(tables)
     if left is None:
         return b""

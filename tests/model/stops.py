@@ -1,9 +1,9 @@
-"""What `test_switch stopped` prints of a script: runs that are cut while the journal is opened, read or written, and
+"""What `test_switch stopped` prints for a script: runs that are cut while the journal is opened, read or written, and then
 recovered.
 
-A cut comes at a moment: where the journal is opened or read, and before and after each write. Which call of the disks
-falls on which moment the model does not know: the runs, each cut a call later than the last, have to be those of moments
-in their order, from the first to the run that is not cut.
+A cut comes at a moment: when the journal is opened or read, or before or after a write. The model does not know which call
+of the disks falls on which moment: the runs, each cut a call later than the last, have to be those of moments in their
+order, from the first to the run that is not cut.
 """
 
 import copy
@@ -19,7 +19,7 @@ class Cut(Exception):
 
 
 class CutEngine(Engine):
-    """An engine whose journal is cut after so many moments; None: it is not."""
+    """An engine whose journal is cut after this many moments; None: it is not."""
 
     moments = None
 
@@ -90,7 +90,7 @@ def recovery_lines(engine):
 
 
 def until_cut(lines, printed):
-    """Adds the lines up to the cut. Whether there was one."""
+    """Adds the lines up to the cut, and returns whether there was one."""
     try:
         for line in lines:
             printed.append(line)
@@ -105,7 +105,7 @@ def calls_lines(engine):
 
 
 def recover(script, moments, printed):
-    """A recovery by a new plant, cut after so many moments. Whether it was cut."""
+    """A recovery by a new plant, cut after this many moments. Returns whether it was cut."""
     engine = script.engine
     engine.replies, engine.calls, engine.moments = copy.deepcopy(script.stated), {}, moments
     began = len(printed)
@@ -116,8 +116,8 @@ def recover(script, moments, printed):
 
 
 def run(text, first, second=None):
-    """The lines of a run whose script is cut after so many moments, and its recovery after so many, if any; and whether
-    the script was cut, and the recovery."""
+    """The lines of a run whose script is cut after `first` moments, and whose recovery is cut after `second`, if any; and
+    whether the script was cut, and the recovery."""
     script, printed = CutScript(first), []
     is_cut = until_cut(script_lines(script, text), printed)
     if first > 0:
@@ -128,7 +128,7 @@ def run(text, first, second=None):
 
 
 def seconds(text, first, is_twice):
-    """The runs whose script is cut after so many moments, and whether it is: one, or one for each moment of the recovery."""
+    """The runs whose script is cut after `first` moments, and whether it is: one, or one for each moment of the recovery."""
     if not is_twice:
         printed, is_cut, _ = run(text, first)
         return [printed], is_cut
@@ -140,7 +140,7 @@ def seconds(text, first, is_twice):
 
 
 def all_runs(text, is_twice):
-    """Those of each moment, the last without a cut."""
+    """The runs of each moment, the last of which have a script that is not cut."""
     found, is_cut = [], True
     while is_cut:
         runs, is_cut = seconds(text, len(found), is_twice)
@@ -149,8 +149,8 @@ def all_runs(text, is_twice):
 
 
 def sweeps(lines):
-    """The runs of each kind of cut, by the call at which the script was cut: the runs of one call are several where their
-    recoveries are cut too."""
+    """The runs of each kind of cut, by the call at which the script was cut: one call has several runs if their recoveries
+    are cut too."""
     found, last = [], None
     for line in lines:
         word, *numbers = line.split(" ")
@@ -166,7 +166,7 @@ def sweeps(lines):
 
 
 def are_in_order(came, wanted):
-    """Whether these runs are some of those in their order, up to the last."""
+    """Whether these runs are some of those that are wanted, in their order, up to the last."""
     at = 0
     for lines in came:
         while at < len(wanted) and wanted[at] != lines[1:]:
@@ -175,7 +175,7 @@ def are_in_order(came, wanted):
 
 
 def misplaced(sweep, wanted):
-    """The first run that is not one of those wanted, or not in their order; None where there is none."""
+    """The first run that is not one of those wanted, or not in their order; None if there is none."""
     at = 0
     for runs in sweep:
         while at < len(wanted) and not are_in_order(runs, wanted[at]):

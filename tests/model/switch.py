@@ -5,7 +5,7 @@ import functools
 from model import messages
 from model.engine import Engine
 
-# Where the issuers of cards are, by the first digits: the longest counts.
+# Where the issuers of cards are, by the first digits: the longest prefix counts.
 ROUTES = {b"4": "alpha", b"5": "beta", b"55": "alpha"}
 NEEDED = {"authorization": (2, 3, 4, 7, 11, 41), "reversal": (2, 4, 11, 41, 90), "network": (11, 70)}
 CLASSES = {b"0100": "authorization", b"0101": "authorization", b"0800": "network", b"0801": "network"}
@@ -40,7 +40,7 @@ def issued(mti, fields):
 
 
 class Book:
-    """What the cards have spent and hold, under one limit for each."""
+    """What the cards have spent, and what is held for them, under one limit for each card."""
 
     def __init__(self, limit):
         self.limit = limit
@@ -186,10 +186,10 @@ class Participants:
             return self.reversal(request)
         return None
 
-    # What an engine asks of its stations: of a transaction, and its due call with the entry called.
+    # What an engine asks of its stations, given a transaction, and its due call with the entry called.
 
     def answer(self, its, due):
-        """The byte; what was put into the context is there."""
+        """The byte, and nothing to put: what was put into the context is there already."""
         call, entry = due
         if call == "prepare_for_abort":
             return self.respond(Request(its), b"96"), []
@@ -222,7 +222,7 @@ class Switch:
         return self.engine.offer({"request": message})
 
     def answer(self, message):
-        """Runs the transaction of a request from its offer to its end. Its lines, each with the code that its answer's context notes."""
+        """Runs the transaction of a request from its offer to its end. Its lines, each with the code that the context of its answer notes."""
         lines = [(self.offer(message), None), (self.engine.take(0), None)]
         while its := self.engine.sessions[0]:
             is_answer = its.due()[0].startswith("prepare")
@@ -237,12 +237,12 @@ class Switch:
         return [self.engine.ack(*key) for key, advice in stored if is_accepted(advice)]
 
     def responses(self):
-        """The frames of the responses to the transactions that ended, ids rising."""
+        """The frames of the responses to the transactions that ended, in the order of ids."""
         contexts = [context for _, context in sorted(self.engine.ended.items())]
         return b"".join(messages.framed(it["response"]) for it in contexts if "response" in it)
 
     def told(self, requests):
-        """Answers these messages one after the other. What is shown of it: lines with their codes, and numbers of messages passed over."""
+        """Answers these messages one after the other. What it shows: lines with their codes, and numbers of messages passed over."""
         for number, message in enumerate(requests, 1):
             if messages.is_message(message):
                 yield from self.answer(message)
@@ -256,7 +256,7 @@ class Switch:
         return self.responses()
 
     def counted(self, requests, every):
-        """The same frames, and the beginnings of the lines on standard error with `--stats EVERY`; 0 is `--stats` alone."""
+        """The same frames, and the beginnings of the lines on standard error with `--stats EVERY`; 0 is `--stats` without a number."""
         lines, passed, answered = [], 0, 0
         for number, message in enumerate(requests, 1):
             if not messages.is_message(message):

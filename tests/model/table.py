@@ -1,4 +1,4 @@
-"""The written table of a transaction, over a list of what is still to come, and its trace.
+"""The specified table of a transaction, over a list of what is still to come, and its trace.
 
 DEFINITIONS.md has the table, TRACE.md the lines.
 """
@@ -16,7 +16,7 @@ def is_bad(byte):
 
 
 def reading(byte):
-    """The bits that an answer byte says: none of a bad one, no RETRY beside PREPARED."""
+    """The bits that an answer byte says: none if it is bad, no RETRY beside PREPARED."""
     if is_bad(byte):
         return 0
     return byte & ~RETRY if byte & PREPARED else byte
@@ -41,7 +41,7 @@ def placed_of(group):
 
 
 def names_of(text):
-    """The first sixteen of the longest runs without space and comma."""
+    """The first sixteen of the longest runs without spaces and commas."""
     return [name for name in re.split("[ ,]+", text) if name][:NAMES]
 
 
@@ -62,7 +62,7 @@ class Transaction:
         self.settle()
 
     def settle(self):
-        """Passes over what is not called, drops what is beyond the bound, and decides where nothing is to come."""
+        """Passes over what is not called, drops what is beyond the bound, and decides the outcome if nothing is to come."""
         while self.phase == "A" and self.rest:
             what, entry = self.rest[-1]
             if what == "ask" or entry.kind.abort_aware:
@@ -76,7 +76,7 @@ class Transaction:
             self.phase = {"P": "C", "A": "U"}.get(self.phase, self.phase)
 
     def due(self):
-        """The call or end that is due, with what it is of."""
+        """The call or end that is due, with the entry of a call."""
         if self.rest:
             what, entry = self.rest[-1]
             if what == "ask":

@@ -1,4 +1,4 @@
-"""How the program's messages begin. Cases show the whole texts; here stands what names the fault and its place."""
+"""How the program's messages begin. Cases show the whole texts; here is what names the fault and its place."""
 
 FLOW = {
     "TooLarge": "the flow is too large",
@@ -25,7 +25,7 @@ FILE = {
     "WrongKind": "{place}: key {key} has a value of the wrong kind",
 }
 
-# Why the stream of `run` is refused, and that a journal is.
+# Why the stream of `run` is refused, and that a journal is refused.
 END = {
     "BadLength": "cardswitch: standard input: bad frame length; expected four digits",
     "Truncated": "cardswitch: standard input: ends within a frame; found {at} bytes of it",

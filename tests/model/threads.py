@@ -1,8 +1,8 @@
 """`run --threads`, whose trace the model follows. docs/OPERATING.md and docs/TRACE.md have both.
 
 A line of the trace tells who moves: the next request is offered, a session takes it, the holder of a transaction makes its
-due call. The model's switch makes the same move, and answers what the line has to be: the call's answer by the model's
-participants, who see the calls in the order of the lines, and what is due then by the written table.
+due call. The model's switch makes the same move, and says what the line has to be: the call's answer by the model's
+participants, who see the calls in the order of the lines, and what is due then by the specified table.
 """
 
 import bisect
@@ -14,7 +14,7 @@ from model.engine import Refused
 from model.law import unfinished
 from model.switch import Switch
 
-# What a run takes at once: so many messages, of one read of so many bytes.
+# What a run takes at once: at most this many messages, of one read of at most this many bytes.
 BATCH, READ = 256, 65_536
 PASSED = re.compile(r"cardswitch: message (\d+) is passed over: ")
 MOVES = re.compile(r"(?P<offer>offer) \d+|\d+ take (?P<session>\d+) .*|(?P<number>\d+) [PACU] .*")
@@ -35,14 +35,14 @@ def is_answered(message):
 
 
 def begins(made, reads):
-    """The numbers from 1 of the messages with which batches begin, where each read gives so many bytes."""
+    """The numbers from 1 of the messages with which batches begin, if the reads give these numbers of bytes."""
     ends = list(itertools.accumulate(len(messages.framed(it)) for it in made))
     whole = [0, *(bisect.bisect_right(ends, came) for came in itertools.accumulate(reads))]
     return [number + 1 for first, last in zip(whole, whole[1:]) for number in range(first, last, BATCH)]
 
 
 class Run:
-    """A run that is followed, with the messages that it got; `begins` is None where nobody knows how they came."""
+    """A run that is followed, with the messages that it got; `begins` is None if nobody knows how they came."""
 
     def __init__(self, switch, made, begins=None):
         self.switch, self.engine, self.made, self.begins = switch, switch.engine, made, begins
@@ -56,11 +56,11 @@ class Run:
         return not any(self.engine.sessions) and not self.engine.queue
 
     def batch_of(self, number):
-        """The batch of a message, where that is known."""
+        """The batch of a message; the batches have to be known."""
         return bisect.bisect_right(self.begins, number)
 
     def pass_over(self, number):
-        """A message is reported that cannot be read: its batch has not begun, and those before have ended."""
+        """A message that cannot be read is reported: its batch has not begun, and those before have ended."""
         need(self.passed[self.told : self.told + 1] == [number], "it is not the next one that cannot be read")
         need(self.is_at_rest(), "it is reported within a batch")
         self.told += 1
@@ -97,7 +97,7 @@ class Run:
         return self.engine.call(held[0])
 
     def move(self, line):
-        """What the line has to be that tells of this move."""
+        """What the line that tells of this move has to be."""
         found = MOVES.fullmatch(line)
         need(found, "it is no line of a run")
         try:
@@ -123,7 +123,7 @@ class Run:
 
 
 def follow(flow, limit, sessions, made, begins, lines):
-    """Follows the lines that a run told. The switch at the end, and how many transactions were under way at once."""
+    """Follows the lines of a run. Returns the switch at the end, and how many transactions were under way at once, at most."""
     run = Run(Switch(flow, limit, sessions), made, begins)
     count = len(lines) - sum(1 for _ in itertools.takewhile(lambda line: line.startswith("ack "), reversed(lines)))
     run.follow(lines[:count])

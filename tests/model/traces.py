@@ -1,6 +1,6 @@
 """The lines of the trace as JSON. docs/TRACE.md, "The same as JSON", has it.
 
-An object is made of the line of text and of the response code that a context notes: all other facts are in the text.
+An object is made from the line of text and the response code that a context notes: all other facts are in the text.
 """
 
 import json
@@ -86,7 +86,7 @@ def facts(line, code=None):
 
 
 def value_text(value):
-    """A value as JSON, without a space. Bytes are a string of theirs."""
+    """A value as JSON, without spaces. Bytes become a string."""
     if isinstance(value, dict):
         return "{" + ",".join(f'"{name}":{value_text(it)}' for name, it in value.items()) + "}"
     if isinstance(value, list):

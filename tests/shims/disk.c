@@ -1,5 +1,5 @@
-/* A library for LD_PRELOAD: it counts the program's calls that change files whose paths begin with FAIL_PATH (or that make them
- * last), and lets one of them fail, or all from that one on.
+/* A library for LD_PRELOAD: it counts the program's calls that open, change or sync files whose paths begin with FAIL_PATH,
+ * and makes one of them fail, or all from that one on.
  *
  * FAIL_AT is the number of the first one that fails, from 1 (0: none); with FAIL_ON all that follow fail too. FAIL_WITH is the
  * number of the error. With FAIL_TORN a write that fails has written the first half of its bytes. The file that FAIL_COUNT names gets
