@@ -373,6 +373,43 @@ def nothing_opened(program, room):
             raise Wrong("the echo test came too early")
 
 
+def echo_after_a_close(program, room):
+    """A host closes the pipe that it answers over, and nothing else, while it is idle: the echo test has that pipe opened again, so
+    the host is not given up, and it is asked as ever."""
+    with switch(program, room, "--stats", alpha="echo_s = 1") as (run, wire):
+        run.send(request(1))
+        wire.put(reply(wire.get()))
+        wanted("field 39", code(run.receive()), b"00")
+        os.close(wire.writes)
+        wire.writes = None
+        message = wire.get()
+        echo(message)
+        wire.put(reply(message))
+        time.sleep(0.2)
+        run.send(request(2))
+        wire.put(reply(asked(wire), b"05"))
+        wanted("field 39 after the echo test", code(run.receive()), b"05")
+        if b" unanswered=0 " not in (line := run.end().splitlines()[-1]):
+            raise Wrong(f"the last line on standard error: {line!r}")
+
+
+def unheard(program, room):
+    """After a bad length nothing is written to the host until the pipe that it answers over is open again."""
+    with switch(program, room) as (run, wire):
+        began = time.monotonic()
+        run.send(request(1, 400))
+        wire.get()
+        wire.put(b"xxxx")
+        wanted("field 38 after a bad length", run.receive()[1].get(38), b"SI0001")
+        wire.cut_off()
+        response = run.ask(request(2, 400))
+        # (a second after the first request it would be opened)
+        if time.monotonic() - began < 0.9:
+            wanted("field 38", response[1].get(38), b"SI0002")
+            at_once([response[2]])
+            wanted("at the host", wire.read(0), b"")
+
+
 def echo_unanswered(program, room):
     """A host that answers no echo test is closed, and stood in for at once; it is asked again from the first request after a second."""
     with switch(program, room, "--stats", alpha="echo_s = 1") as (run, wire):
@@ -694,6 +731,7 @@ CASES = [
     late,
     late_of_the_same_key,
     garbage,
+    unheard,
     closed_in_a_frame,
     killed_and_back,
     nobody_there,
@@ -702,6 +740,7 @@ CASES = [
     switch_killed,
     advices_between_reads,
     echo_answered,
+    echo_after_a_close,
     echo_unanswered,
     nothing_opened,
     retried,
