@@ -1,6 +1,7 @@
 //! What goes to a host.
 
-ghost use Rattle.std.specs.Prelude.{◌≡◌, ◌∷◌, ◌++◌, [], length, nat_le, not, IfOk, if◌then◌else◌};
+ghost use Rattle.std.specs.Prelude.{◌≡◌, ◌∷◌, ◌++◌, [], length, nat_le, not, IfOk, IfSome, IsTrue};
+ghost use Rattle.std.specs.Prelude.{if◌then◌else◌};
 ghost use Rattle.sw_hosts.specs.Boxes.{first_of, after_first, before_first};
 ghost use Rattle.sw_hosts.specs.Wanted.{is_timely};
 
@@ -51,6 +52,7 @@ impl Outbox {
     /// Takes the first frame whose deadline has not come by now. Those before it are dropped; if every
     /// frame is too late, all are.
     pub fn next(&mut self, now: Moment) -> Found<Frame>
+        ensures timely { IfSome result.item (λ frame. IsTrue (is_timely now.micros frame)) }
         ensures taken { result.item ≡ first_of (is_timely now.micros) self.old.held }
         ensures left { self.new.held ≡ after_first (is_timely now.micros) self.old.held }
         ensures dropped { result.dropped ≡ before_first (is_timely now.micros) self.old.held }

@@ -1,6 +1,7 @@
 //! What the threads of a host and its links share.
 
-ghost use Rattle.std.specs.Prelude.{◌≡◌, IfOk};
+ghost use Rattle.std.specs.Prelude.{◌≡◌, IfOk, IfSome, IsTrue};
+ghost use Rattle.sw_hosts.specs.Wanted.{is_timely};
 
 use crate::came::{Came, came_in};
 use crate::counts::Counters;
@@ -118,7 +119,9 @@ impl Shared {
     }
 
     /// The next frame to be written; those that are too late are dropped.
-    pub fn next_frame<R: Wait>(&self, rt: &R, now: Moment) -> Option<Frame> {
+    pub fn next_frame<R: Wait>(&self, rt: &R, now: Moment) -> Option<Frame>
+        ensures { IfSome result (λ frame. IsTrue (is_timely now.micros frame)) }
+    {
         let next = self.outbox.lock(rt).next(now);
         self.counters.add_dropped(next.dropped);
         next.item

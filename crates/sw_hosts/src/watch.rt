@@ -1,6 +1,6 @@
 //! Whether a host that nothing is written to is still there.
 
-ghost use Rattle.std.specs.Prelude.{◌≡◌, ◌+◌, ◌%◌, Some};
+ghost use Rattle.std.specs.Prelude.{◌≡◌, ◌+◌, ◌%◌, None, Some};
 ghost use Rattle.sw_hosts.specs.Watches.{due, due_in_silence, duty, next_test, rest_or_test, tests_with, unanswered};
 
 use crate::moment::Moment;
@@ -47,7 +47,11 @@ pub enum Duty {
 
 impl Watch {
     /// Nothing was written yet.
-    pub fn new() -> Watch {
+    pub fn new() -> Watch
+        ensures written { result.written.micros ≡ 0 }
+        ensures none { (result.tests ≡ None) × (result.tested ≡ None) }
+        ensures stan { result.stan ≡ 0 }
+    {
         Watch {
             written: Moment { micros: 0 },
             tests: None,
