@@ -11,7 +11,7 @@ use Rattle.cli_lines.specs.Feeds.{first_line, has_line_feed, is_line_feed}
 use Rattle.cli_script.proofs.Heads.{fewer, one_more}
 use Rattle.cli_script.specs.Grammar.{meaning_of}
 use Rattle.cli_script.specs.Heads.{AreSettings, AreWhole, EndsAtLine, IsHead, IsNoSetting, IsPlacedSetting, MayPrecede}
-use Rattle.cli_script.specs.Scripts.{BeginsWith, BeginsWithAction, IsBehind, IsOpened, IsOpenedAs, is_misplaced, line_of, others_of}
+use Rattle.cli_script.specs.Scripts.{BeginsWith, BeginsWithAction, IsAfter, IsOpened, IsOpenedAs, is_misplaced, line_of, others_of}
 use Rattle.cli_script.specs.declared.line.ScriptLine.TheVariants as line
 use Rattle.cli_script.specs.declared.line.Setting.{Setting}
 use Rattle.cli_script.specs.declared.script.Script.{Script}
@@ -62,15 +62,15 @@ both_precede xs ys more (inr first) some (inr last) = inr (whole_more xs ys firs
 
 -- settings
 
-pub behind_continues : (ss : List Setting) (xs rest more : List ℕ) → IsBehind ss xs rest → MayPrecede xs more
-    → IsBehind ss (xs ++ more) (rest ++ more) × MayPrecede rest more
-behind_continues [] xs rest more behind may =
-    (ap (λ (l : List ℕ). l ++ more) behind, subst (λ (l : List ℕ). MayPrecede l more) (sym behind) may)
-behind_continues (s ∷ ss) xs rest more (begins, behind) may =
-    let later = behind_continues ss (others_of xs) rest more behind (others_precede xs more begins.0 may) in (
+pub after_continues : (ss : List Setting) (xs rest more : List ℕ) → IsAfter ss xs rest → MayPrecede xs more
+    → IsAfter ss (xs ++ more) (rest ++ more) × MayPrecede rest more
+after_continues [] xs rest more after may =
+    (ap (λ (l : List ℕ). l ++ more) after, subst (λ (l : List ℕ). MayPrecede l more) (sym after) may)
+after_continues (s ∷ ss) xs rest more (begins, after) may =
+    let later = after_continues ss (others_of xs) rest more after (others_precede xs more begins.0 may) in (
       (
         (some_more xs more begins.0, ap meaning_of (line_continues xs more begins.0 may) ∙ begins.1),
-        subst (λ (l : List ℕ). IsBehind ss l (rest ++ more)) (sym (others_continue xs more begins.0 may)) later.0,
+        subst (λ (l : List ℕ). IsAfter ss l (rest ++ more)) (sym (others_continue xs more begins.0 may)) later.0,
       ),
       later.1,
     ) where
@@ -84,10 +84,10 @@ none_more p ss s none one = rw (list_any-append p ss (s ∷ []), none, one) refl
 
 pub settings_more : (has_file : Bool) (xs bytes : List ℕ) → AreSettings has_file xs → MayPrecede xs (first_line bytes)
     → IsPlacedSetting has_file (first_line bytes) → AreSettings has_file (xs ++ first_line bytes)
-settings_more has_file xs bytes (ss, behind, placed) may (s, begins, is) = (
+settings_more has_file xs bytes (ss, after, placed) may (s, begins, is) = (
   ss ++ s ∷ [],
-  subst (IsBehind (ss ++ s ∷ []) (xs ++ first_line bytes)) (first_last bytes)
-      (one_more ss s (xs ++ first_line bytes) (first_line bytes) (behind_continues ss xs [] (first_line bytes) behind may).0 begins),
+  subst (IsAfter (ss ++ s ∷ []) (xs ++ first_line bytes)) (first_last bytes)
+      (one_more ss s (xs ++ first_line bytes) (first_line bytes) (after_continues ss xs [] (first_line bytes) after may).0 begins),
   none_more (is_misplaced has_file) ss s placed is,
 )
 
@@ -99,36 +99,36 @@ any_parts : (p : Setting → Bool) (s : Setting) (ss : List Setting) → list_an
 any_parts p s ss none = or_parts (p s) (list_any p ss) none
 
 -- a line that is not a setting does not end settings
-pub no_settings : (has_file : Bool) (ss : List Setting) (xs line : List ℕ) → AreWhole xs → IsBehind ss (xs ++ line) []
+pub no_settings : (has_file : Bool) (ss : List Setting) (xs line : List ℕ) → AreWhole xs → IsAfter ss (xs ++ line) []
     → list_any (is_misplaced has_file) ss ≡ false → line ≢ [] → IsNoSetting has_file line → ⊥
-no_settings has_file [] xs line whole behind placed some none = some (end xs line (sym behind)) where
+no_settings has_file [] xs line whole after placed some none = some (end xs line (sym after)) where
   end : (k l : List ℕ) → k ++ l ≡ [] → l ≡ []
   end [] l all = all
   end (b ∷ k) l all = cc
-no_settings has_file (s ∷ ss) [] line whole (begins, behind) placed some none =
+no_settings has_file (s ∷ ss) [] line whole (begins, after) placed some none =
     let wrong = none s begins in let right = (any_parts (is_misplaced has_file) s ss placed).0 in let both : true ≡ false = sym wrong ∙ right in cc
-no_settings has_file (s ∷ ss) (b ∷ xs) line whole (begins, behind) placed some none =
+no_settings has_file (s ∷ ss) (b ∷ xs) line whole (begins, after) placed some none =
     let here : b ∷ xs ≢ [] = λ empty. cc in
     no_settings has_file ss (others_of (b ∷ xs)) line (whole_others whole)
-    (subst (λ (l : List ℕ). IsBehind ss l []) (others_continue (b ∷ xs) line here (inr whole)) behind)
+    (subst (λ (l : List ℕ). IsAfter ss l []) (others_continue (b ∷ xs) line here (inr whole)) after)
     (any_parts (is_misplaced has_file) s ss placed).1 some none where
       whole_others : AreWhole (b ∷ xs) → AreWhole (others_of (b ∷ xs))
       whole_others (inl empty) = cc
       whole_others (inr (text, ended)) = others_whole (b ∷ xs) text ended
 
-few_behind : (ss : List Setting) (xs rest : List ℕ) → IsBehind ss xs rest → length ss + length rest ≤ length xs
-few_behind [] xs rest behind = let same = ap length behind in omega arith
-few_behind (s ∷ ss) xs rest (begins, behind) =
-    let later = few_behind ss (others_of xs) rest behind in let less = fewer xs begins.0 in omega arith
+few_after : (ss : List Setting) (xs rest : List ℕ) → IsAfter ss xs rest → length ss + length rest ≤ length xs
+few_after [] xs rest after = let same = ap length after in omega arith
+few_after (s ∷ ss) xs rest (begins, after) =
+    let later = few_after ss (others_of xs) rest after in let less = fewer xs begins.0 in omega arith
 
 -- a script of only settings, by its head
 pub only_settings : (file : Option Flow) (script head rest : List ℕ) → IsHead (is_some file) script head rest → IsOpenedAs file head None
     → IsOpenedAs file script None
-only_settings file script head rest is (ss, behind, placed) = by is.last where
+only_settings file script head rest is (ss, after, placed) = by is.last where
   by : EndsAtLine (is_some file) head ⊎ (AreSettings (is_some file) head × (rest ≡ [])) → IsOpenedAs file script None
   by (inl ends) = absurd (no_settings (is_some file) ss ends.settings ends.line ends.first
-      (subst (λ (l : List ℕ). IsBehind ss l []) ends.whole behind) placed ends.some ends.last)
-  by (inr all) = (ss, subst (λ (l : List ℕ). IsBehind ss l []) (sym (is.whole ∙ ap (λ (l : List ℕ). head ++ l) all.1 ∙ append-nil head)) behind, placed)
+      (subst (λ (l : List ℕ). IsAfter ss l []) ends.whole after) placed ends.some ends.last)
+  by (inr all) = (ss, subst (λ (l : List ℕ). IsAfter ss l []) (sym (is.whole ∙ ap (λ (l : List ℕ). head ++ l) all.1 ∙ append-nil head)) after, placed)
 
 -- a script that was opened by its head: the lines that follow it are among those to come
 pub opened_on : (file : Option Flow) (head rest : List ℕ) (s : Script) → MayPrecede head rest → IsOpened file head s
@@ -136,8 +136,8 @@ pub opened_on : (file : Option Flow) (head rest : List ℕ) (s : Script) → May
     → (t : Script) × IsOpened file (head ++ rest) t × (t.flow ≡ s.flow) × (t.sessions ≡ s.sessions)
     × (t.actions.rest.now ≡ s.actions.rest.now ++ rest) × (t.actions.lines ≡ s.actions.lines) × MayPrecede s.actions.rest.now rest
 opened_on file head rest s may opened short =
-    let later = behind_continues opened.stated head s.actions.rest.now rest opened.behind may in
-    let small = few_behind opened.stated head s.actions.rest.now opened.behind in
+    let later = after_continues opened.stated head s.actions.rest.now rest opened.after may in
+    let small = few_after opened.stated head s.actions.rest.now opened.after in
     let counted = opened.count in
     let joined = length-append s.actions.rest.now rest in
     let whole = length-append head rest in
@@ -146,7 +146,7 @@ opened_on file head rest s may opened short =
       record s { actions = record s.actions { rest = record s.actions.rest { now = s.actions.rest.now ++ rest }; numbered = fits } },
       record {
         stated = opened.stated;
-        behind = later.0;
+        after = later.0;
         placed = opened.placed;
         acts = (more s.actions.rest.now rest some, (opened.acts.1.0, ap meaning_of (line_continues s.actions.rest.now rest some later.1) ∙ opened.acts.1.1));
         count = opened.count;

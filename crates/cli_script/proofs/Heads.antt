@@ -11,8 +11,8 @@ use Rattle.flow_model.specs.declared.error.FlowError.{FlowError}
 use Rattle.flow_model.specs.declared.flow.Flow.{Flow}
 use Rattle.cli_script.proofs.Causes.{memory_meant}
 use Rattle.cli_script.specs.Grammar.{Answers, meaning_of}
-use Rattle.cli_script.specs.Scripts.{BeginsWith, BeginsWithAction, HasNoSetting, IsBehind, IsHeadRead, IsActionRefusal, IsHeadRefused, IsLineRefusal, IsMeant}
-use Rattle.cli_script.specs.Scripts.{IsRefusedAt, IsRefusalBehind, IsScriptRefused, IsUnstated, error_at, is_misplaced, others_of}
+use Rattle.cli_script.specs.Scripts.{BeginsWith, BeginsWithAction, HasNoSetting, IsAfter, IsHeadRead, IsActionRefusal, IsHeadRefused, IsLineRefusal, IsMeant}
+use Rattle.cli_script.specs.Scripts.{IsRefusedAt, IsRefusalAfter, IsScriptRefused, IsUnstated, error_at, is_misplaced, others_of}
 use Rattle.cli_script.specs.Settings.{AddsSetting, IsKeptOf, advices_in, answers_in, choices_in, groups_in, last_in, restores_in, retries_in, sessions_in}
 use Rattle.cli_script.specs.Settings.{stated_flow}
 use Rattle.cli_script.specs.declared.error.LineError.{LineError}
@@ -28,10 +28,10 @@ pub fewer : (rest : List ℕ) → rest ≢ [] → length (others_of rest) < leng
 fewer [] some = absurd (some refl)
 fewer (b ∷ bs) some = grind (arith, length-drop)
 
-pub one_more : (ss : List Setting) (s : Setting) (script rest : List ℕ) → IsBehind ss script rest → BeginsWith rest s
-    → IsBehind (ss ++ s ∷ []) script (others_of rest)
-one_more [] s script rest behind begins = (rw behind at begins, ap others_of behind)
-one_more (t ∷ ts) s script rest behind begins = (behind.0, one_more ts s (others_of script) rest behind.1 begins)
+pub one_more : (ss : List Setting) (s : Setting) (script rest : List ℕ) → IsAfter ss script rest → BeginsWith rest s
+    → IsAfter (ss ++ s ∷ []) script (others_of rest)
+one_more [] s script rest after begins = (rw after at begins, ap others_of after)
+one_more (t ∷ ts) s script rest after begins = (after.0, one_more ts s (others_of script) rest after.1 begins)
 
 or_none : (r : Option ℕ) → r ≡ or_else r None
 or_none None = refl
@@ -74,7 +74,7 @@ pub head_more : (has_file : Bool) (script rest : List ℕ) (old new : Settings) 
 head_more has_file script rest old new lines s head begins placed adds = record {
   stated = head.stated ++ s ∷ [];
   count = length-append head.stated (s ∷ []) ∙ ap (λ n. n + 1) head.count;
-  behind = one_more head.stated s script rest head.behind begins;
+  after = one_more head.stated s script rest head.after begins;
   states = kept_more head.stated s old new head.states adds;
   placed = none_more (is_misplaced has_file) head.stated s head.placed placed;
 }
@@ -115,7 +115,7 @@ pub setting_refused : (has_file : Bool) (script rest : List ℕ) (kept : Setting
 setting_refused has_file script rest kept lines s head begins = record {
   stated = head.stated;
   rest = rest;
-  behind = head.behind;
+  after = head.after;
   placed = head.placed;
   some = begins.0;
   refused = (line.Setting s, begins.1);
@@ -134,7 +134,7 @@ pub flow_refused : (file : Option Flow) (script rest : List ℕ) (kept : Setting
 flow_refused file script rest kept lines f cause head begins states fault = record {
   stated = head.stated;
   rest = rest;
-  behind = head.behind;
+  after = head.after;
   placed = head.placed;
   some = begins.0;
   refused = (ap (λ n. n + 1) (sym head.count), begins, ap first_fault (sym (states head.stated head.states)) ∙ fault);
@@ -146,13 +146,13 @@ pub head_refused : (file : Option Flow) (script : List ℕ) (e : ScriptError) �
 head_refused file script e head = record {
   stated = head.stated;
   rest = head.rest;
-  behind = head.behind;
+  after = head.after;
   placed = head.placed;
   some = head.some;
   refused = as_script e head.refused;
 } where
   as_script : (d : ScriptError) → IsRefusedAt (is_some file) (length head.stated) head.rest d
-      → IsRefusalBehind file head.stated head.rest d
+      → IsRefusalAfter file head.stated head.rest d
   as_script (error.Line n cause found) refused = refused
   as_script (error.FlowBesideFile n found) refused = refused
   as_script (error.LateSetting n found) refused = refused
@@ -170,7 +170,7 @@ stated_refused file settings rest kept lines line f cause head ends states fault
   record {
     stated = head.stated;
     rest = rest;
-    behind = head.behind;
+    after = head.after;
     ends = ends;
     placed = head.placed;
     fault = ap first_fault (sym (states head.stated head.states)) ∙ fault;

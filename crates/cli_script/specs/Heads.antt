@@ -1,7 +1,7 @@
 -- The head of a script whose lines are read one after the other.
 use Rattle.std.specs.Prelude.{◌≡◌, ◌≢◌, ◌⊎◌, ⊤, ℕ, Bool, true, false, List, [], ◌∷◌, ◌++◌, Option, Some, None}
 use Rattle.std.specs.List.{list_any}
-use Rattle.cli_script.specs.Scripts.{BeginsWith, IsBehind, is_misplaced}
+use Rattle.cli_script.specs.Scripts.{BeginsWith, IsAfter, is_misplaced}
 use Rattle.cli_script.specs.declared.line.Setting.{Setting}
 
 -- whole lines: there are none, or a line feed ends them
@@ -23,7 +23,7 @@ IsNoSetting has_file line = (s : Setting) → BeginsWith line s → is_misplaced
 -- all lines are settings that are allowed there
 abbrev pub AreSettings : Bool → List ℕ → Type 0
 AreSettings has_file bytes =
-    (ss : List Setting) × IsBehind ss bytes [] × (list_any (is_misplaced has_file) ss ≡ false)
+    (ss : List Setting) × IsAfter ss bytes [] × (list_any (is_misplaced has_file) ss ≡ false)
 
 -- settings, and a line that is not one
 pub record EndsAtLine (has_file : Bool) (head : List ℕ) : Type 0 where

@@ -37,9 +37,9 @@ abbrev pub BeginsWith : List ℕ → Setting → Type 0
 BeginsWith script s = (script ≢ []) × (meaning_of (line_of script) ≡ Ok (line.Setting s))
 
 -- the script begins with the lines of these settings, and this comes after them
-abbrev pub IsBehind : List Setting → List ℕ → List ℕ → Type 0
-IsBehind [] script rest = rest ≡ script
-IsBehind (s ∷ ss) script rest = BeginsWith script s × IsBehind ss (others_of script) rest
+abbrev pub IsAfter : List Setting → List ℕ → List ℕ → Type 0
+IsAfter [] script rest = rest ≡ script
+IsAfter (s ∷ ss) script rest = BeginsWith script s × IsAfter ss (others_of script) rest
 
 -- the line has a meaning, as has every line at which out of memory is reported
 abbrev pub IsMeant : Result ScriptLine LineError → Type 0
@@ -98,7 +98,7 @@ IsNextSetting has_file lines rest (Err e) =
 pub record IsHeadRead (has_file : Bool) (script : List ℕ) (kept : Settings) (rest : List ℕ) (lines : ℕ) : Type 0 where
   pub stated : List Setting
   pub count : length stated ≡ lines
-  pub behind : IsBehind stated script rest
+  pub after : IsAfter stated script rest
   pub states : IsKeptOf stated kept
   pub placed : list_any (is_misplaced has_file) stated ≡ false
 
@@ -106,30 +106,30 @@ pub record IsHeadRead (has_file : Bool) (script : List ℕ) (kept : Settings) (r
 pub record IsHeadRefused (has_file : Bool) (script : List ℕ) (e : ScriptError) : Type 0 where
   pub stated : List Setting
   pub rest : List ℕ
-  pub behind : IsBehind stated script rest
+  pub after : IsAfter stated script rest
   pub placed : list_any (is_misplaced has_file) stated ≡ false
   pub some : rest ≢ []
   pub refused : IsRefusedAt has_file (length stated) rest e
 
 -- why a script is refused after these settings: the next line is, or at the first action the flow that they state
-abbrev pub IsRefusalBehind : Option Flow → List Setting → List ℕ → ScriptError → Type 0
-IsRefusalBehind file ss rest (error.Flow n cause) =
+abbrev pub IsRefusalAfter : Option Flow → List Setting → List ℕ → ScriptError → Type 0
+IsRefusalAfter file ss rest (error.Flow n cause) =
     (n ≡ length ss + 1) × BeginsWithAction rest × (first_fault (stated_flow file ss) ≡ Some cause)
-IsRefusalBehind file ss rest e = IsRefusedAt (is_some file) (length ss) rest e
+IsRefusalAfter file ss rest e = IsRefusedAt (is_some file) (length ss) rest e
 
 -- the lines before the one that is reported are settings that are allowed there, so that it is the first fault
 pub record IsScriptRefused (file : Option Flow) (script : List ℕ) (e : ScriptError) : Type 0 where
   pub stated : List Setting
   pub rest : List ℕ
-  pub behind : IsBehind stated script rest
+  pub after : IsAfter stated script rest
   pub placed : list_any (is_misplaced (is_some file)) stated ≡ false
   pub some : rest ≢ []
-  pub refused : IsRefusalBehind file stated rest e
+  pub refused : IsRefusalAfter file stated rest e
 
 -- all of the script's settings state the flow, which is checked, and the replies; the other lines are to come
 pub record IsOpened (file : Option Flow) (script : List ℕ) (s : Script) : Type 0 where
   pub stated : List Setting
-  pub behind : IsBehind stated script s.actions.rest.now
+  pub after : IsAfter stated script s.actions.rest.now
   pub placed : list_any (is_misplaced (is_some file)) stated ≡ false
   pub acts : BeginsWithAction s.actions.rest.now
   pub count : length stated ≡ s.actions.lines
@@ -140,14 +140,14 @@ pub record IsOpened (file : Option Flow) (script : List ℕ) (s : Script) : Type
 
 -- a script of only settings has nothing to come
 abbrev pub IsOpenedAs : Option Flow → List ℕ → Option Script → Type 0
-IsOpenedAs file script None = (ss : List Setting) × IsBehind ss script [] × (list_any (is_misplaced (is_some file)) ss ≡ false)
+IsOpenedAs file script None = (ss : List Setting) × IsAfter ss script [] × (list_any (is_misplaced (is_some file)) ss ≡ false)
 IsOpenedAs file script (Some s) = IsOpened file script s
 
 -- the settings at the head of these bytes state the flow, which is checked, the number of sessions and the replies
 pub record IsStated (file : Option Flow) (settings : List ℕ) (o : Opening) : Type 0 where
   pub stated : List Setting
   pub rest : List ℕ
-  pub behind : IsBehind stated settings rest
+  pub after : IsAfter stated settings rest
   pub ends : HasNoSetting rest
   pub placed : list_any (is_misplaced (is_some file)) stated ≡ false
   pub flow : o.flow ≡ stated_flow file stated
@@ -159,7 +159,7 @@ pub record IsStated (file : Option Flow) (settings : List ℕ) (o : Opening) : T
 pub record HasFlowFault (file : Option Flow) (settings : List ℕ) (cause : FlowError) : Type 0 where
   pub stated : List Setting
   pub rest : List ℕ
-  pub behind : IsBehind stated settings rest
+  pub after : IsAfter stated settings rest
   pub ends : HasNoSetting rest
   pub placed : list_any (is_misplaced (is_some file)) stated ≡ false
   pub fault : first_fault (stated_flow file stated) ≡ Some cause

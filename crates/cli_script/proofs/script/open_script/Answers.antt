@@ -17,7 +17,7 @@ returns-clause-opened c =
     let kept = head.states in
     record {
       stated = ss;
-      behind = rw c.new-actions.ensures.rest head.behind;
+      after = rw c.new-actions.ensures.rest head.after;
       placed = head.placed;
       acts = rw c.new-actions.ensures.rest begins;
       count = head.count ∙ sym c.new-actions.ensures.lines;

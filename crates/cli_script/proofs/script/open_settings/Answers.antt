@@ -16,7 +16,7 @@ returns-in-Ok-clause-stated c =
     record {
       stated = ss;
       rest = c.in_ok-settings.field-0.rest.now;
-      behind = head.behind;
+      after = head.after;
       ends = c.in_ok-settings.ensures.all;
       placed = head.placed;
       flow = c.into_parts-flow.ensures.flow ss kept;
