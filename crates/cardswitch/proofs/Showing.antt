@@ -15,7 +15,7 @@ use Rattle.tx_history.specs.declared.journal.JournalView.{JournalView}
 use Rattle.tx_journal.specs.declared.error.JournalError.{JournalError}
 use Rattle.tx_journal.specs.declared.error.JournalError.TheVariants as journal
 use Rattle.cardswitch.specs.Errors.{error_of_write}
-use Rattle.cardswitch.specs.Looking.{IsFoundFault, IsLookFault, IsLooked, IsRowFault, IsRowTold, IsSight}
+use Rattle.cardswitch.specs.Looking.{IsFoundFault, IsLookFault, IsLooked, IsRowFault, IsRowReported, IsSight}
 use Rattle.cardswitch.specs.Looking.{error_of_row, seen_text, shown_text, style_by}
 use Rattle.cardswitch.specs.declared.looking.Sight.{Sight}
 use Rattle.cardswitch.specs.declared.looking.Sight.TheVariants.{Beside, Whole}
@@ -23,7 +23,7 @@ use Rattle.cardswitch.specs.declared.error.RunError.{RunError}
 use Rattle.cardswitch.specs.declared.error.RunError.TheVariants as error
 
 -- a journal refused for a row at fault, and nothing is written
-row_untold : (o : JournalOptions) (before : Option (List ℕ)) (e : JournalError) → IsRowFault e → IsRowTold o before before e
+row_untold : (o : JournalOptions) (before : Option (List ℕ)) (e : JournalError) → IsRowFault e → IsRowReported o before before e
 row_untold o before (journal.BadRow bad) h = (h, inl refl)
 row_untold o before journal.OutOfMemory h = absurd h
 row_untold o before journal.Failed h = absurd h

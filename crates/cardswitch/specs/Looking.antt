@@ -93,16 +93,16 @@ IsFoundFault path error.OutOfMemory = ⊤
 IsFoundFault path _ = ⊥
 
 -- what is written where a row is at fault: nothing, or the text of everything else
-abbrev pub IsRowTold : JournalOptions → Option (List ℕ) → Option (List ℕ) → JournalError → Type 0
-IsRowTold o before after (journal.BadRow bad) =
+abbrev pub IsRowReported : JournalOptions → Option (List ℕ) → Option (List ℕ) → JournalError → Type 0
+IsRowReported o before after (journal.BadRow bad) =
     IsCopyFault bad × ((after ≡ before) ⊎ IsLookedBeside o bad before after)
-IsRowTold o before after _ = ⊥
+IsRowReported o before after _ = ⊥
 
 -- why its text is not written, or not that of a whole journal: it is not found, and nothing is written; a row is at fault; or
 -- writing failed
 abbrev pub IsLookFault : JournalOptions → Option (List ℕ) → Option (List ℕ) → RunError → Type 0
 IsLookFault o before after (error.JournalFile p cause) = (p ≡ o.path.now) × (after ≡ before)
-IsLookFault o before after (error.Journal p cause) = (p ≡ o.path.now) × IsRowTold o before after cause
+IsLookFault o before after (error.Journal p cause) = (p ≡ o.path.now) × IsRowReported o before after cause
 IsLookFault o before after (error.Write e) = IsLookedInPart o before after
 IsLookFault o before after error.OutOfMemory = (after ≡ before) ⊎ IsLookedInPart o before after
 IsLookFault o before after _ = ⊥

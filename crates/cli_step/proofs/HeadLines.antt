@@ -5,7 +5,7 @@ use Rattle.cli_script.specs.Scripts.{IsNextSetting}
 use Rattle.cli_script.specs.declared.error.ScriptError.{ScriptError}
 use Rattle.cli_script.specs.declared.error.ScriptError.TheVariants as script
 use Rattle.flow_model.specs.declared.flow.Flow.{Flow}
-use Rattle.cli_step.specs.Prompts.{HeadAnswers, IsHeadLine, IsScriptHeadLine, IsTold, IsUnopened, heading}
+use Rattle.cli_step.specs.Prompts.{HeadAnswers, IsHeadLine, IsReported, IsScriptHeadLine, IsUnopened, heading}
 use Rattle.cli_step.specs.declared.opening.HeadLine.TheVariants as head
 
 pub refused_head : (has_file : Bool) (n : ℕ) (line : List ℕ) (told cause : ScriptError) → told ≡ cause → cause ≢ script.OutOfMemory
@@ -14,7 +14,7 @@ refused_head has_file n line told cause same is_refusal next =
     subst (λ (e : ScriptError). IsScriptHeadLine has_file line (head.Refused e)) (sym same) (is_refusal, (n, next.1))
 
 pub unopened_head : (file steps : Option Flow) (line settings : List ℕ) (out err err_after : Option (List ℕ)) → steps ≡ file
-    → IsHeadLine (is_some steps) line head.Opens → IsUnopened steps settings → IsTold err err_after
+    → IsHeadLine (is_some steps) line head.Opens → IsUnopened steps settings → IsReported err err_after
     → HeadAnswers file line (heading settings out err) (heading settings out err_after)
 unopened_head file steps line settings out err err_after same is unopened told =
     subst (λ (f : Option Flow). HeadAnswers f line (heading settings out err) (heading settings out err_after)) same

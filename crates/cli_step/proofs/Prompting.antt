@@ -1,5 +1,5 @@
 -- A session at a prompt, one line after the other.
--- for: prompt::ask, prompt::leave, prompt::tell, prompt::show_word, prompt::answer, prompt::talk, opening::talk_over, opening::run_prompted
+-- for: prompt::ask, prompt::leave, prompt::report, prompt::show_word, prompt::answer, prompt::talk, opening::talk_over, opening::run_prompted
 use Rattle.std.proofs.Common.{◌≡◌, ◌≢◌, ◌∙◌, ◌++◌, ◌∷◌, [], ℕ, ◌+◌, Bool, true, false, List, Option, None, Some, IfSome, Result, Err, Ok}
 use Rattle.std.proofs.Common.{IfErr, OnOk, inl, inr, refl, sym, subst}
 use Rattle.std.specs.Bool.{⊤}
@@ -29,7 +29,7 @@ use Rattle.cli_step.proofs.Joining.{Known, if_some}
 use Rattle.cli_step.specs.Doing.{Point}
 use Rattle.cli_step.specs.Errors.{at_line, error_of_read, error_of_write}
 use Rattle.cli_step.specs.Prompts.{Answers, AnswersBy, AreFirst, HasBadSessions, HeadAnswers, HeadPrompted, HeadTalks, Heading, IsFaultOf, IsHeadLine}
-use Rattle.cli_step.specs.Prompts.{IsHeadLineBy, IsLeft, IsPrompted, IsRunOrTold, IsTold, OpenedAt, Prompted, Scene, Talked, TalkedOver}
+use Rattle.cli_step.specs.Prompts.{IsHeadLineBy, IsLeft, IsPrompted, IsReported, IsRunOrReported, OpenedAt, Prompted, Scene, Talked, TalkedOver}
 use Rattle.cli_step.specs.Prompts.{Talks, heading, is_of_sessions, scene}
 use Rattle.cli_step.specs.PromptWords.{prompt_word_of}
 use Rattle.cli_step.specs.Runs.{Begun, Grows, IsLineFailed, IsOfJournal, IsWriting, Means, RunsLine}
@@ -289,7 +289,7 @@ talked_over flow n line z start out err answered end begun first rest = if_some 
 -- a line of a script, as its next action has it
 
 pub does : (old new : Actions) (line : List ℕ) (action : Action) (p q : Point) (out out_after err : Known) → old.rest.now ≡ line
-    → IsNextAction old new (Ok (Some action)) → RunsLine action p out q out_after → IsRunOrTold line (scene p out err) (scene q out_after err)
+    → IsNextAction old new (Ok (Some action)) → RunsLine action p out q out_after → IsRunOrReported line (scene p out err) (scene q out_after err)
 does old new line action p q out out_after err same next (text, acts, written) = inl (record {
   action = action;
   means = subst (λ (l : List ℕ). Means l action) same (next.0, next.3, next.4);
@@ -300,8 +300,8 @@ does old new line action p q out out_after err same next (text, acts, written) =
 })
 
 pub refuses : (old new : Actions) (line : List ℕ) (cause : ScriptError) (p : Point) (out err err_after : Known) → old.rest.now ≡ line
-    → IsNextAction old new (Err cause) → cause ≢ script.OutOfMemory → IsTold err err_after
-    → IsRunOrTold line (scene p out err) (scene p out err_after)
+    → IsNextAction old new (Err cause) → cause ≢ script.OutOfMemory → IsReported err err_after
+    → IsRunOrReported line (scene p out err) (scene p out err_after)
 refuses old new line cause p out err err_after same next is_refusal told = inr (record {
   refused = record {
     number = old.lines + 1;

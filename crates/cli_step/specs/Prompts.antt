@@ -40,8 +40,8 @@ abbrev pub scene : Point → Option (List ℕ) → Option (List ℕ) → Scene
 scene p out err = record { at = p; out = out; err = err }
 
 -- a refusal was reported
-abbrev pub IsTold : Option (List ℕ) → Option (List ℕ) → Type 0
-IsTold before after = (text : Text) × Appends before after (codes "cardswitch: " ++ text)
+abbrev pub IsReported : Option (List ℕ) → Option (List ℕ) → Type 0
+IsReported before after = (text : Text) × Appends before after (codes "cardswitch: " ++ text)
 
 -- the prompt was written, and nothing else changed
 pub record Prompted (a b : Scene) : Type 0 where
@@ -76,14 +76,14 @@ pub record Refuses (line : List ℕ) (a b : Scene) : Type 0 where
   pub refused : IsRefusedLine line
   pub at : b.at ≡ a.at
   pub out : b.out ≡ a.out
-  pub err : IsTold a.err b.err
+  pub err : IsReported a.err b.err
 
-abbrev pub IsRunOrTold : List ℕ → Scene → Scene → Type 0
-IsRunOrTold line a b = Does line a b ⊎ Refuses line a b
+abbrev pub IsRunOrReported : List ℕ → Scene → Scene → Type 0
+IsRunOrReported line a b = Does line a b ⊎ Refuses line a b
 
 abbrev pub AnswersBy : Option PromptWord → List ℕ → Scene → Scene → Type 0
 AnswersBy (Some w) line a b = Shows w a b
-AnswersBy None line a b = IsRunOrTold line a b
+AnswersBy None line a b = IsRunOrReported line a b
 
 -- a line was answered
 abbrev pub Answers : List ℕ → Scene → Scene → Type 0
@@ -154,7 +154,7 @@ IsUnopened file settings =
 pub record StaysHead (a b : Heading) : Type 0 where
   pub settings : b.settings ≡ a.settings
   pub out : b.out ≡ a.out
-  pub err : IsTold a.err b.err
+  pub err : IsReported a.err b.err
 
 -- what a line does that opens no flow
 abbrev pub HeadActs : Option Flow → HeadLine → List ℕ → Heading → Heading → Type 0

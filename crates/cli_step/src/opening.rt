@@ -5,14 +5,14 @@ ghost use Rattle.std.specs.Prelude.{OnErr, OnOk, is_some, length};
 ghost use Rattle.cli_lines.specs.Lines.{lines_given, to_come};
 ghost use Rattle.flow_model.specs.Check.{IsChecked};
 ghost use Rattle.cli_step.specs.Prompts.{AreSame, HasBadSessions, HeadAnswers, IsFaultOf};
-ghost use Rattle.cli_step.specs.Prompts.{IsHeadLine, IsMade, IsPrompted, IsTold, IsUnopened};
+ghost use Rattle.cli_step.specs.Prompts.{IsHeadLine, IsMade, IsPrompted, IsReported, IsUnopened};
 ghost use Rattle.cli_step.specs.Prompts.{OpenedOver, SomeIsMade, TalkedOver, heading};
 ghost use Rattle.cli_step.specs.Prompts.{is_of_sessions};
 ghost use Rattle.cli_step.specs.declared.opening.HeadLine.TheVariants as head;
 ghost use Rattle.cli_step.specs.Runs.{Grows};
 
 use crate::error::{ActionError, StepError};
-use crate::prompt::{answer, ask, leave, refusal, talk, tell};
+use crate::prompt::{answer, ask, leave, refusal, report, talk};
 use crate::prompt_words::{HELP, PromptWord, prompt_word_at};
 use crate::script::memory_journal;
 use cli_io::write_out;
@@ -212,7 +212,7 @@ fn open_or_tell<R: Read, W: Write, E: Write>(
         (W.contents out.old) (E.contents err.old) (W.contents out.new) (E.contents err.new))) }
     ensures refused { IfOk result (λ opened. opened ≡ false → IsUnopened file.now settings.now) }
     ensures told { IfOk result (λ opened. opened ≡ false →
-        IsTold (E.contents err.old) (E.contents err.new)) }
+        IsReported (E.contents err.old) (E.contents err.new)) }
     ensures stays { IfOk result (λ opened. opened ≡ false →
         (lines.new ≡ lines.old) × (out.new ≡ out.old)) }
     ensures grows_out { Grows (W.contents out.old) (W.contents out.new) }
@@ -224,12 +224,12 @@ fn open_or_tell<R: Read, W: Write, E: Write>(
         Ok(opening) => match open_over(alloc, opening, line, lines, out, err)? {
             Ok(()) => Ok(true),
             Err(cause) => {
-                tell(alloc, &cause, err)?;
+                report(alloc, &cause, err)?;
                 Ok(false)
             }
         },
         Err(error) => {
-            tell(alloc, &StepError::Script(refusal(error)?), err)?;
+            report(alloc, &StepError::Script(refusal(error)?), err)?;
             Ok(false)
         }
     }
@@ -269,7 +269,7 @@ fn answer_head<W: Write, E: Write>(
         }
         HeadLine::Opens => Ok(true),
         HeadLine::Refused(cause) => {
-            tell(alloc, &StepError::Script(cause), err)?;
+            report(alloc, &StepError::Script(cause), err)?;
             Ok(false)
         }
     }

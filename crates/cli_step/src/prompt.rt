@@ -6,7 +6,7 @@ ghost use Rattle.std.specs.Io.KnownBytes.{Appends};
 ghost use Rattle.cli_lines.specs.Lines.{IsNextLine, lines_given, room, to_come};
 ghost use Rattle.tx_trace.specs.Follow.{Follows};
 ghost use Rattle.cli_step.specs.Doing.{point_of, world_of};
-ghost use Rattle.cli_step.specs.Prompts.{Answers, IsFaultOf, IsTold, SomeIsMade};
+ghost use Rattle.cli_step.specs.Prompts.{Answers, IsFaultOf, IsReported, SomeIsMade};
 ghost use Rattle.cli_step.specs.Prompts.{Talked, prompt, scene};
 ghost use Rattle.cli_script.specs.declared.error.ScriptError.TheVariants as script;
 ghost use Rattle.cli_step.specs.PromptWords.{prompt_word_text};
@@ -72,8 +72,8 @@ fn hint(cause: &StepError) -> &'static str {
 }
 
 /// Reports why a line is refused.
-pub fn tell<E: Write>(alloc: Global, cause: &StepError, err: &mut E) -> Result<(), StepError>
-    ensures told { OnOk result (IsTold (E.contents err.old) (E.contents err.new)) }
+pub fn report<E: Write>(alloc: Global, cause: &StepError, err: &mut E) -> Result<(), StepError>
+    ensures told { OnOk result (IsReported (E.contents err.old) (E.contents err.new)) }
     ensures grows { Grows (E.contents err.old) (E.contents err.new) }
     ensures fault { IfErr result (IsFaultOf ⊤) }
     ensures head_fault { IfErr result (IsFaultOf SomeIsMade) }
@@ -141,7 +141,7 @@ pub fn answer<S: Alter, W: Write, E: Write>(
     match actions.next(alloc) {
         Ok(Some(action)) => run_line(alloc, plant, tracer, action, before + 1, out),
         Ok(None) => unreachable!(),
-        Err(error) => tell(alloc, &StepError::Script(refusal(error)?), err),
+        Err(error) => report(alloc, &StepError::Script(refusal(error)?), err),
     }
 }
 

@@ -4,7 +4,7 @@ use Rattle.std.proofs.KnownBytes.{Appends-trans}
 use Rattle.std.proofs.lemmas.Result.{err_from_is_err_and}
 use Rattle.cli_step.proofs.Joining.{grows_none, grows_then}
 use Rattle.cli_step.proofs.Prompting.{beginning_grows, write_fault}
-use Rattle.cli_step.proofs.prompt.tell.Goals as goal
+use Rattle.cli_step.proofs.prompt.report.Goals as goal
 
 pub returns-in_err-text-clause-grows : goal.returns-in_err-text-clause-grows
 returns-in_err-text-clause-grows g c = grows_none _
