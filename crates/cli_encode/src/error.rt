@@ -82,7 +82,9 @@ impl fmt::Display for Fault {
     fn fmt<W: fmt::Write>(&self, f: &mut fmt::Formatter<W>) -> fmt::Result {
         match self {
             Fault::Ended => f.write_str("the text ends; expected \"mti\" and 4 digits"),
-            Fault::NoLineFeed => f.write_str("the last line has no line feed"),
+            Fault::NoLineFeed => {
+                f.write_str("the last line has no line feed; expected one at its end")
+            }
             Fault::CarriageReturn => {
                 f.write_str("found a carriage return; expected a line feed alone")
             }
@@ -101,10 +103,15 @@ impl fmt::Display for Fault {
                 "{}: the value is masked; expected the text of decode without --mask",
                 FieldLabel(*number)
             ),
-            Fault::UnknownField(number) => {
-                write!(f, "field {number}: the profile has no field of this number")
-            }
-            Fault::Repeated(number) => write!(f, "{}: given twice", FieldLabel(*number)),
+            Fault::UnknownField(number) => write!(
+                f,
+                "field {number}: the profile has no field of this number; expected a field of the profile"
+            ),
+            Fault::Repeated(number) => write!(
+                f,
+                "{}: given twice; expected each field once",
+                FieldLabel(*number)
+            ),
             Fault::Order { number, last } => write!(
                 f,
                 "{}: found after field {last}; expected rising numbers",
