@@ -98,7 +98,7 @@ const COMMANDS: [CommandRow<'static>; 9] = [
     },
     CommandRow {
         name: "encode",
-        about: "Writes the frames of messages whose fields, as decode prints them, are standard input",
+        about: "Writes the frames of messages, read as text as decode prints it from standard input",
         options: &[],
     },
     CommandRow {
@@ -152,7 +152,7 @@ const COMMANDS: [CommandRow<'static>; 9] = [
             OptionRow {
                 name: "config",
                 given: Given::Value("PATH"),
-                help: "The configuration file: hosts, routes, limits; options of the command line come first",
+                help: "The configuration file: hosts, routes, limits; options of the command line take precedence",
                 is_required: false,
             },
             OptionRow {
