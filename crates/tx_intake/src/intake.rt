@@ -8,7 +8,7 @@ ghost use Rattle.tx_intake.specs.Rule.{side};
 ghost use Rattle.tx_intake.specs.Ends.{capacity_refusal, IsBehind, IsNew, WasFull};
 
 use crate::error::IntakeError;
-use crate::rule::{Both, Ends, Gets, Line, Puts, Side};
+use crate::rule::{Both, Ends, Gets, OfferQueue, Puts, Side};
 use crossbeam_queue::Pass;
 use std::alloc::Global;
 use std::marker::Model;
@@ -20,7 +20,7 @@ const MOST_OFFERS: usize = 4_096;
 
 /// A bounded queue of offers, which threads share. Contracts see which one it is, and its capacity.
 pub struct Intake {
-    line: Line,
+    line: OfferQueue,
 }
 
 // Written out, here and below, so that no caller proves again how its parts are dropped.
@@ -131,7 +131,7 @@ impl Intake {
         if capacity < 1 || MOST_OFFERS < capacity {
             return Err(IntakeError::BadCapacity);
         }
-        let (line, mut first) = Line::ruled(alloc, capacity)?;
+        let (line, mut first) = OfferQueue::ruled(alloc, capacity)?;
         let second = line.another::<Ends>(&mut first);
         Ok((
             Intake { line },

@@ -87,4 +87,4 @@ impl Lesson<Offer, Side> for Both {
     ghost fact = { HeldOfBoth };
 }
 
-pub type Line = RuledArrayQueue<Offer, Side, InOrder>;
+pub type OfferQueue = RuledArrayQueue<Offer, Side, InOrder>;
