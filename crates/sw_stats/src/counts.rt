@@ -12,13 +12,13 @@ use sw_context::Context;
 use sw_messages::{Class, RESPONSE, STAND_IN, class_in};
 
 /// A response code: the two characters of field 39.
-pub(crate) type Code = [u8; 2];
+pub(crate) type CodeBytes = [u8; 2];
 
 /// How requests were answered. A count that has come to `u64::MAX` stays there.
 pub struct Counts {
     pub(crate) requests: u64,
     pub(crate) approved: u64,
-    pub(crate) declined: BTreeMap<Code, u64>,
+    pub(crate) declined: BTreeMap<CodeBytes, u64>,
     pub(crate) stand_ins: u64,
     pub(crate) reversals: u64,
     pub(crate) delivered: u64,
@@ -54,7 +54,7 @@ impl Model for Counts {
 }
 
 // The response code of the response that a context has; `None` if it has no response, or one without a code.
-fn code_in(alloc: Global, context: &Context) -> Result<Option<Code>, AllocError>
+fn code_in(alloc: Global, context: &Context) -> Result<Option<CodeBytes>, AllocError>
     ensures { IfOk result (λ code. code ≡ code_of context.now) }
 {
     let Some(response) = context.get(RESPONSE) else {
@@ -68,7 +68,7 @@ fn code_in(alloc: Global, context: &Context) -> Result<Option<Code>, AllocError>
     let Some(code) = message.get(39) else {
         return Ok(None);
     };
-    match Code::try_from(code) {
+    match CodeBytes::try_from(code) {
         Ok(code) => Ok(Some(code)),
         Err(_) => unreachable!(),
     }
@@ -109,7 +109,7 @@ impl Counts {
     }
 
     // Counts a response code other than 00.
-    fn decline(&mut self, code: Code) -> Result<(), AllocError>
+    fn decline(&mut self, code: CodeBytes) -> Result<(), AllocError>
         ensures ok { OnOk result (self.new ≡ with_declined code self.old) }
         ensures err { OnErr result (self.new ≡ self.old) }
     {
@@ -121,7 +121,7 @@ impl Counts {
     }
 
     // Counts a response by its code.
-    fn add_code(&mut self, code: Option<Code>) -> Result<(), AllocError>
+    fn add_code(&mut self, code: Option<CodeBytes>) -> Result<(), AllocError>
         ensures ok { OnOk result (self.new ≡ with_code code self.old) }
         ensures err { OnErr result (self.new ≡ self.old) }
     {

@@ -5,7 +5,7 @@ ghost use Rattle.sw_stats.specs.Line.{advices_text, answered_text, declined_memb
 ghost use Rattle.sw_stats.specs.Line.{others_text, per_second, stats_line, time_text};
 ghost use Rattle.sw_stats.specs.Numbers.{numbers};
 
-use crate::counts::{Code, Counts};
+use crate::counts::{CodeBytes, Counts};
 use std::alloc::{AllocError, Global};
 use std::collections::BTreeMap;
 
@@ -24,7 +24,7 @@ pub struct Beside {
 fn add_declined(
     alloc: Global,
     text: &mut Vec<u8>,
-    code: &Code,
+    code: &CodeBytes,
     count: u64,
 ) -> Result<(), AllocError>
     ensures { OnOk result (text.new.items ≡ text.old.items ++ declined_member (code.now, count)) }
@@ -36,7 +36,7 @@ fn add_declined(
 }
 
 // The codes in rising order, each with its count.
-fn declined_text(alloc: Global, declined: &BTreeMap<Code, u64>) -> Result<Vec<u8>, AllocError>
+fn declined_text(alloc: Global, declined: &BTreeMap<CodeBytes, u64>) -> Result<Vec<u8>, AllocError>
     ensures { IfOk result (λ text. text.items ≡ declined_text declined.now.entries) }
 {
     let mut text = Vec::new(alloc);
