@@ -105,7 +105,7 @@ impl fmt::Display for Fault {
             ),
             Fault::UnknownField(number) => write!(
                 f,
-                "field {number}: the profile has no field of this number; expected a field of the profile"
+                "field {number}: unknown field; expected one of the switch's fields"
             ),
             Fault::Repeated(number) => write!(
                 f,
