@@ -13,7 +13,6 @@ use Rattle.tx_history.specs.Journal.{change}
 use Rattle.tx_history.proofs.OwnItems.{holds_serves, serves_below}
 use Rattle.tx_engine.specs.World.{World}
 use Rattle.tx_engine.specs.Calls.{held_id}
-use Rattle.tx_journal.specs.declared.error.JournalError.{JournalError}
 use Rattle.tx_plant.specs.declared.seat.Seat.{Seat}
 use Rattle.tx_plant.specs.declared.turn.Outcome.{Outcome}
 use Rattle.tx_plant.specs.declared.turn.Outcome.TheVariants as outcome
@@ -21,10 +20,10 @@ use Rattle.tx_plant.specs.declared.turn.PlantError.{PlantError}
 use Rattle.tx_plant.specs.declared.turn.Turn.{Turn}
 use Rattle.tx_plant.specs.declared.turn.Turn.TheVariants as turn
 use Rattle.tx_plant.specs.Core.{Core, Same, Stepped, ended_by, fate_by, new_seat, newcomer, seat_of}
-use Rattle.tx_plant.specs.Plant.{Driven, Logged, Seen, Stops, Turned, Whole, Writes}
+use Rattle.tx_plant.specs.Plant.{Driven, Logged, Stops, Turned, Whole}
 use Rattle.tx_plant.specs.Steps.{Moved, event_of}
 use Rattle.tx_plant.specs.Turns.{Takes, Taken}
-use Rattle.tx_plant.proofs.Driving.{cut_still, logged_still}
+use Rattle.tx_plant.proofs.Driving.{cut_still, logged_still, writes_next}
 use Rattle.plant_outcome.specs.Seated.{Seated, seat_id}
 use Rattle.plant_outcome.proofs.SeatedTurns.{turned_seated}
 use Rattle.cli_run.proofs.Recoveries.{AreBelow, below_insert}
@@ -108,18 +107,6 @@ stepped_below p q s m x seated stepped h =
     adds_below p q s seated (entered_next s p.world q.world k.enters) k.adds h
 
 -- a write
-
-writes_next : (most : Option ℕ) (w to : World) (j k : Seen) (x : Result Outcome JournalError) → Writes most w j x to k →
-    next_id to.start to.past ≡ next_id w.start w.past
-writes_next most w to j k (Ok (outcome.Written n)) (a, e, b, c) = ap (λ (z : World). next_id z.start z.past) e
-writes_next most w to j k (Ok (outcome.Accepted n)) h = absurd h
-writes_next most w to j k (Ok (outcome.Refused n)) h = absurd h
-writes_next most w to j k (Ok outcome.Idle) h = absurd h
-writes_next most w to j k (Ok outcome.Unwritten) h = absurd h
-writes_next most w to j k (Ok (outcome.Held n)) h = absurd h
-writes_next most w to j k (Ok (outcome.Restarted n)) h = absurd h
-writes_next most w to j k (Ok (outcome.Cut n)) h = absurd h
-writes_next most w to j k (Err x) (e, b) = ap (λ (z : World). next_id z.start z.past) e
 
 world_below : (p q : Core) → q ≡ record p { world = q.world } → next_id q.world.start q.world.past ≡ next_id p.world.start p.world.past → EndedBelow p →
     EndedBelow q

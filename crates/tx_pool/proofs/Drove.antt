@@ -1,7 +1,7 @@
 -- What happened since a run began, as turns of a plant.
 -- for: running::run_in
 use Rattle.std.proofs.Common.{◌≡◌, ◌≤◌, ◌<◌, ◌+◌, zero, suc, min, ℕ, List, [], ◌∷◌, ◌++◌, length, take, get_or, Option, Some, None, Ok, refl, sym, ap, subst}
-use Rattle.std.proofs.Common.{arith, ◌∙◌, inr, append_assoc, false}
+use Rattle.std.proofs.Common.{arith, ◌∙◌, inr, false}
 use Rattle.sqlite_trees.specs.View.{doubt}
 use Rattle.sw_context.specs.Spelling.{IsSpelled, bytes_of}
 use Rattle.sw_participant.specs.Chains.{Rule, Called, Began, Makes, counted, counts_after, outcome_place}
@@ -22,10 +22,10 @@ use Rattle.tx_plant.specs.Recovered.{recovered}
 use Rattle.tx_plant.specs.Steps.{Moved, Serves, Works, told_of}
 use Rattle.tx_plant.specs.Core.{Core, newest_fate}
 use Rattle.tx_plant.specs.Entered.{Entered, seat_with}
-use Rattle.tx_plant.specs.Plant.{Turned, Driven, Drives, GoesOn, IsClean, IsEngine, Seen, StaysFailed, Whole, Writes as IsWrite, count_of, late}
+use Rattle.tx_plant.specs.Plant.{Drives, GoesOn, IsClean, IsEngine, Seen, StaysFailed, Whole, Writes as IsWrite, count_of, late}
 use Rattle.tx_plant.proofs.Driving.{Turns, took, turn_take, turn_step, turn_write, turn_logged, stepped_frame}
 use Rattle.tx_plant.proofs.Entering.{entered_stepped}
-use Rattle.tx_plant.proofs.Looping.{drives_none}
+use Rattle.tx_plant.proofs.Looping.{driven_more, drives_none}
 use Rattle.tx_plant.proofs.Stepping.{led_served}
 use Rattle.tx_pool.specs.declared.station.MadeCall.{MadeCall}
 use Rattle.tx_pool.specs.AllStations.{AllLinked}
@@ -47,26 +47,6 @@ Leads (Writes b ∷ ds) j k = (i : Seen) × Leads ds j i × WritesTo i b k
 Leads (d ∷ ds) j k = Leads ds j k
 
 -- turn by turn
-
-nil_end : {A : Type 0} (l : List A) → l ++ [] ≡ l
-nil_end [] = refl
-nil_end (x ∷ l) = ap (λ z. x ∷ z) (nil_end l)
-
-driven_more : (ts : List Turn) (os : List Outcome) (m n : List Moved) (t : Turn) (o : Outcome) (p q r : Whole) → Driven ts os m p q →
-    Turned t (Ok o) n q r → GoesOn t q r → Driven (ts ++ t ∷ []) (os ++ o ∷ []) (m ++ n) p r
-driven_more [] [] m n t o p q r (e, f) tu go = (
-  r,
-  n,
-  [],
-  subst (λ (z : Whole). Turned t (Ok o) n z r) f tu,
-  (refl, refl),
-  ap (λ (l : List Moved). l ++ n) e ∙ sym (nil_end n),
-  subst (λ (z : Whole). GoesOn t z r) f go,
-)
-driven_more (u ∷ ts) (v ∷ os) m n t o p q r (w, first, later, a, b, e, g) tu go =
-    (w, first, later ++ n, a, driven_more ts os later n t o w q r b tu go, ap (λ (l : List Moved). l ++ n) e ∙ append_assoc first later n, g)
-driven_more [] (v ∷ os) m n t o p q r d tu go = absurd d
-driven_more (u ∷ ts) [] m n t o p q r d tu go = absurd d
 
 drives_more : (rule : ℕ → Rule) (os : List (List ℕ)) (cs : List ℕ) (turns : List Turn) (outs : List Outcome) (t : Turn) (o : Outcome) (p : Whole)
     (ps : List (List ℕ)) (ds : List ℕ) (q : Whole) (qs : List (List ℕ)) (es : List ℕ) (r : Whole)
