@@ -225,10 +225,7 @@ impl Requests {
             if let Some(end) = end {
                 return Ok((switch, end));
             }
-            if let Err(error) = send_between(alloc, &mut switch, advisor, stderr) {
-                let _lines = stderr.trace(alloc, switch.engine());
-                return Err(error);
-            }
+            send_between(alloc, &mut switch, advisor, stderr)?;
         }
         Ok((switch, StreamEnd::Unread(ReadError::TooManyReads)))
     }
