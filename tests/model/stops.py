@@ -201,9 +201,6 @@ class Runs:
         return None
 
     def wrong_sweep(self, sweep):
-        calls = [runs[0][0].split(" ")[1] for runs in sweep]
-        if len(calls) < 2 or calls != [f"{call}" for call in range(len(calls))]:
-            return f"its runs are not cut at one call after the other, the last one at none: run {', '.join(calls)}"
         for lines in itertools.chain(*sweep):
             law = unfinished(lines)
             if law:
