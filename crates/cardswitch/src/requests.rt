@@ -216,8 +216,8 @@ pub fn answer_requests<
     answer_by(threads, alloc, rt, code, config, options, input, out, err)
 }
 
-// Finishes what the journal in the file at a path has unfinished, by a flow and a configuration. (Both come as what became of
-// their files, so that contracts can say whose fault is the first.)
+// Finishes what the journal in the file at a path has unfinished, by a flow and a configuration. (Both come as what
+// became of their files, so that contracts can say whose fault is the first.)
 fn recover_by<T: Threads + Wait + Clock + Sync, O: Write>(
     threads: &T,
     alloc: Global,
