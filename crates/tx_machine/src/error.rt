@@ -10,11 +10,11 @@ use thiserror::Error;
 /// `OutOfMemory`, 1 `NotDue`.
 #[derive(Clone, Copy, Debug, Error)]
 pub enum MachineError {
+    #[error("out of memory")]
+    OutOfMemory,
     /// A call of another kind is due, or none.
     #[error("no call of this kind is due")]
     NotDue,
-    #[error("out of memory")]
-    OutOfMemory,
 }
 
 impl From<AllocError> for MachineError {
