@@ -10,7 +10,7 @@ use Rattle.tx_history.specs.declared.journal.Row.{Row}
 use Rattle.tx_history.specs.declared.journal.Waiting.{Waiting}
 use Rattle.tx_history.specs.Keys.{Rising, look, place_lt}
 use Rattle.tx_history.specs.declared.journal.JournalView.{JournalView}
-use Rattle.tx_history.specs.Checks.{are_apart, follows, frame_fits, place_fits, places_rise, rises}
+use Rattle.tx_history.specs.Checks.{are_apart, follows, numbers_fit, place_fits, places_rise, rises}
 use Rattle.tx_history.specs.Views.{AllUnder, IsOk, PlacesRise, RowFits, WaitingFits}
 use Rattle.tx_history.proofs.RisingKeys.{look_within}
 use Rattle.tx_history.proofs.AdvicePlaces.{all_imp, place_trans}
@@ -151,7 +151,7 @@ rising_least : {A : Type 0} (n m : ℕ) (xs : List (ℕ × A)) → Rising n m xs
 rising_least n m [] h = h
 rising_least n m (x ∷ xs) h = let a : n ≤ x.0 = h.0 in let b : x.0 < m = h.1 in omega arith
 
-pub ok_tested : (v : JournalView) → frame_fits v ≡ true → AllUnder RowFits v.rows → AllUnder WaitingFits v.shelf → IsOk v
+pub ok_tested : (v : JournalView) → numbers_fit v ≡ true → AllUnder RowFits v.rows → AllUnder WaitingFits v.shelf → IsOk v
 ok_tested v h rows shelf =
     let all = and_parts (nat_le v.next_id 9223372036854775807 && nat_le (length v.rows) 16)
     (((rises 1 v.next_id v.rows && rises 1 v.next_id v.shelf) && are_apart v.rows v.shelf) && places_rise None v.next_id v.advices) h in
@@ -175,8 +175,8 @@ ok_tested v h rows shelf =
       advices = (places_tested None v.next_id v.advices lists.1).rise;
     }
 
-pub ok_frame : (v : JournalView) → IsOk v → frame_fits v ≡ true
-ok_frame v h =
+pub ok_numbers : (v : JournalView) → IsOk v → numbers_fit v ≡ true
+ok_numbers v h =
     let a : v.next_id ≤ 9223372036854775807 = h.last in
     let b : length v.rows ≤ 16 = h.few in
     let last : nat_le v.next_id 9223372036854775807 ≡ true = grind (arith, nat_tests) in

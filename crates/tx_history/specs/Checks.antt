@@ -34,7 +34,7 @@ places_rise before n [] = true
 places_rise before n (x ∷ xs) = (follows before x.0 && place_fits n x.0) && places_rise (Some x.0) n xs
 
 -- what is asked of the next id, of the ids and of the places, and how many rows there are
-abbrev pub frame_fits : JournalView → Bool
-frame_fits v =
+abbrev pub numbers_fit : JournalView → Bool
+numbers_fit v =
     (nat_le v.next_id 9223372036854775807 && nat_le (length v.rows) 16)
     && (((rises 1 v.next_id v.rows && rises 1 v.next_id v.shelf) && are_apart v.rows v.shelf) && places_rise None v.next_id v.advices)

@@ -2,7 +2,7 @@
 
 ghost use Rattle.std.specs.Prelude.{◌≡◌, ◌↔◌, IsTrue, None, is_some};
 ghost use Rattle.std.specs.List.{All};
-ghost use Rattle.tx_history.specs.Checks.{are_apart, counts_fit, follows, frame_fits, place_fits, places_rise, rises};
+ghost use Rattle.tx_history.specs.Checks.{are_apart, counts_fit, follows, numbers_fit, place_fits, places_rise, rises};
 ghost use Rattle.tx_history.specs.Keys.{look};
 ghost use Rattle.tx_history.specs.Views.{AllUnder, IsDoing, IsNamed, IsOk, RowFits, WaitingFits};
 
@@ -165,8 +165,8 @@ fn advices_fit(advices: &[((u64, usize), Bytes)], next_id: u64) -> bool
 
 impl JournalView {
     // Everything that is asked, except what is asked of each row and of each waiting context.
-    fn frame_fits(&self) -> bool
-        ensures { result ≡ frame_fits self.now }
+    fn numbers_fit(&self) -> bool
+        ensures { result ≡ numbers_fit self.now }
     {
         let rows = self.rows.as_slice();
         let shelf = self.shelf.as_slice();
@@ -184,11 +184,11 @@ impl JournalView {
     /// and there are at most 1,000 members; while committing or undoing, `doing` is empty, there are at
     /// most 1,001 members, and not all of them were notified; tries are at most 100; contexts are bytes of
     /// contexts; advices stand under rising places, with members from 0 to 1,000. It takes no memory.
-    #[tactic(auto, using(crate::proofs::ViewTests::ok_frame, crate::proofs::ViewTests::ok_rows))]
+    #[tactic(auto, using(crate::proofs::ViewTests::ok_numbers, crate::proofs::ViewTests::ok_rows))]
     pub fn ok(&self) -> bool
         ensures { IsTrue result ↔ IsOk self.now }
     {
-        if !self.frame_fits() {
+        if !self.numbers_fit() {
             return false;
         }
         if !rows_fit(self.rows.as_slice()) {

@@ -10,7 +10,7 @@ use Rattle.flow_asm.specs.Steps.{layout, stages}
 use Rattle.tx_machine.specs.declared.walk.Frame.{Frame}
 use Rattle.tx_machine.specs.declared.machine.Machine.{Machine}
 use Rattle.tx_machine.specs.Table.{Prepare, TxState}
-use Rattle.tx_machine.specs.Position.{frame_upcoming, upcoming_at, rest_of, shown, entries_in, stack_upcoming, IsFrame}
+use Rattle.tx_machine.specs.Position.{frame_upcoming, upcoming_at, rest_of, shown, entries_in, stack_upcoming, IsStackFrame}
 use Rattle.tx_machine.specs.Contract.{IsReady, state}
 
 same_upcoming : (f : Flow) (xs ys : List Frame) → map shown xs ≡ map shown ys → stack_upcoming f xs ≡ stack_upcoming f ys
@@ -47,7 +47,7 @@ same_state f m n s =
     ∙ ap (λ k. rest_of f k m.stack.items) s.step in
     rw (s.phase, rest, s.retry, s.bound, s.calls, s.joined, s.told, s.tries, s.saved) refl
 
-same_frames : (f : Flow) (xs ys : List Frame) → map shown xs ≡ map shown ys → AllByRecursion (IsFrame f) ys → AllByRecursion (IsFrame f) xs
+same_frames : (f : Flow) (xs ys : List Frame) → map shown xs ≡ map shown ys → AllByRecursion (IsStackFrame f) ys → AllByRecursion (IsStackFrame f) xs
 same_frames f [] [] h all = tt
 same_frames f [] (y ∷ ys) h all = absurd cc
 same_frames f (x ∷ xs) [] h all = absurd cc
@@ -70,8 +70,8 @@ same_ready f m n s h = record {
   settled = record {
     fits = record {
       within = subst (λ k. k < length (stages f)) (sym s.step) h.settled.fits.within;
-      frames = All-from_recursion (IsFrame f) n.stack.items (same_frames f n.stack.items m.stack.items s.stack
-          (recursion_from_All (IsFrame f) m.stack.items h.settled.fits.frames));
+      frames = All-from_recursion (IsStackFrame f) n.stack.items (same_frames f n.stack.items m.stack.items s.stack
+          (recursion_from_All (IsStackFrame f) m.stack.items h.settled.fits.frames));
       few = subst (λ k. k ≤ 1000) (sym s.calls) h.settled.fits.few;
       members = subst (All (λ p. p < length (parts_of f))) (sym s.joined) h.settled.fits.members;
     };

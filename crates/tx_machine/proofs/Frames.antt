@@ -11,7 +11,8 @@ use Rattle.flow_asm.specs.Steps.{first_step, layout}
 use Rattle.flow_asm.specs.Places.{group_at}
 use Rattle.tx_machine.specs.declared.walk.Frame.{Frame}
 use Rattle.tx_machine.specs.Table.{Upcoming, Prepare, Select, passed, settled}
-use Rattle.tx_machine.specs.Position.{upcoming_at, left_at, frame_upcoming, stack_upcoming, frame_left, stack_left, groups_left, rest_of, entries_in, IsFrame}
+use Rattle.tx_machine.specs.Position.{upcoming_at, left_at, frame_upcoming, stack_upcoming, frame_left, stack_left, groups_left, rest_of}
+use Rattle.tx_machine.specs.Position.{entries_in, IsStackFrame}
 use Rattle.tx_machine.specs.Position.{IsCall, IsPick}
 use Rattle.tx_machine.proofs.StepsAhead.{is_first, stack_upcoming_top, stack_left_top}
 
@@ -122,12 +123,13 @@ in_at f xs top t new g step e h v l q b w s =
     let way : new.back ≡ (get_or xs top t).back = b ∙ ap (λ (x : Frame). x.back) h in
     subst (λ n. IsLeft f n (set xs top new) xs) (sym s) (goes_in f xs top t new g (remove t.pending.items 0) e cut q way w)
 
-pub frame_at : (f : Flow) (xs : List Frame) (top : ℕ) (t : Frame) → length xs ≡ top + 1 → t ≡ get_or xs top t → All (IsFrame f) xs → IsFrame f t
-frame_at f xs top t e h all = subst (IsFrame f) (sym h) (all top t (omega arith))
+pub frame_at : (f : Flow) (xs : List Frame) (top : ℕ) (t : Frame) → length xs ≡ top + 1 → t ≡ get_or xs top t → All (IsStackFrame f) xs → IsStackFrame f t
+frame_at f xs top t e h all = subst (IsStackFrame f) (sym h) (all top t (omega arith))
 
-pub group_within : (f : Flow) (t : Frame) (g : ℕ) → IsFrame f t → 0 < length t.pending.items → g ≡ get_or t.pending.items 0 g → g < length (layout f)
+pub group_within : (f : Flow) (t : Frame) (g : ℕ) → IsStackFrame f t → 0 < length t.pending.items → g ≡ get_or t.pending.items 0 g → g < length (layout f)
 group_within f t g h l v = subst (λ n. n < length (layout f)) (sym v) (h.pending 0 g l)
 
-pub frames_below : (f : Flow) (xs ys : List Frame) (top n : ℕ) (t : Frame) → All (IsFrame f) xs → IsFrame f t → ys ≡ take n (set xs top t) → All (IsFrame f) ys
+pub frames_below : (f : Flow) (xs ys : List Frame) (top n : ℕ) (t : Frame) → All (IsStackFrame f) xs → IsStackFrame f t
+    → ys ≡ take n (set xs top t) → All (IsStackFrame f) ys
 frames_below f xs ys top n t all one e =
-    subst (All (IsFrame f)) (sym e) (All-take (IsFrame f) n (set xs top t) (All-set (IsFrame f) xs top t one all))
+    subst (All (IsStackFrame f)) (sym e) (All-take (IsStackFrame f) n (set xs top t) (All-set (IsStackFrame f) xs top t one all))

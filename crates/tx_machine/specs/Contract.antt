@@ -8,7 +8,7 @@ use Rattle.tx_machine.specs.declared.machine.Machine.{Machine}
 use Rattle.tx_machine.specs.declared.values.Item.{Item}
 use Rattle.tx_machine.specs.declared.error.MachineError.{MachineError}
 use Rattle.tx_machine.specs.declared.error.MachineError.TheVariants.{NotDue}
-use Rattle.tx_machine.specs.Position.{IsFrame, rest_of}
+use Rattle.tx_machine.specs.Position.{IsStackFrame, rest_of}
 use Rattle.tx_machine.specs.Table.{TxState, is_due, next}
 
 abbrev pub state : Flow → Machine → TxState
@@ -31,7 +31,7 @@ tx_state f m = state f m
 -- the step, the stack and the members are of this flow
 pub record Fits (f : Flow) (m : Machine) : Type 0 where
   pub within : m.step < length (stages f)
-  pub frames : All (IsFrame f) m.stack.items
+  pub frames : All (IsStackFrame f) m.stack.items
   pub few : m.calls ≤ 1000
   pub members : All (λ p. p < length (parts_of f)) m.joined.items
 

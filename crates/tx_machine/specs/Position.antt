@@ -71,7 +71,7 @@ stack_left f [] = 0
 stack_left f (frame ∷ above) = stack_left f above + frame_left f frame
 
 -- a frame of this flow
-pub record IsFrame (f : Flow) (frame : Frame) : Type 0 where
+pub record IsStackFrame (f : Flow) (frame : Frame) : Type 0 where
   pub back : frame.back < length (stages f)
   pub pending : All (λ g. g < length (layout f)) frame.pending.items
 

@@ -7,7 +7,7 @@ ghost use Rattle.flow_model.specs.Check.{IsChecked};
 ghost use Rattle.flow_asm.specs.Steps.{AtReturn, first_step, layout, stages};
 ghost use Rattle.flow_asm.specs.Places.{group_at};
 ghost use Rattle.tx_machine.specs.Table.{Prepare, settled};
-ghost use Rattle.tx_machine.specs.Position.{IsFrame, IsAhead, left_at, upcoming_at, rest_of, shown};
+ghost use Rattle.tx_machine.specs.Position.{IsStackFrame, IsAhead, left_at, upcoming_at, rest_of, shown};
 ghost use Rattle.tx_machine.specs.Position.{entries_in, stack_left, stack_upcoming};
 
 use crate::error::MachineError;
@@ -62,8 +62,8 @@ pub(crate) fn group_step(code: &Code, group: usize) -> usize
 
 /// Enters the next group of the top frame, or takes the frame off; `None` if the stack is empty.
 pub(crate) fn leave(code: &Code, stack: &mut Vec<Frame>) -> Option<usize>
-    requires { All (IsFrame code.now) stack.old.items }
-    ensures frames { All (IsFrame code.now) stack.new.items }
+    requires { All (IsStackFrame code.now) stack.old.items }
+    ensures frames { All (IsStackFrame code.now) stack.new.items }
     ensures none { IfNone result ((stack.old.items ≡ []) × (stack.new.items ≡ [])) }
     ensures within { IfSome result (λ step. step < length (stages code.now)) }
     ensures rest { IfSome result (λ step.
@@ -97,8 +97,8 @@ pub(crate) fn enter(
     requires next { pick + 1 < length (stages code.now) }
     requires small { length (stages code.now) < 2 ^ 64 }
     requires groups { All (λ g. g < length (layout code.now)) pending.items }
-    requires frames { All (IsFrame code.now) stack.old.items }
-    ensures frames { All (IsFrame code.now) stack.new.items }
+    requires frames { All (IsStackFrame code.now) stack.old.items }
+    ensures frames { All (IsStackFrame code.now) stack.new.items }
     ensures within { IfOk result (λ step. step < length (stages code.now)) }
     ensures rest { IfOk result (λ step.
         rest_of code.now step stack.new.items
@@ -119,9 +119,9 @@ pub(crate) fn enter(
 /// participants that are not abort-aware are passed over.
 pub(crate) fn next_due(code: &Code, aborting: bool, from: usize, stack: &mut Vec<Frame>) -> usize
     requires from { from < length (stages code.now) }
-    requires frames { All (IsFrame code.now) stack.old.items }
+    requires frames { All (IsStackFrame code.now) stack.old.items }
     ensures within { result < length (stages code.now) }
-    ensures frames { All (IsFrame code.now) stack.new.items }
+    ensures frames { All (IsStackFrame code.now) stack.new.items }
     ensures rested { slice_get (stages code.now) result ≡ Some AtReturn → stack.new.items ≡ [] }
     ensures rest { rest_of code.now result stack.new.items
         ≡ settled aborting (rest_of code.now from stack.old.items) }

@@ -18,7 +18,7 @@ use Rattle.tx_plant.specs.Steps.{event_of, told_of}
 use Rattle.tx_plant.specs.Core.{Core, Reseats, Stepped, ended_by, left, left_by, newest_fate, seat_of}
 use Rattle.tx_plant.specs.Entered.{Entered, seat_with}
 use Rattle.tx_plant.proofs.Stepping.{leave_gone, leave_stays, taken_seat}
-use Rattle.tx_plant.proofs.Driving.{stepped_frame, stepped_next}
+use Rattle.tx_plant.proofs.Driving.{stepped_keeps, stepped_next}
 use Rattle.tx_history.specs.History.{next_id}
 use Rattle.tx_engine.specs.declared.error.EngineError.{EngineError}
 
@@ -96,8 +96,8 @@ pub entered_running : (p q : Core) (s a b : ℕ) (call : Call) (reply : Reply) (
 entered_running p q s a b call reply y (Ok z) h i j e k =
     let t = entered_stepped p q s z.0 call reply z.1 y e in
     let m = Called call (outcome_place call.act (told_of p.world call.id)) reply ∷ [] in
-    let frame = stepped_frame p q s m (Ok (outcome.Accepted z.0)) t in
-    (frame.seats ∙ (h ∙ sym frame.sessions), j ∙ (i ∙ sym (stepped_next p q s m (Ok (outcome.Accepted z.0)) t)))
+    let keeps = stepped_keeps p q s m (Ok (outcome.Accepted z.0)) t in
+    (keeps.seats ∙ (h ∙ sym keeps.sessions), j ∙ (i ∙ sym (stepped_next p q s m (Ok (outcome.Accepted z.0)) t)))
 entered_running p q s a b call reply y (Err z) h i j e k = (
   ap (λ (c : Core). length c.seats) k ∙ (h ∙ ap (λ (c : Core). c.world.sessions) (sym k)),
   j ∙ (i ∙ ap (λ (c : Core). next_id c.world.start c.world.past) (sym k)),

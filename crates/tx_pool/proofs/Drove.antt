@@ -23,7 +23,7 @@ use Rattle.tx_plant.specs.Steps.{Moved, Serves, Works, told_of}
 use Rattle.tx_plant.specs.Core.{Core, newest_fate}
 use Rattle.tx_plant.specs.Entered.{Entered, seat_with}
 use Rattle.tx_plant.specs.Plant.{Drives, GoesOn, IsClean, IsEngine, Seen, StaysFailed, Whole, Writes as IsWrite, count_of, late}
-use Rattle.tx_plant.proofs.Driving.{Turns, took, turn_take, turn_step, turn_write, turn_logged, stepped_frame}
+use Rattle.tx_plant.proofs.Driving.{Turns, took, turn_take, turn_step, turn_write, turn_logged, stepped_keeps}
 use Rattle.tx_plant.proofs.Entering.{entered_stepped}
 use Rattle.tx_plant.proofs.Looping.{driven_more, drives_none}
 use Rattle.tx_plant.proofs.Stepping.{led_served}
@@ -170,19 +170,19 @@ drove rule os cs (Offers b n ∷ ss) p q j k ps ds c h (w, ran, (allowed, rec, e
     (ap (λ (z : Core). length z.seats) e ∙ (d.seats ∙ sym (ap (λ (z : World). z.sessions) recorded.history)))
 drove rule os cs (Takes s n id x ∷ ss) p q j k ps ds c h (w, ran, taken, engine) leads linked =
     let d = drove rule os cs ss p w j k ps ds c h ran leads linked in
-    let frame = (took rule ps ds w q s (Began id x ∷ []) (Ok (outcome.Accepted n)) d.seats taken).frame in
+    let keeps = (took rule ps ds w q s (Began id x ∷ []) (Ok (outcome.Accepted n)) d.seats taken).keeps in
     drove_more rule os cs (turn.Take s) (outcome.Accepted n) (record { core = p; journal = j }) ps ds (record { core = w; journal = k }) ps ds
     (record { core = q; journal = k }) d (turn_take rule ps ds (turn.Take s) s w q k (Ok (outcome.Accepted n)) (Ok (outcome.Accepted n)) refl refl
     d.seats (Began id x ∷ [], taken)) (still_goes (turn.Take s) w q k engine)
-    (frame.seats ∙ (d.seats ∙ sym frame.sessions))
+    (keeps.seats ∙ (d.seats ∙ sym keeps.sessions))
 drove rule os cs (Replies s n m ∷ ss) p q j k ps ds c h (w, ran, entered, engine) leads linked =
     let last = last_call rule os cs (calls_of ss) m ps ds linked in
     let d = drove rule os cs ss p w j k last.before last.counts c h ran leads last.linked in
-    let frame = stepped_frame w q s _ (Ok (outcome.Accepted n)) (entered_stepped w q s n m.call m.reply m.before m.after entered) in
+    let keeps = stepped_keeps w q s _ (Ok (outcome.Accepted n)) (entered_stepped w q s n m.call m.reply m.before m.after entered) in
     drove_more rule os cs (turn.Step s) (outcome.Accepted n) (record { core = p; journal = j }) last.before last.counts (record { core = w; journal = k })
     ps ds (record { core = q; journal = k }) d (entered_turns rule last.before last.counts w q k s n m ps ds entered last.makes last.counted_is)
     (still_goes (turn.Step s) w q k engine)
-    (frame.seats ∙ (d.seats ∙ sym frame.sessions))
+    (keeps.seats ∙ (d.seats ∙ sym keeps.sessions))
 drove rule os cs (Writes b ∷ ss) p q j k ps ds c h (w, ran, marks, engine) (i, leads, to) linked =
     let d = drove rule os cs ss p w j i ps ds c h ran leads linked in
     let e = marks.core in
