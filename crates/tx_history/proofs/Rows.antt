@@ -19,7 +19,7 @@ use Rattle.tx_machine.specs.declared.values.Due.TheVariants.{Prepare as DuePrepa
 use Rattle.tx_machine.specs.declared.values.Item.{Item}
 use Rattle.tx_machine.specs.declared.values.Item.TheVariants.{Answer, Choice, Told as ToldOne}
 use Rattle.tx_machine.specs.Table.{TxState, Upcoming, Prepare, Select, next, after, opening, chosen, is_open, is_due, prepares_next, selects_next}
-use Rattle.tx_machine.specs.Table.{settled, is_aborting, cut_at, limited, decide_at, advanced, entered, after_byte, retry_after, joined_after, saved_after}
+use Rattle.tx_machine.specs.Table.{passed_if, is_aborting, cut_at, limited, decide_at, advanced, entered, after_byte, retry_after, joined_after, saved_after}
 use Rattle.tx_machine.specs.Table.{answered_at, chosen_at}
 use Rattle.tx_machine.specs.Lists.{is_lawful}
 use Rattle.tx_machine.specs.Due.{due_at, due_of}
@@ -28,7 +28,7 @@ use Rattle.tx_history.specs.declared.journal.Row.{Row}
 use Rattle.tx_history.specs.History.{is_ended, is_over, name_of}
 use Rattle.tx_history.specs.Journal.{named_row, row}
 use Rattle.tx_machine.specs.Row.{row_at}
-use Rattle.tx_machine.proofs.StepBounds.{unopened, settled_all, entered_all, joined_all, named_all, not_full, less_if, byte_open, joined_length, tells}
+use Rattle.tx_machine.proofs.StepBounds.{unopened, passed_if_all, entered_all, joined_all, named_all, not_full, less_if, byte_open, joined_length, tells}
 use Rattle.tx_machine.proofs.StepBounds.{decided_not}
 use Rattle.tx_history.specs.Views.{IsNamed, IsDoing, RowFits, FlowFits, IsItem, AreItems}
 
@@ -111,7 +111,7 @@ decide_proper f s [] (p ∷ ps) c = let w = cut_proper f s c in let t = c.open_o
 
 advance_proper : (f : Flow) (s : TxState) → Open f s → Proper f (advanced s)
 advance_proper f s o =
-    let t : TxState = record s { rest = settled (is_aborting s.phase) s.rest } in
+    let t : TxState = record s { rest = passed_if (is_aborting s.phase) s.rest } in
     let ot : Open f t = record {
       calls = o.calls;
       members = o.members;
@@ -119,7 +119,7 @@ advance_proper f s o =
       phase = o.phase;
       names = o.names;
       marks =
-          settled_all (UpcomingNamed f) (λ s h. h) (is_aborting s.phase) s.rest o.marks;
+          passed_if_all (UpcomingNamed f) (λ s h. h) (is_aborting s.phase) s.rest o.marks;
       saved = o.saved;
       tries = o.tries;
     } in

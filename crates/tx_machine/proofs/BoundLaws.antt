@@ -17,13 +17,13 @@ use Rattle.tx_machine.specs.declared.values.Due.TheVariants as due
 use Rattle.tx_machine.specs.declared.values.Item.{Item}
 use Rattle.tx_machine.specs.declared.values.Item.TheVariants.{Answer, Choice, Told}
 use Rattle.tx_machine.specs.Table.{TxState, Upcoming, Prepare, Select, next, after, opening, reopening, chosen, is_open, is_due, prepares_next, selects_next}
-use Rattle.tx_machine.specs.Table.{settled, is_aborting, cut_at, limited, decide_at, advanced, outcome, entered, after_byte, retry_after, joined_after}
+use Rattle.tx_machine.specs.Table.{passed_if, is_aborting, cut_at, limited, decide_at, advanced, outcome, entered, after_byte, retry_after, joined_after}
 use Rattle.tx_machine.specs.Table.{saved_after, answered_at, chosen_at}
 use Rattle.tx_machine.specs.Lists.{is_lawful}
 use Rattle.tx_machine.specs.Due.{due_at, end_by}
 use Rattle.tx_machine.specs.Row.{Row, row_with, row_at, row_of, IsDoing, IsInPhase, IsRow}
 use Rattle.tx_machine.specs.Bounds.{after_newest, IsOfFlow, IsProper}
-use Rattle.tx_machine.proofs.StepBounds.{unopened, settled_all, entered_all, joined_all, named_all, not_full, less_if, byte_open, joined_length, tells}
+use Rattle.tx_machine.proofs.StepBounds.{unopened, passed_if_all, entered_all, joined_all, named_all, not_full, less_if, byte_open, joined_length, tells}
 use Rattle.tx_machine.proofs.StepBounds.{decided_not, reopened_open}
 
 -- ---- one item more
@@ -119,7 +119,7 @@ decide_proper f s [] (p ∷ ps) r j c = let o = c.opened in record {
 
 advance_proper : (f : Flow) (s : TxState) → IsOpen f s → IsProper f (advanced s)
 advance_proper f s o =
-    let t : TxState = record s { rest = settled (is_aborting s.phase) s.rest } in
+    let t : TxState = record s { rest = passed_if (is_aborting s.phase) s.rest } in
     let ot : IsOpen f t = record {
       calls = o.calls;
       members = o.members;
@@ -127,7 +127,7 @@ advance_proper f s o =
       phase = o.phase;
       joined = o.joined;
       rest =
-          settled_all (IsOfFlow f) (λ s h. h) (is_aborting s.phase) s.rest o.rest;
+          passed_if_all (IsOfFlow f) (λ s h. h) (is_aborting s.phase) s.rest o.rest;
     } in
     let c : IsCut f (limited t) = cut_open f t t.rest (t.calls == 1000) refl (not_full t.calls o.calls) ot in
     decide_proper f (limited t) (limited t).rest (limited t).joined refl refl c

@@ -67,15 +67,15 @@ same_empty (x ∷ xs) (y ∷ ys) h e = absurd cc
 
 pub same_ready : (f : Flow) (m n : Machine) → IsSame m n → IsReady f m → IsReady f n
 same_ready f m n s h = record {
-  settled = record {
+  at_call_or_end = record {
     fits = record {
-      within = subst (λ k. k < length (stages f)) (sym s.step) h.settled.fits.within;
+      within = subst (λ k. k < length (stages f)) (sym s.step) h.at_call_or_end.fits.within;
       frames = All-from_recursion (IsStackFrame f) n.stack.items (same_frames f n.stack.items m.stack.items s.stack
-          (recursion_from_All (IsStackFrame f) m.stack.items h.settled.fits.frames));
-      few = subst (λ k. k ≤ 1000) (sym s.calls) h.settled.fits.few;
-      members = subst (All (λ p. p < length (parts_of f))) (sym s.joined) h.settled.fits.members;
+          (recursion_from_All (IsStackFrame f) m.stack.items h.at_call_or_end.fits.frames));
+      few = subst (λ k. k ≤ 1000) (sym s.calls) h.at_call_or_end.fits.few;
+      members = subst (All (λ p. p < length (parts_of f))) (sym s.joined) h.at_call_or_end.fits.members;
     };
-    rested = λ e. same_empty n.stack.items m.stack.items s.stack (h.settled.rested (ap (λ k. slice_get (stages f) k) (sym s.step) ∙ e));
+    rested = λ e. same_empty n.stack.items m.stack.items s.stack (h.at_call_or_end.rested (ap (λ k. slice_get (stages f) k) (sym s.step) ∙ e));
   };
   few = ⊎_elim (λ none. inl (ap (λ (t : TxState). t.rest) (same_state f m n s) ∙ none)) (λ less. inr (subst (λ k. k < 1000) (sym s.calls) less)) h.few;
 }

@@ -10,7 +10,7 @@ use Rattle.flow_model.specs.declared.flow.PlacedEntry.{PlacedEntry}
 use Rattle.flow_asm.specs.Steps.{first_step, layout}
 use Rattle.flow_asm.specs.Places.{group_at}
 use Rattle.tx_machine.specs.declared.walk.Frame.{Frame}
-use Rattle.tx_machine.specs.Table.{Upcoming, Prepare, Select, passed, settled}
+use Rattle.tx_machine.specs.Table.{Upcoming, Prepare, Select, passed, passed_if}
 use Rattle.tx_machine.specs.Position.{upcoming_at, left_at, frame_upcoming, stack_upcoming, frame_left, stack_left, groups_left, rest_of}
 use Rattle.tx_machine.specs.Position.{entries_in, IsStackFrame}
 use Rattle.tx_machine.specs.Position.{IsCall, IsPick}
@@ -90,22 +90,22 @@ passes f k s tail ms is a =
     by false e = ap (λ c. if c then Prepare s ∷ (tail ++ ms) else passed (tail ++ ms)) (sym a)
 
 -- and stops at one of an abort-aware participant, and at a pick
-pub settled_call : (f : Flow) (k : ℕ) (s : PlacedEntry) (tail ms : List Upcoming) (aborting : Bool) → IsCall f k s tail →
-    ((s.kind.abort_aware ≡ true) ⊎ (aborting ≡ false)) → settled aborting (upcoming_at f k ++ ms) ≡ upcoming_at f k ++ ms
-settled_call f k s tail ms false is h = refl
-settled_call f k s tail ms true is h =
+pub passed_if_call : (f : Flow) (k : ℕ) (s : PlacedEntry) (tail ms : List Upcoming) (aborting : Bool) → IsCall f k s tail →
+    ((s.kind.abort_aware ≡ true) ⊎ (aborting ≡ false)) → passed_if aborting (upcoming_at f k ++ ms) ≡ upcoming_at f k ++ ms
+passed_if_call f k s tail ms false is h = refl
+passed_if_call f k s tail ms true is h =
     ap (λ l. passed (l ++ ms)) is.upcoming ∙ ⊎_elim (λ a. ap
     (λ c. if c then Prepare s ∷ (tail ++ ms) else (if s.kind.selector then Select s ∷ (tail ++ ms) else passed (tail ++ ms))) a)
     (λ (e : true ≡ false). absurd cc) h ∙ sym (ap (λ l. l ++ ms) is.upcoming)
 
-pub settled_pick : (f : Flow) (k : ℕ) (s : PlacedEntry) (ms : List Upcoming) (aborting : Bool) → IsPick f k s →
-    settled aborting (upcoming_at f k ++ ms) ≡ upcoming_at f k ++ ms
-settled_pick f k s ms false is = refl
-settled_pick f k s ms true is = ap (λ l. passed (l ++ ms)) is.upcoming ∙ sym (ap (λ l. l ++ ms) is.upcoming)
+pub passed_if_pick : (f : Flow) (k : ℕ) (s : PlacedEntry) (ms : List Upcoming) (aborting : Bool) → IsPick f k s →
+    passed_if aborting (upcoming_at f k ++ ms) ≡ upcoming_at f k ++ ms
+passed_if_pick f k s ms false is = refl
+passed_if_pick f k s ms true is = ap (λ l. passed (l ++ ms)) is.upcoming ∙ sym (ap (λ l. l ++ ms) is.upcoming)
 
-pub settled_nil : (aborting : Bool) → settled aborting [] ≡ []
-settled_nil true = refl
-settled_nil false = refl
+pub passed_if_nil : (aborting : Bool) → passed_if aborting [] ≡ []
+passed_if_nil true = refl
+passed_if_nil false = refl
 
 pub back_at : (f : Flow) (xs ys : List Frame) (top : ℕ) (t : Frame) → length xs ≡ top + 1 → t ≡ get_or xs top t → t.pending.items ≡ [] →
     ys ≡ take top (set xs top t) → IsLeft f t.back ys xs

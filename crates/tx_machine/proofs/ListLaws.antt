@@ -11,7 +11,7 @@ use Rattle.flow_model.specs.declared.flow.Flow.{Flow}
 use Rattle.tx_machine.specs.declared.values.Item.{Item}
 use Rattle.tx_machine.specs.declared.values.Item.TheVariants.{Answer, Choice, Told}
 use Rattle.tx_machine.specs.Table.{TxState, Upcoming, Prepare, Select, next, after, is_due, is_open, prepares_next, selects_next, advanced, limited, cut_at}
-use Rattle.tx_machine.specs.Table.{decide_at, settled, is_aborting, after_byte, retry_after, joined_after, saved_after, entered, chosen}
+use Rattle.tx_machine.specs.Table.{decide_at, passed_if, is_aborting, after_byte, retry_after, joined_after, saved_after, entered, chosen}
 use Rattle.tx_machine.specs.Table.{answered_at, chosen_at}
 use Rattle.tx_machine.specs.Table.{opening}
 use Rattle.tx_machine.specs.Lists.{is_lawful, saved_in, joined_in, calls_in, preparing, IsWhole, IsBounded}
@@ -38,7 +38,7 @@ decide_same s [] (p ∷ ps) = record { saved = refl; told = refl; joined = refl;
 
 advance_same : (s : TxState) → Same s (advanced s)
 advance_same s =
-    let t : TxState = record s { rest = settled (is_aborting s.phase) s.rest } in
+    let t : TxState = record s { rest = passed_if (is_aborting s.phase) s.rest } in
     let a = cut_same t t.rest (t.calls == 1000) in
     let u : TxState = limited t in
     let b = decide_same u u.rest u.joined in

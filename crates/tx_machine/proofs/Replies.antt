@@ -1,4 +1,4 @@
--- What becomes of a reply, by what stands at the machine's step: a search through the table's states takes seconds.
+-- What becomes of a reply, by what stands there the machine's step: a search through the table's states takes seconds.
 -- for: machine::Machine::answered, machine::Machine::chose
 use Rattle.std.proofs.Common.{◌≡◌, ℕ, ◌+◌, ◌<◌, ◌≤◌, ◌⊎◌, inl, inr, Bool, true, false, List, [], ◌∷◌, ◌++◌, map, Ok, Err, refl, sym, ap, ◌∙◌, arith}
 use Rattle.std.specs.Prelude.{◌&&◌, Result}
@@ -15,7 +15,7 @@ use Rattle.tx_machine.specs.declared.error.MachineError.TheVariants.{NotDue, Out
 use Rattle.tx_machine.specs.Table.{Upcoming, Prepare, Select, advanced, after_byte, answered_at, chosen, chosen_at, entered, is_due, joined_after, next}
 use Rattle.tx_machine.specs.Table.{prepares_next, retry_after, saved_after, selects_next}
 use Rattle.tx_machine.specs.Position.{IsAhead, rest_of, stack_upcoming, upcoming_at}
-use Rattle.tx_machine.specs.Contract.{IsReady, IsSettled, IsSound, TakesItem, state, tx_state}
+use Rattle.tx_machine.specs.Contract.{IsReady, IsAtCallOrEnd, IsSound, TakesItem, state, tx_state}
 
 pub taken : (f : Flow) (old new : Machine) (x : Item) → IsSound f new → tx_state f new ≡ next f (tx_state f old) x → is_due (tx_state f old) x ≡ true →
     TakesItem f old x (Ok tt) new
@@ -48,25 +48,25 @@ both o b is is' = ap (λ (x : Bool). x && b) is ∙ is'
 
 -- nothing to prepare, and nothing to select
 
-prepares_none : (f : Flow) (m : Machine) (v : StepView) → IsSettled f m → IsAhead f m.step v → ((p : ℕ) (k : Kind) → v ≡ view.Call p k → ⊥) →
+prepares_none : (f : Flow) (m : Machine) (v : StepView) → IsAtCallOrEnd f m → IsAhead f m.step v → ((p : ℕ) (k : Kind) → v ≡ view.Call p k → ⊥) →
     prepares_next (rest_of f m.step m.stack.items) ≡ false
-prepares_none f m (view.Call p k) settled ahead other = absurd (other p k refl)
-prepares_none f m (view.Pick p) settled ahead other = ap (λ (l : List Upcoming). prepares_next (l ++ stack_upcoming f m.stack.items)) ahead.1.upcoming
-prepares_none f m view.Return settled ahead other = rw (ahead.upcoming, settled.rested ahead.stage) refl
+prepares_none f m (view.Call p k) there ahead other = absurd (other p k refl)
+prepares_none f m (view.Pick p) there ahead other = ap (λ (l : List Upcoming). prepares_next (l ++ stack_upcoming f m.stack.items)) ahead.1.upcoming
+prepares_none f m view.Return there ahead other = rw (ahead.upcoming, there.rested ahead.stage) refl
 
-pub not_prepared : (f : Flow) (m : Machine) (v : StepView) (o : Bool) → IsSettled f m → IsAhead f m.step v → ((p : ℕ) (k : Kind) → v ≡ view.Call p k → ⊥) →
+pub not_prepared : (f : Flow) (m : Machine) (v : StepView) (o : Bool) → IsAtCallOrEnd f m → IsAhead f m.step v → ((p : ℕ) (k : Kind) → v ≡ view.Call p k → ⊥) →
     (o && prepares_next (rest_of f m.step m.stack.items)) ≡ false
-not_prepared f m v o settled ahead other = ap (λ (b : Bool). o && b) (prepares_none f m v settled ahead other) ∙ neither o
+not_prepared f m v o there ahead other = ap (λ (b : Bool). o && b) (prepares_none f m v there ahead other) ∙ neither o
 
-selects_none : (f : Flow) (m : Machine) (v : StepView) → IsSettled f m → IsAhead f m.step v → ((p : ℕ) → v ≡ view.Pick p → ⊥) →
+selects_none : (f : Flow) (m : Machine) (v : StepView) → IsAtCallOrEnd f m → IsAhead f m.step v → ((p : ℕ) → v ≡ view.Pick p → ⊥) →
     selects_next (rest_of f m.step m.stack.items) ≡ false
-selects_none f m (view.Pick p) settled ahead other = absurd (other p refl)
-selects_none f m (view.Call p k) settled ahead other = ap (λ (l : List Upcoming). selects_next (l ++ stack_upcoming f m.stack.items)) ahead.2.upcoming
-selects_none f m view.Return settled ahead other = rw (ahead.upcoming, settled.rested ahead.stage) refl
+selects_none f m (view.Pick p) there ahead other = absurd (other p refl)
+selects_none f m (view.Call p k) there ahead other = ap (λ (l : List Upcoming). selects_next (l ++ stack_upcoming f m.stack.items)) ahead.2.upcoming
+selects_none f m view.Return there ahead other = rw (ahead.upcoming, there.rested ahead.stage) refl
 
-pub not_selected : (f : Flow) (m : Machine) (v : StepView) (o : Bool) → IsSettled f m → IsAhead f m.step v → ((p : ℕ) → v ≡ view.Pick p → ⊥) →
+pub not_selected : (f : Flow) (m : Machine) (v : StepView) (o : Bool) → IsAtCallOrEnd f m → IsAhead f m.step v → ((p : ℕ) → v ≡ view.Pick p → ⊥) →
     (o && selects_next (rest_of f m.step m.stack.items)) ≡ false
-not_selected f m v o settled ahead other = ap (λ (b : Bool). o && b) (selects_none f m v settled ahead other) ∙ neither o
+not_selected f m v o there ahead other = ap (λ (b : Bool). o && b) (selects_none f m v there ahead other) ∙ neither o
 
 -- what is to come
 

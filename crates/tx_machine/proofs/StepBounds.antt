@@ -11,7 +11,7 @@ use Rattle.flow_model.specs.declared.flow.PlacedEntry.{PlacedEntry}
 use Rattle.flow_model.specs.Places.{entries_named}
 use Rattle.tx_machine.specs.declared.values.Phase.{Phase}
 use Rattle.tx_machine.specs.declared.values.Phase.TheVariants.{Preparing, Aborting, Committing, Undoing}
-use Rattle.tx_machine.specs.Table.{TxState, Upcoming, Prepare, Select, is_open, passed, settled, entered, after_byte, joined_after}
+use Rattle.tx_machine.specs.Table.{TxState, Upcoming, Prepare, Select, is_open, passed, passed_if, entered, after_byte, joined_after}
 
 -- what `opening` goes on from
 abbrev pub unopened : Flow → ℕ → List ℕ → TxState
@@ -39,10 +39,10 @@ passed_all P same (Prepare s ∷ ms) h = by s.kind.abort_aware s.kind.selector (
     by false true ih = All-cons P (Select s) ms (same s (All-head P (Prepare s) ms h)) (All-tail P (Prepare s) ms h)
     by false false ih = ih
 
-pub settled_all : (P : Upcoming → Type 0) → ((s : PlacedEntry) → P (Prepare s) → P (Select s)) → (b : Bool) (ms : List Upcoming) → All P ms →
-    All P (settled b ms)
-settled_all P same true ms h = passed_all P same ms h
-settled_all P same false ms h = h
+pub passed_if_all : (P : Upcoming → Type 0) → ((s : PlacedEntry) → P (Prepare s) → P (Select s)) → (b : Bool) (ms : List Upcoming) → All P ms →
+    All P (passed_if b ms)
+passed_if_all P same true ms h = passed_all P same ms h
+passed_if_all P same false ms h = h
 
 pub entered_all : (P : Upcoming → Type 0) (s : PlacedEntry) (ms : List Upcoming) → P (Select s) → All P ms → All P (entered s ms)
 entered_all P s ms n h = by s.kind.selector

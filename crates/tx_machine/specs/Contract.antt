@@ -36,13 +36,13 @@ pub record Fits (f : Flow) (m : Machine) : Type 0 where
   pub members : All (λ p. p < length (parts_of f)) m.joined.items
 
 -- and a call is due, or nothing is to come
-pub record IsSettled (f : Flow) (m : Machine) : Type 0 where
+pub record IsAtCallOrEnd (f : Flow) (m : Machine) : Type 0 where
   pub fits : Fits f m
   pub rested : slice_get (stages f) m.step ≡ Some AtReturn → m.stack.items ≡ []
 
 -- at most 1,000 answers and choices, and fewer if more is to come
 pub record IsReady (f : Flow) (m : Machine) : Type 0 where
-  pub settled : IsSettled f m
+  pub at_call_or_end : IsAtCallOrEnd f m
   pub few : ((state f m).rest ≡ []) ⊎ (m.calls < 1000)
 
 unfoldable pub IsSound : Flow → Machine → Type 0

@@ -52,8 +52,8 @@ is_aborting Aborting = true
 is_aborting Committing = false
 is_aborting Undoing = false
 
-abbrev pub settled : Bool → List Upcoming → List Upcoming
-settled aborting rest = if aborting then passed rest else rest
+abbrev pub passed_if : Bool → List Upcoming → List Upcoming
+passed_if aborting rest = if aborting then passed rest else rest
 
 -- After 1,000 answers and choices what is left is dropped: the transaction aborts, without retry.
 abbrev pub cut_at : TxState → List Upcoming → Bool → TxState
@@ -82,7 +82,7 @@ decided s = decide_at s s.rest s.joined
 
 -- passing over, then the bound, then the outcome, before anything is due
 abbrev pub advanced : TxState → TxState
-advanced s = decided (limited (record s { rest = settled (is_aborting s.phase) s.rest }))
+advanced s = decided (limited (record s { rest = passed_if (is_aborting s.phase) s.rest }))
 
 -- a prepared selector selects before anything else comes
 abbrev pub entered : PlacedEntry → List Upcoming → List Upcoming

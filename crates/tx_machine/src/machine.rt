@@ -9,7 +9,7 @@ ghost use Rattle.tx_machine.specs.Lists.{is_lawful};
 ghost use Rattle.tx_machine.specs.Table.{advanced, after, is_open as is_open_of, limited, opening};
 ghost use Rattle.tx_machine.specs.Table.{prepares_next, reopening};
 ghost use Rattle.tx_machine.specs.Due.{IsReplyDue, due_of, participant_of, places_of};
-ghost use Rattle.tx_machine.specs.Contract.{Fits, IsReady, IsSettled, IsSound, TakesItem, tx_state, state};
+ghost use Rattle.tx_machine.specs.Contract.{Fits, IsReady, IsAtCallOrEnd, IsSound, TakesItem, tx_state, state};
 ghost use Rattle.tx_machine.specs.declared.values.Item.TheVariants.{Answer, Choice, Told};
 
 use crate::error::MachineError;
@@ -58,7 +58,7 @@ impl Drop for Machine {
 impl Machine {
     // Whether nothing is to come.
     fn is_over(&self, code: &Code) -> bool
-        requires { IsSettled code.now self.now }
+        requires { IsAtCallOrEnd code.now self.now }
         ensures { IsTrue result ↔ ((state code.now self.now).rest ≡ []) }
     {
         matches!(look(code, self.step), StepView::Return)
@@ -66,7 +66,7 @@ impl Machine {
 
     // Drops what is to come if the bound is reached.
     fn limit(&mut self, code: &Code)
-        requires { IsSettled code.now self.old }
+        requires { IsAtCallOrEnd code.now self.old }
         ensures state { state code.now self.new ≡ limited (state code.now self.old) }
         ensures ready { IsReady code.now self.new }
     {

@@ -6,7 +6,7 @@ ghost use Rattle.std.specs.List.{All};
 ghost use Rattle.flow_model.specs.Check.{IsChecked};
 ghost use Rattle.flow_asm.specs.Steps.{AtReturn, first_step, layout, stages};
 ghost use Rattle.flow_asm.specs.Places.{group_at};
-ghost use Rattle.tx_machine.specs.Table.{Prepare, settled};
+ghost use Rattle.tx_machine.specs.Table.{Prepare, passed_if};
 ghost use Rattle.tx_machine.specs.Position.{IsStackFrame, IsAhead, left_at, upcoming_at, rest_of, shown};
 ghost use Rattle.tx_machine.specs.Position.{entries_in, stack_left, stack_upcoming};
 
@@ -124,7 +124,7 @@ pub(crate) fn next_due(code: &Code, aborting: bool, from: usize, stack: &mut Vec
     ensures frames { All (IsStackFrame code.now) stack.new.items }
     ensures rested { slice_get (stages code.now) result ≡ Some AtReturn → stack.new.items ≡ [] }
     ensures rest { rest_of code.now result stack.new.items
-        ≡ settled aborting (rest_of code.now from stack.old.items) }
+        ≡ passed_if aborting (rest_of code.now from stack.old.items) }
 {
     let mut step = from;
     loop {

@@ -355,7 +355,7 @@ decide_joined s [] [] = refl
 decide_joined s [] (p ∷ ps) = refl
 
 abbrev pub passing : TxState → TxState
-passing s = record s { rest = table.settled (table.is_aborting s.phase) s.rest }
+passing s = record s { rest = table.passed_if (table.is_aborting s.phase) s.rest }
 
 pub advanced_told : (s : TxState) → (table.advanced s).told ≡ s.told
 advanced_told s =

@@ -8,7 +8,7 @@ use Rattle.flow_model.specs.Places.{entries_named}
 use Rattle.tx_machine.specs.declared.values.Phase.{Phase}
 use Rattle.tx_machine.specs.declared.values.Phase.TheVariants.{Preparing, Aborting, Committing, Undoing}
 use Rattle.tx_machine.specs.declared.values.Due.TheVariants as due
-use Rattle.tx_machine.specs.Table.{TxState, Upcoming, Prepare, Select, cut_at, decide_at, limited, advanced, is_aborting, opening, settled}
+use Rattle.tx_machine.specs.Table.{TxState, Upcoming, Prepare, Select, cut_at, decide_at, limited, advanced, is_aborting, opening, passed_if}
 use Rattle.tx_machine.specs.Due.{due_at, due_of, end_by}
 use Rattle.tx_history.specs.declared.event.Event.{Event}
 use Rattle.tx_history.specs.declared.event.Event.TheVariants.{Taken}
@@ -39,7 +39,7 @@ decide_opens s [] (p ∷ ps) r = record { tries = refl; saved = refl; retry = r 
 
 advanced_opens : (s : TxState) → s.retry ≡ false → Opens s (advanced s)
 advanced_opens s r =
-    let go : TxState = record s { rest = settled (is_aborting s.phase) s.rest } in
+    let go : TxState = record s { rest = passed_if (is_aborting s.phase) s.rest } in
     let a = cut_opens go go.rest (go.calls == 1000) r in
     let b = decide_opens (limited go) (limited go).rest (limited go).joined a.retry in
     record { tries = b.tries ∙ a.tries; saved = b.saved ∙ a.saved; retry = b.retry }

@@ -16,7 +16,8 @@ returns-then-not-is_open c = refused c.args.code.now c.args.self.now (Answer c.a
 pub returns-in_default : goal.returns-in_default
 unfolding tx_state IsSound
 returns-in_default c = refused c.args.code.now c.args.self.now (Answer c.args.byte c.args.context.items) c.requires
-    (not_prepared c.args.code.now c.args.self.now c.look.result (is_open c.args.self.now.phase) c.requires.settled c.look.ensures.ahead c.in_default.not-Call)
+    (not_prepared c.args.code.now c.args.self.now c.look.result (is_open c.args.self.now.phase) c.requires.at_call_or_end c.look.ensures.ahead
+    c.in_default.not-Call)
 
 pub returns-in_err-join : goal.returns-in_err-join
 unfolding tx_state IsSound
@@ -46,9 +47,9 @@ pub advance-requires : goal.advance-requires
 unfolding IsSound
 advance-requires c = record {
   within = c.in-Call.ensures.ahead.2.next;
-  frames = c.requires.settled.fits.frames;
+  frames = c.requires.at_call_or_end.fits.frames;
   few = prepared_room c.args.code.now c.args.self.now c.in-Call.participant c.in-Call.field-1 c.in-Call.ensures.ahead c.requires;
-  members = c.in_ok-join.ensures.within _ c.in-Call.ensures.ahead.5 c.requires.settled.fits.members;
+  members = c.in_ok-join.ensures.within _ c.in-Call.ensures.ahead.5 c.requires.at_call_or_end.fits.members;
 }
 
 pub returns : goal.returns

@@ -18,7 +18,8 @@ returns-then-not-is_open c = refused c.args.code.now c.args.self.now (Choice c.a
 pub returns-in_default : goal.returns-in_default
 unfolding tx_state IsSound
 returns-in_default c = refused c.args.code.now c.args.self.now (Choice c.args.text.now) c.requires
-    (not_selected c.args.code.now c.args.self.now c.look.result (is_open c.args.self.now.phase) c.requires.settled c.look.ensures.ahead c.in_default.not-Pick)
+    (not_selected c.args.code.now c.args.self.now c.look.result (is_open c.args.self.now.phase) c.requires.at_call_or_end c.look.ensures.ahead
+    c.in_default.not-Pick)
 
 pub returns-in_err-groups : goal.returns-in_err-groups
 unfolding tx_state IsSound
@@ -57,7 +58,7 @@ advance-requires c = record {
   within = c.in_ok-self.ensures.within;
   frames = c.in_ok-self.ensures.frames;
   few = selected_room c.args.code.now c.args.self.now c.in-Pick.field-0 c.in-Pick.ensures.ahead c.requires;
-  members = c.requires.settled.fits.members;
+  members = c.requires.at_call_or_end.fits.members;
 }
 
 pub returns : goal.returns
