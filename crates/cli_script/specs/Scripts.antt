@@ -66,15 +66,15 @@ error_at n text refusal.OutOfMemory = error.OutOfMemory
 error_at n text cause = error.Line n cause (quoted text)
 
 -- the line of this number is reported, and its text
-abbrev pub Tells : ℕ → List ℕ → ℕ → List ℕ → Type 0
-Tells number text n found = (n ≡ number) × (found ≡ quoted text)
+abbrev pub NamesLine : ℕ → List ℕ → ℕ → List ℕ → Type 0
+NamesLine number text n found = (n ≡ number) × (found ≡ quoted text)
 
 -- why the line of this number, text and meaning is refused
 abbrev pub IsLineRefusal : Bool → ℕ → List ℕ → Result ScriptLine LineError → ScriptError → Type 0
 IsLineRefusal has_file number text meaning (error.Line n cause found) =
-    Tells number text n found × (meaning ≡ Err cause)
+    NamesLine number text n found × (meaning ≡ Err cause)
 IsLineRefusal has_file number text meaning (error.FlowBesideFile n found) =
-    Tells number text n found
+    NamesLine number text n found
     × ((s : Setting) × (meaning ≡ Ok (line.Setting s)) × (is_misplaced has_file s ≡ true))
 IsLineRefusal has_file number text meaning (error.LateSetting n found) = ⊥
 IsLineRefusal has_file number text meaning (error.Crowded n found) = ⊥
@@ -178,11 +178,11 @@ crowds _ = false
 -- why the line of this number, text and meaning is refused after the settings
 abbrev pub IsActionRefusal : ℕ → List ℕ → Result ScriptLine LineError → ScriptError → Type 0
 IsActionRefusal number text meaning (error.Line n cause found) =
-    Tells number text n found × (meaning ≡ Err cause)
+    NamesLine number text n found × (meaning ≡ Err cause)
 IsActionRefusal number text meaning (error.LateSetting n found) =
-    Tells number text n found × ((s : Setting) × (meaning ≡ Ok (line.Setting s)))
+    NamesLine number text n found × ((s : Setting) × (meaning ≡ Ok (line.Setting s)))
 IsActionRefusal number text meaning (error.Crowded n found) =
-    Tells number text n found × ((a : Action) × (meaning ≡ Ok (line.Action a)) × (crowds a ≡ true))
+    NamesLine number text n found × ((a : Action) × (meaning ≡ Ok (line.Action a)) × (crowds a ≡ true))
 IsActionRefusal number text meaning (error.FlowBesideFile n found) = ⊥
 IsActionRefusal number text meaning (error.Flow n cause) = ⊥
 IsActionRefusal number text meaning error.OutOfMemory = IsMeant meaning

@@ -21,7 +21,7 @@ use Rattle.tx_plant.specs.declared.turn.Turn.{Turn}
 use Rattle.tx_plant.specs.declared.turn.Turn.TheVariants as turn
 use Rattle.tx_trace.specs.Follow.{Follows}
 use Rattle.tx_trace.specs.declared.tracer.Tracer.{Tracer}
-use Rattle.cli_step.specs.Doing.{IsAhead, Stands, is_fresh}
+use Rattle.cli_step.specs.Doing.{IsAhead, IsWorldAfter, is_fresh}
 
 -- one turn has one outcome
 pub one_driven : (t : Turn) (os : List Outcome) (m : List Moved) (p q : Whole) → Driven (t ∷ []) os m p q
@@ -35,7 +35,7 @@ one_driven t (o ∷ x ∷ os) m p q driven = absurd driven.4
 world_same : (p q : Core) → q ≡ p → q.world ≡ p.world
 world_same p q same = ap (λ (c : Core). c.world) same
 
-taken : (p q : Core) (s : ℕ) (m : List Moved) (o : Outcome) → Takes p s m (Ok o) q → Stands o p.world q.world
+taken : (p q : Core) (s : ℕ) (m : List Moved) (o : Outcome) → Takes p s m (Ok o) q → IsWorldAfter o p.world q.world
 taken p q s m (outcome.Accepted n) k = (event.Taken s, k.recorded)
 taken p q s m (outcome.Refused e) k = world_same p q k.1.1
 taken p q s m outcome.Idle k = absurd k
@@ -49,7 +49,7 @@ taken p q s m (outcome.Cut n) k = tt
 abbrev Rested : World → ℕ → Option Seat → Outcome → Type 0
 Rested w s seat o = ((e : EngineError) × (next_refusal w s ≡ Some e) × (o ≡ outcome.Refused e)) ⊎ ((seat ≡ None) × Waits (next_of w s) o)
 
-rested : (w to : World) (s : ℕ) (seat : Option Seat) (o : Outcome) → to ≡ w → Rested w s seat o → Stands o w to
+rested : (w to : World) (s : ℕ) (seat : Option Seat) (o : Outcome) → to ≡ w → Rested w s seat o → IsWorldAfter o w to
 rested w to s seat (outcome.Accepted n) same (inl k) = cc
 rested w to s seat (outcome.Accepted n) same (inr k) = absurd k.1
 rested w to s seat (outcome.Refused e) same k = same
@@ -64,12 +64,12 @@ rested w to s seat (outcome.Cut n) same k = tt
 same_outcome : {E : Type 0} (x y : Outcome) → ◌≡◌ {A = Result Outcome E} (Ok x) (Ok y) → x ≡ y
 same_outcome x y e = cc
 
-stood : (p q : Core) (s : ℕ) (m : List Moved) (o : Outcome) → Stood p s m (Ok o) q → Stands o p.world q.world
+stood : (p q : Core) (s : ℕ) (m : List Moved) (o : Outcome) → Stood p s m (Ok o) q → IsWorldAfter o p.world q.world
 stood p q s m o k =
     let same : o ≡ k.1 = same_outcome o k.1 k.2 in
     rested p.world q.world s (seat_of p s) o (world_same p q k.0.1) (rw (sym same) at k.3)
 
-served_by : (w to : World) (s : ℕ) (l t : Seat) (m : List Moved) (o : Outcome) → Serves w s l t m (Ok o) to → Stands o w to
+served_by : (w to : World) (s : ℕ) (l t : Seat) (m : List Moved) (o : Outcome) → Serves w s l t m (Ok o) to → IsWorldAfter o w to
 served_by w to s l t m (outcome.Accepted n) k = (event_of s k.1 k.0.context, k.4)
 served_by w to s l t m (outcome.Refused e) (inl k) = k.3
 served_by w to s l t m (outcome.Refused e) (inr k) = k.2.1
@@ -80,11 +80,11 @@ served_by w to s l t m (outcome.Written n) k = absurd k.1
 served_by w to s l t m (outcome.Restarted n) k = tt
 served_by w to s l t m (outcome.Cut n) k = tt
 
-stepped : (p q : Core) (s : ℕ) (m : List Moved) (o : Outcome) → Stepped p s m (Ok o) q → Stands o p.world q.world
+stepped : (p q : Core) (s : ℕ) (m : List Moved) (o : Outcome) → Stepped p s m (Ok o) q → IsWorldAfter o p.world q.world
 stepped p q s m o (inl k) = stood p q s m o k
 stepped p q s m o (inr k) = served_by p.world q.world s k.before k.after m o k.serves
 
-written : (most : Option ℕ) (w to : World) (j l : Seen) (o : Outcome) → Writes most w j (Ok o) to l → Stands o w to
+written : (most : Option ℕ) (w to : World) (j l : Seen) (o : Outcome) → Writes most w j (Ok o) to l → IsWorldAfter o w to
 written most w to j l (outcome.Accepted n) k = absurd k
 written most w to j l (outcome.Refused e) k = absurd k
 written most w to j l outcome.Idle k = absurd k
@@ -94,7 +94,7 @@ written most w to j l (outcome.Written n) k = k.1
 written most w to j l (outcome.Restarted n) k = tt
 written most w to j l (outcome.Cut n) k = tt
 
-stopped : (m : List Moved) (p q : Whole) (o : Outcome) → Stops m p (Ok o) q → Stands o p.core.world q.core.world
+stopped : (m : List Moved) (p q : Whole) (o : Outcome) → Stops m p (Ok o) q → IsWorldAfter o p.core.world q.core.world
 stopped m p q (outcome.Accepted n) k = absurd k
 stopped m p q (outcome.Refused e) k = world_same p.core q.core k.0.1
 stopped m p q outcome.Idle k = absurd k
@@ -104,7 +104,7 @@ stopped m p q (outcome.Written n) k = absurd k
 stopped m p q (outcome.Restarted n) k = tt
 stopped m p q (outcome.Cut n) k = tt
 
-cut : (w to : World) (o : Outcome) → Cuts w (Ok o) to → Stands o w to
+cut : (w to : World) (o : Outcome) → Cuts w (Ok o) to → IsWorldAfter o w to
 cut w to (outcome.Accepted n) k = absurd k
 cut w to (outcome.Refused e) k = k.1
 cut w to outcome.Idle k = absurd k
@@ -114,7 +114,7 @@ cut w to (outcome.Written n) k = absurd k
 cut w to (outcome.Restarted n) k = tt
 cut w to (outcome.Cut n) k = tt
 
-logged : (ev : Option Event) (refusal : Option EngineError) (w to : World) (o : Outcome) → Logs ev refusal w (Ok o) to → Stands o w to
+logged : (ev : Option Event) (refusal : Option EngineError) (w to : World) (o : Outcome) → Logs ev refusal w (Ok o) to → IsWorldAfter o w to
 logged (Some ev) refusal w to (outcome.Accepted n) k = (ev, k.1)
 logged (Some ev) refusal w to (outcome.Refused e) k = k.1
 logged (Some ev) refusal w to outcome.Idle k = absurd k
@@ -144,31 +144,31 @@ unfaulted R o (Ok y) same holds = rw (same_outcome o y same) holds
 unfaulted R o (Err e) same holds = cc
 
 event_logged : (t : Turn) (o : Outcome) (m : List Moved) (p q : Whole) → Logged t m p (Ok o) q
-    → Stands o p.core.world q.core.world
+    → IsWorldAfter o p.core.world q.core.world
 event_logged t o m p q k =
     logged (event_for p.core.world t) (refusal_for p.core.world t) p.core.world q.core.world o
     (unraised (λ x. IsLogged p.core.world t x q.core.world) o p q k.2)
 
 -- what a turn is to the history
-pub stands : (t : Turn) (o : Outcome) (m : List Moved) (p q : Whole) → Turned t (Ok o) m p q
-    → Stands o p.core.world q.core.world
-stands (turn.Take s) o m p q k = taken p.core q.core s m o (unraised (λ x. Takes p.core s m x q.core) o p q k)
-stands (turn.Step s) o m p q k = stepped p.core q.core s m o (unraised (λ x. Stepped p.core s m x q.core) o p q k)
-stands (turn.Write most) o m p q k =
+pub world_after : (t : Turn) (o : Outcome) (m : List Moved) (p q : Whole) → Turned t (Ok o) m p q
+    → IsWorldAfter o p.core.world q.core.world
+world_after (turn.Take s) o m p q k = taken p.core q.core s m o (unraised (λ x. Takes p.core s m x q.core) o p q k)
+world_after (turn.Step s) o m p q k = stepped p.core q.core s m o (unraised (λ x. Stepped p.core s m x q.core) o p q k)
+world_after (turn.Write most) o m p q k =
     written most p.core.world q.core.world p.journal q.journal o
     (unfaulted (λ x. Writes most p.core.world p.journal x q.core.world q.journal) o k.2 k.3 k.4)
-stands turn.Stop o m p q k = stopped m p q o k
-stands turn.Cut o m p q k = cut p.core.world q.core.world o (unraised (λ x. Cuts p.core.world x q.core.world) o p q k.2)
-stands (turn.Offer x) o m p q k = event_logged (turn.Offer x) o m p q k
-stands turn.Release o m p q k = event_logged turn.Release o m p q k
-stands (turn.Ack id place) o m p q k = event_logged (turn.Ack id place) o m p q k
-stands (turn.Break name) o m p q k = event_logged (turn.Break name) o m p q k
-stands (turn.Clear name) o m p q k = event_logged (turn.Clear name) o m p q k
-stands (turn.LetGo s) o m p q k = event_logged (turn.LetGo s) o m p q k
+world_after turn.Stop o m p q k = stopped m p q o k
+world_after turn.Cut o m p q k = cut p.core.world q.core.world o (unraised (λ x. Cuts p.core.world x q.core.world) o p q k.2)
+world_after (turn.Offer x) o m p q k = event_logged (turn.Offer x) o m p q k
+world_after turn.Release o m p q k = event_logged turn.Release o m p q k
+world_after (turn.Ack id place) o m p q k = event_logged (turn.Ack id place) o m p q k
+world_after (turn.Break name) o m p q k = event_logged (turn.Break name) o m p q k
+world_after (turn.Clear name) o m p q k = event_logged (turn.Clear name) o m p q k
+world_after (turn.LetGo s) o m p q k = event_logged (turn.LetGo s) o m p q k
 
 -- a tracer goes on where the history does not begin anew
 pub goes_on : ((w : World) (t : Tracer) (e : Event) → Follows w t → Follows (happened w e) t)
-    → (t : Tracer) (o : Outcome) (w to : World) → Stands o w to → is_fresh o ≡ false → Follows w t → Follows to t
+    → (t : Tracer) (o : Outcome) (w to : World) → IsWorldAfter o w to → is_fresh o ≡ false → Follows w t → Follows to t
 goes_on entry t (outcome.Accepted n) w to k old f = rw k.1.history (entry w t k.0 f)
 goes_on entry t (outcome.Refused e) w to k old f = rw k f
 goes_on entry t outcome.Idle w to k old f = rw k f
@@ -179,7 +179,7 @@ goes_on entry t (outcome.Restarted n) w to k old f = cc
 goes_on entry t (outcome.Cut n) w to k old f = cc
 
 -- and has not gone through a new entry
-pub ahead : (t : Tracer) (o : Outcome) (w to : World) → Stands o w to → Follows w t → IsAhead t o
+pub ahead : (t : Tracer) (o : Outcome) (w to : World) → IsWorldAfter o w to → Follows w t → IsAhead t o
 ahead t (outcome.Accepted n) w to k f =
     let number = k.1.number_is in let within = f.within in omega arith
 ahead t (outcome.Refused e) w to k f = tt

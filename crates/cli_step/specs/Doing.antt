@@ -81,12 +81,12 @@ is_fresh (outcome.Cut n) = true
 is_fresh _ = false
 
 -- what an outcome says of the history
-abbrev pub Stands : Outcome → World → World → Type 0
-Stands (outcome.Accepted n) w to = (e : Event) × Recorded w e n to
-Stands (outcome.Written n) w to = to ≡ record w { mark = n }
-Stands (outcome.Restarted n) w to = ⊤
-Stands (outcome.Cut n) w to = ⊤
-Stands _ w to = to ≡ w
+abbrev pub IsWorldAfter : Outcome → World → World → Type 0
+IsWorldAfter (outcome.Accepted n) w to = (e : Event) × Recorded w e n to
+IsWorldAfter (outcome.Written n) w to = to ≡ record w { mark = n }
+IsWorldAfter (outcome.Restarted n) w to = ⊤
+IsWorldAfter (outcome.Cut n) w to = ⊤
+IsWorldAfter _ w to = to ≡ w
 
 -- the tracer has not gone through the entry of the outcome
 abbrev pub IsAhead : Tracer → Outcome → Type 0

@@ -1,6 +1,6 @@
 -- Looking bytes over tells the first fault of a line by itself or of the version, which is never out
 -- of memory.
--- for: reader::settled
+-- for: reader::to_report
 use Rattle.std.proofs.Common.{◌≡◌, ℕ, zero, suc, ◌+◌, Bool, true, false, cond, Option, Some, None, Result, Ok, Err, refl, sym, ap, ◌∙◌, subst, codes, length}
 use Rattle.std.specs.Prelude.{◌==◌}
 use Rattle.std.specs.Str.{bytes_eq}

@@ -60,7 +60,7 @@ fn read_code(alloc: Global, bytes: &[u8]) -> Result<Code, LoadError>
 
 // The refusal to report when reading stopped with this one. If that was out of memory, the bytes are
 // looked over for a fault that is reported without memory.
-fn settled(e: LoadError, bytes: &[u8]) -> LoadError
+fn to_report(e: LoadError, bytes: &[u8]) -> LoadError
     requires { Fails e (spec.load_of bytes.now) }
     ensures read { Fails result (spec.load_of bytes.now) }
     ensures last { result ≡ OutOfMemory → spec.line_fault bytes.now ≡ None }
@@ -90,6 +90,6 @@ pub fn load(alloc: Global, bytes: &[u8]) -> Result<Code, LoadError>
 {
     match read_code(alloc, bytes) {
         Ok(code) => Ok(code),
-        Err(e) => Err(settled(e, bytes)),
+        Err(e) => Err(to_report(e, bytes)),
     }
 }

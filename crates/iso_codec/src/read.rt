@@ -167,7 +167,7 @@ fn read_message(alloc: Global, bytes: &[u8]) -> Result<Message, DecodeError>
 
 /// The refusal to report after reading stopped with this one. If that was out of memory, the
 /// bytes are looked over for a fault, which would come first.
-fn settled(e: DecodeError, bytes: &[u8]) -> DecodeError
+fn to_report(e: DecodeError, bytes: &[u8]) -> DecodeError
     requires { Fails e (read bytes.now) }
     ensures { Answers (Err result) (read bytes.now) }
 {
@@ -185,7 +185,7 @@ fn answer(alloc: Global, bytes: &[u8]) -> Result<Message, DecodeError>
 {
     match read_message(alloc, bytes) {
         Ok(message) => Ok(message),
-        Err(e) => Err(settled(e, bytes)),
+        Err(e) => Err(to_report(e, bytes)),
     }
 }
 

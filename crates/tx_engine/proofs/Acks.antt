@@ -56,9 +56,9 @@ lookup_same t u same (x ∷ xs) = ap (λ (b : Bool). cond b (Some x.1) (lookup t
 pub advice_is : (place : ℕ × ℕ) (xs : List ((ℕ × ℕ) × List ℕ)) → lookup (is_at (place_cmp place)) xs ≡ advice_at place xs
 advice_is place xs = lookup_same (is_at (place_cmp place)) (same_place place) (place_is place) xs
 
--- an advice that is found stands somewhere
+-- an advice that is found has an index
 
-record Stands (place : ℕ × ℕ) (xs : List ((ℕ × ℕ) × List ℕ)) : Type 0 where
+record IsListed (place : ℕ × ℕ) (xs : List ((ℕ × ℕ) × List ℕ)) : Type 0 where
   advice : List ℕ
   index : ℕ
   there : slice_get xs index ≡ Some (place, advice)
@@ -72,14 +72,14 @@ same_places a b h = by (a.0 == b.0) refl (a.1 == b.1) refl h
     by true e false i h = absurd (cc)
     by false e y i h = absurd (cc)
 
-stands_at : (place : ℕ × ℕ) (x : (ℕ × ℕ) × List ℕ) (xs : List ((ℕ × ℕ) × List ℕ)) → (is_some (advice_at place xs) ≡ true → Stands place xs) → (b : Bool) →
-    same_place place x.0 ≡ b → is_some (cond b (Some x.1) (advice_at place xs)) ≡ true → Stands place (x ∷ xs)
-stands_at place x xs ih true e h = record { advice = x.1; index = zero; there = ap (λ (k : ℕ × ℕ). Some (k, x.1)) (same_places place x.0 e) }
-stands_at place x xs ih false e h = let w = ih h in record { advice = w.advice; index = suc w.index; there = w.there }
+is_listed_at : (place : ℕ × ℕ) (x : (ℕ × ℕ) × List ℕ) (xs : List ((ℕ × ℕ) × List ℕ)) → (is_some (advice_at place xs) ≡ true → IsListed place xs) → (b : Bool) →
+    same_place place x.0 ≡ b → is_some (cond b (Some x.1) (advice_at place xs)) ≡ true → IsListed place (x ∷ xs)
+is_listed_at place x xs ih true e h = record { advice = x.1; index = zero; there = ap (λ (k : ℕ × ℕ). Some (k, x.1)) (same_places place x.0 e) }
+is_listed_at place x xs ih false e h = let w = ih h in record { advice = w.advice; index = suc w.index; there = w.there }
 
-stands : (place : ℕ × ℕ) (xs : List ((ℕ × ℕ) × List ℕ)) → is_some (advice_at place xs) ≡ true → Stands place xs
-stands place [] h = absurd (cc)
-stands place (x ∷ xs) h = stands_at place x xs (stands place xs) (same_place place x.0) refl h
+is_listed : (place : ℕ × ℕ) (xs : List ((ℕ × ℕ) × List ℕ)) → is_some (advice_at place xs) ≡ true → IsListed place xs
+is_listed place [] h = absurd (cc)
+is_listed place (x ∷ xs) h = is_listed_at place x xs (is_listed place xs) (same_place place x.0) refl h
 
 abbrev pub acked_change : ℕ → ℕ → Change
 acked_change id place = record { next_id = None; row = None; shelved = None; emptied = false; advice = Some ((id, place), None) }
@@ -88,7 +88,7 @@ pub steps_acked : (f : Flow) (n : ℕ) (v : Start) (es : List Entry) (mark reser
     is_some (advice_at (id, place) (advices f v (past_of es))) ≡ true → Kept (world f n v es mark reserved) es r
     → Steps f n v (past_of es) (Acked id place) (acked_change id place) r (record r { advices = put_by place_lt (id, place) None r.advices })
 steps_acked f n v es mark reserved r id place here k =
-    let w = stands (id, place) (advices f v (past_of es)) here in
+    let w = is_listed (id, place) (advices f v (past_of es)) here in
     record {
       accepted = (w.advice, w.index, w.there);
       usual = refl;

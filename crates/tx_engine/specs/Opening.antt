@@ -57,6 +57,6 @@ abbrev pub IsAfterSessions : ℕ → EngineError → Type 0
 IsAfterSessions n OutOfMemory = are_bad_sessions n ≡ false
 IsAfterSessions n e = ⊤
 
-abbrev pub Tells : Option EngineError → Result (Unit {0}) EngineError → Type 0
-Tells refusal (Ok u) = refusal ≡ None
-Tells refusal (Err e) = IsOpenRefusal refusal e
+abbrev pub RefusesOpen : Option EngineError → Result (Unit {0}) EngineError → Type 0
+RefusesOpen refusal (Ok u) = refusal ≡ None
+RefusesOpen refusal (Err e) = IsOpenRefusal refusal e

@@ -28,7 +28,7 @@ use Rattle.tx_trace.specs.declared.shown.Shown.{Shown}
 use Rattle.tx_trace.specs.declared.shown.Shown.TheVariants.{Moved, Plain}
 use Rattle.tx_trace.specs.Trace.{Point, moved_of, point_of}
 use Rattle.tx_trace.specs.Lines.{is_journalled, point_at, shown_at}
-use Rattle.tx_trace.specs.Follow.{Concerns, IsBegun, IsBegunMove, IsKept, IsLeft, IsMove, IsTraced, PutsMove, StandsFor, Tracks, is_given, is_take, led_by}
+use Rattle.tx_trace.specs.Follow.{Concerns, IsBegun, IsBegunMove, IsKept, IsLeft, IsMove, IsTraced, PutsMove, IsMachineOf, Tracks, is_given, is_take, led_by}
 use Rattle.tx_trace.specs.Follow.{machine_at, next_recovered, over_after, over_then, shelved_after}
 use Rattle.tx_trace.proofs.Shelved.{shelf_count}
 use Rattle.tx_trace.proofs.Begun.{stands_taken}
@@ -123,10 +123,10 @@ pub point_is : (f : Flow) (v : Start) (past : List Event) (id : ℕ) (m : Machin
     → r ≡ (if j && not b then marked f (outcome_of (due_of f (tx_state f m))) else None) → point_of f m r ≡ point_at f v past id
 point_is f v past id m j b r state old restored is = rw (is, state, old, restored) refl
 
-kept_after : (f : Flow) (v : Start) (past : List Event) (id : ℕ) (m : Machine) (k : Option Machine) → StandsFor f v past id m → IsLeft f m k →
+kept_after : (f : Flow) (v : Start) (past : List Event) (id : ℕ) (m : Machine) (k : Option Machine) → IsMachineOf f v past id m → IsLeft f m k →
     IsKept f v past id k
 kept_after f v past id m None s h = ap (λ (st : TxState). is_ended f st) (sym s.state) ∙ h
-kept_after f v past id m (Some x) s h = subst (StandsFor f v past id) (sym h.0) s
+kept_after f v past id m (Some x) s h = subst (IsMachineOf f v past id) (sym h.0) s
 
 left_over : (f : Flow) (m : Machine) (k : Option Machine) (first id over : ℕ) → IsLeft f m k →
     over_then (nat_lt id first && is_ended f (tx_state f m)) id over ≡ over_after over first (Some (id, k))
@@ -144,7 +144,7 @@ left_over f m (Some x) first id over h = rw h.1 (none_of (nat_lt id first))
 -- what a tracer finds of such an entry
 pub record Found (f : Flow) (v : Start) (past : List Event) (e : Event) (id : ℕ) (before after : Machine) (j was is : Bool) (r to : Option (ℕ × Bool))
     (k : Option Machine) : Type 0 where
-  pub stood : StandsFor f v past id before
+  pub stood : IsMachineOf f v past id before
   pub sound : IsSound f after
   pub led : tx_state f after ≡ led_by f (tx_state f before) e
   pub old : j ≡ nat_lt id v.view.next_id
@@ -163,7 +163,7 @@ given_traced f v past e id before after j was is r to k t c h shown moved =
     let stands = point_is f v (e ∷ past) id after j is to state h.old h.restores h.next in
     let count = c.count in
     let below = c.under_way.below in
-    let now : StandsFor f v (e ∷ past) id after = record { below = omega arith; sound = h.sound; state = state } in
+    let now : IsMachineOf f v (e ∷ past) id after = record { below = omega arith; sound = h.sound; state = state } in
     record {
       shown = shown ∙ (ap (λ (x : Point). Moved (moved_of f id j x (point_of f after to))) stood
           ∙ (ap (λ (x : Point). Moved (moved_of f id j (point_at f v past id) x)) stands
@@ -185,12 +185,12 @@ same_or a b true h = inl (grind (arith, nat_tests))
 same_or a b false h = inr (λ z. let no : (a == b) ≡ true = grind (arith, nat_tests) in cc)
 
 stands_on : (f : Flow) (v : Start) (past : List Event) (e : Event) (id : ℕ) (m : Machine) → next_id v past ≤ next_id v (e ∷ past) →
-    StandsFor f v past id m → state_of f v (e ∷ past) id ≡ state_of f v past id → StandsFor f v (e ∷ past) id m
+    IsMachineOf f v past id m → state_of f v (e ∷ past) id ≡ state_of f v past id → IsMachineOf f v (e ∷ past) id m
 stands_on f v past e id m more s same = let b = s.below in record { below = omega arith; sound = s.sound; state = s.state ∙ sym same }
 
 kept_next : (f : Flow) (v : Start) (past : List Event) (e : Event) (old new : BTreeMap ℕ Machine) (moved : Option (ℕ × Option Machine)) →
-    next_id v past ≤ next_id v (e ∷ past) → ((id : ℕ) (m : Machine) → machine_at old id ≡ Some m → StandsFor f v past id m)
-    → IsMove f v past e moved → PutsMove old new moved → (id : ℕ) (m : Machine) → machine_at new id ≡ Some m → StandsFor f v (e ∷ past) id m
+    next_id v past ≤ next_id v (e ∷ past) → ((id : ℕ) (m : Machine) → machine_at old id ≡ Some m → IsMachineOf f v past id m)
+    → IsMove f v past e moved → PutsMove old new moved → (id : ℕ) (m : Machine) → machine_at new id ≡ Some m → IsMachineOf f v (e ∷ past) id m
 kept_next f v past e old new None more kept move puts id m at =
     let s = kept id m (sym (puts id) ∙ at) in
     let b = s.below in
@@ -198,7 +198,7 @@ kept_next f v past e old new None more kept move puts id m at =
 kept_next f v past e old new (Some (n, k)) more kept move puts id m at = elim (same_or n id (n == id) refl) [
   | inl same ↦ (let here : k ≡ Some m = sym puts.here ∙ (ap (machine_at new) same ∙ at) in
       let this : IsKept f v (e ∷ past) n (Some m) = subst (IsKept f v (e ∷ past) n) here move.0 in
-      subst (λ (i : ℕ). StandsFor f v (e ∷ past) i m) same this)
+      subst (λ (i : ℕ). IsMachineOf f v (e ∷ past) i m) same this)
   | inr apart ↦ (let s = kept id m (sym (puts.others id apart) ∙ at) in
       let b = s.below in
       stands_on f v past e id m more s (move.1 id (omega arith) apart).1)

@@ -42,14 +42,14 @@ abbrev pub next_recovered : Flow → List (ℕ × Row) → ℕ → Option ℕ
 next_recovered f rows over = first_unfinished f (filter (λ (r : ℕ × Row). nat_lt over r.0) rows) (λ id. [])
 
 -- the machine stands where the transaction does
-pub record StandsFor (f : Flow) (v : Start) (past : List Event) (id : ℕ) (m : Machine) : Type 0 where
+pub record IsMachineOf (f : Flow) (v : Start) (past : List Event) (id : ℕ) (m : Machine) : Type 0 where
   pub below : id < next_id v past
   pub sound : IsSound f m
   pub state : tx_state f m ≡ state_of f v past id
 
 -- what a tracer keeps agrees with the transactions after these events
 pub record Tracks (f : Flow) (v : Start) (past : List Event) (t : Tracer) : Type 0 where
-  pub kept : (id : ℕ) (m : Machine) → machine_at t.machines id ≡ Some m → StandsFor f v past id m
+  pub kept : (id : ℕ) (m : Machine) → machine_at t.machines id ≡ Some m → IsMachineOf f v past id m
   -- one that is not finished and of which no machine is kept has had no item, and stands as its row says
   pub others : (id : ℕ) → machine_at t.machines id ≡ None → id < next_id v past
       → is_ended f (state_of f v past id) ≡ false → state_of f v past id ≡ reopened_at f (look id v.view.rows)
@@ -121,7 +121,7 @@ IsSubject f v past e None = is_given e ≡ false
 -- the machine that is kept of a transaction after an event; none where it has ended
 abbrev pub IsKept : Flow → Start → List Event → ℕ → Option Machine → Type 0
 IsKept f v past id None = is_ended f (state_of f v past id) ≡ true
-IsKept f v past id (Some m) = StandsFor f v past id m
+IsKept f v past id (Some m) = IsMachineOf f v past id m
 
 -- the other transactions stand where they stood
 abbrev pub OthersStay : Flow → Start → List Event → Event → (ℕ → Type 0) → Type 0

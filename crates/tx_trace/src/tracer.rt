@@ -18,7 +18,7 @@ ghost use Rattle.tx_trace.specs.Lines.{json_in, line_in};
 ghost use Rattle.tx_trace.specs.Follow.{AreFound, Concerns, Follows, IsBegun};
 ghost use Rattle.tx_trace.specs.Follow.{IsLeft, IsNext, IsSubject};
 ghost use Rattle.tx_trace.specs.Follow.{IsTraced, IsUnderWay, PutsMove};
-ghost use Rattle.tx_trace.specs.Follow.{StandsFor, Tracks, is_given};
+ghost use Rattle.tx_trace.specs.Follow.{IsMachineOf, Tracks, is_given};
 ghost use Rattle.tx_trace.specs.Follow.{count_of, earlier, led_by, lines_given};
 ghost use Rattle.tx_trace.specs.Follow.{next_recovered, over_after, shelved_after};
 ghost use Rattle.tx_trace.specs.declared.shown.Shown.TheVariants.{Plain};
@@ -103,7 +103,7 @@ impl Tracer {
             (earlier self.now.done engine.now.past) self.now }
         requires under_way { IsUnderWay engine.now.flow engine.now.start
             (earlier self.now.done engine.now.past) id }
-        ensures { IfOk result (StandsFor engine.now.flow engine.now.start
+        ensures { IfOk result (IsMachineOf engine.now.flow engine.now.start
             (earlier self.now.done engine.now.past) id) }
     {
         match self.machines.get(&id) {

@@ -8,7 +8,7 @@ ghost use Rattle.tx_history.specs.History.{Start, to_tell};
 ghost use Rattle.tx_history.specs.Journal.{entries, to_close};
 ghost use Rattle.tx_history.specs.Lives.{closes_of};
 ghost use Rattle.tx_history.specs.Views.{IsOk, PlacesRise};
-ghost use Rattle.tx_engine.specs.Opening.{IsAfterSessions, IsOpenRefusal, Tells, closing_entry};
+ghost use Rattle.tx_engine.specs.Opening.{IsAfterSessions, IsOpenRefusal, RefusesOpen, closing_entry};
 ghost use Rattle.tx_engine.specs.Opening.{open_refusal};
 ghost use Rattle.tx_engine.specs.Opening.{opened_world, unknown_in, unknown_of};
 ghost use Rattle.tx_slots.specs.declared.slot.Slot.TheVariants.{Free};
@@ -149,7 +149,7 @@ fn no_breaks(alloc: Global, participants: usize) -> Result<Vec<bool>, AllocError
 
 // Refuses a name that no participant of the flow has.
 fn test_name(code: &Code, id: u64, name: &Text) -> Result<(), EngineError>
-    ensures { Tells (unknown_in code.now id (name.now ∷ [])) result }
+    ensures { RefusesOpen (unknown_in code.now id (name.now ∷ [])) result }
 {
     let parts = code.participants();
     if number_of(parts, name.as_str()) < parts.len() {
@@ -162,7 +162,7 @@ fn test_name(code: &Code, id: u64, name: &Text) -> Result<(), EngineError>
 }
 
 fn test_names(code: &Code, id: u64, names: &[Text]) -> Result<(), EngineError>
-    ensures { Tells (unknown_in code.now id names.now) result }
+    ensures { RefusesOpen (unknown_in code.now id names.now) result }
 {
     for name in names {
         test_name(code, id, name)?;
@@ -172,7 +172,7 @@ fn test_names(code: &Code, id: u64, names: &[Text]) -> Result<(), EngineError>
 
 // Refuses a row that names a participant to be notified that the flow does not have.
 fn test_row(code: &Code, id: u64, row: &Row) -> Result<(), EngineError>
-    ensures { Tells (unknown_in code.now id (to_tell row.now row.now.doing)) result }
+    ensures { RefusesOpen (unknown_in code.now id (to_tell row.now row.now.doing)) result }
 {
     test_names(code, id, row.joined.as_slice())?;
     match &row.doing {
@@ -182,7 +182,7 @@ fn test_row(code: &Code, id: u64, row: &Row) -> Result<(), EngineError>
 }
 
 fn test_rows(code: &Code, rows: &[(u64, Row)]) -> Result<(), EngineError>
-    ensures { Tells (unknown_of code.now rows.now) result }
+    ensures { RefusesOpen (unknown_of code.now rows.now) result }
 {
     for (id, row) in rows {
         test_row(code, *id, row)?;

@@ -1,7 +1,7 @@
 use Rattle.std.proofs.Common.{arith}
 use Rattle.tx_journal.specs.Kept.{kept}
 use Rattle.tx_plant.specs.Plant.{seen, whole}
-use Rattle.cli_step.proofs.Turning.{ahead, goes_on, last_driven, none_driven, stands}
+use Rattle.cli_step.proofs.Turning.{ahead, goes_on, last_driven, none_driven, world_after}
 use Rattle.cli_step.proofs.turns.drive_one.Goals as goal
 
 pub unreachable-requires : goal.unreachable-requires
@@ -31,7 +31,7 @@ returns-in-Some-clause-follows g c = λ old.
     let q = whole new.running.engine new.running.seats (seen (kept g.S.Store new.journal)) in
     let does = returns-in-Some-clause-does g c in
     goes_on c.tracers_go_on.ensures.entry c.args.tracer.now c.in-Some.outcome plant.running.engine new.running.engine
-    (stands c.args.turn c.in-Some.outcome does.0 p q does.1) old c.requires
+    (world_after c.args.turn c.in-Some.outcome does.0 p q does.1) old c.requires
 
 pub returns-in-Some-clause-ahead : goal.returns-in-Some-clause-ahead
 returns-in-Some-clause-ahead g c =
@@ -41,4 +41,4 @@ returns-in-Some-clause-ahead g c =
     let q = whole new.running.engine new.running.seats (seen (kept g.S.Store new.journal)) in
     let does = returns-in-Some-clause-does g c in
     ahead c.args.tracer.now c.in-Some.outcome plant.running.engine new.running.engine
-    (stands c.args.turn c.in-Some.outcome does.0 p q does.1) c.requires
+    (world_after c.args.turn c.in-Some.outcome does.0 p q does.1) c.requires

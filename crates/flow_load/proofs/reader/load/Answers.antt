@@ -15,4 +15,4 @@ returns-in-Ok-clause-only c = λ f checked is. sym (ap load_of is ∙ image_read
 
 pub returns-in-Err-clause-only : goal.returns-in-Err-clause-only
 returns-in-Err-clause-only c = λ f checked is.
-    subst (λ (r : Result Flow LoadError). Fails c.settled.result r) (ap load_of is ∙ image_read f checked) c.settled.ensures.read
+    subst (λ (r : Result Flow LoadError). Fails c.to_report.result r) (ap load_of is ∙ image_read f checked) c.to_report.ensures.read

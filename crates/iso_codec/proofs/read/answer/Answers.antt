@@ -5,8 +5,8 @@ use Rattle.iso_codec.specs.Reads.{Fails}
 use Rattle.iso_codec.proofs.MessageReads.{read_grown_is}
 use Rattle.iso_codec.proofs.read.answer.Goals as goal
 
-pub settled-requires : goal.settled-requires
-settled-requires c = subst (λ (r : Result PlainMessage DecodeError). Fails c.in-Err.e r) (read_grown_is c.args.bytes.now) c.in-Err.ensures
+pub to_report-requires : goal.to_report-requires
+to_report-requires c = subst (λ (r : Result PlainMessage DecodeError). Fails c.in-Err.e r) (read_grown_is c.args.bytes.now) c.in-Err.ensures
 
 pub returns-in-Ok : goal.returns-in-Ok
 returns-in-Ok c = sym (read_grown_is c.args.bytes.now) ∙ c.in-Ok.ensures

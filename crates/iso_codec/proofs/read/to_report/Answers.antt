@@ -1,6 +1,6 @@
 use Rattle.iso_codec.specs.Reads.{read}
 use Rattle.iso_codec.proofs.DecodeAnswers.{kept, looked_fault, looked_well}
-use Rattle.iso_codec.proofs.read.settled.Goals as goal
+use Rattle.iso_codec.proofs.read.to_report.Goals as goal
 
 pub returns-in-Ok : goal.returns-in-Ok
 returns-in-Ok c = looked_well c.args.bytes.now _ c.in-Ok.ensures

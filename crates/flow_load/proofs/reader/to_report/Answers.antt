@@ -1,5 +1,5 @@
 use Rattle.flow_load.proofs.LookedOver.{looked_fault, looked_memory, looked_well}
-use Rattle.flow_load.proofs.reader.settled.Goals as goal
+use Rattle.flow_load.proofs.reader.to_report.Goals as goal
 
 pub returns-in-Ok-clause-last : goal.returns-in-Ok-clause-last
 returns-in-Ok-clause-last c = λ h. looked_well c.args.bytes.now c.in-Ok.ensures
