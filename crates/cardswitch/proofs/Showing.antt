@@ -23,16 +23,16 @@ use Rattle.cardswitch.specs.declared.error.RunError.{RunError}
 use Rattle.cardswitch.specs.declared.error.RunError.TheVariants as error
 
 -- a journal refused for a row at fault, and nothing is written
-row_untold : (o : JournalOptions) (before : Option (List ℕ)) (e : JournalError) → IsRowFault e → IsRowReported o before before e
-row_untold o before (journal.BadRow bad) h = (h, inl refl)
-row_untold o before journal.OutOfMemory h = absurd h
-row_untold o before journal.Failed h = absurd h
-row_untold o before (journal.Store c) h = absurd h
+row_unreported : (o : JournalOptions) (before : Option (List ℕ)) (e : JournalError) → IsRowFault e → IsRowReported o before before e
+row_unreported o before (journal.BadRow bad) h = (h, inl refl)
+row_unreported o before journal.OutOfMemory h = absurd h
+row_unreported o before journal.Failed h = absurd h
+row_unreported o before (journal.Store c) h = absurd h
 
 -- no journal was found
 pub not_found : (o : JournalOptions) (before : Option (List ℕ)) (e : RunError) → IsFoundFault o.path.now e → IsLookFault o before before e
 not_found o before (error.JournalFile p cause) h = (h, refl)
-not_found o before (error.Journal p cause) h = (h.0, row_untold o before cause h.1)
+not_found o before (error.Journal p cause) h = (h.0, row_unreported o before cause h.1)
 not_found o before (error.Engine p cause) h = absurd h
 not_found o before (error.Serve e) h = absurd h
 not_found o before error.OutOfMemory h = inl refl

@@ -65,7 +65,7 @@ pub fn run<
 fn report<E: Write>(error: &RunError, err: &mut E) -> u8
     ensures { result ≡ run_status error.now }
 {
-    // If standard error takes nothing, the status still tells of the error.
+    // If standard error takes nothing, the status still reports the error.
     let _ = writeln!(err, "cardswitch: {error}");
     error.status()
 }
@@ -199,7 +199,7 @@ pub fn refuse<E: Write>(error: &OptionsError, shown: Result<(), WriteError>, err
     ensures quiet { result ≡ 0 → Keeps (E.contents err.old) (E.contents err.new) }
 {
     if error.use_stderr() {
-        // If standard error takes nothing, the status still tells of the error.
+        // If standard error takes nothing, the status still reports the error.
         let _ = write!(err, "{error}");
         return error.status();
     }

@@ -36,9 +36,9 @@ pub not_refused : (b : Bool) (e : TableError) → refused_if b e ≡ None → b 
 not_refused false e h = refl
 not_refused true e h = absurd (cc)
 
-fits_if : (b : Bool) (d : Data) (told : Data → TableError) → option_map told (if b then None else Some d) ≡ None → b ≡ true
-fits_if true d told h = refl
-fits_if false d told h = absurd (cc)
+fits_if : (b : Bool) (d : Data) (refusal : Data → TableError) → option_map refusal (if b then None else Some d) ≡ None → b ≡ true
+fits_if true d refusal h = refl
+fits_if false d refusal h = absurd (cc)
 
 -- the values that may stand where a thing is wanted are the only ones
 abbrev pub AreFit : Want → Option Data → Type 0

@@ -100,10 +100,10 @@ reading text = option_map states (parse_document text)
 
 -- what a function over a document answers is what that states, unless memory ran out
 abbrev pub Gives : Result config.Config ConfigError → Result config.Config TableError → Type 0
-Gives (Ok c) told = told ≡ Ok c
-Gives (Err OutOfMemory) told = ⊤
-Gives (Err (Toml t)) told = ⊥
-Gives (Err (Table e)) told = told ≡ Err e
+Gives (Ok c) reads = reads ≡ Ok c
+Gives (Err OutOfMemory) reads = ⊤
+Gives (Err (Toml t)) reads = ⊥
+Gives (Err (Table e)) reads = reads ≡ Err e
 
 -- the text is a configuration file of the configuration
 abbrev pub IsConfigFile : config.Config → List ℕ → Type 0

@@ -14,8 +14,8 @@ abbrev pub at_name : {A : Type 0} → List ℕ → List ℕ → A → A → A
 at_name q name x y = if bytes_eq q name then x else y
 
 -- the item is put after those of its name, and all other queues stay
-abbrev pub PutsBehind : {A : Type 0} → (List ℕ → List A) → (List ℕ → List A) → List ℕ → A → Type 0
-PutsBehind old new name item = (q : List ℕ) → new q ≡ old q ++ at_name q name (item ∷ []) []
+abbrev pub PutsLast : {A : Type 0} → (List ℕ → List A) → (List ℕ → List A) → List ℕ → A → Type 0
+PutsLast old new name item = (q : List ℕ) → new q ≡ old q ++ at_name q name (item ∷ []) []
 
 -- what is queued for other names stays
 abbrev pub OthersStay : {A : Type 0} → (List ℕ → A) → (List ℕ → A) → List ℕ → Type 0

@@ -1,6 +1,6 @@
 //! Queues by name.
 ghost use Rattle.std.specs.Prelude.{◌≡◌, ℕ, List, [], OnOk, string_bytes};
-ghost use Rattle.cli_script.specs.Queues.{OthersStay, PutsBehind, queue_at};
+ghost use Rattle.cli_script.specs.Queues.{OthersStay, PutsLast, queue_at};
 
 use std::alloc::{AllocError, Global};
 use std::collections::{BTreeMap, VecDeque};
@@ -28,7 +28,7 @@ impl<T: Drop> Queues<T> {
 
     /// Puts an item after those of its name.
     pub fn push(&mut self, name: String, item: T) -> Result<(), AllocError>
-        ensures { OnOk result (PutsBehind (queue_at self.old) (queue_at self.new)
+        ensures { OnOk result (PutsLast (queue_at self.old) (queue_at self.new)
             (string_bytes name) item) }
     {
         self.held.entry(name)?.or_default().push_back(item)?;

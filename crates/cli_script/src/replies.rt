@@ -1,7 +1,7 @@
 //! What participants reply, by their names.
 ghost use Rattle.std.specs.Prelude.{◌≡◌, ℕ, List, [], OnOk};
 ghost use Rattle.sw_scripted.specs.Scripted.{queues_of};
-ghost use Rattle.cli_script.specs.Queues.{OthersStay, PutsBehind};
+ghost use Rattle.cli_script.specs.Queues.{OthersStay, PutsLast};
 ghost use Rattle.cli_script.specs.Replies.{advices_at, answers_at, choices_at, queued_at, restores_at};
 
 use crate::queues::Queues;
@@ -46,7 +46,7 @@ impl Replies {
 
     /// Queues the answer of a preparation of a participant, after the answers that are queued already.
     pub fn queue_answer(&mut self, name: Text, answer: QueuedAnswer) -> Result<(), AllocError>
-        ensures queued { OnOk result (PutsBehind (answers_at self.old)
+        ensures queued { OnOk result (PutsLast (answers_at self.old)
             (answers_at self.new) name answer) }
         ensures others { self.new ≡ record self.old { answers = self.new.answers } }
     {
@@ -55,7 +55,7 @@ impl Replies {
 
     /// The same for the text of a selection.
     pub fn queue_choice(&mut self, name: Text, text: Text) -> Result<(), AllocError>
-        ensures queued { OnOk result (PutsBehind (choices_at self.old)
+        ensures queued { OnOk result (PutsLast (choices_at self.old)
             (choices_at self.new) name text) }
         ensures others { self.new ≡ record self.old { choices = self.new.choices } }
     {
@@ -64,7 +64,7 @@ impl Replies {
 
     /// The same for the advice of a commit or an abort.
     pub fn queue_advice(&mut self, name: Text, body: Bytes) -> Result<(), AllocError>
-        ensures queued { OnOk result (PutsBehind (advices_at self.old)
+        ensures queued { OnOk result (PutsLast (advices_at self.old)
             (advices_at self.new) name body) }
         ensures others { self.new ≡ record self.old { advices = self.new.advices } }
     {
@@ -73,7 +73,7 @@ impl Replies {
 
     /// The same for the entries that a `recover` puts into the context.
     pub fn queue_restore(&mut self, name: Text, puts: Sequence<Put>) -> Result<(), AllocError>
-        ensures queued { OnOk result (PutsBehind (restores_at self.old)
+        ensures queued { OnOk result (PutsLast (restores_at self.old)
             (restores_at self.new) name puts) }
         ensures others { self.new ≡ record self.old { restores = self.new.restores } }
     {

@@ -26,15 +26,15 @@ no_next has_file n text (Some p) next is = cc
 
 pub refused_next : (has_file : Bool) (n : ℕ) (text : List ℕ) (e : ScriptError) → IsNextSetting has_file n text (Err e)
     → e ≢ script.OutOfMemory → IsNoSetting has_file text
-refused_next has_file n text (script.Line k cause found) next told = λ s begins. let both = sym begins.1 ∙ next.1.1 in cc
-refused_next has_file n text (script.FlowBesideFile k found) next told = λ s begins.
+refused_next has_file n text (script.Line k cause found) next reported = λ s begins. let both = sym begins.1 ∙ next.1.1 in cc
+refused_next has_file n text (script.FlowBesideFile k found) next reported = λ s begins.
     let both = sym begins.1 ∙ next.1.1.1 in
     let same : s ≡ next.1.1.0 = cc in
     ap (is_misplaced has_file) same ∙ next.1.1.2
-refused_next has_file n text (script.LateSetting k found) next told = absurd next.1
-refused_next has_file n text (script.Crowded k found) next told = absurd next.1
-refused_next has_file n text (script.Flow k cause) next told = absurd next.1
-refused_next has_file n text script.OutOfMemory next told = absurd (told refl)
+refused_next has_file n text (script.LateSetting k found) next reported = absurd next.1
+refused_next has_file n text (script.Crowded k found) next reported = absurd next.1
+refused_next has_file n text (script.Flow k cause) next reported = absurd next.1
+refused_next has_file n text script.OutOfMemory next reported = absurd (reported refl)
 
 abbrev Known : Type 0
 Known = Option (List ℕ)

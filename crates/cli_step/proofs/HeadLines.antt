@@ -8,14 +8,14 @@ use Rattle.flow_model.specs.declared.flow.Flow.{Flow}
 use Rattle.cli_step.specs.Prompts.{HeadAnswers, IsHeadLine, IsReported, IsScriptHeadLine, IsUnopened, heading}
 use Rattle.cli_step.specs.declared.opening.HeadLine.TheVariants as head
 
-pub refused_head : (has_file : Bool) (n : ℕ) (line : List ℕ) (told cause : ScriptError) → told ≡ cause → cause ≢ script.OutOfMemory
-    → IsNextSetting has_file n line (Err cause) → IsScriptHeadLine has_file line (head.Refused told)
-refused_head has_file n line told cause same is_refusal next =
+pub refused_head : (has_file : Bool) (n : ℕ) (line : List ℕ) (reported cause : ScriptError) → reported ≡ cause → cause ≢ script.OutOfMemory
+    → IsNextSetting has_file n line (Err cause) → IsScriptHeadLine has_file line (head.Refused reported)
+refused_head has_file n line reported cause same is_refusal next =
     subst (λ (e : ScriptError). IsScriptHeadLine has_file line (head.Refused e)) (sym same) (is_refusal, (n, next.1))
 
 pub unopened_head : (file steps : Option Flow) (line settings : List ℕ) (out err err_after : Option (List ℕ)) → steps ≡ file
     → IsHeadLine (is_some steps) line head.Opens → IsUnopened steps settings → IsReported err err_after
     → HeadAnswers file line (heading settings out err) (heading settings out err_after)
-unopened_head file steps line settings out err err_after same is unopened told =
+unopened_head file steps line settings out err err_after same is unopened reported =
     subst (λ (f : Option Flow). HeadAnswers f line (heading settings out err) (heading settings out err_after)) same
-    (head.Opens, is, (unopened, record { settings = refl; out = refl; err = told }))
+    (head.Opens, is, (unopened, record { settings = refl; out = refl; err = reported }))

@@ -87,12 +87,12 @@ refused_there s left new p w before after e ran next = record {
 } where
   cause_of : (d : ScriptError) → IsNextAction left new (Err d)
       → IsCause (error_of_script d) (s.lines + length ran.acts) left.rest.now before after ran.text []
-  cause_of script.OutOfMemory told = tt
-  cause_of (script.Line n c f) told = (told.0, rw ran.count at (told.1), ran.written)
-  cause_of (script.FlowBesideFile n f) told = absurd told.1
-  cause_of (script.LateSetting n f) told = (told.0, rw ran.count at (told.1), ran.written)
-  cause_of (script.Crowded n f) told = (told.0, rw ran.count at (told.1), ran.written)
-  cause_of (script.Flow n c) told = absurd told.1
+  cause_of script.OutOfMemory reported = tt
+  cause_of (script.Line n c f) reported = (reported.0, rw ran.count at (reported.1), ran.written)
+  cause_of (script.FlowBesideFile n f) reported = absurd reported.1
+  cause_of (script.LateSetting n f) reported = (reported.0, rw ran.count at (reported.1), ran.written)
+  cause_of (script.Crowded n f) reported = (reported.0, rw ran.count at (reported.1), ran.written)
+  cause_of (script.Flow n c) reported = absurd reported.1
 
 writing_cause : (e : StepError) (lines : ℕ) (rest : List ℕ) (before after : Bytes) (text more : Text) → IsWriting e
     → IsCause e lines rest before after text more
@@ -149,9 +149,9 @@ line_failed s left new a p w before mid after n e ran next number (more, printed
   cause_of : IsWriting e ⊎ (IsLeft a more × Appends mid after more × ((x : ActionError) × (e ≡ at_line n x)))
       → IsCause e (s.lines + length ran.acts) left.rest.now before after ran.text more
   cause_of (inl writing) = writing_cause e (s.lines + length ran.acts) left.rest.now before after ran.text more writing
-  cause_of (inr told) = subst (λ d. IsCause d (s.lines + length ran.acts) left.rest.now before after ran.text more) (sym told.2.1)
-      (line_cause told.2.0 (s.lines + length ran.acts) n left.rest.now before after ran.text more (number ∙ ap (λ k. k + 1) ran.count)
-      (a, means_of left new a next, told.0) (Appends-trans before mid after ran.text more ran.written told.1))
+  cause_of (inr reported) = subst (λ d. IsCause d (s.lines + length ran.acts) left.rest.now before after ran.text more) (sym reported.2.1)
+      (line_cause reported.2.0 (s.lines + length ran.acts) n left.rest.now before after ran.text more (number ∙ ap (λ k. k + 1) ran.count)
+      (a, means_of left new a next, reported.0) (Appends-trans before mid after ran.text more ran.written reported.1))
 
 at_ok : {E : Type 0} {First : Type 0} (r : Result Unit E) → r ≡ Ok tt → OnOk r First → First
 at_ok (Ok u) same holds = holds

@@ -302,7 +302,7 @@ does old new line action p q out out_after err same next (text, acts, written) =
 pub refuses : (old new : Actions) (line : List ℕ) (cause : ScriptError) (p : Point) (out err err_after : Known) → old.rest.now ≡ line
     → IsNextAction old new (Err cause) → cause ≢ script.OutOfMemory → IsReported err err_after
     → IsRunOrReported line (scene p out err) (scene p out err_after)
-refuses old new line cause p out err err_after same next is_refusal told = inr (record {
+refuses old new line cause p out err err_after same next is_refusal reported = inr (record {
   refused = record {
     number = old.lines + 1;
     cause = cause;
@@ -311,7 +311,7 @@ refuses old new line cause p out err err_after same next is_refusal told = inr (
   };
   at = refl;
   out = refl;
-  err = told;
+  err = reported;
 })
 
 -- a line, by the word of the prompt that it is

@@ -194,7 +194,7 @@ fn open_over<R: Read, W: Write, E: Write>(
 
 // Opens the flow that the settings state, and answers a line and then all that are still to come; or reports why the
 // flow is not opened. Returns whether it is.
-fn open_or_tell<R: Read, W: Write, E: Write>(
+fn open_or_report<R: Read, W: Write, E: Write>(
     alloc: Global,
     file: &Option<Code>,
     settings: &[u8],
@@ -211,7 +211,7 @@ fn open_or_tell<R: Read, W: Write, E: Write>(
         OpenedOver file.now settings.now line.now others
         (W.contents out.old) (E.contents err.old) (W.contents out.new) (E.contents err.new))) }
     ensures refused { IfOk result (λ opened. opened ≡ false → IsUnopened file.now settings.now) }
-    ensures told { IfOk result (λ opened. opened ≡ false →
+    ensures reported { IfOk result (λ opened. opened ≡ false →
         IsReported (E.contents err.old) (E.contents err.new)) }
     ensures stays { IfOk result (λ opened. opened ≡ false →
         (lines.new ≡ lines.old) × (out.new ≡ out.old)) }
@@ -301,7 +301,7 @@ pub fn run_prompted<R: Read, W: Write, E: Write>(
     while let Some(line) = ask(alloc, lines, out)? {
         let (line, before) = (line.as_slice(), lines.count() - 1);
         let opens = answer_head(alloc, &steps, &mut settings, line, before, out, err)?;
-        if opens && open_or_tell(alloc, &steps, settings.as_slice(), line, lines, out, err)? {
+        if opens && open_or_report(alloc, &steps, settings.as_slice(), line, lines, out, err)? {
             return Ok(());
         }
     }

@@ -73,7 +73,7 @@ fn hint(cause: &StepError) -> &'static str {
 
 /// Reports why a line is refused.
 pub fn report<E: Write>(alloc: Global, cause: &StepError, err: &mut E) -> Result<(), StepError>
-    ensures told { OnOk result (IsReported (E.contents err.old) (E.contents err.new)) }
+    ensures reported { OnOk result (IsReported (E.contents err.old) (E.contents err.new)) }
     ensures grows { Grows (E.contents err.old) (E.contents err.new) }
     ensures fault { IfErr result (IsFaultOf ⊤) }
     ensures head_fault { IfErr result (IsFaultOf SomeIsMade) }

@@ -11,7 +11,7 @@ use Rattle.iso_codec.specs.Digits.{bits_at, octets}
 use Rattle.sw_base.specs.Digits.{number_of}
 
 -- The text of a value: the value itself, of its exact length; or the value after as many digits as
--- the form has for its length, which tell it; or the sixteen hexadecimal digits of eight bytes.
+-- the form has for its length, which give it; or the sixteen hexadecimal digits of eight bytes.
 abbrev pub SpellsValue : Option Form → List ℕ → List ℕ → Type 0
 SpellsValue None text value = ⊥
 SpellsValue (Some (Fixed content exact)) text value =

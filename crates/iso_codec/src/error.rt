@@ -9,7 +9,7 @@ use std::alloc::AllocError;
 use thiserror::Error;
 
 /// The first fault from the left, or out of memory. The fault of a field has the field's number, and
-/// its text also tells the field's name and what was expected. The numbers of the faults are 0 for
+/// its text also gives the field's name and what was expected. The numbers of the faults are 0 for
 /// out of memory, and then 1 to 7 in this order.
 #[derive(Clone, Copy, Debug, PartialEq, Eq, Drop, Error)]
 pub enum DecodeError {

@@ -8,7 +8,7 @@ use std::alloc::{AllocError, AllocFailed};
 use std::fmt;
 use thiserror::Error;
 
-/// A refusal. That of a field has the field's number, and its text also tells the field's name and
+/// A refusal. That of a field has the field's number, and its text also gives the field's name and
 /// what was expected. `Message::set` tests for its refusals in this order, with out of memory last.
 /// Their numbers are 0 for out of memory, 1, 2 and 3 for those of a field and 4 for that of a message
 /// type.

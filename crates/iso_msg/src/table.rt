@@ -23,7 +23,7 @@ pub enum Form {
         content: Content,
         length: u16,
     },
-    /// LLVAR or LLLVAR: a value of at most this length after two or three digits that tell its
+    /// LLVAR or LLLVAR: a value of at most this length after two or three digits that give its
     /// length. It may be empty.
     Variable {
         content: Content,

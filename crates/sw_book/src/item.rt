@@ -8,7 +8,7 @@ pub struct Card {
     pub digits: [u8; 19],
 }
 
-/// What tells two requests of a card apart: the card in 19 places, then the terminal (field 41),
+/// What distinguishes two requests of a card: the card in 19 places, then the terminal (field 41),
 /// the STAN (field 11) and the transmission date and time (field 7).
 #[derive(Clone, Copy, PartialEq, Eq, Hash)]
 pub struct BookKey {

@@ -1,6 +1,6 @@
 //! Participants whose replies are drawn at random.
 //!
-//! A [`Chance`] promises nothing of its replies. What its calls put into a context tells which
+//! A [`Chance`] promises nothing of its replies. What its calls put into a context says which
 //! calls the context came through; for tests.
 #![tactic(auto)]
 

@@ -3,7 +3,7 @@
 //! - A `Context` is a list of at most 64 entries of different names, each with a value of at most 65,535 bytes.
 //!   `put`, `get` and `take` are those of a list of pairs, and a refused `put` changes nothing.
 //! - A context has one spelling in bytes. `from_bytes` accepts exactly the bytes that `to_bytes` gives, and gives
-//!   the context that they came from (`spellings_read_back`); `is_bytes` tells which bytes those are.
+//!   the context that they came from (`spellings_read_back`); `is_bytes` says which bytes those are.
 //! - `is_name` is the rule for all names: of a context's entries, of participants and of groups.
 #![tactic(auto)]
 

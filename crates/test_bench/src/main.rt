@@ -56,7 +56,7 @@ fn main(rt: HostRuntime) -> ExitCode {
     match run(&rt) {
         Ok(()) => ExitCode::from(0),
         Err(error) => {
-            let _told = writeln!(rt.stderr(), "test_bench: {error}");
+            let _written = writeln!(rt.stderr(), "test_bench: {error}");
             ExitCode::from(1)
         }
     }

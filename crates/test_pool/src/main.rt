@@ -225,7 +225,7 @@ fn main(rt: HostRuntime) -> ExitCode {
     match run_words(&rt, alloc, words.as_slice(), &mut out) {
         Ok(()) => ExitCode::from(0),
         Err(error) => {
-            let _told = writeln!(rt.stderr(), "test_pool: {error}");
+            let _written = writeln!(rt.stderr(), "test_pool: {error}");
             ExitCode::from(1)
         }
     }

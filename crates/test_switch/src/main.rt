@@ -117,7 +117,7 @@ fn main(rt: HostRuntime) -> ExitCode {
     match run_words(&rt, &rt, words.as_slice()) {
         Ok(()) => ExitCode::from(0),
         Err(error) => {
-            let _told = writeln!(rt.stderr(), "test_switch: {error}");
+            let _written = writeln!(rt.stderr(), "test_switch: {error}");
             ExitCode::from(1)
         }
     }

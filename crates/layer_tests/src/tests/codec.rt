@@ -103,17 +103,17 @@ fn the_largest_message_goes_round(rt: HostRuntime) -> Result<(), Fail> {
     Ok(())
 }
 
-fn is_told(alloc: Global, bytes: &[u8], wanted: DecodeError) -> bool {
+fn is_reported(alloc: Global, bytes: &[u8], wanted: DecodeError) -> bool {
     matches!(decode(alloc, bytes), Err(error) if error == wanted)
 }
 
 /// Passes whichever allocation is refused (`rt try --test --fail-alloc N`): a fault is reported before out of
 /// memory, and out of memory only instead of a message.
 #[test]
-fn want_of_memory_is_told_last(rt: HostRuntime) {
+fn want_of_memory_is_reported_last(rt: HostRuntime) {
     for _ in 0..3 {
         assert!(rt;
-            is_told(
+            is_reported(
                 rt.alloc(),
                 b"0800802000000000000004000000000000000000013011",
                 DecodeError::Trailing

@@ -99,7 +99,7 @@ fn refusal(alloc: Global, number: u8, value: &[u8]) -> Result<String, Fail> {
     }
 }
 
-fn is_told(alloc: Global, number: u8, value: &[u8], wanted: &str) -> Result<bool, Fail> {
+fn is_reported(alloc: Global, number: u8, value: &[u8], wanted: &str) -> Result<bool, Fail> {
     Ok(refusal(alloc, number, value)?.as_str() == wanted)
 }
 
@@ -140,15 +140,15 @@ const REFUSED: [(u8, &[u8], &str); 7] = [
 ];
 
 #[test]
-fn a_refused_value_is_told(rt: HostRuntime) -> Result<(), Fail> {
+fn a_refused_value_is_reported(rt: HostRuntime) -> Result<(), Fail> {
     for (number, value, wanted) in REFUSED {
-        assert!(rt; is_told(rt.alloc(), number, value, wanted)?, "{wanted}");
+        assert!(rt; is_reported(rt.alloc(), number, value, wanted)?, "{wanted}");
     }
     Ok(())
 }
 
 #[test]
-fn a_refused_type_is_told(rt: HostRuntime) -> Result<(), Fail> {
+fn a_refused_type_is_reported(rt: HostRuntime) -> Result<(), Fail> {
     let error: MessageError = Mti::new(b"080").err().ok_or("three digits")?;
     assert_eq!(rt;
         error.to_string(rt.alloc())?.as_str(),

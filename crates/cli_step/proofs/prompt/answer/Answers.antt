@@ -50,7 +50,7 @@ returns-in_ok-refusal-in-Err-clause-answers g c =
     let a = scene p (g.W.Write.contents c.args.out.now) (g.E.Write.contents c.args.err.now) in
     let b = scene p (g.W.Write.contents c.args.out.now) (g.E.Write.contents c.report.new.err) in
     let next = rw c.in-Err.is at c.next.ensures.next in
-    on_ok c.report.result (λ told. answers_by _ c.args.line.now a b (sym c.in_default.is ∙ c.prompt_word_at.ensures)
+    on_ok c.report.result (λ reported. answers_by _ c.args.line.now a b (sym c.in_default.is ∙ c.prompt_word_at.ensures)
     (refuses c.new-actions.result c.next.new.self c.args.line.now c.in-Err.error p a.out a.err b.err c.new-actions.ensures.rest next
-    c.in_ok-refusal-in-Err.ensures.refused told))
-    c.report.ensures.told
+    c.in_ok-refusal-in-Err.ensures.refused reported))
+    c.report.ensures.reported

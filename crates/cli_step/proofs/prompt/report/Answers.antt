@@ -26,8 +26,8 @@ returns-in_err-write_out-clause-fault g c =
     let error = err_from_is_err_and c.from_residual-in_err-write_out.result c.from_residual-in_err-write_out.ensures.1 in
     rw (error.1, error.2) (write_fault ⊤ c.in_err-write_out.field-0.0)
 
-pub returns-clause-told : goal.returns-clause-told
-returns-clause-told g c = (_, Appends-trans _ _ _ _ _ c.in_ok-write_whole.ensures.written c.in_ok-write_out.ensures.written)
+pub returns-clause-reported : goal.returns-clause-reported
+returns-clause-reported g c = (_, Appends-trans _ _ _ _ _ c.in_ok-write_whole.ensures.written c.in_ok-write_out.ensures.written)
 
 pub returns-clause-grows : goal.returns-clause-grows
 returns-clause-grows g c = (_, Appends-trans _ _ _ _ _ c.in_ok-write_whole.ensures.written c.in_ok-write_out.ensures.written)
