@@ -48,8 +48,8 @@ beginning_all a b xs h = (xs, [], sym (append-nil xs), h)
 pub beginning_front : (a b : Option (List ℕ)) (xs ys : List ℕ) → AppendsBeginning a b xs → AppendsBeginning a b (xs ++ ys)
 beginning_front a b xs ys (first, rest, whole, h) = (first, rest ++ ys, ap (λ (l : List ℕ). l ++ ys) whole ∙ append_assoc first rest ys, h)
 
-pub beginning_behind : (a b c : Option (List ℕ)) (xs ys : List ℕ) → Appends a b xs → AppendsBeginning b c ys → AppendsBeginning a c (xs ++ ys)
-beginning_behind a b c xs ys h (first, rest, whole, k) =
+pub beginning_after : (a b c : Option (List ℕ)) (xs ys : List ℕ) → Appends a b xs → AppendsBeginning b c ys → AppendsBeginning a c (xs ++ ys)
+beginning_after a b c xs ys h (first, rest, whole, k) =
     (xs ++ first, rest, ap (λ (l : List ℕ). xs ++ l) whole ∙ sym (append_assoc xs first rest), Appends-trans a b c xs first h k)
 
 pub beginning_taken : (a b c : Option (List ℕ)) (n : ℕ) (xs : List ℕ) → Appends a b (take n xs) → Keeps b c → AppendsBeginning a c xs

@@ -8,7 +8,7 @@ use Rattle.std.specs.Io.KnownBytes.{Appends}
 use Rattle.std.proofs.KnownBytes.{Appends-nil, Appends-trans}
 use Rattle.std.proofs.lemmas.Grind.{flat_map-append}
 use Rattle.cli_io.specs.Written.{AppendsBeginning}
-use Rattle.cli_io.proofs.Writing.{beginning_behind, beginning_front}
+use Rattle.cli_io.proofs.Writing.{beginning_after, beginning_front}
 use Rattle.flow_model.specs.declared.flow.Flow.{Flow}
 use Rattle.tx_history.specs.declared.event.Event.{Event}
 use Rattle.tx_history.specs.History.{Start}
@@ -115,7 +115,7 @@ part_line text form f v past n k o x written a b c lt at is line shown first sec
     ∙ (sym line ∙ ap (option_map text) is) in
     let last : AppendsBeginning b c (text x ++ 10 ∷ []) = subst (λ (l : List ℕ). AppendsBeginning b c (l ++ 10 ∷ [])) shown second in
     let both : AppendsBeginning a c (all_as form f v (earlier n past) ++ (text x ++ 10 ∷ [])) =
-    beginning_behind a b c (all_as form f v (earlier n past)) (text x ++ 10 ∷ []) first last in
+    beginning_after a b c (all_as form f v (earlier n past)) (text x ++ 10 ∷ []) first last in
     let next : AppendsBeginning a c (all_as form f v (earlier (n + 1) past)) =
     subst (AppendsBeginning a c) (sym (lines_next form f v past n (text x) lt here)) both in
     let (rest, whole) = lines_front form f v past (n + 1) in

@@ -66,11 +66,11 @@ ordered_drop (suc k) (AtReturn ∷ xs) h = ordered_drop k xs h
 ordered_at : (f : Flow) (k : ℕ) → IsOrdered (drop k (stages f))
 ordered_at f k = ordered_drop k (stages f) (ordered_groups (layout f))
 
-pub behind_call : (f : Flow) (k : ℕ) (s : PlacedEntry) → slice_get (stages f) k ≡ Some (AtCall s) → Follows s (drop (k + 1) (stages f))
-behind_call f k s h = (subst IsOrdered (front (stages f) k (AtCall s) h) (ordered_at f k)).0
+pub after_call : (f : Flow) (k : ℕ) (s : PlacedEntry) → slice_get (stages f) k ≡ Some (AtCall s) → Follows s (drop (k + 1) (stages f))
+after_call f k s h = (subst IsOrdered (front (stages f) k (AtCall s) h) (ordered_at f k)).0
 
-pub behind_pick : (f : Flow) (k : ℕ) (s : PlacedEntry) → slice_get (stages f) k ≡ Some (AtPick s) → Goes (drop (k + 1) (stages f))
-behind_pick f k s h = (subst IsOrdered (front (stages f) k (AtPick s) h) (ordered_at f k)).0
+pub after_pick : (f : Flow) (k : ℕ) (s : PlacedEntry) → slice_get (stages f) k ≡ Some (AtPick s) → Goes (drop (k + 1) (stages f))
+after_pick f k s h = (subst IsOrdered (front (stages f) k (AtPick s) h) (ordered_at f k)).0
 
 goes_length : (xs : List Stage) → Goes xs → 0 < length xs
 goes_length [] h = absurd h

@@ -14,20 +14,21 @@ use Rattle.flow_load.specs.Groups.{Walk, after, cut_off, role_of, walk, wanted, 
 use Rattle.flow_load.specs.Reads.{◌>>=◌}
 
 -- what was read before, and what is yet to be read
-abbrev pub behind : List Entry → Result Walk LoadError → Result Walk LoadError
-behind es read = read >>= λ w. Ok (with_entries es w)
+abbrev pub preceded_by : List Entry → Result Walk LoadError → Result Walk LoadError
+preceded_by es read = read >>= λ w. Ok (with_entries es w)
 
-merged : (es fs : List Entry) (read : Result Walk LoadError) → behind es (behind fs read) ≡ behind (es ++ fs) read
+merged : (es fs : List Entry) (read : Result Walk LoadError) → preceded_by es (preceded_by fs read) ≡ preceded_by (es ++ fs) read
 merged es fs (Ok w) = ap (λ (xs : List Entry). Ok (record w { entries = xs })) (sym (append_assoc es fs w.entries))
 merged es fs (Err e) = refl
 
 module _ (parts : List Part) (line group at k : ℕ) (due : Option ℕ) (seen : ℕ) (steps : List Step) (es : List Entry) (total : Result Walk LoadError) where
   -- the walk so far
   abbrev pub IsWalked : Type 0
-  IsWalked = behind es (walk parts line group due (at + k) seen (drop k steps)) ≡ total
+  IsWalked = preceded_by es (walk parts line group due (at + k) seen (drop k steps)) ≡ total
 
   on : (d : Step) (role : Result StepRole LoadError) → k < length steps → role_of parts (line + at + k) due seen (get_or steps k d) ≡ role → IsWalked
-      → behind es (role >>= λ t. after parts (λ o m. walk parts line group o (at + k + 1) m (drop (k + 1) steps)) (at + k) seen (drop (k + 1) steps) t) ≡ total
+      → preceded_by es (role >>= λ t. after parts (λ o m. walk parts line group o (at + k + 1) m (drop (k + 1) steps)) (at + k) seen (drop (k + 1) steps) t)
+      ≡ total
   on d role lt is walked =
       let here : line + at + k ≡ line + (at + k) = omega arith in
       rw (← is, here) (rw (drop_more steps k d lt) at walked)
@@ -36,7 +37,7 @@ module _ (parts : List Part) (line group at k : ℕ) (due : Option ℕ) (seen : 
   stopped d e lt walked is = sym (on d (Err e) lt is walked)
 
   pub called : (d : Step) (p : ℕ) → k < length steps → role_of parts (line + at + k) due seen (get_or steps k d) ≡ Ok (Calls p) → IsWalked
-      → behind (es ++ entry_of (slice_get parts p)) (walk parts line group (wanted p (slice_get parts p)) (at + (k + 1)) (max seen (p + 1))
+      → preceded_by (es ++ entry_of (slice_get parts p)) (walk parts line group (wanted p (slice_get parts p)) (at + (k + 1)) (max seen (p + 1))
       (drop (k + 1) steps)) ≡ total
   called d p lt is walked =
       let next : at + (k + 1) ≡ at + k + 1 = omega arith in
@@ -44,7 +45,7 @@ module _ (parts : List Part) (line group at k : ℕ) (due : Option ℕ) (seen : 
       (drop (k + 1) steps))) ∙ on d (Ok (Calls p)) lt is walked)
 
   pub picked : (d : Step) → k < length steps → role_of parts (line + at + k) due seen (get_or steps k d) ≡ Ok Picks → IsWalked
-      → behind es (walk parts line group None (at + (k + 1)) seen (drop (k + 1) steps)) ≡ total
+      → preceded_by es (walk parts line group None (at + (k + 1)) seen (drop (k + 1) steps)) ≡ total
   picked d lt is walked =
       let next : at + (k + 1) ≡ at + k + 1 = omega arith in
       rw next (on d (Ok Picks) lt is walked)

@@ -15,17 +15,17 @@ use Rattle.flow_load.specs.Groups.{Walk, Walks, walk, walks, with_groups}
 use Rattle.flow_load.specs.Reads.{◌>>=◌}
 
 -- what was read before, and what is yet to be read
-abbrev pub behind : List Group → Result Walks LoadError → Result Walks LoadError
-behind gs read = read >>= λ w. Ok (with_groups gs w)
+abbrev pub preceded_by : List Group → Result Walks LoadError → Result Walks LoadError
+preceded_by gs read = read >>= λ w. Ok (with_groups gs w)
 
-merged : (gs : List Group) (g : Group) (read : Result Walks LoadError) → behind gs (behind (g ∷ []) read) ≡ behind (gs ++ g ∷ []) read
+merged : (gs : List Group) (g : Group) (read : Result Walks LoadError) → preceded_by gs (preceded_by (g ∷ []) read) ≡ preceded_by (gs ++ g ∷ []) read
 merged gs g (Ok w) = ap (λ (xs : List Group). Ok (record w { groups = xs })) (sym (append_assoc gs (g ∷ []) w.groups))
 merged gs g (Err e) = refl
 
 module _ (parts : List Part) (line number at seen : ℕ) (rest : List Step) (starts : List GroupStart) (gs : List Group) (total : Result Walks LoadError) where
   -- the walk so far
   abbrev pub IsWalked : Type 0
-  IsWalked = behind gs (walks parts line number at seen rest (drop number starts)) ≡ total
+  IsWalked = preceded_by gs (walks parts line number at seen rest (drop number starts)) ≡ total
 
   pub misplaced : (s : GroupStart) → number < length starts → s ≡ get_or starts number s → s.first ≢ at → IsWalked →
       total ≡ Err (BadTarget (2 + length parts + number))
@@ -37,7 +37,7 @@ module _ (parts : List Part) (line number at seen : ℕ) (rest : List Step) (sta
 
   on : (s : GroupStart) (read : Result Walk LoadError) → number < length starts → s ≡ get_or starts number s → s.first ≡ at →
       walk parts line number None at seen rest ≡ read → IsWalked
-      → behind gs (read >>= λ w. behind (record { name = s.name; entries = w.entries } ∷ [])
+      → preceded_by gs (read >>= λ w. preceded_by (record { name = s.name; entries = w.entries } ∷ [])
       (walks parts line (number + 1) w.at w.seen w.rest (drop (number + 1) starts))) ≡ total
   on s read lt is same reads walked =
       let equal : (s.first == at) ≡ true = grind (arith, nat_tests) in
@@ -51,7 +51,8 @@ module _ (parts : List Part) (line number at seen : ℕ) (rest : List Step) (sta
 
   pub added : (s : GroupStart) (w : Walk) → number < length starts → s ≡ get_or starts number s → s.first ≡ at →
       walk parts line number None at seen rest ≡ Ok w → IsWalked
-      → behind (gs ++ record { name = s.name; entries = w.entries } ∷ []) (walks parts line (number + 1) w.at w.seen w.rest (drop (number + 1) starts)) ≡ total
+      → preceded_by (gs ++ record { name = s.name; entries = w.entries } ∷ [])
+      (walks parts line (number + 1) w.at w.seen w.rest (drop (number + 1) starts)) ≡ total
   added s w lt is same reads walked =
       sym (merged gs (record { name = s.name; entries = w.entries }) (walks parts line (number + 1) w.at w.seen w.rest (drop (number + 1) starts)))
       ∙ on s (Ok w) lt is same reads walked

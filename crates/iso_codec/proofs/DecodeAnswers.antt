@@ -14,7 +14,7 @@ use Rattle.iso_codec.specs.declared.error.DecodeError.TheVariants.{Short, BadMti
 use Rattle.iso_codec.specs.Digits.{bits_at, octets}
 use Rattle.sw_base.specs.Digits.{is_digit, number_of}
 use Rattle.iso_codec.specs.Grammar.{Spells}
-use Rattle.iso_codec.specs.Reads.{◌>>=◌, or_fault, part, mti_is, bitmap_at, bitmaps_at, starts_with_1, field_numbers, front_at, known, behind_length}
+use Rattle.iso_codec.specs.Reads.{◌>>=◌, or_fault, part, mti_is, bitmap_at, bitmaps_at, starts_with_1, field_numbers, front_at, known, after_length}
 use Rattle.iso_codec.specs.Reads.{octets_at, text_at}
 use Rattle.iso_codec.specs.Reads.{field_at, fields_at, read, Answers, Fails, content_is, field_over, fields_over, read_over, type_of}
 use Rattle.iso_codec.proofs.FrontReads as fronts
@@ -72,7 +72,7 @@ clean_known (n ∷ ns) = clean_bind (or_fault (form_of n) (FieldNotInProfile n))
     (λ form. clean_known ns)
 
 clean_text : (form : Form) (n : ℕ) (bytes : List ℕ) → Clean (text_at form n bytes)
-unfolding behind_length octets_at
+unfolding after_length octets_at
 clean_text (Fixed content exact) n bytes = clean_part exact bytes
 clean_text (Variable content places most) n bytes =
     clean_bind (part places bytes) (λ digits. or_fault (number_of digits.0) (BadLength n) >>= λ len. cond (ltb most len) (Err (BadLength n))

@@ -17,7 +17,7 @@ use Rattle.iso_codec.proofs.ResultSteps.{chosen, some_is, ok_is, bind_ok, guard_
 use Rattle.iso_msg.specs.Messages.{Fields, numbers_of}
 use Rattle.iso_msg.specs.Values.{takes, has_content, is_byte}
 use Rattle.iso_codec.specs.Grammar.{SpellsValue, SpellsFields}
-use Rattle.iso_codec.specs.Reads.{◌>>=◌, or_fault, part, behind_length, octets_at, text_at, field_at, fields_at, known}
+use Rattle.iso_codec.specs.Reads.{◌>>=◌, or_fault, part, after_length, octets_at, text_at, field_at, fields_at, known}
 
 -- a text at the front
 pub record Front (o : Option Form) (bytes v rest : List ℕ) : Type 0 where
@@ -33,7 +33,7 @@ fixed_found c k n bytes x e t =
 
 variable_found : (c : Content) (places most n : ℕ) (bytes : List ℕ) (x : List ℕ × List ℕ) → text_at (Variable c places most) n bytes ≡ Ok x →
     takes c x.0 ≡ true → Front (Some (Variable c places most)) bytes x.0 x.1
-unfolding behind_length
+unfolding after_length
 variable_found c places most n bytes x e t =
     let a = bind_ok (part places bytes) (λ digits. or_fault (number_of digits.0) (BadLength n) >>= λ len. cond (ltb most len) (Err (BadLength n))
     (part len digits.1)) x e in
@@ -107,7 +107,7 @@ octets_bytes (c ∷ d ∷ cs) v e =
     subst (λ (x : List ℕ). list_all is_byte x ≡ true) (sym s.4) (rw (lt-ltb s.0 256 b) (octets_bytes cs s.1 s.3))
 
 pub value_again : (o : Option Form) (n : ℕ) (text v rest : List ℕ) → SpellsValue o text v → field_at o n (text ++ rest) ≡ Ok (v, rest)
-unfolding behind_length octets_at
+unfolding after_length octets_at
 value_again None n text v rest s = absurd s
 value_again (Some (Fixed c k)) n text v rest s = rw (s.0, part_again k v rest s.1, s.2) refl
 value_again (Some (Variable c places most)) n text v rest s =

@@ -69,8 +69,8 @@ front_at bytes = do
   Ok (front.0, field_numbers ns.0, ns.1)
 
 -- a text after the digits of its length
-unfoldable pub behind_length : ℕ → ℕ → ℕ → List ℕ → Result (List ℕ × List ℕ) DecodeError
-behind_length places most n bytes = do
+unfoldable pub after_length : ℕ → ℕ → ℕ → List ℕ → Result (List ℕ × List ℕ) DecodeError
+after_length places most n bytes = do
   digits ← part places bytes
   len ← or_fault (number_of digits.0) (BadLength n)
   if nat_lt most len then Err (BadLength n) else part len digits.1
@@ -85,7 +85,7 @@ octets_at n bytes = do
 -- a value of a field's form, whatever its bytes
 abbrev pub text_at : Form → ℕ → List ℕ → Result (List ℕ × List ℕ) DecodeError
 text_at (Fixed content exact) n bytes = part exact bytes
-text_at (Variable content places most) n bytes = behind_length places most n bytes
+text_at (Variable content places most) n bytes = after_length places most n bytes
 text_at Binary n bytes = octets_at n bytes
 
 -- the value of a field
@@ -135,8 +135,8 @@ Gives view (Ok x) reading = reading ≡ Ok (view x)
 Gives view (Err e) reading = Fails e reading
 
 -- numbers before those that are read
-abbrev pub behind : List ℕ → Result (List ℕ × List ℕ) DecodeError → Result (List ℕ × List ℕ) DecodeError
-behind front r = r >>= λ x. Ok (front ++ x.0, x.1)
+abbrev pub preceded_by : List ℕ → Result (List ℕ × List ℕ) DecodeError → Result (List ℕ × List ℕ) DecodeError
+preceded_by front r = r >>= λ x. Ok (front ++ x.0, x.1)
 
 abbrev pub put_before : List ℕ → Option (List ℕ) → Option (List ℕ)
 put_before front None = None

@@ -2,7 +2,7 @@
 
 ghost use Rattle.std.specs.Prelude.{◌≡◌, ◌<◌, ◌≤◌, ◌+◌, [], length, option_map};
 ghost use Rattle.iso_codec.specs.Digits.{bits_at};
-ghost use Rattle.iso_codec.specs.Reads.{Exactly, behind, bitmap_at, bitmaps_at, field_numbers};
+ghost use Rattle.iso_codec.specs.Reads.{Exactly, preceded_by, bitmap_at, bitmaps_at, field_numbers};
 ghost use Rattle.iso_codec.specs.Reads.{known, put_before, starts_with_1};
 
 use crate::error::DecodeError;
@@ -39,7 +39,7 @@ fn read_bitmap<'a>(
     requires first { first ≤ 65 }
     requires room { length numbers.old < first }
     ensures map { Exactly (λ rest. (numbers.new, rest.now)) result
-        (behind numbers.old (bitmap_at first bytes.now)) }
+        (preceded_by numbers.old (bitmap_at first bytes.now)) }
     ensures small { length numbers.new ≤ length numbers.old + 64 }
 {
     let (text, rest) = split(bytes, 16)?;

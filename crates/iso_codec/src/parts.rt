@@ -2,7 +2,7 @@
 
 ghost use Rattle.std.specs.Prelude.{◌≡◌, ◌<◌, ◌≤◌, ◌+◌, ◌*◌, length, IfOk, IfSome};
 ghost use Rattle.iso_codec.specs.Digits.{both, hex_value, octets};
-ghost use Rattle.iso_codec.specs.Reads.{Exactly, part, mti_is, behind_length, octets_at};
+ghost use Rattle.iso_codec.specs.Reads.{Exactly, part, mti_is, after_length, octets_at};
 
 use crate::error::DecodeError;
 use iso_msg::Mti;
@@ -48,7 +48,7 @@ pub fn hex_digit(c: u8) -> Option<u8>
 
 /// The value of an LLVAR or LLLVAR field, which comes after the digits of its length, and the bytes
 /// after it. Refuses `Short` and `BadLength`; the content is not looked at.
-#[tactic(auto, unfolding(crate::specs::Reads::behind_length))]
+#[tactic(auto, unfolding(crate::specs::Reads::after_length))]
 pub fn read_variable(
     length_digits: u16,
     max_length: u16,
@@ -57,7 +57,7 @@ pub fn read_variable(
 ) -> Result<(&[u8], &[u8]), DecodeError>
     requires { length_digits ≤ 3 }
     ensures text { Exactly (λ x. (x.0.now, x.1.now)) result
-        (behind_length length_digits max_length number bytes.now) }
+        (after_length length_digits max_length number bytes.now) }
     ensures len { IfOk result (λ x. length x.0.now ≤ max_length) }
 {
     let (digits, after) = split(bytes, length_digits as usize)?;

@@ -66,17 +66,17 @@ module _ (fs : List Field) (n : ℕ) (a : AreFields 1 (pairs fs)) where
       sym (place_between fs n i within (λ j d l. ranked _ n _ (sym (q.0 j d (omega arith) l))) (λ j d l m. ranked _ n _ (sym (q.1 j d l m))))
 
 -- a field goes after those with lower numbers
-behind_all : (fs : List Field) (n : ℕ) (v : List ℕ) → ((i : ℕ) (d : Field) → i < length fs → (get_or fs i d).number < n) →
+after_all : (fs : List Field) (n : ℕ) (v : List ℕ) → ((i : ℕ) (d : Field) → i < length fs → (get_or fs i d).number < n) →
     with_value n v (pairs fs) ≡ pairs fs ++ (n, v) ∷ []
-behind_all [] n v under = refl
-behind_all (f ∷ fs) n v under = rw (lt-ltb f.number n (under 0 f (omega arith)))
-    (ap (λ (x : Fields). pair f ∷ x) (behind_all fs n v (λ i d l. under (suc i) d (omega arith))))
+after_all [] n v under = refl
+after_all (f ∷ fs) n v under = rw (lt-ltb f.number n (under 0 f (omega arith)))
+    (ap (λ (x : Fields). pair f ∷ x) (after_all fs n v (λ i d l. under (suc i) d (omega arith))))
 
 -- the numbers of all are lower where that of the last one is
 pub above_last : (fs : List Field) (n : ℕ) (f : Field) → AreFields 1 (pairs fs) → slice_get fs (length fs - 1) ≡ Some f → f.number < n → (v : List ℕ) →
     with_value n v (pairs fs) ≡ pairs fs ++ (n, v) ∷ []
 above_last fs n f a last less v =
-    behind_all fs n v (λ i d l.
+    after_all fs n v (λ i d l.
     let top : (get_or fs (length fs - 1) d).number ≡ f.number = ap (λ (x : Field). x.number) (get_or_from_slice_get fs (length fs - 1) f d last) in
     elim (cases_eq i (length fs - 1)) [
       | inl e ↦ let same : (get_or fs i d).number ≡ (get_or fs (length fs - 1) d).number = ap (λ k. (get_or fs k d).number) e in omega (arith, same, top, less)

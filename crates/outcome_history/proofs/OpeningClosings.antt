@@ -70,8 +70,8 @@ nobody_over f r h = (old_outcome f r []).ended ∙ nobody_left r.told (map (numb
 abbrev Rows : Flow → IdView → List (ℕ × Row) → Type 0
 Rows f j rows = (id : ℕ) (r : Row) → look id rows ≡ Some r → (j.row id ≡ Some (numbered f r)) × RowFits r
 
-rows_behind : (f : Flow) (j : IdView) (x : ℕ × Row) (rows : List (ℕ × Row)) (m : ℕ) → Rising (x.0 + 1) m rows → Rows f j (x ∷ rows) → Rows f j rows
-rows_behind f j x rows m rise all id r h =
+rows_after : (f : Flow) (j : IdView) (x : ℕ × Row) (rows : List (ℕ × Row)) (m : ℕ) → Rising (x.0 + 1) m rows → Rows f j (x ∷ rows) → Rows f j rows
+rows_after f j x rows m rise all id r h =
     let w = (look_within rows (x.0 + 1) m id r rise h).0 in
     let other : (x.0 == id) ≡ false = grind (arith, nat_tests) in
     all id r (rw other h)
@@ -97,10 +97,10 @@ closings_hold f j [] n m past rise all cs clear = cs
 closings_hold f j (x ∷ rows) n m past rise all cs clear =
     let lo : n ≤ x.0 = rise.0 in
     let yes : (x.0 == x.0) ≡ true = grind (arith, nat_tests) in
-    let behind : Rows f j rows = rows_behind f j x rows m rise.2 all in
+    let later : Rows f j rows = rows_after f j x rows m rise.2 all in
     closings_if f j x rows past (all x.0 x.1 (rw yes refl)) cs (clear x.0 lo)
-    (λ more. closings_hold f j rows (x.0 + 1) m (x.0 ∷ past) rise.2 behind more (still_open x.0 past n lo clear))
-    (closings_hold f j rows (x.0 + 1) m past rise.2 behind cs (λ id le. clear id (omega arith)))
+    (λ more. closings_hold f j rows (x.0 + 1) m (x.0 ∷ past) rise.2 later more (still_open x.0 past n lo clear))
+    (closings_hold f j rows (x.0 + 1) m past rise.2 later cs (λ id le. clear id (omega arith)))
     (is_ended f (reopened f x.1)) refl
 
 -- and each with nobody to notify is closed

@@ -138,7 +138,7 @@ seek_first f (x ∷ rows) items test n k rise h =
     (let other : (x.0 == j) ≡ false = grind (arith, nat_tests) in
     let none : look j (x ∷ rows) ≡ None = rw other (look_below rows (x.0 + 1) (n + k) j rise.2 (omega arith)) in
     h j c (omega arith) ∙ ap (λ (o : Option Row). open_at f o (items j)) none) in
-    let behind : seek test (x.0 + 1) b ≡ first_unfinished f rows items =
+    let later : seek test (x.0 + 1) b ≡ first_unfinished f rows items =
     seek_first f rows items test (x.0 + 1) b (subst (λ (m : ℕ). Rising (x.0 + 1) m rows) end rise.2)
     (λ j c d. let other : (x.0 == j) ≡ false = grind (arith, nat_tests) in
     let same : look j (x ∷ rows) ≡ look j rows = rw other refl in
@@ -146,7 +146,7 @@ seek_first f (x ∷ rows) items test n k rise h =
     ap (λ (i : ℕ). seek test n i) split
     ∙ (seek_skip test n a (suc b) below
     ∙ (ap (λ (i : ℕ). seek test i (suc b)) place
-    ∙ (ap (λ (o : Option ℕ). if test x.0 then Some x.0 else o) behind
+    ∙ (ap (λ (o : Option ℕ). if test x.0 then Some x.0 else o) later
     ∙ (ap (λ (c : Bool). if c then Some x.0 else first_unfinished f rows items) tested
     ∙ seek_or (is_ended f (after_newest f (reopened f x.1) (items x.0))) x.0 (first_unfinished f rows items)))))
 

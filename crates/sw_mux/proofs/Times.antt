@@ -205,8 +205,8 @@ none_under q low (e ∷ es) h u =
 at_head : (q : ℕ) (e : ℕ × Key) (es : List (ℕ × Key)) → q ≡ e.0 → find q (e ∷ es) ≡ Some e.1
 at_head q e es h = ap (λ o. cond (is_eq o) (Some e.1) (find q es)) (sym (nat_cmp_is q e.0 Equal h))
 
-behind : (q : ℕ) (e : ℕ × Key) (es : List (ℕ × Key)) → e.0 < q → find q (e ∷ es) ≡ find q es
-behind q e es h = ap (λ o. cond (is_eq o) (Some e.1) (find q es)) (sym (nat_cmp_is q e.0 Greater h))
+find_past : (q : ℕ) (e : ℕ × Key) (es : List (ℕ × Key)) → e.0 < q → find q (e ∷ es) ≡ find q es
+find_past q e es h = ap (λ o. cond (is_eq o) (Some e.1) (find q es)) (sym (nat_cmp_is q e.0 Greater h))
 
 not_none : (k : Key) → Some k ≡ no_key → ⊥
 not_none k h = absurd cc
@@ -238,7 +238,7 @@ same_entries low (e ∷ es) (f ∷ fs) u w h = λ i. (heads i, values i) ∷ sam
         by : (o : Ordering) → MatchOrdering o (q < e.0) (q ≡ e.0) (e.0 < q) → find q es ≡ find q fs
         by Less m = none_under q (e.0 + 1) es (omega (arith, m)) u.1 ∙ sym (none_under q (e.0 + 1) fs (omega (arith, m)) w')
         by Equal m = none_under q (e.0 + 1) es (omega (arith, m)) u.1 ∙ sym (none_under q (e.0 + 1) fs (omega (arith, m)) w')
-        by Greater m = sym (behind q e es m) ∙ h q ∙ behind q f fs (omega (arith, m, heads))
+        by Greater m = sym (find_past q e es m) ∙ h q ∙ find_past q f fs (omega (arith, m, heads))
 
 values_due : (tick : ℕ) (es : Numbered) → values_of (due_entries tick es) ≡ due tick (values_of es)
 values_due tick [] = refl

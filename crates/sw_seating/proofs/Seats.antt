@@ -36,9 +36,9 @@ or_false : (b : Bool) → (b || false) ≡ true → b ≡ true
 or_false true h = refl
 or_false false h = h
 
-pub not_behind : (names : List (List ℕ)) (ps : List Part) (k : ℕ) (p : Part) → AreNumbered ps → k < length ps → HaveStations names ps
+pub not_after : (names : List (List ℕ)) (ps : List Part) (k : ℕ) (p : Part) → AreNumbered ps → k < length ps → HaveStations names ps
     → take k names ≡ take k (part_names ps) → is_among (get_or ps k p).name (drop k names) ≡ false → ⊥
-not_behind names ps k p numbered low has seated absent =
+not_after names ps k p numbered low has seated absent =
     let name = (get_or ps k p).name in
     let test : List ℕ → Bool = λ n. bytes_eq n name in
     let all = ap (list_any test) (take-append-drop k names) ∙ has k p low in

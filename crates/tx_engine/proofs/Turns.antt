@@ -17,7 +17,7 @@ use Rattle.tx_history.specs.Journal.{IsAccepted, closes, change, touched, shelve
 use Rattle.tx_history.specs.Views.{IsOrdered, AreSessions, AreSpelled}
 use Rattle.tx_history.proofs.GivenItems.{Gave, gave_answered, gave_chose, gave_told, unshelved_if}
 use Rattle.tx_history.proofs.SoundJournals.{look_gather}
-use Rattle.tx_history.proofs.RecoveryOrder.{behind, fresh_items}
+use Rattle.tx_history.proofs.RecoveryOrder.{rows_after, fresh_items}
 use Rattle.tx_engine.specs.Items.{IsReply, advice_of}
 use Rattle.tx_slots.specs.Rows.{next_row}
 
@@ -126,14 +126,14 @@ lacks_change id (Some w) xs h = search rules
 
 -- the next journalled transaction
 
-next_if : (f : Flow) (r : ℕ × Row) (rows : List (ℕ × Row)) (id : ℕ) → first_unfinished f (behind id rows) fresh_items ≡ option_map (λ (r : ℕ × Row). r.0)
+next_if : (f : Flow) (r : ℕ × Row) (rows : List (ℕ × Row)) (id : ℕ) → first_unfinished f (rows_after id rows) fresh_items ≡ option_map (λ (r : ℕ × Row). r.0)
     (next_row f rows id) → (a b : Bool) → nat_lt id r.0 ≡ a → is_ended f (reopened f r.1) ≡ b
-    → first_unfinished f (behind id (r ∷ rows)) fresh_items ≡ option_map (λ (r : ℕ × Row). r.0) (next_row f (r ∷ rows) id)
+    → first_unfinished f (rows_after id (r ∷ rows)) fresh_items ≡ option_map (λ (r : ℕ × Row). r.0) (next_row f (r ∷ rows) id)
 next_if f r rows id ih true true above over = rw (above, over) ih
 next_if f r rows id ih true false above over = rw (above, over) refl
 next_if f r rows id ih false b above over = rw above ih
 
-pub next_is : (f : Flow) (rows : List (ℕ × Row)) (id : ℕ) → first_unfinished f (behind id rows) fresh_items ≡ option_map (λ (r : ℕ × Row). r.0)
+pub next_is : (f : Flow) (rows : List (ℕ × Row)) (id : ℕ) → first_unfinished f (rows_after id rows) fresh_items ≡ option_map (λ (r : ℕ × Row). r.0)
     (next_row f rows id)
 next_is f [] id = refl
 next_is f (r ∷ rows) id = next_if f r rows id (next_is f rows id) (nat_lt id r.0) (is_ended f (reopened f r.1)) refl refl

@@ -35,15 +35,15 @@ unfinished_none f (r ∷ rows) items h = by (is_ended f (after_newest f (reopene
     by false e ih = absurd (cc)
 
 -- those after the one that is being recovered were given nothing
-all_behind : (f : Flow) (rows : List (ℕ × Row)) (items : ℕ → List Item) (id n m : ℕ) → Rising n m rows → id < n →
+all_later : (f : Flow) (rows : List (ℕ × Row)) (items : ℕ → List Item) (id n m : ℕ) → Rising n m rows → id < n →
     ((j : ℕ) → id < j → j < m → items j ≡ []) → unfinished_in f items rows ≡ later_rows f rows id
-all_behind f [] items id n m rise lt none = refl
-all_behind f (r ∷ rows) items id n m rise lt none =
+all_later f [] items id n m rise lt none = refl
+all_later f (r ∷ rows) items id n m rise lt none =
     let lo = rise.0 in
     let hi = rise.1 in
     let above : nat_lt id r.0 ≡ true = grind (arith, nat_tests) in
     let fresh : items r.0 ≡ [] = none r.0 (omega arith) hi in
-    rw (above, fresh, all_behind f rows items id (r.0 + 1) m rise.2 (omega arith) none) refl
+    rw (above, fresh, all_later f rows items id (r.0 + 1) m rise.2 (omega arith) none) refl
 
 unfinished_first_if : (f : Flow) (r : ℕ × Row) (rows : List (ℕ × Row)) (items : ℕ → List Item) (id n m : ℕ) → Rising n m (r ∷ rows) →
     ((j : ℕ) → id < j → j < m → items j ≡ [])
@@ -59,7 +59,7 @@ unfinished_first_if f r rows items id n m rise none ih true e h =
 unfinished_first_if f r rows items id n m rise none ih false e h =
     let same : r.0 ≡ id = grind (arith) in
     let below : nat_lt id r.0 ≡ false = grind (arith, nat_tests) in
-    let rest : unfinished_in f items rows ≡ later_rows f rows id = all_behind f rows items id (r.0 + 1) m rise.2 (omega arith) none in
+    let rest : unfinished_in f items rows ≡ later_rows f rows id = all_later f rows items id (r.0 + 1) m rise.2 (omega arith) none in
     let len = ap (λ (l : List (ℕ × Row)). length l) rest in
     rw (e, below) (omega arith)
 

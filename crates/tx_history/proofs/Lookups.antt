@@ -19,9 +19,9 @@ look_first id (y ∷ xs) ys x h = by (y.0 == id) h (look_first id xs ys x)
     by true h ih = h
     by false h ih = ih h
 
-look_behind : {A : Type 0} (id : ℕ) (xs ys : List (ℕ × A)) → look id xs ≡ None → look id (xs ++ ys) ≡ look id ys
-look_behind id [] ys h = refl
-look_behind id (y ∷ xs) ys h = by (y.0 == id) h (look_behind id xs ys)
+look_after : {A : Type 0} (id : ℕ) (xs ys : List (ℕ × A)) → look id xs ≡ None → look id (xs ++ ys) ≡ look id ys
+look_after id [] ys h = refl
+look_after id (y ∷ xs) ys h = by (y.0 == id) h (look_after id xs ys)
   where
     by : (b : Bool) → (if b then Some y.1 else look id xs) ≡ None → (look id xs ≡ None → look id (xs ++ ys) ≡ look id ys) →
         (if b then Some y.1 else look id (xs ++ ys)) ≡ look id ys
@@ -37,7 +37,7 @@ gathered_not h n k id out = not_in h n k id out (look id (gather h n k)) refl
 
 -- at its end, and before it
 last_at : {A : Type 0} (h : ℕ → Option A) (n k id : ℕ) → id ≡ n + k → look id (gather h n (suc k)) ≡ h id
-last_at h n k id same = rw same (look_behind (n + k) (gather h n k) (keyed (n + k) (h (n + k))) (gathered_not h n k (n + k) (λ a b. omega arith))
+last_at h n k id same = rw same (look_after (n + k) (gather h n k) (keyed (n + k) (h (n + k))) (gathered_not h n k (n + k) (λ a b. omega arith))
     ∙ look_last (n + k) (h (n + k)))
 
 other_last : {A : Type 0} (m id : ℕ) (o : Option A) → id < m → look id (keyed m o) ≡ None
@@ -45,7 +45,7 @@ other_last m id None less = refl
 other_last m id (Some x) less = let other : (m == id) ≡ false = grind (arith, nat_tests) in rw other refl
 
 before_last : {A : Type 0} (h : ℕ → Option A) (n k id : ℕ) → id < n + k → (o : Option A) → look id (gather h n k) ≡ o → look id (gather h n (suc k)) ≡ o
-before_last h n k id less None e = look_behind id (gather h n k) (keyed (n + k) (h (n + k))) e ∙ other_last (n + k) id (h (n + k)) less
+before_last h n k id less None e = look_after id (gather h n k) (keyed (n + k) (h (n + k))) e ∙ other_last (n + k) id (h (n + k)) less
 before_last h n k id less (Some x) e = look_first id (gather h n k) (keyed (n + k) (h (n + k))) x e
 
 gathered_if : {A : Type 0} (h : ℕ → Option A) (n k id : ℕ) → id < n + suc k → (id < n + k → look id (gather h n k) ≡ h id) → (b : Bool) →

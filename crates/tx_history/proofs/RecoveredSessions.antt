@@ -19,7 +19,7 @@ use Rattle.tx_history.proofs.RisingKeys.{look_within}
 use Rattle.tx_history.proofs.OwnItems.{found, is_other, taken_from, holds_serves}
 use Rattle.tx_history.proofs.GivenItems.{Gave, gave_answered, gave_chose, gave_told}
 use Rattle.tx_history.proofs.Sessions.{serves_who, recovered_first, recovered_stays, recovering_below, recovering_other, state_given}
-use Rattle.tx_history.proofs.RecoveryOrder.{behind, fresh_items, later_none, recovering_next, step_on}
+use Rattle.tx_history.proofs.RecoveryOrder.{rows_after, fresh_items, later_none, recovering_next, step_on}
 
 -- without a take no session has taken anything
 pub none_taken : (v : Start) (past : List Event) (s : ℕ) → takes past ≡ 0 → taken v past s ≡ None
@@ -104,7 +104,7 @@ last_none f v (Closed i ∷ past) id j o law h lt le = last_none f v past id j o
 
 -- the first one after it with somebody to notify
 abbrev pub next_one : Flow → Start → ℕ → Option ℕ
-next_one f v id = first_unfinished f (behind id v.view.rows) fresh_items
+next_one f v id = first_unfinished f (rows_after id v.view.rows) fresh_items
 
 -- that one as its row says
 abbrev pub next_reopened : Flow → Start → Option ℕ → Option (ℕ × TxState)
@@ -121,10 +121,10 @@ session_goes_on f v past e id x o law g h going =
     ap (λ (r : Option ℕ). state_of_served f v (e ∷ past) (or_taken r (taken v (e ∷ past) 0))) still ∙ ap (λ (s : TxState). Some (id, s)) given
 
 -- the one that is recovered next comes after it
-pub next_behind : (f : Flow) (v : Start) (past : List Event) (e : Event) (id j : ℕ) (x : Item) → IsOrdered v.view → IsLawful f v past →
+pub next_after : (f : Flow) (v : Start) (past : List Event) (e : Event) (id j : ℕ) (x : Item) → IsOrdered v.view → IsLawful f v past →
     Gave f v past e id x → recovering f v past ≡ Some id
     → recovering f v (e ∷ past) ≡ Some j → j ≢ id → (id < j) × (j < v.view.next_id)
-next_behind f v past e id j x o law g h r apart =
+next_after f v past e id j x o law g h r apart =
     let on : id ≤ j = step_on f v.view.rows (own_items f v past) (own_items f v (e ∷ past)) 1 v.view.next_id id j o.rows g.others h r in
     let below = recovering_below f v (e ∷ past) j o r in
     (omega (arith, apart), below)
@@ -165,7 +165,7 @@ session_goes_to_next f v past e id x o law g h same over =
         state_of_served f v (e ∷ past) (or_taken r (taken v (e ∷ past) 0)) ≡ next_reopened f v r
     by None now ended free = rw free refl
     by (Some j) now ended free =
-        let w = next_behind f v past e id j x o law g h now (over_apart f v (e ∷ past) id j o now ended) in
+        let w = next_after f v past e id j x o law g h now (over_apart f v (e ∷ past) id j o now ended) in
         ap (λ (s : TxState). Some (j, s)) (reopened_as f v past e id j x o law g h w.0 w.1)
 
 -- and the next one has no entry yet
@@ -175,5 +175,5 @@ pub last_of_next : (f : Flow) (v : Start) (past : List Event) (e : Event) (id j 
 last_of_next f v past e id j x o law g h over r =
     let given = state_given f v past e id x g in
     let ended : is_ended f (state_of f v (e ∷ past) id) ≡ true = rw given over in
-    let w = next_behind f v past e id j x o law.2 g h r (over_apart f v (e ∷ past) id j o r ended) in
+    let w = next_after f v past e id j x o law.2 g h r (over_apart f v (e ∷ past) id j o r ended) in
     last_none f v past id j o law.2 h w.0 w.1

@@ -103,11 +103,11 @@ filter_above k n m (r ∷ rows) lt rise =
 abbrev pub fresh_items : ℕ → List Item
 fresh_items j = []
 
-abbrev pub behind : ℕ → List (ℕ × Row) → List (ℕ × Row)
-behind k rows = filter (λ (p : ℕ × Row). nat_lt k p.0) rows
+abbrev pub rows_after : ℕ → List (ℕ × Row) → List (ℕ × Row)
+rows_after k rows = filter (λ (p : ℕ × Row). nat_lt k p.0) rows
 
 abbrev pub one_after : Flow → List (ℕ × Row) → ℕ → Bool → Option ℕ
-one_after f rows k ended = if ended then first_unfinished f (behind k rows) fresh_items else Some k
+one_after f rows k ended = if ended then first_unfinished f (rows_after k rows) fresh_items else Some k
 
 next_if : (f : Flow) (r : ℕ × Row) (rows : List (ℕ × Row)) (a b : ℕ → List Item) (n m k : ℕ) (q : Row) → Rising n m (r ∷ rows) →
     ((j : ℕ) → j ≢ k → b j ≡ a j) → ((j : ℕ) → k < j → j < m → b j ≡ []) → look k (r ∷ rows) ≡ Some q
@@ -131,7 +131,7 @@ next_if f r rows a b n m k q rise same later there ih false e h =
     let low : nat_lt k r.0 ≡ false = grind (arith, nat_tests) in
     let none : first_unfinished f rows b ≡ first_unfinished f rows fresh_items =
     open_same f rows b fresh_items (r.0 + 1) m rise.2 (λ j c d. later j (omega arith) d) in
-    let all : behind k rows ≡ rows = filter_above k (r.0 + 1) m rows (omega arith) rise.2 in
+    let all : rows_after k rows ≡ rows = filter_above k (r.0 + 1) m rows (omega arith) rise.2 in
     let test : is_ended f (after_newest f (reopened f r.1) (b r.0)) ≡ is_ended f (after_newest f (reopened f q) (b k)) =
     ap (λ (q : Row). is_ended f (after_newest f (reopened f q) (b r.0))) eq ∙ ap (λ (i : ℕ). is_ended f (after_newest f (reopened f q) (b i))) here in
     rw (test, low, all, none, here) refl

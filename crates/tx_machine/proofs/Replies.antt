@@ -90,9 +90,9 @@ pub selected_room : (f : Flow) (m : Machine) (p : ℕ) → IsAhead f m.step (vie
 selected_room f m p ahead ready = room (rest_of f m.step m.stack.items) (Select ahead.0) (upcoming_at f (m.step + 1) ++ stack_upcoming f m.stack.items)
     m.calls (ap (λ (l : List Upcoming). l ++ stack_upcoming f m.stack.items) ahead.1.upcoming) ready.few
 
-entered_before : (e : PlacedEntry) (tail behind : List Upcoming) (b : Bool) → e.kind.selector ≡ b → entered e tail ++ behind ≡ entered e (tail ++ behind)
-entered_before e tail behind true is = rw is refl
-entered_before e tail behind false is = rw is refl
+entered_before : (e : PlacedEntry) (tail below : List Upcoming) (b : Bool) → e.kind.selector ≡ b → entered e tail ++ below ≡ entered e (tail ++ below)
+entered_before e tail below true is = rw is refl
+entered_before e tail below false is = rw is refl
 
 pub answered_on : (f : Flow) (m : Machine) (p : ℕ) (k : Kind) (byte : ℕ) (context : List ℕ) (phase : Phase) (retry : Bool) (joined saved : List ℕ) →
     IsAhead f m.step (view.Call p k)
@@ -109,9 +109,9 @@ pub answered_on : (f : Flow) (m : Machine) (p : ℕ) (k : Kind) (byte : ℕ) (co
     }) ≡ answered_at (state f m) byte context (rest_of f m.step m.stack.items)
 answered_on f m p k byte context phase retry joined saved ahead a b c d =
     let e : PlacedEntry = ahead.0 in
-    let behind : List Upcoming = stack_upcoming f m.stack.items in
-    let on : rest_of f (m.step + 1) m.stack.items ≡ entered e (ahead.1 ++ behind) = ap (λ (l : List Upcoming). l ++ behind) ahead.2.after
-    ∙ entered_before e ahead.1 behind e.kind.selector refl in
+    let below : List Upcoming = stack_upcoming f m.stack.items in
+    let on : rest_of f (m.step + 1) m.stack.items ≡ entered e (ahead.1 ++ below) = ap (λ (l : List Upcoming). l ++ below) ahead.2.after
+    ∙ entered_before e ahead.1 below e.kind.selector refl in
     let same : record (state f m) {
       phase = phase;
       rest = rest_of f (m.step + 1) m.stack.items;
@@ -123,7 +123,7 @@ answered_on f m p k byte context phase retry joined saved ahead a b c d =
     }
     ≡ record (state f m) {
       phase = after_byte m.phase byte;
-      rest = entered e (ahead.1 ++ behind);
+      rest = entered e (ahead.1 ++ below);
       retry = retry_after m.phase byte m.retry;
       calls =
           m.calls + 1;
@@ -131,12 +131,12 @@ answered_on f m p k byte context phase retry joined saved ahead a b c d =
       saved = saved_after byte context m.saved.items;
     }
     = rw (a, on, b, c, d, ahead.3) refl in
-    ap advanced same ∙ sym (ap (λ (l : List Upcoming). answered_at (state f m) byte context (l ++ behind)) ahead.2.upcoming)
+    ap advanced same ∙ sym (ap (λ (l : List Upcoming). answered_at (state f m) byte context (l ++ below)) ahead.2.upcoming)
 
 pub chose_on : (f : Flow) (m : Machine) (p : ℕ) (text : List ℕ) (rest : List Upcoming) → IsAhead f m.step (view.Pick p) →
     rest ≡ map Prepare (chosen f text) ++ rest_of f (m.step + 1) m.stack.items
     → advanced (record (state f m) { rest = rest; calls = m.calls + 1 }) ≡ chosen_at f (state f m) text (rest_of f m.step m.stack.items)
 chose_on f m p text rest ahead is =
-    let behind : List Upcoming = stack_upcoming f m.stack.items in
+    let below : List Upcoming = stack_upcoming f m.stack.items in
     ap (λ (l : List Upcoming). advanced (record (state f m) { rest = l; calls = m.calls + 1 })) is
-    ∙ sym (ap (λ (l : List Upcoming). chosen_at f (state f m) text (l ++ behind)) ahead.1.upcoming)
+    ∙ sym (ap (λ (l : List Upcoming). chosen_at f (state f m) text (l ++ below)) ahead.1.upcoming)

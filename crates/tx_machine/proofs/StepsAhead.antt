@@ -13,7 +13,7 @@ use Rattle.flow_asm.specs.declared.view.StepView.{StepView}
 use Rattle.flow_asm.specs.declared.view.StepView.TheVariants as view
 use Rattle.flow_asm.specs.Views.{IsStepView}
 use Rattle.flow_asm.proofs.Stages.{front, group_front}
-use Rattle.flow_asm.proofs.StepOrder.{Goes, Picks, behind_call, behind_pick, goes_group, goes_within, picks_within}
+use Rattle.flow_asm.proofs.StepOrder.{Goes, Picks, after_call, after_pick, goes_group, goes_within, picks_within}
 use Rattle.tx_machine.specs.declared.walk.Frame.{Frame}
 use Rattle.tx_machine.specs.Table.{Prepare, Select}
 use Rattle.tx_machine.specs.Position.{calls_of, upcoming_from, upcoming_at, left_from, left_at, IsAhead, frame_upcoming, stack_upcoming}
@@ -39,11 +39,11 @@ is_call f k s h =
     record {
       stage = h;
       next = ⊎_elim (λ (p : (s.kind.selector ≡ true) × Picks s xs). picks_within f (k + 1) s p.1)
-          (λ (p : (s.kind.selector ≡ false) × Goes xs). goes_within f (k + 1) p.1) (behind_call f k s h);
+          (λ (p : (s.kind.selector ≡ false) × Goes xs). goes_within f (k + 1) p.1) (after_call f k s h);
       upcoming = ap upcoming_from e;
       after = ⊎_elim (λ (p : (s.kind.selector ≡ true) × Picks s xs). picks_upcoming s xs p.1 ∙ ap (λ b. if b then Select s ∷ calls_of xs else calls_of xs)
           (sym p.0)) (λ (p : (s.kind.selector ≡ false) × Goes xs). goes_upcoming xs p.1 ∙ ap (λ b. if b then Select s ∷ calls_of xs else calls_of xs)
-          (sym p.0)) (behind_call f k s h);
+          (sym p.0)) (after_call f k s h);
       left = ap left_from e;
     }
 
@@ -53,8 +53,8 @@ is_pick f k s h =
     let xs : List Stage = drop (k + 1) (stages f) in
     record {
       stage = h;
-      next = goes_within f (k + 1) (behind_pick f k s h);
-      upcoming = ap upcoming_from e ∙ ap (λ ms. Select s ∷ ms) (sym (goes_upcoming xs (behind_pick f k s h)));
+      next = goes_within f (k + 1) (after_pick f k s h);
+      upcoming = ap upcoming_from e ∙ ap (λ ms. Select s ∷ ms) (sym (goes_upcoming xs (after_pick f k s h)));
     }
 
 pub is_return : (f : Flow) (k : ℕ) → slice_get (stages f) k ≡ Some AtReturn → IsReturn f k

@@ -32,7 +32,7 @@ fn ends(alloc: Global, mux: &mut Mux, now: u64) -> Result<(usize, usize), Fail> 
     Ok((ended, mux.waiting()))
 }
 
-fn waits_behind(mux: &mut Mux, key: &Key) -> usize {
+fn waits_after(mux: &mut Mux, key: &Key) -> usize {
     mux.withdraw(key);
     mux.waiting()
 }
@@ -61,6 +61,6 @@ fn what_waits_ends_at_its_time_or_is_withdrawn(rt: HostRuntime) -> Result<(), Fa
     let key = request(&mut mux, &message)?;
     assert!(rt; ends(alloc, &mut mux, 4)? == (0, 1) && ends(alloc, &mut mux, 5)? == (1, 0));
     request(&mut mux, &message)?;
-    assert!(rt; waits_behind(&mut mux, &key) == 0);
+    assert!(rt; waits_after(&mut mux, &key) == 0);
     Ok(())
 }

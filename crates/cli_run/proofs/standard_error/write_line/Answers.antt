@@ -1,5 +1,5 @@
 use Rattle.std.proofs.Common.{[], ◌∷◌}
-use Rattle.cli_io.proofs.Writing.{beginning_behind, beginning_front}
+use Rattle.cli_io.proofs.Writing.{beginning_after, beginning_front}
 use Rattle.cli_run.proofs.standard_error.write_line.Goals as goal
 
 pub returns-in_err-write_whole-clause-beginning : goal.returns-in_err-write_whole-clause-beginning
@@ -8,4 +8,4 @@ returns-in_err-write_whole-clause-beginning g c =
 
 pub returns-clause-beginning : goal.returns-clause-beginning
 returns-clause-beginning g c =
-    beginning_behind _ _ _ c.args.line.now (10 ∷ []) c.in_ok-write_whole.ensures.written c.write_whole-2.ensures.beginning
+    beginning_after _ _ _ c.args.line.now (10 ∷ []) c.in_ok-write_whole.ensures.written c.write_whole-2.ensures.beginning

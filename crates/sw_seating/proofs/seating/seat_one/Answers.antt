@@ -2,12 +2,12 @@ use Rattle.std.proofs.Common.{◌≡◌, ◌<◌, ◌∙◌, sym, ap, subst, ari
 use Rattle.std.proofs.lemmas.List.Sorted.{IsPermutation-swap}
 use Rattle.sw_participant.specs.Stations.{name_of}
 use Rattle.sw_seating.specs.Seating.{is_among, names_of}
-use Rattle.sw_seating.proofs.Seats.{not_behind, seated_more}
+use Rattle.sw_seating.proofs.Seats.{not_after, seated_more}
 use Rattle.sw_seating.proofs.seating.seat_one.Goals as goal
 
 pub unreachable-requires : goal.unreachable-requires
 unreachable-requires g c =
-    not_behind _ c.args.parts.now c.args.k c.index-parts-k.result c.requires.numbered c.requires.below c.requires.suited c.requires.seated
+    not_after _ c.args.parts.now c.args.k c.index-parts-k.result c.requires.numbered c.requires.below c.requires.suited c.requires.seated
     (ap (λ n. is_among n (drop c.args.k (names_of c.args.stations.now.items))) (sym c.as_str.ensures)
     ∙ ap (λ ss. is_among c.as_str.result.now (drop c.args.k (names_of ss))) (sym c.as_slice.ensures.value) ∙ c.in-None.ensures.none)
 

@@ -43,8 +43,8 @@ none_to_tell f id r m state free =
 found : (f : Flow) (rows : List (ℕ × Row)) (id : ℕ) (r : ℕ × Row) (m : Machine) (b : Bool) → is_ended f (tx_state f m) ≡ b →
     is_ended f (reopened f r.1) ≡ b → nat_lt id r.0 ≡ true → IsSound f m → tx_state f m ≡ reopened f r.1 → is_holding (slot_of f m r.0 0) ≡ true
     → IsSlotOfRow f (next_row f (r ∷ rows) id) (slot_of f m r.0 0)
-found f rows id r m true e e' behind sound state held = let free : is_holding (slot_of f m r.0 0) ≡ false = rw e refl in absurd (cc)
-found f rows id r m false e e' behind sound state held = rw (behind, e', e) (record { id_is = refl; sound = sound; state = state; last = refl; let_go = refl })
+found f rows id r m true e e' later sound state held = let free : is_holding (slot_of f m r.0 0) ≡ false = rw e refl in absurd (cc)
+found f rows id r m false e e' later sound state held = rw (later, e', e) (record { id_is = refl; sound = sound; state = state; last = refl; let_go = refl })
 
 pub returns-then-is_holding : goal.returns-then-is_holding
 returns-then-is_holding c =
@@ -52,11 +52,11 @@ returns-then-is_holding c =
     let m : Machine = c.in_ok-reopened.field-0 in
     let state = c.in_ok-reopened.ensures.state in
     let there = at_row c.args.rows.now c.loop-next.next-index c.loop-next-item.result c.loop-next-test.true c.loop-next-item.is in
-    let behind : nat_lt c.args.id c.loop-next-item.result.0 ≡ true = grind (arith, nat_tests) in
+    let later : nat_lt c.args.id c.loop-next-item.result.0 ≡ true = grind (arith, nat_tests) in
     let held : is_holding (slot_of f m c.loop-next-item.result.0 0) ≡ true =
     ap is_holding (sym c.slot_for-slot.ensures) ∙ (sym c.is_holding.ensures ∙ c.if-is_holding.true) in
     rw (c.loop-next.invariant, there, c.slot_for-slot.ensures) (found f (drop (c.loop-next.next-index + 1) c.args.rows.now) c.args.id
-    c.loop-next-item.result m (is_ended f (tx_state f m)) refl (ap (is_ended f) (sym state)) behind c.in_ok-reopened.ensures.sound state held)
+    c.loop-next-item.result m (is_ended f (tx_state f m)) refl (ap (is_ended f) (sym state)) later c.in_ok-reopened.ensures.sound state held)
 
 pub loop-next-preserved : goal.loop-next-preserved
 loop-next-preserved c =

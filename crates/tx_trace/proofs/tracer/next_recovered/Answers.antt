@@ -21,14 +21,14 @@ at_row rows i r within is =
 
 found : (f : Flow) (rows : List (ℕ × Row)) (over : ℕ) (r : ℕ × Row) → nat_lt over r.0 ≡ true → is_ended f (reopened f r.1) ≡ false →
     next_recovered f (r ∷ rows) over ≡ Some r.0
-found f rows over r behind going = rw (behind, going) refl
+found f rows over r later going = rw (later, going) refl
 
 ended : (f : Flow) (rows : List (ℕ × Row)) (over : ℕ) (r : ℕ × Row) → nat_lt over r.0 ≡ true → is_ended f (reopened f r.1) ≡ true →
     next_recovered f (r ∷ rows) over ≡ next_recovered f rows over
-ended f rows over r behind done = rw (behind, done) refl
+ended f rows over r later done = rw (later, done) refl
 
 low : (f : Flow) (rows : List (ℕ × Row)) (over : ℕ) (r : ℕ × Row) → r.0 ≤ over → next_recovered f (r ∷ rows) over ≡ next_recovered f rows over
-low f rows over r le = let not_behind : nat_lt over r.0 ≡ false = grind (arith, nat_tests) in rw not_behind refl
+low f rows over r le = let not_after : nat_lt over r.0 ≡ false = grind (arith, nat_tests) in rw not_after refl
 
 tested : (f : Flow) (r : ℕ × Row) (m : Machine) (d : Due) (o b : Bool) → tx_state f m ≡ reopened f r.1 → d ≡ due_of f (tx_state f m) → o ≡ is_over d →
     o ≡ b → is_ended f (reopened f r.1) ≡ b
@@ -39,11 +39,11 @@ returns-then-not-is_over c =
     let f : Flow = c.args.code.now in
     let r : ℕ × Row = c.loop-id-item.result in
     let there = at_row c.args.rows.now c.loop-id.id-index r c.loop-id-test.true c.loop-id-item.is in
-    let behind : nat_lt c.args.over r.0 ≡ true = grind (arith, nat_tests) in
+    let later : nat_lt c.args.over r.0 ≡ true = grind (arith, nat_tests) in
     let going = tested f r c.in_ok-machine.machine c.due.result c.is_over.result false c.in_ok-machine.ensures.state c.due.ensures.due c.is_over.ensures
     c.if-not-is_over.true in
     sym (c.loop-id.invariant ∙ (ap (λ (xs : List (ℕ × Row)). next_recovered f xs c.args.over) there
-    ∙ found f (drop (c.loop-id.id-index + 1) c.args.rows.now) c.args.over r behind going))
+    ∙ found f (drop (c.loop-id.id-index + 1) c.args.rows.now) c.args.over r later going))
 
 pub loop-id-preserved : goal.loop-id-preserved
 loop-id-preserved c =
@@ -53,8 +53,8 @@ loop-id-preserved c =
     let rest : List (ℕ × Row) = drop (c.loop-id.id-index + 1) c.args.rows.now in
     let on : next_recovered f (r ∷ rest) c.args.over ≡ next_recovered f rest c.args.over = elim c.if-over-id.branch [
       | then-over-id+in_ok-machine+else-not-is_over w ↦
-          (let behind : nat_lt c.args.over r.0 ≡ true = grind (arith, nat_tests, w.if-over-id.true) in
-          ended f rest c.args.over r behind (tested f r w.in_ok-machine.machine w.due.result w.is_over.result true w.in_ok-machine.ensures.state
+          (let later : nat_lt c.args.over r.0 ≡ true = grind (arith, nat_tests, w.if-over-id.true) in
+          ended f rest c.args.over r later (tested f r w.in_ok-machine.machine w.due.result w.is_over.result true w.in_ok-machine.ensures.state
           w.due.ensures.due w.is_over.ensures w.if-not-is_over.false))
       | else-over-id w ↦ low f rest c.args.over r w.if-over-id.false
     ] in
