@@ -10,7 +10,7 @@ use Rattle.tx_history.specs.declared.journal.JournalView.{JournalView}
 use Rattle.tx_journal.specs.Kept.{IsCleanJournal, Kept, kept}
 use Rattle.tx_journal.specs.Left.{doubt_of}
 use Rattle.tx_journal.specs.Means.{Means}
-use Rattle.tx_journal.specs.Turned.{IsNaming}
+use Rattle.tx_journal.specs.Converted.{IsNaming}
 use Rattle.tx_journal.specs.declared.journal.Left.{Left}
 use Rattle.tx_journal.specs.declared.error.Cause.TheVariants.{Memory, Refused}
 use Rattle.tx_journal.specs.declared.error.JournalError.{JournalError}

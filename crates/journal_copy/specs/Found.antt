@@ -8,7 +8,7 @@ use Rattle.journal_rows.specs.Faults.{IsFaultIn, IsViewIn}
 use Rattle.journal_rows.specs.declared.error.BadRow.{BadRow}
 use Rattle.tx_journal.specs.Kept.{IsCleanJournal, Kept, OpensAs, kept}
 use Rattle.tx_journal.specs.Left.{doubt_of}
-use Rattle.tx_journal.specs.Turned.{IsNaming}
+use Rattle.tx_journal.specs.Converted.{IsNaming}
 use Rattle.tx_journal.specs.declared.journal.Left.{Left}
 use Rattle.tx_journal.specs.declared.error.JournalError.TheVariants as journal
 use Rattle.journal_copy.specs.declared.found.Found.{Found}
