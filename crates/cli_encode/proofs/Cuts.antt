@@ -35,7 +35,7 @@ none_before p (x ∷ xs) = by (p x) refl (none_before p xs)
         ∙ ap (λ n. list_any p (take n (x ∷ xs))) (one-add (position_or_len p xs))
         ∙ ap (λ b. b || list_any p (take (position_or_len p xs) xs)) e ∙ h
 
--- where the place is the length, there is no mark
+-- where the index is the length, there is no mark
 pub none_at_all : (c : ℕ) (xs : List ℕ) (end : ℕ) → end ≡ position_or_len (λ b. b == c) xs → end ≡ length xs → has_byte c xs ≡ false
 none_at_all c xs end place last =
     subst (λ (l : List ℕ). has_byte c l ≡ false) (take_all (position_or_len (λ b. b == c) xs) xs (omega (arith, place, last))) (none_before (λ b. b == c) xs)

@@ -13,7 +13,7 @@ use std::str::Utf8Error;
 use std::{fmt, io};
 use thiserror::Error;
 
-/// Why a flow file or an image is refused. The text names the place in the file, what is expected
+/// Why a flow file or an image is refused. The text gives the position in the file, what is expected
 /// there and what was found, but not the file.
 #[derive(Drop, Error)]
 pub enum FlowsError {

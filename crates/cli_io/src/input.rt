@@ -30,7 +30,7 @@ impl<R: Read> Input<R> {
         Input { reader, reads: 0 }
     }
 
-    // The one place that reads: each read counts.
+    // The only code that reads: each read counts.
     fn read_once(&mut self, buf: &mut [u8]) -> io::Result<usize>
         requires { reads_made self.old < 1048576 }
         ensures counted { reads_made self.new ≡ reads_made self.old + 1 }

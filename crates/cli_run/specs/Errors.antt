@@ -51,7 +51,7 @@ IsNoStation f n OutOfMemory = ⊤
 IsNoStation f n (Seating e) = slice_get (parts_of f) n ≡ None
 IsNoStation f n _ = ⊥
 
--- the station at this place has the name of an earlier one, or there was no memory to say so; or there is no such place
+-- the station at this index has the name of an earlier one, or there was no memory to say so; or there is no such index
 abbrev pub IsDouble : List (List ℕ) → ℕ → ServeError → Type 0
 IsDouble names place (DoubleStation name) = slice_get names place ≡ Some name
 IsDouble names place OutOfMemory = ⊤

@@ -30,7 +30,7 @@ pub enum ServeError {
     /// A link has this name.
     #[error("bad link name {}; expected at most 26 bytes of a-z A-Z 0-9 _ - .", .0.as_str())]
     BadLinkName(Text),
-    /// The stations do not suit the flow, at a place that neither of them has. No run ends with this error.
+    /// The stations do not suit the flow, at an index that neither of them has. No run ends with this error.
     #[error("{0}")]
     Seating(SeatingError),
     /// The message of this number cannot be put in a context. No message causes this error.
@@ -51,7 +51,7 @@ pub enum ServeError {
     /// The output could not be written.
     #[error("standard output: cannot write: {0}")]
     Write(WriteError),
-    /// Four bytes in the place of a length are not digits.
+    /// The four bytes of a length are not digits.
     #[error("standard input: bad frame length; expected four digits")]
     BadLength,
     /// The input ends within a frame, this many bytes after the beginning of the frame.

@@ -39,7 +39,7 @@ pub(crate) const PIECE: usize = 65_536;
 pub enum StreamEnd {
     /// After a whole frame, or before the first.
     Whole,
-    /// Four bytes in the place of a length were not digits.
+    /// The four bytes of a length were not digits.
     BadLength,
     /// Within a frame, of which this many bytes came.
     Truncated(usize),

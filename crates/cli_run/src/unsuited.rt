@@ -24,7 +24,7 @@ fn no_station(alloc: Global, code: &Code, number: usize) -> ServeError
     }
 }
 
-// The error for the station at this place, which has the name of an earlier one.
+// The error for the station at this index, which has the name of an earlier one.
 fn double_station(alloc: Global, stations: &[Station], place: usize) -> ServeError
     ensures { IsDouble (names_of stations.now) place result }
 {

@@ -12,7 +12,7 @@ use std::str::Utf8Error;
 use std::{fmt, io};
 use thiserror::Error;
 
-/// Why a configuration file is not taken. The text names the place in the file, what is expected there and what was
+/// Why a configuration file is not taken. The text gives the position in the file, what is expected there and what was
 /// found, and not the file.
 #[derive(Drop, Error)]
 pub enum ConfigFileError {

@@ -18,7 +18,7 @@ use Rattle.flow_asm.specs.Steps.{groups_from, layout, starts_from, starts_of}
 use Rattle.flow_asm.specs.Places.{group_at}
 use Rattle.flow_asm.proofs.Stages.{length-groups_from, length-starts}
 
--- the group whose first step the table has at a place
+-- the group whose first step the table has at an index
 record IsGroup (ps : List Part) (h : ℕ) (gs : List Group) (k : ℕ) (called : List ℕ) : Type 0 where
   group : Group
   cut : drop k gs ≡ group ∷ drop (k + 1) gs
@@ -39,7 +39,7 @@ group_of f ps g h (suc k) (x ∷ gs) d l =
       placed_entries = w.placed_entries ∙ ap (λ n. placed_from ps n 0 w.group.entries) (let e : h + 1 + k ≡ h + suc k = omega arith in e);
     }
 
--- the table's entry at a place
+-- the table's entry at an index
 group_here : (f : Flow) (starts : List GroupStart) (k : ℕ) (d : GroupStart) → starts ≡ starts_of f → k < length starts →
     IsGroup (parts_of f) 0 f.groups k (get_or starts k d).name
 group_here f starts k d e h =
@@ -49,7 +49,7 @@ group_here f starts k d e h =
 pub group_within : (f : Flow) (starts : List GroupStart) (k : ℕ) → starts ≡ starts_of f → k < length starts → k < length (layout f)
 group_within f starts k e h = subst (λ n. k < n) (ap length e ∙ length-starts f) h
 
--- the table has the name at that place
+-- the table has the name at that index
 pub start_named : (f : Flow) (starts : List GroupStart) (k : ℕ) (d : GroupStart) (name : List ℕ) → starts ≡ starts_of f → k < length starts →
     bytes_eq (get_or starts k d).name name ≡ true → option_map (λ (s : GroupStart). s.name) (slice_get (starts_of f) k) ≡ Some name
 start_named f starts k d name e h same =

@@ -80,7 +80,7 @@ header_at text = do
   h ← header_form line.0
   if is_header h then Ok (h, line.1) else Err BadHeader
 
--- a line's own number is its place among the lines of its kind
+-- a line's own number is its index among the lines of its kind
 abbrev pub in_place : ℕ → ℕ → ℕ → Result (Unit {0}) LoadError
 in_place own n at = if own == n then Ok tt else Err (BadNumber at)
 

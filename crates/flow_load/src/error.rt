@@ -25,7 +25,7 @@ pub enum LoadError {
     #[error("line {0}: bad line: expected the participants, the groups and the steps that line 1 counts, \
          each line ended by a line feed, numbers up to 100000, and `recover` only in version 2")]
     BadLine(usize),
-    /// The line's own number is not its place among the lines of its kind, from 0.
+    /// The line's own number is not its index among the lines of its kind, from 0.
     #[error("line {0}: bad number: expected the participants, the groups and the steps to be numbered \
          from 0 without a gap")]
     BadNumber(usize),

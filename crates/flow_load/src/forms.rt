@@ -204,7 +204,7 @@ pub fn header_at(bytes: &[u8]) -> Result<(ImageHeader, &[u8]), LoadError>
     }
 }
 
-/// Refuses the line `at` unless its own number is its place among the lines of its kind.
+/// Refuses the line `at` unless its own number is its index among the lines of its kind.
 pub fn test_number(own: usize, number: usize, at: usize) -> Result<(), LoadError>
     ensures { Exactly (λ u. u) result (spec.in_place own number at) }
 {

@@ -14,7 +14,7 @@ use std::alloc::{AllocError, Global};
 use std::collections::BTreeMap;
 use sw_participant::Sequence;
 
-/// What a step is in its place.
+/// What a step is in its group.
 #[derive(Clone, Copy)]
 pub(crate) enum StepRole {
     /// The next entry: a call of the participant of this number.

@@ -66,7 +66,7 @@ added m n name q k new u =
       | inr other ↦ u ∙ rw other (sym (or_none (kind_at m q)))
     ]
 
--- entries clash in the same places if the same kinds are looked up
+-- the same entries clash if the same kinds are looked up
 clash_same : (look kinds : List ℕ → Option Kind) → ((name : List ℕ) → look name ≡ kinds name) → (g i : ℕ) (es : List Entry) →
     first_at (clash_by look g) i es ≡ first_at (clash_by kinds g) i es
 clash_same look kinds same g i [] = refl

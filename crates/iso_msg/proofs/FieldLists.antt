@@ -35,7 +35,7 @@ place_step fs i n f r h e lt so_far =
     ∙ sym (ap (λ (b : Bool). shift i (cond b (shift 1 (field_index n (drop (i + 1) (pairs fs)))) (cond (eqb f.number n) (Ok 0) (Err 0))))
     (lt-ltb _ _ lt)) ∙ sym (ap (λ (x : Fields). shift i (field_index n x)) (pairs_at fs i f h e)) ∙ so_far
 
--- what a place says of a list that begins with a field
+-- what an index says of a list that begins with a field
 here : (f : ℕ × List ℕ) (fs : Fields) (n : ℕ) → n ≤ f.0 → field_index n (f ∷ fs) ≡ (cond (eqb f.0 n) (Ok 0) (Err 0))
 here f fs n h = rw (le-ltb f.0 n h) refl
 
@@ -62,7 +62,7 @@ value_here fs i n f r h e eq so_far =
     sym (ap (λ (b : Bool). cond b (Some f.value.items) (value_at n (drop (i + 1) (pairs fs)))) (equal-eqb f.number n eq))
     ∙ sym (ap (value_at n) (pairs_at fs i f h e)) ∙ so_far
 
--- a place that was found is one of the list's, and a value goes there
+-- an index that was found is one of the list's, and a value goes there
 pub record Found (ps : Fields) (n : ℕ) (v : List ℕ) (i : ℕ) : Type 0 where
   pub below : i < length ps
   pub put : with_value n v ps ≡ set ps i (n, v)
@@ -158,7 +158,7 @@ field_valid low i [] f a h e = absurd (omega arith)
 field_valid low zero (g ∷ fs) f a h e = subst (λ (x : Field). refusal x.number x.value.items ≡ None) (sym e) a.1
 field_valid low (suc i) (g ∷ fs) f a h e = field_valid g.number i fs f a.2 (omega arith) e
 
--- a place that was found has the value, and without it the number is gone
+-- an index that was found has the value, and without it the number is gone
 pub record RemovesAt (ps : Fields) (n i : ℕ) : Type 0 where
   pub below : i < length ps
   pub value : (d : ℕ × List ℕ) → value_at n ps ≡ Some (get_or ps i d).1
@@ -186,7 +186,7 @@ removes_at (f ∷ fs) n i e =
           ]
     ]
 
--- where a number has no place, it has no value
+-- where a number has no index, it has no value
 pub missing_value : (low : ℕ) (ps : Fields) (n i : ℕ) → AreFields low ps → field_index n ps ≡ Err i → (value_at n ps ≡ None) × (without n ps ≡ ps)
 missing_value low [] n i a e = (refl, refl)
 missing_value low (f ∷ fs) n i a e =

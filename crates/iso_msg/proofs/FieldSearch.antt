@@ -57,7 +57,7 @@ module _ (fs : List Field) (n : ℕ) (a : AreFields 1 (pairs fs)) where
         | inr e ↦ let up : (get_or fs i d).number < (get_or fs j d).number = rises 1 fs i j d a (omega arith) within in grind (arith, nat_tests)
       ]
 
-  -- a binary search by number finds the place
+  -- a binary search by number finds the index
   pub searched : (r : Result ℕ ℕ) → IsSearchInRange r (length fs) → IsBinarySearchResult (λ (f : Field). nat_cmp f.number n) fs r
       → r ≡ field_index n (pairs fs)
   searched (Ok i) within equal = sym (place_at 1 fs n i a within (λ d. ranked _ n _ (sym (equal d))))
@@ -94,7 +94,7 @@ value_fits low n v (f ∷ fs) a e =
       | inr u ↦ value_fits f.0 n v fs a.2 (rw (eqb-false_from f.0 n u) at e)
     ]
 
--- the field at the place that was found has the value
+-- the field at the index that was found has the value
 pub value_found : (fs : List Field) (n i : ℕ) (f : Field) → field_index n (pairs fs) ≡ Ok i → Some (get_or fs i f).value.items ≡ value_at n (pairs fs)
 value_found fs n i f e =
     let r = removes_at (pairs fs) n i e in

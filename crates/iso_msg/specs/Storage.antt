@@ -14,7 +14,7 @@ abbrev pub shift : ℕ → Result ℕ ℕ → Result ℕ ℕ
 shift i (Ok k) = Ok (i + k)
 shift i (Err k) = Err (i + k)
 
--- the place of a number, or else the place where it belongs
+-- the index of a number, or else the index where it belongs
 abbrev pub field_index : ℕ → Fields → Result ℕ ℕ
 field_index n [] = Err 0
 field_index n (f ∷ fs) = if nat_lt f.0 n then shift 1 (field_index n fs) else (if f.0 == n then Ok 0 else Err 0)

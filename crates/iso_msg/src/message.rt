@@ -125,7 +125,7 @@ impl Message {
         self.fields.len()
     }
 
-    /// The number and the value of the field at a place, counted from 0 in rising order.
+    /// The number and the value of the field at an index, counted from 0 in rising order.
     pub fn field_at(&self, place: usize) -> (u8, &[u8])
         requires { place < length self.now.fields }
         ensures field { (result.0, result.1.now) ≡ get_or self.now.fields place (0, []) }

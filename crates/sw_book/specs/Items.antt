@@ -74,11 +74,11 @@ abbrev pub id_of : BookKey → Items → Option ℕ
 id_of key [] = None
 id_of key (e ∷ es) = if key_eq e.1.key key then Some e.0 else id_of key es
 
--- with a new item, at the place of its id
+-- with a new item, in the order of ids
 abbrev pub with_item : ℕ → Item → Items → Items
 with_item id item items = insert_entry nat_cmp items id item
 
--- with another item in the place of the one under an id
+-- with another item in place of the one under an id
 abbrev pub in_its_place : ℕ → Item → Items → Items
 in_its_place id item items = set_value (is_at (nat_cmp id)) items item
 

@@ -1,18 +1,18 @@
 //! What a book is about.
 
 /// A card: the digits of field 2, the primary account number, with spaces after them up to 19
-/// places.
+/// bytes.
 #[derive(Clone, Copy, PartialEq, Eq, Hash)]
 pub struct Card {
-    /// The 19 places.
+    /// The 19 bytes.
     pub digits: [u8; 19],
 }
 
-/// What distinguishes two requests of a card: the card in 19 places, then the terminal (field 41),
+/// What distinguishes two requests of a card: the card in 19 bytes, then the terminal (field 41),
 /// the STAN (field 11) and the transmission date and time (field 7).
 #[derive(Clone, Copy, PartialEq, Eq, Hash)]
 pub struct BookKey {
-    /// The 43 places.
+    /// The 43 bytes.
     pub places: [u8; 43],
 }
 

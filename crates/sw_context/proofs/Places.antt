@@ -1,4 +1,4 @@
--- Lists with the same items at all places.
+-- Lists with the same items at all indices.
 -- for: context::Context::is_same
 use Rattle.std.proofs.Common.{◌≡◌, ◌<◌, ℕ, suc, zero, List, [], ◌∷◌, length, Some, ap, refl, arith}
 use Rattle.std.specs.Prelude.{slice_get}

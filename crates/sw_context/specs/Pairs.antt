@@ -14,7 +14,7 @@ abbrev pub find : List ℕ → Pairs → Option (List ℕ)
 find name [] = None
 find name (e ∷ es) = if bytes_eq name e.0 then Some e.1 else find name es
 
--- with a value under a name: a name that is there keeps its place, and a new one goes last
+-- with a value under a name: a name that is there keeps its position, and a new one goes last
 abbrev pub with_value : Pairs → List ℕ → List ℕ → Pairs
 with_value [] name value = (name, value) ∷ []
 with_value (e ∷ es) name value = if bytes_eq name e.0 then (e.0, value) ∷ es else e ∷ with_value es name value

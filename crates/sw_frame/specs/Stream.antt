@@ -18,7 +18,7 @@ IsPartial rest =
     (length rest < 4)
     ⊎ ((n : ℕ) × (4 ≤ length rest) × (number_of (take 4 rest) ≡ Some n) × (length rest < 4 + n))
 
--- four bytes in a length's place that aren't digits
+-- the four bytes of a length are not digits
 abbrev pub IsBad : List ℕ → Type 0
 IsBad rest = (4 ≤ length rest) × (number_of (take 4 rest) ≡ None)
 

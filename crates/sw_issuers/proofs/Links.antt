@@ -1,4 +1,4 @@
--- The first link of a group, by its place.
+-- The first link of a group, by its index.
 -- for: sender::deliver_to, sender::Sender::send
 use Rattle.std.proofs.Common.{◌≡◌, ℕ, zero, suc, ◌+◌, ◌<◌, ◌≤◌, Bool, true, false, List, [], ◌∷◌, length, get_or, set, Some, Result, Ok}
 use Rattle.std.proofs.Common.{Err, IfOk, OnErr, refl}
@@ -25,7 +25,7 @@ on_err (Ok x) P Q f h = h
 on_err (Err e) P Q f h = f h
 
 module _ {X : Type 0} where
-  -- no link before the place is of the group
+  -- no link before the index is of the group
   abbrev pub NoneBefore : List ℕ → ℕ → List (GroupLink X) → Type 0
   NoneBefore group zero gs = Unit {0}
   NoneBefore group (suc i) [] = Unit {0}

@@ -15,6 +15,6 @@ abbrev pub copied : List ℕ → Fields → Fields → Fields
 copied [] from to = to
 copied (n ∷ ns) from to = copied ns from (with_field n (value_at n from) to)
 
--- with a part over as many places, from `at` on
+-- with a part over as many bytes, from `at` on
 abbrev pub put_at : ℕ → List ℕ → List ℕ → List ℕ
 put_at at part places = take at places ++ (part ++ drop (length part) (drop at places))

@@ -4,7 +4,7 @@ use Rattle.std.specs.Prelude.{Option, Some, None}
 use Rattle.iso_msg.specs.Messages.{PlainMessage, value_at}
 use Rattle.sw_messages.specs.Placing.{with_field, copied}
 
--- a value with zeros in front of it, up to this many places; all zeros if there is no value
+-- a value with zeros in front of it, up to this length; all zeros if there is no value
 abbrev pub zeros_before : ℕ → Option (List ℕ) → List ℕ
 zeros_before places None = replicate places 48
 zeros_before places (Some value) = replicate (places - length value) 48 ++ value

@@ -48,7 +48,7 @@ pub fn copy_fields(
     Ok(())
 }
 
-/// Overwrites as many places as the part has, from `at` on, with the part.
+/// Overwrites as many bytes as the part has, from `at` on, with the part.
 pub fn put_part(places: &mut [u8], at: usize, part: &[u8])
     requires { at + length part.now ≤ length places.old }
     ensures { places.new ≡ put_at at part.now places.old }

@@ -1,11 +1,11 @@
--- The parts of a key, put into 25 places.
+-- The parts of a key, put into 25 bytes.
 -- for: key::key_by
 use Rattle.std.proofs.Common.{◌≡◌, ℕ, ◌-◌, ◌≤◌, List, [], ◌∷◌, ◌++◌, length, refl, ap, ◌∙◌, append-nil, arith}
 use borrow.Rule.Slice.PartMut.{put_mid}
 use Rattle.std.specs.Prelude.{replicate, slice_index}
 use Rattle.sw_mux.specs.Keys.{trimmed, request_digit, key_by}
 
--- 25 places, with three of them filled
+-- 25 bytes, with three of them filled
 abbrev pub places : ℕ → ℕ → ℕ → List ℕ
 places a b d = a ∷ b ∷ d ∷ replicate 22 48
 

@@ -20,7 +20,7 @@ unspaced_end text = reverse (unspaced (reverse text))
 abbrev pub trimmed : List ℕ → List ℕ
 trimmed text = unspaced_end (unspaced text)
 
--- a text with `0`s in front of it, up to this many places
+-- a text with `0`s in front of it, up to this length
 abbrev pub padded : ℕ → List ℕ → List ℕ
 padded places text = replicate (places - length text) 48 ++ text
 

@@ -13,7 +13,7 @@ const TERMINAL: u8 = 41;
 const STAN: u8 = 11;
 
 /// What a request and its response have in common, in 25 bytes: the first two digits of the message
-/// type, the third as a request has it, the terminal in 16 places, the STAN in 6 (jPOS: the key
+/// type, the third as a request has it, the terminal in 16 bytes, the STAN in 6 (jPOS: the key
 /// that `QMUX` builds from MTI, field 41 and field 11).
 #[derive(Clone, Copy, PartialEq, Eq, Hash)]
 pub struct Key {

@@ -11,7 +11,7 @@ use Rattle.sw_book.specs.declared.item.State.TheVariants.{Open}
 use Rattle.sw_messages.specs.declared.response_code.ResponseCode.{ResponseCode}
 use Rattle.sw_messages.specs.declared.response_code.ResponseCode.TheVariants as rc
 
--- the digits of the card number, filled up with spaces to 19 places
+-- the digits of the card number, filled up with spaces to 19 bytes
 abbrev pub card_of : List ℕ → Card
 card_of digits = record { digits = digits ++ drop (length digits) (replicate 19 32) }
 

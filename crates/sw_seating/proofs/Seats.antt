@@ -1,4 +1,4 @@
--- The station of a participant that has one is found after those that are seated, and takes its place.
+-- The station of a participant that has one is found after those that are seated, and goes to its index.
 -- for: seating::has_name, seating::test_doubles, seating::find_from, seating::seat_one, seating::seat
 use Rattle.std.proofs.Common.{◌≡◌, ℕ, suc, zero, ◌+◌, ◌<◌, ◌≤◌, Bool, true, false, ◌||◌, not, ◌⊎◌, inl, inr, ⊎_elim, List, [], ◌∷◌, ◌++◌, length, get_or, take}
 use Rattle.std.proofs.Common.{drop, set, swap, map, Option, None, Some, Result, Ok, Err, refl, sym, ap, ◌∙◌, subst, arith, if◌then◌else◌, true≢false}
@@ -47,7 +47,7 @@ not_after names ps k p numbered low has seated absent =
     let first = early ps k name (sym (ap (list_any test) seated) ∙ front) in
     omega (arith, first, numbered k p low)
 
--- what a swap does to the names up to the place k, if the other place is not before it
+-- what a swap does to the names up to the index k, if the other index is not before it
 swapped_at : (ns : List (List ℕ)) (k at : ℕ) (name : List ℕ) → k ≤ at → at < length ns → get_or ns at [] ≡ name
     → take (k + 1) (set (set ns k (get_or ns at [])) at (get_or ns k [])) ≡ take k ns ++ name ∷ []
 swapped_at ns k at name up low is =
@@ -68,7 +68,7 @@ swapped_at ns k at name up low is =
         ∙ ap (λ xs. xs ++ get_or ns k [] ∷ []) (take-set-le k ns k (get_or ns at []) (omega arith))
         ∙ ap (λ n. take k ns ++ n ∷ []) (ap (λ j. get_or ns j []) (sym equal) ∙ is)
 
--- the names of a list in which two have changed places
+-- the names of a list in which two were swapped
 swapped_names : {X : Type 0} (f : X → List ℕ) (xs : List X) (k at : ℕ) → k < length xs → at < length xs
     → map f (swap xs k at) ≡ set (set (map f xs) k (get_or (map f xs) at [])) at (get_or (map f xs) k [])
 swapped_names f [] k at low there = absurd (omega (arith, low))

@@ -39,6 +39,6 @@ HaveStations names parts = (k : ℕ) (p : Part) → k < length parts → is_amon
 abbrev pub AreSeated : List (List ℕ) → List Part → Type 0
 AreSeated names parts = take (length parts) names ≡ part_names parts
 
--- each participant has the number of its place: no two have the same name
+-- each participant has its index as its number: no two have the same name
 abbrev pub AreNumbered : List Part → Type 0
 AreNumbered parts = (k : ℕ) (p : Part) → k < length parts → number_in parts (get_or parts k p).name ≡ k

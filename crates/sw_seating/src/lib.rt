@@ -1,5 +1,5 @@
 //! Stations for the participants of a flow: each participant calls for one station of its name, and a
-//! plant keeps the station of participant k at place k.
+//! plant keeps the station of participant k at index k.
 #![tactic(auto)]
 
 mod laws;

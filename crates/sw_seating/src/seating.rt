@@ -17,7 +17,7 @@ pub enum SeatingError {
     /// No station has the name of the participant of this number.
     #[error("participant {0} of the flow has no station")]
     NoStation(usize),
-    /// The station at this place, from 0, has the name of an earlier one.
+    /// The station at this index, from 0, has the name of an earlier one.
     #[error("station {0} has the name of an earlier one")]
     DoubleStation(usize),
 }
@@ -66,7 +66,7 @@ fn test_doubles(stations: &[Station]) -> Result<(), SeatingError>
     Ok(())
 }
 
-// The place, from `from` on, at which a station has this name.
+// The index, from `from` on, at which a station has this name.
 fn find_from(stations: &[Station], from: usize, name: &str) -> Option<usize>
     ensures found { IfSome result (λ at. from ≤ at) }
     ensures there { IfSome result (λ at. at < length stations.now) }
@@ -81,7 +81,7 @@ fn find_from(stations: &[Station], from: usize, name: &str) -> Option<usize>
     None
 }
 
-// Moves the station of participant k to place k.
+// Moves the station of participant k to index k.
 fn seat_one(stations: &mut Vec<Station>, parts: &[Part], k: usize)
     requires numbered { AreNumbered parts.now }
     requires below { k < length parts.now }

@@ -3,7 +3,7 @@
 //! `test_pool FLOW SESSIONS OFFERS CAPACITY SEED` makes a plant of the flow in the file FLOW over a journal in
 //! memory, with SESSIONS sessions, and participants that draw their replies (`sw_chance`), each from a generator
 //! of its own that begins with SEED and the participant's number. It runs the sessions as threads over OFFERS
-//! offers, with an intake of CAPACITY places; then, as long as contexts are on the shelf, it acknowledges all
+//! offers, with an intake for CAPACITY offers; then, as long as contexts are on the shelf, it acknowledges all
 //! advices, releases the shelf, and runs the sessions again without an offer.
 //!
 //! Offer K of them, from 0, is the context `offer` = K in decimal digits. It prints

@@ -54,7 +54,7 @@ journal_first f v o =
     (shelves ∙ gather_look v.view.shelf 1 (v.view.next_id + 0 - 1) s)
     refl
 
--- what arrives later changes no transaction's place
+-- what arrives later changes no transaction's index
 first_if : (f : Flow) (v : Start) (past : List Event) (more : List Waiting) (j : ℕ) → IsOrdered v.view → IsLawful f v past → j < 1 + ids v past →
     (b : Bool) → nat_lt j v.view.next_id ≡ b
     → (if b then reopened_at f (look j v.view.rows) else begun f (slice_get (arrivals f v past ++ more) (j - v.view.next_id)))

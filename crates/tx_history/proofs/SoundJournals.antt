@@ -317,7 +317,7 @@ pub row_at_fits : (f : Flow) (v : Start) (past : List Event) (j : ℕ) (r : Row)
     row_at f v past j ≡ Some r → RowFits r
 row_at_fits f v past j r st g lt h = row_if f v past j r st g lt (nat_lt j v.view.next_id) refl h
 
--- no id has a row and a place on the shelf
+-- no id with a row is on the shelf
 
 shelved_over : (d : Due) (b : Bool) (s : TxState) (w : Waiting) → shelved_in d b s ≡ Some w → is_over d ≡ true
 shelved_over (Prepare p) b s w e = absurd (cc)

@@ -18,7 +18,7 @@ use Rattle.tx_history.specs.Keys.{Rising, look, place_lt}
 use Rattle.tx_history.specs.History.{Start, name_of, number_of, to_tell}
 use Rattle.tx_history.specs.Journal.{IsLawful}
 
--- ids rise from 1 and are below the next id, and no id has both a row and a place on the shelf
+-- ids rise from 1 and are below the next id, and no id with a row is on the shelf
 pub record IsOrdered (v : JournalView) : Type 0 where
   pub next : 1 ≤ v.next_id
   pub rows : Rising 1 v.next_id v.rows

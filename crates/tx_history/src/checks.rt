@@ -179,7 +179,7 @@ impl JournalView {
     }
 
     /// Whether an engine may be opened on this view: the next id is 1 to 2^63 - 1; ids rise from 1 and
-    /// are below it, none with both a row and a place on the shelf; there are at most 16 rows; members
+    /// are below it, none with a row is on the shelf; there are at most 16 rows; members
     /// and the participant of a due call have names; while preparing or aborting, nobody was notified
     /// and there are at most 1,000 members; while committing or undoing, `doing` is empty, there are at
     /// most 1,001 members, and not all of them were notified; tries are at most 100; contexts are bytes of

@@ -33,7 +33,7 @@ impl Drop for Lists {
     }
 }
 
-// `reserved` places and `more` together.
+// Room for `reserved` offers and for `more`.
 fn beside(reserved: usize, more: usize) -> Result<usize, AllocError>
     ensures { IfOk result (λ places. places ≡ reserved + more) }
 {

@@ -1,5 +1,5 @@
 //! Contexts: bytes worked out by hand, limits, and the order of entries and of refusals. The helpers have no
-//! contract, so that the proof of a test carries no values, and few tests hold a context at a place where they may
+//! contract, so that the proof of a test carries no values, and few tests hold a context at a point where they may
 //! end.
 
 use std::alloc::{AllocError, Global};

@@ -5,7 +5,7 @@ use Rattle.iso_msg.specs.Storage.{pair, pairs, field_index}
 use Rattle.iso_msg.proofs.FieldLists.{removes_at, missing_value, map-remove}
 use Rattle.iso_msg.proofs.storage.take.Goals as goal
 
--- the place that was found in the slice is that in the fields
+-- the index that was found in the slice is that in the fields
 place_is : (n : ℕ) (fs slice : List Field) (r s : Result ℕ ℕ) → slice ≡ fs → r ≡ field_index n (pairs slice) → r ≡ s → field_index n (pairs fs) ≡ s
 place_is n fs slice r s e f g = ap (λ (x : List Field). field_index n (pairs x)) (sym e) ∙ sym f ∙ g
 
