@@ -103,13 +103,13 @@ def schema_case(name, block, _page, examples):
 
 
 def turned_case(name, block, page, _examples):
-    """A session of sqlite3 on a journal of layout 1 that was turned, with the members that the page shows."""
+    """A session of sqlite3 on a journal of layout 1 that was converted, with the members that the page shows."""
     tables = [it for it in lines_of(page, "CREATE TABLE ") if not it.startswith(("CREATE TABLE part", "CREATE TABLE joined"))]
     rows = "(1, 1), (2, 5)", "(3, 2, 0, '', 0, x'00')", "(3, 1, 'check'), (3, 0, 'send')"
     tables += [f"INSERT INTO {table} VALUES {row}" for table, row in zip(("meta", "tx", "member"), rows, strict=True)]
     asked = [it.removeprefix("sqlite> ") for it in block if it.startswith("sqlite> ")]
     run = 'sqlite3 journal.db < layout_1.sql && test_switch opened journal.db > opened && sqlite3 journal.db "$(cat asked.sql)"'
-    case = Case(f"{name}: a turned journal", run, files={"asked.sql": "\n".join(asked).encode()})
+    case = Case(f"{name}: a converted journal", run, files={"asked.sql": "\n".join(asked).encode()})
     case.files["layout_1.sql"] = "".join(f"{it};\n" for it in tables).encode()
     case.stdout = Page([it for it in block if not it.startswith("sqlite> ")])
     return case
