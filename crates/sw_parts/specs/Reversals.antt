@@ -34,11 +34,7 @@ committed_advice x = advice_of (is_some (find (codes "late") x)) (request_in x)
 abbrev pub aborted_advice : Bool → Pairs → Option (List ℕ)
 aborted_advice recovering x = advice_of (is_due recovering x) (request_in x)
 
--- the answer to a preparation: reverse joins authorizations
+-- the answer to a preparation, by what the request is for: reverse joins authorizations
 abbrev pub reverse_answer : Option Class → ℕ
 reverse_answer (Some Authorization) = joins
 reverse_answer _ = passes
-
-abbrev pub reverse_byte : Option PlainMessage → ℕ
-reverse_byte None = passes
-reverse_byte (Some m) = reverse_answer (class_of m.mti)

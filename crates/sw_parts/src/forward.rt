@@ -1,16 +1,15 @@
 //! What is stored to be forwarded.
 
 ghost use Rattle.std.specs.Prelude.{◌≡◌, [], IfOk};
-ghost use Rattle.sw_messages.specs.Requests.{request_in};
-ghost use Rattle.sw_parts.specs.Forwards.{forward_byte, forwarded, forwarded_by};
+ghost use Rattle.sw_messages.specs.Requests.{class_in};
+ghost use Rattle.sw_parts.specs.Forwards.{approval, forward_answer, forwarded, reversal};
 ghost use Rattle.sw_participant.specs.Outcomes.{StaysQuiet, RestoresNothing};
 ghost use Rattle.sw_parts.specs.Quiet.{PassesOver, SelectsNone};
 
 use crate::answers::{JOINS, PASSES};
-use iso_msg::Message;
 use std::alloc::Global;
 use sw_context::Context;
-use sw_messages::{Class, STAND_IN, authorization_advice, class_of, request_in, reversal_advice};
+use sw_messages::{Class, STAND_IN, authorization_advice, class_in, request_in, reversal_advice};
 use sw_participant::{AdviceResult, Bytes, NoMemory, Participant, Text};
 
 /// Gives what issuers are notified of later, to be stored: at commit an authorization advice (0120)
@@ -27,35 +26,46 @@ impl Drop for Forward {
     }
 }
 
-fn answer(request: &Option<Message>) -> u8
-    ensures { result ≡ forward_byte request.now }
+fn answer(class: Option<Class>) -> u8
+    ensures { result ≡ forward_answer class }
 {
-    let Some(message) = request else {
-        return PASSES;
-    };
-    match class_of(message.mti().digits()) {
+    match class {
         Some(Class::Authorization) => JOINS,
         Some(Class::Reversal) => JOINS,
         _ => PASSES,
     }
 }
 
-fn forwarded(
-    alloc: Global,
-    request: &Option<Message>,
-    context: &Context,
-) -> Result<Option<Bytes>, NoMemory>
-    ensures { IfOk result (λ advice. advice ≡ forwarded_by request.now context.now) }
+// The advice of what the switch approved by itself.
+fn approval(alloc: Global, context: &Context) -> Result<Option<Bytes>, NoMemory>
+    ensures { IfOk result (λ advice. advice ≡ approval context.now) }
 {
-    let Some(message) = request else {
+    let Some(request) = request_in(alloc, context)? else {
         return Ok(None);
     };
+    Ok(Some(authorization_advice(alloc, &request, context)?))
+}
+
+// The advice of a reversal; a request for anything else is not decoded.
+fn reversal(alloc: Global, context: &Context) -> Result<Option<Bytes>, NoMemory>
+    ensures { IfOk result (λ advice. advice ≡ reversal context.now) }
+{
+    let Some(Class::Reversal) = class_in(context) else {
+        return Ok(None);
+    };
+    let Some(request) = request_in(alloc, context)? else {
+        return Ok(None);
+    };
+    Ok(Some(reversal_advice(alloc, &request)?))
+}
+
+fn forwarded(alloc: Global, context: &Context) -> Result<Option<Bytes>, NoMemory>
+    ensures { IfOk result (λ advice. advice ≡ forwarded context.now) }
+{
     if context.get(STAND_IN).is_some() {
-        return Ok(Some(authorization_advice(alloc, message, context)?));
-    }
-    match class_of(message.mti().digits()) {
-        Some(Class::Reversal) => Ok(Some(reversal_advice(alloc, message)?)),
-        _ => Ok(None),
+        approval(alloc, context)
+    } else {
+        reversal(alloc, context)
     }
 }
 
@@ -73,7 +83,7 @@ impl Participant for Forward {
     ghost object = { λ _. [] };
 
     ghost prepares = { λ id o x byte p y.
-        (p ≡ o) × (byte ≡ forward_byte (request_in x)) × (y ≡ x) };
+        (p ≡ o) × (byte ≡ forward_answer (class_in x)) × (y ≡ x) };
 
     ghost prepares_for_abort = { λ id o x byte p y. PassesOver o x byte p y };
 
@@ -87,8 +97,7 @@ impl Participant for Forward {
     ghost recovers = { λ id commit o x p y. RestoresNothing o x p y };
 
     fn prepare(&mut self, id: u64, context: &mut Context) -> Result<u8, NoMemory> {
-        let request = request_in(self.alloc, context)?;
-        Ok(answer(&request))
+        Ok(answer(class_in(context)))
     }
 
     fn prepare_for_abort(&mut self, id: u64, context: &mut Context) -> Result<u8, NoMemory> {
@@ -100,8 +109,7 @@ impl Participant for Forward {
     }
 
     fn commit(&mut self, id: u64, context: &mut Context, recovering: bool) -> AdviceResult {
-        let request = request_in(self.alloc, context)?;
-        forwarded(self.alloc, &request, context)
+        forwarded(self.alloc, context)
     }
 
     fn abort(&mut self, id: u64, context: &mut Context, recovering: bool) -> AdviceResult {

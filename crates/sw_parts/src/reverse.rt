@@ -1,18 +1,17 @@
 //! The reversal of what was sent to an issuer.
 
 ghost use Rattle.std.specs.Prelude.{◌≡◌, [], IfOk};
-ghost use Rattle.sw_messages.specs.Requests.{request_in};
+ghost use Rattle.sw_messages.specs.Requests.{class_in, request_in};
 ghost use Rattle.sw_participant.specs.Outcomes.{RestoresNothing};
 ghost use Rattle.sw_parts.specs.Quiet.{PassesOver, SelectsNone};
 ghost use Rattle.sw_parts.specs.Reversals.{is_due, advice_of, committed_advice, aborted_advice};
-ghost use Rattle.sw_parts.specs.Reversals.{reverse_byte};
+ghost use Rattle.sw_parts.specs.Reversals.{reverse_answer};
 
 use crate::answers::{JOINS, PASSES};
 use iso_codec::encode;
-use iso_msg::Message;
 use std::alloc::Global;
 use sw_context::Context;
-use sw_messages::{CODE, Class, LATE, SENT, class_of, is_approved, request_in, reversal_of};
+use sw_messages::{CODE, Class, LATE, SENT, class_in, is_approved, request_in, reversal_of};
 use sw_participant::{AdviceResult, Bytes, NoMemory, Participant, Text};
 
 /// Gives the reversal (0420) of an authorization that an issuer may have approved, if the
@@ -41,26 +40,23 @@ fn is_due(recovering: bool, context: &Context) -> bool
 fn advice_of(alloc: Global, due: bool, context: &Context) -> Result<Option<Bytes>, NoMemory>
     ensures { IfOk result (λ advice. advice ≡ advice_of due (request_in context.now)) }
 {
-    let Some(request) = request_in(alloc, context)? else {
-        return Ok(None);
-    };
-    let Some(Class::Authorization) = class_of(request.mti().digits()) else {
-        return Ok(None);
-    };
     if !due {
         return Ok(None);
     }
+    let Some(Class::Authorization) = class_in(context) else {
+        return Ok(None);
+    };
+    let Some(request) = request_in(alloc, context)? else {
+        return Ok(None);
+    };
     let reversal = reversal_of(alloc, &request)?;
     Ok(Some(Bytes::new(encode(alloc, &reversal)?)))
 }
 
-fn answer(request: &Option<Message>) -> u8
-    ensures { result ≡ reverse_byte request.now }
+fn answer(class: Option<Class>) -> u8
+    ensures { result ≡ reverse_answer class }
 {
-    let Some(message) = request else {
-        return PASSES;
-    };
-    match class_of(message.mti().digits()) {
+    match class {
         Some(Class::Authorization) => JOINS,
         _ => PASSES,
     }
@@ -80,7 +76,7 @@ impl Participant for Reverse {
     ghost object = { λ _. [] };
 
     ghost prepares = { λ id o x byte p y.
-        (p ≡ o) × (byte ≡ reverse_byte (request_in x)) × (y ≡ x) };
+        (p ≡ o) × (byte ≡ reverse_answer (class_in x)) × (y ≡ x) };
 
     ghost prepares_for_abort = { λ id o x byte p y. PassesOver o x byte p y };
 
@@ -95,8 +91,7 @@ impl Participant for Reverse {
     ghost recovers = { λ id commit o x p y. RestoresNothing o x p y };
 
     fn prepare(&mut self, id: u64, context: &mut Context) -> Result<u8, NoMemory> {
-        let request = request_in(self.alloc, context)?;
-        Ok(answer(&request))
+        Ok(answer(class_in(context)))
     }
 
     fn commit(&mut self, id: u64, context: &mut Context, recovering: bool) -> AdviceResult {
