@@ -64,8 +64,7 @@ fn add_field(
 ) -> Result<bool, AllocError>
     ensures { IfOk result (spec.AddsField message.old number value.now message.new) }
 {
-    // Called only for the proof: that the message is valid.
-    let _ = message.mti();
+    message.is_message();
     if number <= last_number(message) {
         return Ok(false);
     }

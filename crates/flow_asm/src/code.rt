@@ -109,6 +109,13 @@ impl Code {
         self.retries
     }
 
+    /// States that the code is of a checked flow, for the proofs of its callers. It does nothing.
+    pub fn is_checked(&self)
+        ensures { IsChecked self.now }
+    {
+        let _ = self.retries();
+    }
+
     /// The participants, each at its number.
     pub fn participants(&self) -> &[Part]
         ensures participants { result.now ≡ parts_of self.now }

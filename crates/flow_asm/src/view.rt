@@ -29,7 +29,7 @@ impl Code {
         ensures view { IsStepView self.now step result }
         ensures small { length (stages self.now) ≤ 33024 }
     {
-        let _retries = self.retries();
+        self.is_checked();
         match self.steps()[step] {
             Step::Call(participant) => {
                 let part = &self.participants()[participant];

@@ -185,7 +185,6 @@ pub fn encode(alloc: Global, message: &Message) -> Result<Vec<u8>, AllocError>
     ensures short { IfOk result (λ v. length v.items ≤ 9999) }
     ensures read_back { IfOk result (λ v. read v.items ≡ Ok message.now) }
 {
-    // Asked only for the proof that the message is valid.
-    let _ = message.mti();
+    message.is_message();
     write_message(alloc, message)
 }

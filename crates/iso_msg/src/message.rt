@@ -61,6 +61,13 @@ impl Message {
         self.mti
     }
 
+    /// States that the message is valid, for the proofs of its callers. It does nothing.
+    pub fn is_message(&self)
+        ensures { IsMessage self.now }
+    {
+        let _ = self.mti();
+    }
+
     /// Puts a value at a number, in place of one that is there. The refusals are those of the
     /// table, in the order of `MessageError`, and out of memory if the table has none. A refusal
     /// leaves the message as it was.

@@ -61,8 +61,7 @@ pub fn encode_as(alloc: Global, mti: &[u8; 4], message: &Message) -> Result<Vec<
     ensures { IfOk result (λ v. v.items
         ≡ spelling (record { mti = mti.now; fields = message.now.fields })) }
 {
-    // The type is looked at only for the proof: that it has four digits.
-    let _ = message.mti();
+    message.is_message();
     let mut bytes = encode(alloc, message)?;
     put_part(&mut bytes, 0, mti);
     Ok(bytes)

@@ -10,7 +10,7 @@ ghost use Rattle.tx_machine.specs.Table.{Prepare, chosen};
 ghost use Rattle.tx_machine.specs.Position.{IsReturn, upcoming_at, entries_in};
 
 use crate::names::first_names;
-use crate::walk::{flow_is_checked, group_step};
+use crate::walk::group_step;
 use flow_asm::Code;
 use std::alloc::{AllocError, Global};
 
@@ -50,7 +50,7 @@ pub(crate) fn main_step(code: &Code) -> usize
     ensures upcoming { upcoming_at code.now result
         ≡ map Prepare (entries_named code.now (codes "main")) }
 {
-    flow_is_checked(code);
+    code.is_checked();
     let Some(number) = code.find_group("main".as_bytes()) else {
         unreachable!();
     };

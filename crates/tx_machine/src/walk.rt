@@ -3,7 +3,6 @@
 ghost use Rattle.std.specs.Prelude.{◌≡◌, ◌+◌, ◌^◌, ◌<◌, [], ◌++◌, length, map, slice_get, Some, IfSome};
 ghost use Rattle.std.specs.Prelude.{IfNone, IfOk, OnErr, IfErr};
 ghost use Rattle.std.specs.List.{All};
-ghost use Rattle.flow_model.specs.Check.{IsChecked};
 ghost use Rattle.flow_asm.specs.Steps.{AtReturn, first_step, layout, stages};
 ghost use Rattle.flow_asm.specs.Places.{group_at};
 ghost use Rattle.tx_machine.specs.Table.{Prepare, passed_if};
@@ -30,13 +29,6 @@ impl Drop for Frame {
             pending: _,
         } = self;
     }
-}
-
-/// A code is that of a checked flow: a wrapper for proofs.
-pub(crate) fn flow_is_checked(code: &Code)
-    ensures { IsChecked code.now }
-{
-    let _retries = code.retries();
 }
 
 /// What a step is. This is `Code::look` with a clause that says what is to come from the step on.

@@ -53,8 +53,7 @@ impl Engine {
         let first_slot = next_slot(alloc, code, rows, 0)?;
         let recovering = is_holding(&first_slot);
         let slots = seated(alloc, first_slot, sessions)?;
-        // That the code is of a checked flow is known by its retries.
-        let _retries = code.retries();
+        code.is_checked();
         let lists = Lists::new(alloc, closings(alloc, rows)?);
         let shelf = shelf_of(alloc, view.shelf.as_slice(), view.next_id)?;
         let advices = advices_of(alloc, view.advices.as_slice(), view.next_id)?;

@@ -9,5 +9,5 @@ returns-in-Ok c =
     let less : last_of c.args.message.now.fields < c.args.number = omega (arith, c.if-number-last_number.false, c.last_number.ensures) in (
       may_follow c.args.message.now c.args.number c.args.value.now less c.in-Ok.ensures.taken,
       c.in-Ok.ensures.ok ∙ ap (λ (fs : Fields). record { mti = c.args.message.now.mti; fields = fs })
-          (put_last 1 c.args.message.now.fields c.args.number c.args.value.now c.mti.ensures.valid.1 less),
+          (put_last 1 c.args.message.now.fields c.args.number c.args.value.now c.is_message.ensures.1 less),
     )

@@ -45,7 +45,7 @@ returns-in-Call-clause-view c =
       shown.0,
       shown.1,
       shown.2,
-      kind c.args.self.now _ c.args.step _ shown.0 _ c.retries-retries.ensures.checked c.participants.ensures.participants shown.1
+      kind c.args.self.now _ c.args.step _ shown.0 _ c.is_checked.ensures c.participants.ensures.participants shown.1
           shown.2 ∙ ap (λ (x : Part). x.kind) (sym c.index-participants-participant.is),
       subst (λ m. m < length (parts_of c.args.self.now)) shown.2
           (call_participant c.args.self.now c.args.step shown.0 shown.1),
@@ -60,10 +60,10 @@ pub returns-in-Return-clause-view : goal.returns-in-Return-clause-view
 returns-in-Return-clause-view c = return_shown (stages c.args.self.now) c.args.step (read c.args.self.now _ _ _ _ c.steps.ensures c.requires c.in-Return.is)
 
 pub returns-in-Call-clause-small : goal.returns-in-Call-clause-small
-returns-in-Call-clause-small c = few_stages c.args.self.now c.retries-retries.ensures.checked
+returns-in-Call-clause-small c = few_stages c.args.self.now c.is_checked.ensures
 
 pub returns-in-Pick-clause-small : goal.returns-in-Pick-clause-small
-returns-in-Pick-clause-small c = few_stages c.args.self.now c.retries-retries.ensures.checked
+returns-in-Pick-clause-small c = few_stages c.args.self.now c.is_checked.ensures
 
 pub returns-in-Return-clause-small : goal.returns-in-Return-clause-small
-returns-in-Return-clause-small c = few_stages c.args.self.now c.retries-retries.ensures.checked
+returns-in-Return-clause-small c = few_stages c.args.self.now c.is_checked.ensures

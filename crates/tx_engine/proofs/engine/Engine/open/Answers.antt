@@ -14,7 +14,7 @@ pub invariant_of-result : goal.invariant_of-result
 invariant_of-result c =
     let known = rows_known c.args.code.now c.args.view.now.rows (rw c.as_slice-rows.ensures at (c.in_ok-test_rows.ensures)) in
     let st = start_fits c.args.code.now c.args.view.now c.requires known in
-    let fits = checked_fits c.args.code.now c.retries-retries.ensures.checked in
+    let fits = checked_fits c.args.code.now c.is_checked.ensures in
     let some : 1 ≤ c.args.sessions = omega arith in
     let few : c.args.sessions ≤ 16 = omega arith in
     let is = rw c.as_slice-rows.ensures at (c.in_ok-closings.ensures c.args.code.now (first_start c.args.view.now)) in
