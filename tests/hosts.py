@@ -296,20 +296,41 @@ def switch_killed(program, room):
 
 
 def advices_between_reads(program, room):
-    """With `advices = 1` the oldest stored advice goes out before the next request is read; one that the host refused goes as a repeat."""
+    """With `advices = 1` a stored advice goes out before the next request is read, the oldest first. One that the host refused goes again, as a
+    repeat, once each of the others was sent."""
     for words in [], ["--threads", "--sessions", "4"]:
         with tempfile.TemporaryDirectory(dir=room) as inner, switch(program, inner, *words, more="\n[run]\nadvices = 1\n") as (run, wire):
             run.send(request(1, 400))
             wire.get()
             wanted("field 38 of the first response", run.receive()[1].get(38), b"SI0001")
             wanted("the first advice", answers(wire, b"05"), [b"0420"])
-            for stan, its in (2, b"0421"), (3, b"0120"):
+            for stan, its in (2, b"0120"), (3, b"0421"):
                 run.send(request(stan))
                 wire.put(reply(wire.get()))
                 wanted(f"field 38 of response {stan}", run.receive()[1].get(38), b"HOST42")
                 wanted(f"the advice after response {stan}", answers(wire, b"00"), [its])
             run.end()
             wanted("at the host", wire.read(0), b"")
+
+
+def advices_of_two_hosts(program, room):
+    """The advices of a host that is not there do not hold back those of another one, however few are sent between two reads."""
+    for words in [], ["--threads", "--sessions", "4"]:
+        with tempfile.TemporaryDirectory(dir=room) as inner:
+            more = {"beta": PIPES, "more": "\n[run]\nadvices = 1\n"}
+            with switch(program, inner, "--journal", "journal.db", *words, **more) as (run, wire):
+                wanted("field 38 for the host that is not there", run.ask(request(1, 400, FIVE))[1].get(38), b"SI0001")
+                run.send(request(2, 400))
+                wire.get()
+                wanted("field 38 for the silent host", run.receive()[1].get(38), b"SI0002")
+                for stan, its in (3, [b"0420"]), (4, [b"0120"]), (5, []):
+                    run.send(request(stan))
+                    wire.put(reply(wire.get()))
+                    wanted(f"field 38 of response {stan}", run.receive()[1].get(38), b"HOST42")
+                    wanted(f"the advices after response {stan}", answers(wire, *[b"00"] * len(its)), its)
+                run.end()
+                wanted("at the host", wire.read(0), b"")
+            wanted("advices in the journal", advices_in(inner), [b"0420", b"0120"])
 
 
 def echo(message):

@@ -3,7 +3,7 @@
 use Rattle.std.proofs.Common.{◌≡◌, ℕ, ◌+◌, Bool, false, List, [], ◌∷◌, ◌++◌, length, take, Option, refl, sym, ap, subst, ◌∙◌, append_assoc, append-nil}
 use Rattle.sw_context.specs.Pairs.{Pairs}
 use Rattle.sw_frame.specs.Stream.{State, blank}
-use Rattle.cli_run.specs.Advices.{AdviceStep, Between, PlainAdvisor, SendsAll, SendsBetween, stored_at}
+use Rattle.cli_run.specs.Advices.{AdviceStep, Between, PlainAdvisor, SendsAll, SendsBetween, due_between}
 use Rattle.cli_run.specs.Legs.{Advances, AdvancesFor, Leg, Legs, Stage, lines_of, rounds_in, stage}
 use Rattle.cli_run.specs.Lines.{Line}
 use Rattle.cli_run.specs.Points.{Point, is_long, world_at}
@@ -155,7 +155,7 @@ stops_on step threads input left frames s x y k l c reads a on =
 
 -- advices between two reads
 
-pub none_between : (step : AdviceStep) (bs : List ((ℕ × ℕ) × List ℕ)) (s : PlainAdvisor) (p : Point) (l : Log) → bs ≡ take s.most (stored_at p) →
+pub none_between : (step : AdviceStep) (bs : List ((ℕ × ℕ) × List ℕ)) (s : PlainAdvisor) (p : Point) (l : Log) → bs ≡ due_between s p →
     length bs ≡ 0 → is_long (world_at p) ≡ false → SendsBetween step s p l s p l
 none_between step bs s p l are none short = record {
   lines = [];
@@ -170,7 +170,7 @@ none_between step bs s p l are none short = record {
   nothing [] h = (refl, refl)
   nothing (c ∷ cs) h = absurd (cc)
 
-pub some_between : (step : AdviceStep) (bs : List ((ℕ × ℕ) × List ℕ)) (s t : PlainAdvisor) (p w q : Point) (l m : Log) → bs ≡ take s.most (stored_at p) →
+pub some_between : (step : AdviceStep) (bs : List ((ℕ × ℕ) × List ℕ)) (s t : PlainAdvisor) (p w q : Point) (l m : Log) → bs ≡ due_between s p →
     SendsAll step bs s p t w → Cuts w l q m → SendsBetween step s p l t q m
 some_between step bs s t p w q l m are sends cuts = record {
   lines = cuts.lines;

@@ -1,6 +1,6 @@
 -- What is counted, one after the other.
 -- for: given::count_above, advices::send_advice
-use Rattle.std.proofs.Common.{◌≡◌, ℕ, true, List, [], ◌∷◌, ◌++◌, map, refl, sym, ap, subst, ◌∙◌}
+use Rattle.std.proofs.Common.{◌≡◌, ℕ, true, Some, List, [], ◌∷◌, ◌++◌, map, refl, sym, ap, subst, ◌∙◌}
 use Rattle.std.proofs.lemmas.List.{map-append}
 use Rattle.std.specs.Borrow.{Bor}
 use Rattle.sw_context.specs.Pairs.{Pairs}
@@ -36,7 +36,7 @@ pub counted_rest : (w : Point) (n : Tally) → n ≡ with_delivered w.answered.c
 counted_rest w n is rest = subst (λ (t : Tally). IsAtRest (with_counts w t)) (sym is) (delivered_rest w rest)
 
 pub sent_one : (step : AdviceStep) (a : (ℕ × ℕ) × List ℕ) (s t : PlainAdvisor) (p w : Point) (o : Outcome) (n : Tally) →
-    step a.1 (is_repeat s a.0) s.sender true t.sender → t ≡ record s { sender = t.sender; last = last_with s a.0 }
+    step a.1 (is_repeat s a.0) s.sender true t.sender → t ≡ record s { sender = t.sender; last = last_with s a.0; reached = Some a.0 }
     → Does (turn.Ack a.0.0 a.0.1) o p w → n ≡ with_delivered w.answered.counts → Sends step a s p t (with_counts w n)
 sent_one step a s t p w o n sent noted does counted = record {
   accepted = true;

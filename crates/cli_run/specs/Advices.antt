@@ -1,5 +1,9 @@
 -- The stored advices are sent.
 use Rattle.std.specs.Prelude.{◌≡◌, ℕ, Bool, true, false, cond, ◌==◌, ◌&&◌, ◌||◌, nat_le, nat_lt, List, [], ◌∷◌, take, Option, Some, None}
+use Rattle.std.specs.Ordering.{nat_cmp, ordering_then}
+use Rattle.std.specs.BTreeMap.Range.{entries_between}
+use Rattle.std.specs.declared.cmp.Ordering.{Ordering}
+use Rattle.std.specs.declared.ops.Bound.TheVariants.{Excluded, Unbounded}
 use Rattle.sw_issuers.specs.Sending.{PlainSender, SenderStep}
 use Rattle.tx_history.specs.Journal.{advices}
 use Rattle.tx_plant.specs.declared.turn.Outcome.{Outcome}
@@ -15,16 +19,18 @@ abbrev pub AdviceStep : Type 1
 AdviceStep = List ℕ → Bool → SenderStep
 
 -- What sends the advices of a run. `most` is the most that it sends between two reads; `first` is the id of the run's first own
--- transaction; `last` is the last advice that was sent in the run, by its transaction's id and its place.
+-- transaction. Of the advices that were sent in the run, by their transactions' ids and their places, `last` is the newest one, and
+-- `reached` is the one that was sent last.
 pub record PlainAdvisor : Type 0 where
   pub sender : PlainSender
   pub most : ℕ
   pub first : ℕ
   pub last : Option (ℕ × ℕ)
+  pub reached : Option (ℕ × ℕ)
 
 -- before the first advice is sent
 abbrev pub begun_advisor : PlainSender → ℕ → ℕ → PlainAdvisor
-begun_advisor sender most first = record { sender = sender; most = most; first = first; last = None }
+begun_advisor sender most first = record { sender = sender; most = most; first = first; last = None; reached = None }
 
 -- whether the advice at this place comes no later than that one, ids and places rising
 abbrev pub is_up_to : ℕ × ℕ → Option (ℕ × ℕ) → Bool
@@ -35,7 +41,7 @@ is_up_to a (Some l) = nat_lt a.0 l.0 || (a.0 == l.0) && nat_le a.1 l.1
 abbrev pub is_repeat : PlainAdvisor → ℕ × ℕ → Bool
 is_repeat s a = nat_lt a.0 s.first || is_up_to a s.last
 
--- the last advice that was sent, with this one
+-- the newest advice that was sent, with this one
 abbrev pub last_with : PlainAdvisor → ℕ × ℕ → Option (ℕ × ℕ)
 last_with s a = cond (is_repeat s a) s.last (Some a)
 
@@ -52,7 +58,7 @@ Acks false place p q = q ≡ p
 pub record Sends (step : AdviceStep) (a : (ℕ × ℕ) × List ℕ) (s : PlainAdvisor) (p : Point) (t : PlainAdvisor) (q : Point) : Type 0 where
   pub accepted : Bool
   pub sent : step a.1 (is_repeat s a.0) s.sender accepted t.sender
-  pub noted : t ≡ record s { sender = t.sender; last = last_with s a.0 }
+  pub noted : t ≡ record s { sender = t.sender; last = last_with s a.0; reached = Some a.0 }
   pub acks : Acks accepted a.0 p q
 
 -- The switch is at rest. Queue and shelf are empty if they were before.
@@ -69,10 +75,32 @@ SendsAll step (a ∷ more) s p t q = (u : PlainAdvisor) × (w : Point) × Sends 
 abbrev pub stored_at : Point → List ((ℕ × ℕ) × List ℕ)
 stored_at p = advices (world_at p).flow (world_at p).start (world_at p).past
 
--- between two reads: the first of the stored advices are sent, at most `most` of them; then the history may be cut
+-- the order of ids and places
+abbrev pub place_cmp : ℕ × ℕ → ℕ × ℕ → Ordering
+place_cmp a b = ordering_then (nat_cmp a.0 b.0) (nat_cmp a.1 b.1)
+
+-- those that come after this one
+abbrev pub later : ℕ × ℕ → List ((ℕ × ℕ) × List ℕ) → List ((ℕ × ℕ) × List ℕ)
+later a xs = entries_between place_cmp (Excluded a) Unbounded xs
+
+-- these, or those if there are none of these
+abbrev pub these_or : List ((ℕ × ℕ) × List ℕ) → List ((ℕ × ℕ) × List ℕ) → List ((ℕ × ℕ) × List ℕ)
+these_or [] others = others
+these_or (a ∷ more) others = a ∷ more
+
+-- in the order in which they are sent: those after the one that was sent last, and if none comes after it, all of them
+abbrev pub going_on : Option (ℕ × ℕ) → List ((ℕ × ℕ) × List ℕ) → List ((ℕ × ℕ) × List ℕ)
+going_on None xs = xs
+going_on (Some a) xs = these_or (later a xs) xs
+
+-- the advices that are sent between two reads
+abbrev pub due_between : PlainAdvisor → Point → List ((ℕ × ℕ) × List ℕ)
+due_between s p = take s.most (going_on s.reached (stored_at p))
+
+-- between two reads: the next of the stored advices are sent, at most `most` of them; then the history may be cut
 pub record Between (step : AdviceStep) (s : PlainAdvisor) (p : Point) (lines : List Line) (t : PlainAdvisor) (q : Point) : Type 0 where
   pub sent : Point
-  pub sends : SendsAll step (take s.most (stored_at p)) s p t sent
+  pub sends : SendsAll step (due_between s p) s p t sent
   pub cuts : MayCut sent lines q
 
 -- and the lines of the entries that are cut were written

@@ -5,7 +5,8 @@ ghost use Rattle.sw_issuers.specs.Sending.{SendsAdvice};
 ghost use Rattle.tx_engine.specs.Calls.{waits};
 ghost use Rattle.tx_history.specs.Journal.{advices};
 ghost use Rattle.cli_run.specs.Advices.{Sends, SendsAll, SendsBetween, StaysAtRest};
-ghost use Rattle.cli_run.specs.Advices.{begun_advisor, is_repeat, is_up_to, last_with, stored_at};
+ghost use Rattle.cli_run.specs.Advices.{begun_advisor, due_between, going_on, is_repeat};
+ghost use Rattle.cli_run.specs.Advices.{is_up_to, last_with, later, stored_at};
 ghost use Rattle.cli_run.specs.Points.{IsAtRest, IsReady, point_of, world_at};
 ghost use Rattle.cli_run.specs.Rounds.{IsEmptied};
 ghost use Rattle.cli_run.specs.Stored.{stored_id, plain};
@@ -16,8 +17,10 @@ use crate::standard_error::StandardError;
 use crate::switch::Switch;
 use sqlite::Alter;
 use std::alloc::{AllocError, Global};
+use std::collections::BTreeMap;
 use std::io::Write;
 use std::marker::Model;
+use std::ops::Bound;
 use sw_issuers::Sender;
 use sw_participant::{Bytes, NoMemory};
 use sw_parts::Link;
@@ -54,13 +57,23 @@ fn advices_of(alloc: Global, engine: &Engine) -> Result<Vec<Stored>, AllocError>
     Ok(list)
 }
 
+/// The place of an advice that was sent.
+#[derive(Clone, Copy)]
+struct Sent {
+    id: u64,
+    place: usize,
+}
+
 // The oldest advices, at most `most` of them. The others are not looked at.
-fn oldest_advices(alloc: Global, engine: &Engine, most: usize) -> Result<Vec<Stored>, AllocError>
-    ensures { IfOk result (λ list. map plain list.items
-        ≡ take most (advices engine.now.flow engine.now.start engine.now.past)) }
+fn oldest_advices(
+    alloc: Global,
+    advices: &BTreeMap<(u64, usize), Bytes>,
+    most: usize,
+) -> Result<Vec<Stored>, AllocError>
+    ensures { IfOk result (λ list. map plain list.items ≡ take most advices.now.entries) }
 {
     let mut list = Vec::new(alloc);
-    for ((id, place), advice) in engine.advices() {
+    for ((id, place), advice) in advices {
         if list.len() >= most {
             return Ok(list);
         }
@@ -69,11 +82,45 @@ fn oldest_advices(alloc: Global, engine: &Engine, most: usize) -> Result<Vec<Sto
     Ok(list)
 }
 
-/// The place of an advice that was sent.
-#[derive(Clone, Copy)]
-struct Sent {
-    id: u64,
-    place: usize,
+// The oldest advices that come after this one, at most `most` of them. The others are not looked at.
+fn later_advices(
+    alloc: Global,
+    advices: &BTreeMap<(u64, usize), Bytes>,
+    reached: Sent,
+    most: usize,
+) -> Result<Vec<Stored>, AllocError>
+    ensures { IfOk result (λ list. map plain list.items
+        ≡ take most (later (reached.id, reached.place) advices.now.entries)) }
+{
+    let mut list = Vec::new(alloc);
+    let after = Bound::Excluded((reached.id, reached.place));
+    for ((id, place), advice) in advices.range((after, Bound::Unbounded)) {
+        if list.len() >= most {
+            return Ok(list);
+        }
+        list.push(advice_at(*id, *place, advice)?)?;
+    }
+    Ok(list)
+}
+
+// The advices that are sent next, at most `most` of them: those after the one that was sent last, or the oldest if
+// none comes after it. So the advices of a host that accepts none do not hold back those of another one.
+fn next_advices(
+    alloc: Global,
+    advices: &BTreeMap<(u64, usize), Bytes>,
+    reached: Option<Sent>,
+    most: usize,
+) -> Result<Vec<Stored>, AllocError>
+    ensures { IfOk result (λ list. map plain list.items ≡ take most
+        (going_on (option_map (λ l. (l.id, l.place)) reached) advices.now.entries)) }
+{
+    if let Some(last) = reached {
+        let list = later_advices(alloc, advices, last, most)?;
+        if !list.is_empty() {
+            return Ok(list);
+        }
+    }
+    oldest_advices(alloc, advices, most)
 }
 
 /// What sends the stored advices of a run, and knows which were sent before.
@@ -82,6 +129,7 @@ pub(crate) struct Advisor<L: Link> {
     most: usize,
     first: u64,
     last: Option<Sent>,
+    reached: Option<Sent>,
 }
 
 // Written out, so that no caller proves again how its parts are dropped.
@@ -92,6 +140,7 @@ impl<L: Link + Drop> Drop for Advisor<L> {
             most: _,
             first: _,
             last: _,
+            reached: _,
         } = self;
     }
 }
@@ -107,6 +156,7 @@ impl<L: Link> Model for Advisor<L> {
       most = a.most;
       first = a.first;
       last = option_map (λ l. (l.id, l.place)) a.last;
+      reached = option_map (λ l. (l.id, l.place)) a.reached;
     } };
 }
 
@@ -131,6 +181,7 @@ impl<L: Link> Advisor<L> {
             most,
             first,
             last: None,
+            reached: None,
         }
     }
 
@@ -148,16 +199,28 @@ impl<L: Link> Advisor<L> {
         stored.id < self.first || is_up_to(stored, self.last)
     }
 
+    // Which advice was sent last.
+    fn reached(&self) -> Option<Sent>
+        ensures { option_map (λ l. (l.id, l.place)) result ≡ self.now.reached }
+    {
+        self.reached
+    }
+
     // Notes that an advice was sent.
     fn note(&mut self, stored: &Stored)
-        ensures { self.new ≡ record self.old { last = last_with self.old (stored_id stored.now) } }
+        ensures { self.new ≡ record self.old {
+          last = last_with self.old (stored_id stored.now);
+          reached = Some (stored_id stored.now);
+        } }
     {
+        let sent = Sent {
+            id: stored.id,
+            place: stored.place,
+        };
         if !self.is_repeat(stored) {
-            self.last = Some(Sent {
-                id: stored.id,
-                place: stored.place,
-            });
+            self.last = Some(sent);
         }
+        self.reached = Some(sent);
     }
 
     // Hands an advice to the sender.
@@ -179,6 +242,7 @@ impl<L: Link> Advisor<L> {
         ensures noted { OnOk result (self.new ≡ record self.old {
           sender = self.new.sender;
           last = last_with self.old (stored_id stored.now);
+          reached = Some (stored_id stored.now);
         }) }
     {
         let is_repeat = self.is_repeat(stored);
@@ -253,8 +317,22 @@ pub(crate) fn send_advices<S: Alter, L: Link>(
     send_each(alloc, switch, advisor, &list)
 }
 
-/// Sends the oldest stored advices between two reads, at most as many as the advisor may; those that are accepted
-/// are dropped. Then the history is cut, if it is long or its lines are wanted.
+// The advices that are sent before the next read.
+fn due_advices<S: Alter, L: Link>(
+    alloc: Global,
+    switch: &Switch<S>,
+    advisor: &Advisor<L>,
+) -> Result<Vec<Stored>, AllocError>
+    ensures { IfOk result (λ list. map plain list.items
+        ≡ due_between advisor.now (point_of S.Store switch.now)) }
+{
+    let advices = switch.engine().advices();
+    next_advices(alloc, advices, advisor.reached(), advisor.most())
+}
+
+/// Sends the next stored advices between two reads, at most as many as the advisor may; those that are accepted
+/// are dropped. It begins after the one that was sent last, and with the oldest if none comes after it. Then the
+/// history is cut, if it is long or its lines are wanted.
 pub(crate) fn send_between<S: Alter, L: Link, E: Write>(
     alloc: Global,
     switch: &mut Switch<S>,
@@ -268,7 +346,7 @@ pub(crate) fn send_between<S: Alter, L: Link, E: Write>(
         advisor.new (point_of S.Store switch.new) (log_of E.contents stderr.new)) }
     ensures ready { OnOk result (IsReady (point_of S.Store switch.new)) }
 {
-    let list = oldest_advices(alloc, switch.engine(), advisor.most())?;
+    let list = due_advices(alloc, switch, advisor)?;
     if list.is_empty() {
         return Ok(());
     }

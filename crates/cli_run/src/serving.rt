@@ -312,7 +312,7 @@ fn boxed<P: Unjoined>(alloc: Global, participant: P) -> Result<Box<Bystander<P>>
 
 /// Recovers what the journal has unfinished. Without an input, it prints the lines of that, and does nothing more.
 /// Otherwise it answers the requests of the input as they come, then runs what is on the shelf, and sends the
-/// stored advices. Between two reads of the input it sends the oldest of them, at most as many as the setup says.
+/// stored advices. Between two reads of the input it sends some of them in turn, at most as many as the setup says.
 /// An advice that may have been sent before, in this run or an earlier one, is sent as a repeat.
 ///
 /// The lines of the trace of a transaction are written before the next request is offered, and the rest at the

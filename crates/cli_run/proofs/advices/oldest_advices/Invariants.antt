@@ -1,5 +1,4 @@
 use Rattle.std.proofs.Common.{◌≡◌, ◌≤◌, ◌++◌, length, map}
-use Rattle.tx_history.specs.Journal.{advices}
 use Rattle.cli_run.specs.Stored.{plain}
 use Rattle.cli_run.proofs.advices.oldest_advices.Given as goal
 
@@ -7,5 +6,5 @@ abbrev pub invariant-loop-id : goal.invariant-loop-id
 invariant-loop-id l = record {
   all : map plain l.list.items ≡ map (λ e. (e.0.now, e.1.now)) l.yielded;
   few : length l.list.items ≤ l.most;
-  split : advices l.engine.flow l.engine.start l.engine.past ≡ map (λ e. (e.0.now, e.1.now)) l.yielded ++ l.id-iterator;
+  split : l.fn.advices.entries ≡ map (λ e. (e.0.now, e.1.now)) l.yielded ++ l.id-iterator;
 }

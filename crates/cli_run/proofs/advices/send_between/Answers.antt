@@ -1,8 +1,6 @@
-use Rattle.std.proofs.Common.{◌≡◌, ℕ, ◌∙◌, ap, arith, length, map, take}
+use Rattle.std.proofs.Common.{◌≡◌, ℕ, ◌∙◌, arith, length, map}
 use Rattle.std.proofs.lemmas.Bool.Decides.{nat_tests}
 use Rattle.std.proofs.lemmas.List.{length-map}
-use Rattle.tx_history.specs.Journal.{advices}
-use Rattle.tx_engine.specs.World.{World}
 use Rattle.cli_run.specs.Stored.{plain}
 use Rattle.cli_run.proofs.Advancing.{none_between}
 use Rattle.cli_run.proofs.advices.send_between.Goals as goal
@@ -10,8 +8,6 @@ use Rattle.cli_run.proofs.advices.send_between.Goals as goal
 pub returns-then-is_empty-clause-sends : goal.returns-then-is_empty-clause-sends
 returns-then-is_empty-clause-sends g c =
     let list = c.in_ok-list.list in
-    let few = ap (λ (n : ℕ). take n (advices c.engine.result.now.flow c.engine.result.now.start c.engine.result.now.past)) c.most.ensures in
-    let same = ap (λ (w : World). take c.args.advisor.now.most (advices w.flow w.start w.past)) c.engine.ensures in
     let zero : list.len ≡ 0 = grind (arith, nat_tests, c.if-is_empty.ensures) in
     let none : length list.items ≡ 0 = (let long = list.ok.0 in omega (arith, zero, long)) in
-    none_between _ (map plain list.items) _ _ _ (c.in_ok-list.ensures ∙ (few ∙ same)) (length-map list.items plain ∙ none) c.requires.ready.short
+    none_between _ (map plain list.items) _ _ _ c.in_ok-list.ensures (length-map list.items plain ∙ none) c.requires.ready.short
