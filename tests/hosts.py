@@ -591,11 +591,13 @@ def counted(program, room):
         wire.put(reply(message))
         for stan in 2, 3:
             at_once([run.ask(request(stan, 400))[2]])
-        # (at the end three reversals and three advices are not sent either)
+        # (nobody is at beta's pipes)
+        wanted("field 38 for a host that is not there", run.ask(request(4, 400, FIVE))[1].get(38), b"SI0004")
+        # (at the end a reversal and an advice of each request are not sent either)
         alpha = b"cardswitch: host alpha: not-asked=8 echo-tests=0 unanswered=0 late=1 unreadable=0 dropped=0"
-        beta = b"cardswitch: host beta: not-asked=0 echo-tests=0 unanswered=0 late=0 unreadable=0 dropped=0"
+        beta = b"cardswitch: host beta: not-asked=0 echo-tests=0 unanswered=0 late=0 unreadable=0 dropped=3"
         wanted("the last lines on standard error", run.end().splitlines()[-2:], [alpha, beta])
-    wanted("advices in the journal", advices_in(room), [b"0420", b"0120"] * 3)
+    wanted("advices in the journal", advices_in(room), [b"0420", b"0120"] * 4)
 
 
 def asked_at_once(program, room):

@@ -6,16 +6,10 @@ use rand_core::Rng;
 use rand_pcg::Pcg32;
 use std::alloc::Global;
 use sw_context::{Context, ContextError};
-use sw_participant::{AdviceResult, Bytes, NoMemory, Participant, Text};
+use sw_participant::{
+    AdviceResult, Bytes, NO_JOIN, NoMemory, PREPARED, Participant, READONLY, RETRY, Text,
+};
 
-/// The bits of an answer.
-const PREPARED: u8 = 0x01;
-
-const RETRY: u8 = 0x02;
-
-const NO_JOIN: u8 = 0x40;
-
-const READONLY: u8 = 0x80;
 /// A bit that no answer has.
 const UNKNOWN: u8 = 0x04;
 

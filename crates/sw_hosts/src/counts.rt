@@ -14,8 +14,8 @@ pub struct Counts {
     pub late: u64,
     /// Messages that could not be read or have no key, and those for which there was no memory.
     pub unreadable: u64,
-    /// Frames that were taken to be sent, and not written: they were too late, or the direction was
-    /// closed first.
+    /// Messages that were to be sent, and not written: they were too late, a direction was closed, or 64 waited
+    /// already.
     pub dropped: u64,
     /// Messages that were not sent, because the host was paused.
     pub unasked: u64,

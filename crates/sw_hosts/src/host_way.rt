@@ -149,7 +149,11 @@ impl<C: Clock + Drop> Way for HostWay<C> {
             return false;
         }
         self.open(now);
-        self.hand_over(frame)
+        let is_taken = self.hand_over(frame);
+        if !is_taken {
+            self.shared.counters.add_dropped(1);
+        }
+        is_taken
     }
 
     fn look(&self, awaited: &Awaited, _number: u64) -> Look {

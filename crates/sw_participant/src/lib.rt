@@ -21,7 +21,7 @@ mod station;
 mod unjoined;
 mod values;
 
-pub use answer::{Answer, Reading, read_answer};
+pub use answer::{Answer, NO_JOIN, PREPARED, READONLY, RETRY, Reading, read_answer};
 pub use call::{Act, Call, Reply, is_same_advice};
 pub use caller::Caller;
 pub use kind::Kind;

@@ -5,20 +5,20 @@ ghost use Rattle.sw_parts.specs.Checks.{Decided};
 
 use sw_context::Context;
 use sw_messages::{ResponseCode, note_code};
-use sw_participant::NoMemory;
+use sw_participant::{NO_JOIN, NoMemory, PREPARED, READONLY};
 
 /// PREPARED, NO_JOIN and READONLY: the participant is ready without joining, and has nothing to save.
-pub const PASSES: u8 = 0xc1;
+pub const PASSES: u8 = PREPARED | NO_JOIN | READONLY;
 
 /// Only NO_JOIN: the participant refuses without joining.
-pub const REFUSES: u8 = 0x40;
+pub const REFUSES: u8 = NO_JOIN;
 
 /// PREPARED and NO_JOIN: the participant is ready without joining.
-pub const LEAVES_NOTES: u8 = 0x41;
+pub const LEAVES_NOTES: u8 = PREPARED | NO_JOIN;
 
 /// PREPARED and READONLY: the participant is ready, wants to be notified of the outcome, and has nothing to
 /// save.
-pub const JOINS: u8 = 0x81;
+pub const JOINS: u8 = PREPARED | READONLY;
 
 /// The answer to a request with this fault, if it has one. The fault's response code is noted.
 pub fn decide(fault: Option<ResponseCode>, context: &mut Context) -> Result<u8, NoMemory>

@@ -4,7 +4,7 @@ ghost use Rattle.std.specs.Prelude.{◌≡◌, ◌≢◌, ◌⊎◌, None, codes
 ghost use Rattle.sw_context.specs.Pairs.{refusal, with_value, without};
 
 use sw_context::{Context, ContextError};
-use sw_participant::{AdviceResult, NoMemory, Participant, Text};
+use sw_participant::{AdviceResult, NO_JOIN, NoMemory, PREPARED, Participant, READONLY, Text};
 
 /// Puts a value under `stamp` as it prepares, and takes it out again where the transaction aborts.
 #[derive(Drop)]
@@ -38,14 +38,14 @@ impl Participant for Stamp {
 
     fn prepare(&mut self, id: u64, context: &mut Context) -> Result<u8, NoMemory> {
         match context.put("stamp", self.value.as_slice()) {
-            Ok(()) => Ok(0x01),
+            Ok(()) => Ok(PREPARED),
             Err(ContextError::OutOfMemory) => Err(NoMemory),
-            Err(_) => Ok(0xc0),
+            Err(_) => Ok(NO_JOIN | READONLY),
         }
     }
 
     fn prepare_for_abort(&mut self, id: u64, context: &mut Context) -> Result<u8, NoMemory> {
-        Ok(0xc0)
+        Ok(NO_JOIN | READONLY)
     }
 
     fn select(&mut self, id: u64, context: &Context) -> Result<Text, NoMemory> {
