@@ -5,6 +5,7 @@ use Rattle.std.proofs.Common.{subst, arith, if◌then◌else◌}
 use Rattle.std.specs.List.{AllByRecursion, IsDistinct}
 use Rattle.std.specs.Str.{bytes_eq}
 use Rattle.sw_base.specs.Refusals.{first_at, or_else}
+use Rattle.sw_base.proofs.Unrefused.{left_none, right_none}
 use Rattle.toml.specs.Data.{Data, string, integer, float, boolean, datetime, array, table, Members, as_table}
 use Rattle.cli_config.specs.declared.config.Host.{Host}
 use Rattle.cli_config.specs.declared.config.Route.{Route}
@@ -19,8 +20,8 @@ use Rattle.cli_config.specs.Faults.{bad, bad_in, double, double_of, excludes_in,
 use Rattle.cli_config.specs.Faults.{unknown}
 use Rattle.cli_config.specs.ConfigFile.{config_of, host_of, limits_in, route_of, run_in, times_of, wire_by}
 use Rattle.cli_config.specs.Checked.{AreHosts, AreRoutes, AreTimes, IsChecked, IsHost, IsIn, IsPath, IsRoute, IsWire}
-use Rattle.cli_config.proofs.NoFault.{digits_are_texts, digits_parts, is_fit, is_there, left_none, long_enough, name_parts, names_are_texts, none_of}
-use Rattle.cli_config.proofs.NoFault.{number_fits, path_fits, paths_are_texts, right_none, text_fits}
+use Rattle.cli_config.proofs.NoFault.{digits_are_texts, digits_parts, is_fit, is_there, long_enough, name_parts, names_are_texts, none_of}
+use Rattle.cli_config.proofs.NoFault.{number_fits, path_fits, paths_are_texts, text_fits}
 use Rattle.cli_config.proofs.Doubles.{texts_are_distinct}
 
 -- of a table without a fault: none of its keys is missing, and none has a bad value

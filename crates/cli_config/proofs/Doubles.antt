@@ -6,12 +6,13 @@ use Rattle.std.specs.Str.{bytes_eq}
 use Rattle.std.proofs.Math.Seq.{take-append_seam}
 use Rattle.std.proofs.lemmas.List.{length_push}
 use Rattle.sw_base.specs.Refusals.{first_at}
+use Rattle.sw_base.proofs.Unrefused.{left_none, right_none}
 use Rattle.toml.specs.Data.{Members}
 use Rattle.cli_config.specs.declared.keys.Section.{Section}
 use Rattle.cli_config.specs.declared.keys.Key.{Key}
 use Rattle.cli_config.specs.Tables.{text_at}
 use Rattle.cli_config.specs.Faults.{double, is_taken}
-use Rattle.cli_config.proofs.NoFault.{left_none, not_refused, right_none}
+use Rattle.cli_config.proofs.NoFault.{not_refused}
 
 all_both : {X : Type 0} (P Q : X → Type 0) (xs : List X) → AllByRecursion P xs → AllByRecursion Q xs → AllByRecursion (λ x. P x × Q x) xs
 all_both P Q [] p q = tt

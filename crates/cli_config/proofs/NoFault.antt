@@ -6,6 +6,7 @@ use Rattle.std.specs.Char.{is_ascii_digit}
 use Rattle.std.specs.List.{AllByRecursion, list_all}
 use Rattle.std.proofs.lemmas.Bool.Decides.{nat_tests}
 use Rattle.sw_base.specs.Refusals.{first_of, or_else, refused_if}
+use Rattle.sw_base.proofs.Unrefused.{left_none, right_none}
 use Rattle.sw_context.specs.Names.{is_name}
 use Rattle.toml.specs.Data.{Data, string, integer, float, boolean, datetime, array, table, Members, as_str, as_integer}
 use Rattle.cli_config.specs.declared.error.TableError.{TableError}
@@ -18,14 +19,6 @@ use Rattle.cli_config.specs.Keys.{is_required, wants}
 use Rattle.cli_config.specs.Tables.{value_at, whole}
 use Rattle.cli_config.specs.Faults.{bad, excluded_in, fits, fits_text, found_of, missing, stands}
 use Rattle.cli_config.specs.Checked.{IsIn, IsPath}
-
-pub left_none : {A : Type 0} (a b : Option A) → or_else a b ≡ None → a ≡ None
-left_none None b h = refl
-left_none (Some x) b h = absurd (cc)
-
-pub right_none : {A : Type 0} (a b : Option A) → or_else a b ≡ None → b ≡ None
-right_none None b h = h
-right_none (Some x) b h = absurd (cc)
 
 -- of several tests that refuse nothing, none does
 pub none_of : {A : Type 0} (test : A → Option TableError) (xs : List A) → first_of (map test xs) ≡ None → AllByRecursion (λ x. test x ≡ None) xs

@@ -1,3 +1,4 @@
 mod KnownBytes
 pub mod Writing
 mod Quotations
+pub mod Positions

@@ -1,3 +1,2 @@
 pub mod FirstLines
-mod LineEnds
 mod NextLines

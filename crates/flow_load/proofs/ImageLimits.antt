@@ -10,12 +10,12 @@ use Rattle.flow_model.specs.declared.numbering.Part.{Part}
 use Rattle.sw_context.specs.Names.{is_name}
 use Rattle.flow_model.specs.Check.{IsChecked, bad_entry, bad_group, bad_name, bad_retries, first_fault, large, name_fault}
 use Rattle.sw_base.specs.Refusals.{first_at, or_else}
+use Rattle.sw_base.proofs.Unrefused.{left_none, right_none}
 use Rattle.flow_model.specs.Places.{add_new, number_in, parts_from, parts_of}
 use Rattle.flow_asm.specs.declared.code.GroupStart.{GroupStart}
 use Rattle.flow_asm.specs.declared.code.Step.{Step}
 use Rattle.flow_asm.specs.declared.code.Step.TheVariants.{Call, Pick, Return}
 use Rattle.flow_asm.specs.Emit.{all_steps, entry_steps, group_steps}
-use Rattle.flow_model.proofs.CheckedKinds.{left_none, right_none}
 use Rattle.flow_asm.proofs.AssemblyListing.{map_groups}
 use Rattle.flow_model.proofs.ParticipantBounds.{few_groups, few_participants, few_retries}
 use Rattle.flow_asm.proofs.StepCounts.{few_all_steps}

@@ -12,6 +12,7 @@ use Rattle.flow_model.specs.declared.error.FlowError.TheVariants.{KindClash}
 use Rattle.flow_model.specs.Check.{IsChecked, bad_group, bad_retries, clash, clash_in, double_group, first_fault, first_kind, is_kind, is_named, large}
 use Rattle.flow_model.specs.Check.{name_fault, no_main, same, same_kind}
 use Rattle.sw_base.specs.Refusals.{first_at, or_else}
+use Rattle.sw_base.proofs.Unrefused.{left_none, right_none}
 use Rattle.flow_model.specs.Places.{all_entries}
 
 -- membership, by cases
@@ -31,14 +32,6 @@ in_left (x ∷ xs) ys e h = ⊎_elim (λ (p : x ≡ e). inl p) (λ (p : In xs e)
 pub in_right : (xs ys : List Entry) (e : Entry) → In ys e → In (xs ++ ys) e
 in_right [] ys e h = h
 in_right (x ∷ xs) ys e h = inr (in_right xs ys e h)
-
-pub left_none : {A : Type 0} (a b : Option A) → or_else a b ≡ None → a ≡ None
-left_none None b h = refl
-left_none (Some x) b h = absurd (cc)
-
-pub right_none : {A : Type 0} (a b : Option A) → or_else a b ≡ None → b ≡ None
-right_none None b h = h
-right_none (Some x) b h = absurd (cc)
 
 first_true : (a b : Bool) → (a && b) ≡ true → a ≡ true
 first_true true b h = refl

@@ -20,9 +20,10 @@ use Rattle.flow_model.specs.Check.{IsChecked, bad_retries, entries_in_all, first
 use Rattle.flow_model.specs.Places.{IsOfParticipant, add_new, all_entries, entries_named, entries_of, named_from, number_in, parts_from}
 use Rattle.flow_model.specs.Places.{parts_of, placed_entry}
 use Rattle.flow_model.specs.Places.{placed_from}
-use Rattle.flow_model.proofs.CheckedKinds.{In, in_left, in_right, left_none, right_none}
+use Rattle.flow_model.proofs.CheckedKinds.{In, in_left, in_right}
 use Rattle.flow_model.proofs.Numbers.{added_cases, knows}
 use Rattle.sw_base.specs.Refusals.{refused_if}
+use Rattle.sw_base.proofs.Unrefused.{left_none, right_none}
 
 one_more : (ps : List Part) (e : Entry) → length (add_new ps e) ≤ length ps + 1
 one_more ps e =

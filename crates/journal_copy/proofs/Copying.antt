@@ -1,9 +1,7 @@
 -- The journal that disks in memory hold.
 -- for: looking::look
-use Rattle.std.proofs.Common.{◌≡◌, ℕ, Bool, true, List, [], ◌∷◌, length, Option, Some, None, arith, refl, sym, ap, subst, inl, inr, ◌∙◌}
-use Rattle.std.specs.List.{AllZip}
+use Rattle.std.proofs.Common.{◌≡◌, ℕ, Bool, true, List, length, Option, Some, None, sym, ap, subst, inl, inr, ◌∙◌}
 use Rattle.std.proofs.lemmas.Bool.{and_from}
-use Rattle.sqlite_value.specs.Order.{Row}
 use Rattle.sqlite_disk.specs.declared.Disk as disk
 use Rattle.sqlite_disk.specs.declared.Files.{Files}
 use Rattle.sqlite_wal.specs.Recovery.{Image}
@@ -13,8 +11,7 @@ use Rattle.sqlite_store.specs.declared.store.FileStore.{FileStore}
 use Rattle.sqlite_trees.specs.Tree.{Trees}
 use Rattle.sqlite_trees.proofs.Doubt.{no_doubt}
 use Rattle.sqlite_schema.specs.declared.schema.Schema.{Schema}
-use Rattle.sqlite_schema.specs.declared.schema.Table.{Table}
-use Rattle.sqlite_catalog.specs.Listing.{IsSound, IsTableRow}
+use Rattle.sqlite_catalog.specs.Listing.{IsSound}
 use Rattle.sqlite.specs.Effect.{Database}
 use Rattle.sqlite.specs.Held.{Held}
 use Rattle.sqlite.specs.State.{HasCleanDisk}
@@ -25,6 +22,7 @@ use Rattle.journal_tables.specs.Schema.{first_schema, journal_schema}
 use Rattle.tx_journal.specs.Kept.{OpensAs}
 use Rattle.tx_journal.specs.Left.{doubt_of}
 use Rattle.tx_journal.specs.Making.{no_schema}
+use Rattle.tx_journal.proofs.Opens.{same_count}
 use Rattle.tx_journal.specs.declared.journal.Left.{Left}
 use Rattle.tx_journal.specs.declared.journal.Left.TheVariants.{Closed, Open}
 use Rattle.journal_copy.specs.Copied.{HoldsFault, HoldsJournal, IsLayoutOf, image_of}
@@ -34,16 +32,6 @@ use Rattle.journal_copy.specs.declared.error.LookError.TheVariants as error
 use Rattle.journal_copy.specs.declared.found.Found.{Found}
 
 -- ---- the layout
-
--- a database lists as many tables in each schema that it is sound under
-count_listed : (rows : List Row) (ts : List Table) → AllZip IsTableRow rows ts → length rows ≡ length ts
-count_listed [] [] h = refl
-count_listed [] (t ∷ ts) h = absurd h
-count_listed (r ∷ rows) [] h = absurd h
-count_listed (r ∷ rows) (t ∷ ts) h = let rest = count_listed rows ts h.1 in omega (arith, rest)
-
-same_count : (one two : Schema) (db : Trees) → IsSound one db → IsSound two db → length one.tables ≡ length two.tables
-same_count one two db a b = sym (count_listed _ _ a.lists.listed.tables) ∙ count_listed _ _ b.lists.listed.tables
 
 layout_of : (db : Trees) (s : Schema) (layout : ℕ) (t : Tables) → IsSound s db → layout_by (length s.tables) ≡ Some layout → OpensAs db t
     → IsLayoutOf db layout

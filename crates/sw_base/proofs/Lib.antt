@@ -1,1 +1,2 @@
 mod ReadNumbers
+pub mod Unrefused

@@ -12,9 +12,9 @@ use Rattle.std.proofs.lemmas.List.Edits.{swap_is}
 use Rattle.std.proofs.lemmas.List.Folds.{list_any-append, list_any_more}
 use Rattle.flow_model.specs.declared.numbering.Part.{Part}
 use Rattle.flow_model.specs.Places.{number_in}
-use Rattle.flow_model.proofs.CheckedKinds.{left_none, right_none}
 use Rattle.flow_model.proofs.Numbers.{number_cons, number_here}
 use Rattle.sw_base.specs.Refusals.{first_at, or_else, refused, refused_if}
+use Rattle.sw_base.proofs.Unrefused.{left_none, right_none}
 use Rattle.sw_seating.specs.declared.seating.SeatingError.{SeatingError}
 use Rattle.sw_seating.specs.declared.seating.SeatingError.TheVariants.{DoubleStation, NoStation}
 use Rattle.sw_seating.specs.Seating.{AreNumbered, HaveStations, double_station, is_among, no_station, part_names}

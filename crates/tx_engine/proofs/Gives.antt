@@ -119,14 +119,14 @@ row_holding f (Some r) (Holding h) is = refl
 
 -- which transaction an item is for
 
-taken_who : (f : Flow) (v : Start) (past : List Event) (s id : ℕ) → recovering f v past ≡ None → serves f v past s ≡ Some id → taken v past s ≡ Some id
+pub taken_who : (f : Flow) (v : Start) (past : List Event) (s id : ℕ) → recovering f v past ≡ None → serves f v past s ≡ Some id → taken v past s ≡ Some id
 taken_who f v past s id none h = elim (serves_who f v past s id h) [
   | inl a ↦ absurd (let w = a.0 in cc)
   | inr a ↦ a
 ]
 
 -- while a journalled transaction is recovered, it is for that one
-recovered_who : (f : Flow) (v : Start) (past : List Event) (s id k : ℕ) → IsOrdered v.view → IsLawful f v past → recovering f v past ≡ Some k →
+pub recovered_who : (f : Flow) (v : Start) (past : List Event) (s id k : ℕ) → IsOrdered v.view → IsLawful f v past → recovering f v past ≡ Some k →
     serves f v past s ≡ Some id → (recovering f v past ≡ Some id) × (s ≡ 0)
 recovered_who f v past s id k o law was h = elim (serves_who f v past s id h) [
   | inl a ↦ a

@@ -12,9 +12,10 @@ use Rattle.flow_model.specs.declared.flow.Entry.{Entry}
 use Rattle.flow_model.specs.declared.flow.PlacedEntry.{PlacedEntry}
 use Rattle.flow_model.specs.declared.error.FlowError.TheVariants.{BadName}
 use Rattle.sw_base.specs.Refusals.{first_at, or_else}
+use Rattle.sw_base.proofs.Unrefused.{left_none, right_none}
 use Rattle.flow_model.specs.Check.{IsChecked, bad_entry, bad_group, bad_name, clashes, double_group, first_fault, name_fault, no_main, size_fault}
 use Rattle.flow_model.specs.Places.{all_entries, named_from, number_in, parts_of, placed_entry, placed_from}
-use Rattle.flow_model.proofs.CheckedKinds.{In, in_left, in_right, left_none, right_none}
+use Rattle.flow_model.proofs.CheckedKinds.{In, in_left, in_right}
 use Rattle.flow_model.proofs.Numbers.{knows}
 use Rattle.flow_model.proofs.ParticipantBounds.{few_retries}
 use Rattle.tx_history.specs.History.{name_of}

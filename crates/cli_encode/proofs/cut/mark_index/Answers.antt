@@ -1,7 +1,7 @@
 use Rattle.std.proofs.Common.{◌==◌, ℕ, Bool, rules, tests}
 use Rattle.std.proofs.lemmas.Iterator.{YieldsList-from_slice}
 use Rattle.std.proofs.lemmas.Iterator.Search.{position_from_yields_List}
-use Rattle.cli_encode.proofs.Cuts.{end_found}
+use Rattle.cli_io.proofs.Positions.{end_found}
 use Rattle.cli_encode.proofs.cut.mark_index.Goals as goal
 use Rattle.std.proofs.Common.{◌∙◌}
 

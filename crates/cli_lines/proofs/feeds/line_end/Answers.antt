@@ -1,7 +1,7 @@
 use Rattle.std.proofs.Common.{◌∙◌, rules, tests}
 use Rattle.std.proofs.lemmas.Iterator.{YieldsList-from_slice}
 use Rattle.std.proofs.lemmas.Iterator.Search.{position_from_yields_List}
-use Rattle.cli_lines.proofs.LineEnds.{end_found, end_within}
+use Rattle.cli_io.proofs.Positions.{end_found, end_within}
 use Rattle.cli_lines.specs.Feeds.{is_line_feed}
 use Rattle.cli_lines.proofs.feeds.line_end.Goals as goal
 

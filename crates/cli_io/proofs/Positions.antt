@@ -1,5 +1,5 @@
--- The end of the first line of bytes.
--- for: feeds::line_end, piece::Piece::give
+-- Where the first byte of some kind is, as `position` finds it, or the length if there is none.
+-- for: cli_lines::feeds::line_end, cli_encode::cut::mark_index
 use Rattle.std.proofs.Common.{◌≡◌, ◌≤◌, ℕ, Bool, List, Option, Some, None, length, unwrap_or, cond, nat_lt, arith}
 use Rattle.std.proofs.lemmas.Bool.Decides.{nat_tests}
 use Rattle.std.proofs.lemmas.List.Sums.{prefix_len-le-length}
