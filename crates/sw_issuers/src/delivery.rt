@@ -39,6 +39,8 @@ pub fn deliver<M: Memory, L: Link>(
     let key = match mux.request(advice, 0) {
         Ok(key) => key,
         Err(MuxError::OutOfMemory) => return Err(NoMemory),
+        // Nothing waited, so the numbers began with this one.
+        Err(MuxError::NumbersSpent) => unreachable!(),
         Err(_) => {
             link.send(bytes)?;
             return Ok(false);

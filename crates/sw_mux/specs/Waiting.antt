@@ -1,13 +1,13 @@
 -- The requests that wait.
 use Rattle.std.specs.Prelude.{◌≡◌, ℕ, Bool, false, not, nat_le, List, [], ◌∷◌, map, filter}
-use Rattle.std.specs.Prelude.{Option, Some, None, is_some}
+use Rattle.std.specs.Prelude.{Option, Some, None, is_some, ⊤}
 use Rattle.std.specs.Map.{lookup, remove_entry}
 use Rattle.std.specs.Str.{bytes_eq}
 use Rattle.sw_base.specs.Refusals.{refused_if}
 use Rattle.iso_msg.specs.Messages.{PlainMessage}
 use Rattle.sw_mux.specs.declared.key.Key.{Key}
 use Rattle.sw_mux.specs.declared.error.MuxError.{MuxError}
-use Rattle.sw_mux.specs.declared.error.MuxError.TheVariants.{OutOfMemory, NoKey, DuplicateKey}
+use Rattle.sw_mux.specs.declared.error.MuxError.TheVariants.{OutOfMemory, NoKey, DuplicateKey, NumbersSpent}
 use Rattle.sw_mux.specs.Keys.{key}
 
 -- keys with their deadlines, in order of request
@@ -46,10 +46,16 @@ refusal_of (Some k) es = refused_if (waits k es) DuplicateKey
 abbrev pub refusal : PlainMessage → Waiting → Option MuxError
 refusal m es = refusal_of (key m) es
 
--- the error is that refusal; out of memory comes only where there is none
+-- the error is that refusal; out of memory and numbers spent come only where there is none
 abbrev pub IsRefusal : MuxError → Option MuxError → Type 0
 IsRefusal OutOfMemory r = r ≡ None
+IsRefusal NumbersSpent r = r ≡ None
 IsRefusal e r = r ≡ Some e
+
+-- the error is not that the numbers are spent
+abbrev pub IsUnspent : MuxError → Type 0
+IsUnspent NumbersSpent = ⊥
+IsUnspent e = ⊤
 
 -- whether a message's key waits
 abbrev pub answers : Option (List ℕ) → Waiting → Bool

@@ -1,6 +1,6 @@
 //! The requests that wait for a response.
 
-ghost use Rattle.std.specs.Prelude.{◌≡◌, ◌<◌, ◌++◌, ◌∷◌, [], Some, None, false, length};
+ghost use Rattle.std.specs.Prelude.{◌≡◌, ◌<◌, ◌≤◌, ◌++◌, ◌∷◌, [], Some, None, false, length};
 ghost use Rattle.std.specs.Prelude.{map, IfOk, OnOk, OnErr, IfErr};
 ghost use Rattle.std.specs.BTreeMap.{IsFromIterResult};
 ghost use Rattle.std.specs.HashMap.{get, spare};
@@ -8,10 +8,10 @@ ghost use Rattle.std.specs.Map.{values_of};
 ghost use Rattle.std.specs.Ordering.{nat_cmp};
 ghost use Rattle.sw_mux.specs.declared.key.Key.{Key};
 ghost use Rattle.sw_mux.specs.Keys.{key};
-ghost use Rattle.sw_mux.specs.Numbered.{key_eq};
+ghost use Rattle.sw_mux.specs.Numbered.{Rise, key_eq};
 ghost use Rattle.sw_mux.specs.Times.{by_number, until, AreUntil};
 ghost use Rattle.sw_mux.specs.Waiting.{waits, without, without_all, due, later};
-ghost use Rattle.sw_mux.specs.Waiting.{refusal, IsRefusal};
+ghost use Rattle.sw_mux.specs.Waiting.{refusal, IsRefusal, IsUnspent};
 ghost use Rattle.sw_mux.specs.Outcomes.{Answers};
 
 use crate::error::MuxError;
@@ -95,12 +95,13 @@ impl Mux {
 
     /// Puts a request last among those that wait, and returns its key. The refusals, in this order:
     /// `NoKey` if the message lacks field 41 or field 11, `DuplicateKey` if its key waits already,
-    /// `OutOfMemory`.
+    /// `NumbersSpent`, `OutOfMemory`. The numbers begin again where nothing waits.
     pub fn request(&mut self, message: &Message, deadline: u64) -> Result<Key, MuxError>
         ensures key { IfOk result (λ k. Some k.bytes ≡ key message.now) }
         ensures waits { IfOk result (λ k. self.new ≡ self.old ++ (k, deadline) ∷ []) }
         ensures taken { OnOk result (refusal message.now self.old ≡ None) }
         ensures refused { IfErr result (λ e. IsRefusal e (refusal message.now self.old)) }
+        ensures unspent { self.old ≡ [] → IfErr result IsUnspent }
         ensures kept { OnErr result (self.new ≡ self.old) }
     {
         let Some(key) = key_of(message) else {
@@ -109,21 +110,21 @@ impl Mux {
         if self.numbers.contains_key(&key) {
             return Err(MuxError::DuplicateKey);
         }
-        // After 2^64 - 1 requests the numbers are spent, as memory would be.
-        let Some(next) = self.next.checked_add(1) else {
-            return Err(MuxError::OutOfMemory);
+        let number = number_after(&self.requests, self.next);
+        let Some(next) = number.checked_add(1) else {
+            return Err(MuxError::NumbersSpent);
         };
         if room(&mut self.numbers).is_err() {
             return Err(MuxError::OutOfMemory);
         }
-        let Ok(_none) = self.deadlines.insert((deadline, self.next), key) else {
+        let Ok(_none) = self.deadlines.insert((deadline, number), key) else {
             return Err(MuxError::OutOfMemory);
         };
-        let Ok(_none) = self.requests.insert(self.next, (key, deadline)) else {
-            let _ = self.deadlines.remove(&(deadline, self.next));
+        let Ok(_none) = self.requests.insert(number, (key, deadline)) else {
+            let _ = self.deadlines.remove(&(deadline, number));
             return Err(MuxError::OutOfMemory);
         };
-        let Ok(_none) = self.numbers.insert(key, self.next) else {
+        let Ok(_none) = self.numbers.insert(key, number) else {
             unreachable!()
         };
         self.next = next;
@@ -213,6 +214,16 @@ fn due_by_number(
         .range(..=(tick, u64::MAX))
         .map(|((_, number), key)| (*number, *key))
         .collect(alloc)
+}
+
+// The number of the next request, which is the first one where nothing waits.
+fn number_after(requests: &BTreeMap<u64, (Key, u64)>, next: u64) -> u64
+    requires rise { Rise 0 requests.now.entries next }
+    ensures rise { Rise 0 requests.now.entries result }
+    ensures low { result ≤ next }
+    ensures first { requests.now.entries ≡ [] → result ≡ 0 }
+{
+    if requests.is_empty() { 0 } else { next }
 }
 
 // Room for one more key, so that putting it cannot be refused.

@@ -197,6 +197,8 @@ fn query<M: Memory, L: Link>(
             asked
         }
         Err(MuxError::OutOfMemory) => Err(NoMemory),
+        // Nothing waited, so the numbers began again.
+        Err(MuxError::NumbersSpent) => unreachable!(),
         Err(_) => {
             note_code(context, ResponseCode::SystemMalfunction)?;
             Ok(REFUSES)

@@ -15,6 +15,10 @@ none_from : {X : Type 0} (o : Option X) → false ≡ is_some o → o ≡ None
 none_from None h = refl
 none_from (Some x) h = absurd cc
 
+nothing : (es : Numbered) → values_of es ≡ [] → es ≡ []
+nothing [] h = refl
+nothing (e ∷ es) h = absurd cc
+
 pub returns-then-contains_key-clause-refused : goal.returns-then-contains_key-clause-refused
 returns-then-contains_key-clause-refused c =
     let k = c.in-Some.key in
@@ -28,6 +32,12 @@ returns-in_default-checked_add-clause-refused c =
     let es = c.self.inside.requests.entries in
     free c.args.message.now k.bytes c.args.self.now c.in-Some.ensures
     (sym (ap (waits k.bytes) c.self.view_is) ∙ sym (waits_numbered k es) ∙ ap is_some (sym (c.self.invariant.found k)) ∙ sym c.if-contains_key.ensures)
+
+pub returns-in_default-checked_add-clause-unspent : goal.returns-in_default-checked_add-clause-unspent
+returns-in_default-checked_add-clause-unspent c = λ none.
+    let first : c.number_after-number.result ≡ 0
+    = c.number_after-number.ensures.first (nothing c.self.inside.requests.entries (c.self.view_is ∙ none)) in
+    omega (arith, first, c.in_default-checked_add.ensures)
 
 pub returns-then-is_err-clause-refused : goal.returns-then-is_err-clause-refused
 returns-then-is_err-clause-refused c =
@@ -56,23 +66,23 @@ returns-in_default-insert-clause-refused c =
 pub invariant_of-self-2 : goal.invariant_of-self-2
 invariant_of-self-2 c =
     let k = c.in-Some.key in
-    let n = c.self.inside.next in
+    let n = c.number_after-number.result in
     let d = c.args.deadline in
     let v : Key × ℕ = (k, d) in
     let es = c.self.inside.requests.entries in
     let none : number_of k es ≡ None = none_from _ (c.if-contains_key.ensures ∙ ap is_some (c.self.invariant.found k)) in
     let next : c.in-Some-checked_add.next ≡ n + 1 = c.in-Some-checked_add.ensures.1 in
-    let after : c.insert-2.new.self.entries ≡ es ++ (n, v) ∷ [] = c.in-Ok-insert.ensures.entries ∙ put_last 0 n v es c.self.invariant.rising in
+    let after : c.insert-2.new.self.entries ≡ es ++ (n, v) ∷ [] = c.in-Ok-insert.ensures.entries ∙ put_last 0 n v es c.number_after-number.ensures.rise in
     record {
       rising = subst (λ (z : Numbered). Rise 0 z c.in-Some-checked_add.next) (sym after)
-          (subst (λ z. Rise 0 (es ++ (n, v) ∷ []) z) (sym next) (rise_last 0 n v es c.self.invariant.rising));
+          (subst (λ z. Rise 0 (es ++ (n, v) ∷ []) z) (sym next) (rise_last 0 n v es c.number_after-number.ensures.rise));
       own = subst (λ (z : Numbered). HaveOwnKeys z) (sym after) (own_last n v es none c.self.invariant.own);
       found = λ q. c.in-Ok-insert-2.ensures.updates.0 q
           ∙ ap (λ z. cond (key_eq k q) (Some n) z) (c.room.ensures.same q ∙ c.self.invariant.found q)
           ∙ sym (number_last q n v es none) ∙ ap (number_of q) (sym after);
       timed = λ q. c.in-Ok.ensures.updates.0 q
           ∙ ap (λ z. cond (is_eq (pair_cmp (d, n) q)) (Some k) z) (c.self.invariant.timed q)
-          ∙ timed_put d n k q (request_at q.1 es) (none_at n q.1 es c.self.invariant.rising)
+          ∙ timed_put d n k q (request_at q.1 es) (none_at n q.1 es c.number_after-number.ensures.rise)
           ∙ ap (key_by q.0) (sym (c.in-Ok-insert.ensures.updates.0 q.1));
       small = omega (arith, c.in-Some-checked_add.ensures.0, c.in-Some-checked_add.ensures.1);
     }
@@ -80,10 +90,10 @@ invariant_of-self-2 c =
 pub returns-clause-waits : goal.returns-clause-waits
 returns-clause-waits c =
     let k = c.in-Some.key in
-    let n = c.self.inside.next in
+    let n = c.number_after-number.result in
     let v : Key × ℕ = (k, c.args.deadline) in
     let es = c.self.inside.requests.entries in
-    ap values_of (c.in-Ok-insert.ensures.entries ∙ put_last 0 n v es c.self.invariant.rising) ∙ values_last n v es
+    ap values_of (c.in-Ok-insert.ensures.entries ∙ put_last 0 n v es c.number_after-number.ensures.rise) ∙ values_last n v es
     ∙ ap (λ z. z ++ v ∷ []) c.self.view_is
 
 pub returns-clause-taken : goal.returns-clause-taken
@@ -96,7 +106,7 @@ returns-clause-taken c =
 pub invariant_of-self-in_default-insert-2 : goal.invariant_of-self-in_default-insert-2
 invariant_of-self-in_default-insert-2 c =
     let k = c.in-Some.key in
-    let n = c.self.inside.next in
+    let n = c.number_after-number.result in
     let d = c.args.deadline in
     let es = c.self.inside.requests.entries in
     let none : Option Key = None in
@@ -109,7 +119,7 @@ invariant_of-self-in_default-insert-2 c =
       timed = λ q. c.remove.ensures.updates.0 q
           ∙ ap (λ z. cond (is_eq (pair_cmp (d, n) q)) none z)
           (c.in-Ok.ensures.updates.0 q ∙ ap (λ z. cond (is_eq (pair_cmp (d, n) q)) (Some k) z) (c.self.invariant.timed q))
-          ∙ timed_back d n k q (request_at q.1 es) (none_at n q.1 es c.self.invariant.rising);
+          ∙ timed_back d n k q (request_at q.1 es) (none_at n q.1 es c.number_after-number.ensures.rise);
       small = c.self.invariant.small;
     })
 
