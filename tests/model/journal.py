@@ -7,6 +7,7 @@ import sqlite3
 from dataclasses import dataclass, field
 
 from harness.case import Case, Exactly
+from model import texts
 from model.engine import Row, View
 
 NAME = re.compile(r"[A-Za-z0-9_.-]{1,32}\Z")
@@ -310,7 +311,7 @@ def opening_lines(tables):
     layout = tables.meta.get(1, "none")
     bad = fault(tables)
     if bad:
-        return [f"layout {layout}", f"refused bad row of the journal: {bad[0]} {bad[1]}", *rows(tables)]
+        return [f"layout {layout}", f"refused {texts.bad_row(*bad)}", *rows(tables)]
     after = turned(tables) if tables.layout == 1 else tables
     return [f"layout {layout}", *view_lines(tables), *rows(after)]
 

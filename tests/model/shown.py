@@ -3,7 +3,7 @@
 import json
 
 from harness.case import Begins, Case, Exactly
-from model import journal, messages
+from model import journal, messages, texts
 
 PHASES = ["preparing", "aborting", "committing", "undoing"]
 MESSAGES = ("request", "response")
@@ -147,7 +147,7 @@ def shown_case(random, name, any_message):
     case.status = 3
     if bad:
         case.stdout = Exactly(printed(tables, is_json, is_clear))
-        case.stderr = Exactly(f"cardswitch: journal.db: bad row of the journal: {bad[0]} {bad[1]}\n".encode())
+        case.stderr = Exactly(f"cardswitch: journal.db: {texts.bad_row(*bad)}\n".encode())
     elif journal.is_database(tables):
         case.stdout, case.stderr, case.status = Exactly(printed(tables, is_json, is_clear)), Exactly(b""), 0
     return case

@@ -27,10 +27,29 @@ FILE = {
 
 # Why the stream of `run` is refused, and that a journal is refused.
 END = {
-    "BadLength": "cardswitch: standard input: bad frame length; expected four digits",
+    "BadLength": "cardswitch: standard input: bad frame length; expected four digits; cardswitch decode shows the frames before it",
     "Truncated": "cardswitch: standard input: ends within a frame; found {at} bytes of it",
 }
-REFUSED = "cannot read or write the journal: refused by its store"
+REFUSED = "cannot read or write the journal: its file or its disk refuses it; expected an undamaged file on a disk with room"
+
+
+# What is expected of the rows of a journal's table, which has a row at fault.
+MEMBERS = "the id of a row of tx, places from 0 to 1000 without a gap, and names of participants"
+ROWS = {
+    "Meta": "only the layout under key 1 and the next id, at least 1, under key 2",
+    "Part": "numbers from 0 without a gap",
+    "Tx": "at most 16 rows, each with an id below the next one and with values that a transaction can have",
+    "Member": MEMBERS,
+    "Joined": MEMBERS,
+    "Shelf": "an id below the next one that tx does not have, 0 to 100 tries, and a context",
+    "Advice": "an id below the next one, and a place from 0 to 1000",
+}
+KEYS = {"Meta": "key", "Part": "number"}
+
+
+def bad_row(table, number):
+    """What is said of a row at fault."""
+    return f"table {table.lower()}, {KEYS.get(table, 'id')} {number}: bad row; expected {ROWS[table]}"
 
 
 def place_of(at):

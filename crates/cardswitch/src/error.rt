@@ -98,7 +98,8 @@ pub enum RunError {
     #[error("standard input: {0}")]
     Text(TextError),
     /// A message or a frame of a stream is refused; what it prints says which.
-    #[error("standard input: a message or a frame is refused; expected frames of ISO 8583:1987 messages")]
+    #[error("standard input: a message or a frame is refused (the output says which); expected frames of \
+        ISO 8583:1987 messages")]
     Refused,
     /// No memory was left.
     #[error("out of memory")]

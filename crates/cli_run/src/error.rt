@@ -52,7 +52,7 @@ pub enum ServeError {
     #[error("standard output: cannot write: {0}")]
     Write(WriteError),
     /// The four bytes of a length are not digits.
-    #[error("standard input: bad frame length; expected four digits")]
+    #[error("standard input: bad frame length; expected four digits; cardswitch decode shows the frames before it")]
     BadLength,
     /// The input ends within a frame, this many bytes after the beginning of the frame.
     #[error("standard input: ends within a frame; found {0} bytes of it")]

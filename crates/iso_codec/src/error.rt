@@ -4,7 +4,7 @@ ghost use Rattle.std.specs.Prelude.{◌≡◌};
 ghost use Rattle.iso_codec.specs.GrowingMessage.{error_of};
 ghost use Rattle.iso_codec.specs.declared.error.DecodeError.TheVariants.{OutOfMemory};
 
-use iso_msg::{ExpectedValue, FieldLabel, MessageError};
+use iso_msg::{ExpectedValue, FIELD_NUMBERS, FieldLabel, MessageError};
 use std::alloc::AllocError;
 use thiserror::Error;
 
@@ -17,7 +17,7 @@ pub enum DecodeError {
     #[error("out of memory")]
     OutOfMemory,
     /// A part is longer than what is left of the bytes.
-    #[error("the bytes end within the message")]
+    #[error("the message is too short; expected a type, a bitmap and every field that the bitmap lists")]
     Short,
     /// The first four bytes are not digits.
     #[error("message type: expected 4 digits")]
@@ -26,7 +26,7 @@ pub enum DecodeError {
     #[error("bitmap: expected 16 hexadecimal digits")]
     BadBitmap,
     /// The lowest field number that is set in a bitmap and that the profile does not have.
-    #[error("field {0}: the profile has no field of this number")]
+    #[error("field {0}: unknown field; expected {}", FIELD_NUMBERS)]
     FieldNotInProfile(u8),
     /// The length of a variable field is not written in digits, or is more than the field takes.
     #[error("{}: bad length, expected {}", FieldLabel(*.0), ExpectedValue(*.0))]
@@ -35,7 +35,7 @@ pub enum DecodeError {
     #[error("{}: a byte that the field does not take, expected {}", FieldLabel(*.0), ExpectedValue(*.0))]
     BadContent(u8),
     /// There are bytes after the last field.
-    #[error("there are bytes after the last field")]
+    #[error("there are bytes after the last field; expected the end of the message")]
     Trailing,
 }
 

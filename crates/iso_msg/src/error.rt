@@ -8,6 +8,11 @@ use std::alloc::{AllocError, AllocFailed};
 use std::fmt;
 use thiserror::Error;
 
+/// The numbers of the profile's fields, as a person reads them.
+pub const FIELD_NUMBERS: &str =
+    "2 to 7, 9 to 19, 22 to 26, 32, 33, 35, 37 to 39, 41 to 45, 48 to 55, 60 to 64, 70, 90, 95, \
+100, 102, 103 or 128";
+
 /// A refusal. That of a field has the field's number, and its text also gives the field's name and
 /// what was expected. `Message::set` tests for its refusals in this order, with out of memory last.
 /// Their numbers are 0 for out of memory, 1, 2 and 3 for those of a field and 4 for that of a message
@@ -18,7 +23,7 @@ pub enum MessageError {
     #[error("out of memory")]
     OutOfMemory,
     /// The number is not a field of the profile.
-    #[error("field {0}: the profile has no field of this number")]
+    #[error("field {0}: unknown field; expected {}", FIELD_NUMBERS)]
     FieldNotInProfile(u8),
     /// The value is shorter or longer than the field takes.
     #[error("{}: wrong length, expected {}", FieldLabel(*.0), ExpectedValue(*.0))]

@@ -23,7 +23,7 @@ mod storage;
 mod table;
 mod value;
 
-pub use error::{ExpectedValue, FieldLabel, MessageError};
+pub use error::{ExpectedValue, FIELD_NUMBERS, FieldLabel, MessageError};
 pub use field::FieldNumbers;
 pub use laws::fields_are_a_map;
 pub use message::Message;

@@ -74,7 +74,7 @@ pub enum LookError {
     #[error("cannot open: {0}")]
     Database(sqlite::Error),
     /// A row of its tables is at fault.
-    #[error("bad row of the journal: {:?} {}", .bad.table, .bad.id)]
+    #[error("{bad}")]
     BadRow {
         /// The first one.
         bad: BadRow,

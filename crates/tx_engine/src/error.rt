@@ -54,7 +54,9 @@ impl EngineError {
             EngineError::Busy => "the session holds a transaction",
             EngineError::Empty => "the queue is empty",
             EngineError::Recovering => "transactions of the journal are being recovered",
-            EngineError::IdsSpent => "all ids are spent",
+            EngineError::IdsSpent => {
+                "all transaction ids are used: the next id would be 9223372036854775807; expected a lower one"
+            },
             EngineError::NotDue => "no call of this kind is due",
             EngineError::NoAdvice => "no advice is stored at this place",
             EngineError::NoParticipant => "the flow has no participant of this name",

@@ -108,9 +108,15 @@ const REFUSED: [(u8, &[u8], &str); 7] = [
     (
         65,
         b"1",
-        "field 65: the profile has no field of this number",
+        "field 65: unknown field; expected 2 to 7, 9 to 19, 22 to 26, 32, 33, 35, \
+37 to 39, 41 to 45, 48 to 55, 60 to 64, 70, 90, 95, 100, 102, 103 or 128",
     ),
-    (1, b"1", "field 1: the profile has no field of this number"),
+    (
+        1,
+        b"1",
+        "field 1: unknown field; expected 2 to 7, 9 to 19, 22 to 26, 32, 33, 35, \
+37 to 39, 41 to 45, 48 to 55, 60 to 64, 70, 90, 95, 100, 102, 103 or 128",
+    ),
     (
         41,
         b"TERM001",
