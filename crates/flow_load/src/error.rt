@@ -37,7 +37,7 @@ pub enum LoadError {
          groups one after the other, and a pick right after each call of a selector")]
     BadTarget(usize),
     /// The steps end before the group's return.
-    #[error("group {0}: no return: expected one at its end")]
+    #[error("group {0}: no return: expected a line `N return` at its end")]
     NoReturn(usize),
     /// The image is that of a flow which its check refuses.
     #[error("{0}")]
