@@ -3,7 +3,7 @@
 ghost use Rattle.std.specs.Prelude.{◌≡◌, ◌&&◌, None, Some, IfOk};
 ghost use Rattle.std.specs.Prelude.{true};
 ghost use Rattle.tx_machine.specs.Contract.{IsSound, tx_state};
-ghost use Rattle.tx_machine.specs.Table.{next};
+ghost use Rattle.tx_machine.specs.Table.{is_due, next};
 ghost use Rattle.tx_machine.specs.declared.values.Item.TheVariants.{Answer, Choice};
 ghost use Rattle.tx_machine.specs.declared.values.Item.TheVariants.{Told as ToldOne};
 ghost use Rattle.tx_history.specs.History.{shelved};
@@ -19,7 +19,7 @@ use flow_asm::Code;
 use std::alloc::{AllocError, Global};
 use sw_participant::Bytes;
 use tx_history::{Change, Entry, Event, Row, Waiting};
-use tx_machine::Machine;
+use tx_machine::{Machine, MachineError};
 
 /// A reply as it is recorded. The machine is as the reply leaves it.
 #[derive(Drop)]
@@ -128,15 +128,15 @@ pub fn make_ready(
     })
 }
 
-/// A copy of the machine after its due preparation was answered. If no answer is due, it refuses as if memory
-/// had run out.
+/// A copy of the machine after its due preparation was answered. The only refusal is out of memory.
 pub fn after_answer(
     code: &Code,
     machine: &Machine,
     byte: u8,
     context: Bytes,
 ) -> Result<Machine, AllocError>
-    requires { IsSound code.now machine.now }
+    requires sound { IsSound code.now machine.now }
+    requires due { is_due (tx_state code.now machine.now) (Answer byte context) ≡ true }
     ensures sound { IfOk result (IsSound code.now) }
     ensures after { IfOk result (λ m. tx_state code.now m
         ≡ next code.now (tx_state code.now machine.now) (Answer byte context)) }
@@ -144,18 +144,20 @@ pub fn after_answer(
     let mut copy = machine.copy()?;
     match copy.answered(code, byte, context.into_vec()) {
         Ok(()) => Ok(copy),
-        Err(_) => Err(AllocError),
+        Err(MachineError::OutOfMemory) => Err(AllocError),
+        Err(MachineError::NotDue) => unreachable!(),
     }
 }
 
-/// A copy of the machine after its due selection; otherwise as [`after_answer`].
+/// A copy of the machine after its due selection. The only refusal is out of memory.
 pub fn after_choice(
     alloc: Global,
     code: &Code,
     machine: &Machine,
     text: &str,
 ) -> Result<Machine, AllocError>
-    requires { IsSound code.now machine.now }
+    requires sound { IsSound code.now machine.now }
+    requires due { is_due (tx_state code.now machine.now) (Choice text.now) ≡ true }
     ensures sound { IfOk result (IsSound code.now) }
     ensures after { IfOk result (λ m. tx_state code.now m
         ≡ next code.now (tx_state code.now machine.now) (Choice text.now)) }
@@ -163,13 +165,15 @@ pub fn after_choice(
     let mut copy = machine.copy()?;
     match copy.chose(alloc, code, text) {
         Ok(()) => Ok(copy),
-        Err(_) => Err(AllocError),
+        Err(MachineError::OutOfMemory) => Err(AllocError),
+        Err(MachineError::NotDue) => unreachable!(),
     }
 }
 
-/// A copy of the machine after its due member was notified; otherwise as [`after_answer`].
+/// A copy of the machine after its due member was notified. The only refusal is out of memory.
 pub fn after_told(code: &Code, machine: &Machine) -> Result<Machine, AllocError>
-    requires { IsSound code.now machine.now }
+    requires sound { IsSound code.now machine.now }
+    requires due { is_due (tx_state code.now machine.now) (ToldOne None) ≡ true }
     ensures sound { IfOk result (IsSound code.now) }
     ensures after { IfOk result (λ m. tx_state code.now m
         ≡ next code.now (tx_state code.now machine.now) (ToldOne None)) }
@@ -177,6 +181,6 @@ pub fn after_told(code: &Code, machine: &Machine) -> Result<Machine, AllocError>
     let mut copy = machine.copy()?;
     match copy.told(code) {
         Ok(()) => Ok(copy),
-        Err(_) => Err(AllocError),
+        Err(_) => unreachable!(),
     }
 }

@@ -6,6 +6,7 @@ use Rattle.std.proofs.lemmas.Bool.Decides.{nat_tests}
 use Rattle.flow_model.specs.declared.flow.Flow.{Flow}
 use Rattle.tx_machine.specs.declared.values.Item.{Item}
 use Rattle.tx_machine.specs.declared.values.Item.TheVariants.{Answer, Choice, Told as ToldOne}
+use Rattle.tx_machine.specs.Table.{is_due}
 use Rattle.tx_history.specs.declared.event.Event.{Event}
 use Rattle.tx_history.specs.declared.event.Event.TheVariants.{Offered, Taken, Answered, Chose, Told, Recovered, Released, Acked, Broke, Cleared, LetGo, Closed}
 use Rattle.tx_history.specs.declared.journal.Row.{Row}
@@ -47,13 +48,14 @@ over_item f v past e s id over x o law g serves h = elim (serves_who f v past s 
 ]
 
 concerns_item : (f : Flow) (v : Start) (past : List Event) (e : Event) (s id : ℕ) (x : Item) → IsOrdered v.view → IsLawful f v past → Gave f v past e id x →
-    holds f v past s ≡ Some id → item_of e ≡ Some x
+    holds f v past s ≡ Some id → is_due (state_of f v past id) x ≡ true → item_of e ≡ Some x
     → shown_at f v past e ≡ held_shown f v past e (holds f v past s) → Concerns f v past e id
-concerns_item f v past e s id x o law g held item shown =
+concerns_item f v past e s id x o law g held due item shown =
     let w = holds_serves f v past s id held in
     record {
       shown = shown ∙ ap (held_shown f v past e) held;
       under_way = record { below = (serves_below f v past s id o w.0).1; unfinished = w.1 };
+      due = rw item due;
       after = rw item (state_given f v past e id x g);
       others = λ j d. state_other f v past e id x j g (λ z. d (sym z));
       count = ap (λ (n : ℕ). v.view.next_id + n) g.took;
@@ -75,7 +77,7 @@ subject_answered f v past s b c o ord law is =
     let id : ℕ = law.0.0 in
     let w = holds_serves f v past s id law.0.1 in
     row_of f v past (Answered s b c) id _ o is (touched_id f v (Answered s b c ∷ past) None (serves f v past s) id w.0)
-    (concerns_item f v past (Answered s b c) s id (Answer b c) ord law.2 (gave_answered f v past s b c id w.0) law.0.1 refl refl)
+    (concerns_item f v past (Answered s b c) s id (Answer b c) ord law.2 (gave_answered f v past s b c id w.0) law.0.1 law.0.2 refl refl)
 
 pub subject_chose : (f : Flow) (v : Start) (past : List Event) (s : ℕ) (t : List ℕ) (o : Option ℕ) → IsOrdered v.view → IsLawful f v (Chose s t ∷ past)
     → o ≡ option_map (λ (row : ℕ × Option Row). row.0) (change f v (Chose s t ∷ past)).row → IsSubject f v past (Chose s t) o
@@ -83,7 +85,7 @@ subject_chose f v past s t o ord law is =
     let id : ℕ = law.0.0 in
     let w = holds_serves f v past s id law.0.1 in
     row_of f v past (Chose s t) id _ o is (touched_id f v (Chose s t ∷ past) None (serves f v past s) id w.0)
-    (concerns_item f v past (Chose s t) s id (Choice t) ord law.2 (gave_chose f v past s t id w.0) law.0.1 refl refl)
+    (concerns_item f v past (Chose s t) s id (Choice t) ord law.2 (gave_chose f v past s t id w.0) law.0.1 law.0.2 refl refl)
 
 pub subject_told : (f : Flow) (v : Start) (past : List Event) (s : ℕ) (a : Option (List ℕ)) (o : Option ℕ) → IsOrdered v.view → IsLawful f v (Told s a ∷ past)
     → o ≡ option_map (λ (row : ℕ × Option Row). row.0) (change f v (Told s a ∷ past)).row → IsSubject f v past (Told s a) o
@@ -91,7 +93,7 @@ subject_told f v past s a o ord law is =
     let id : ℕ = law.0.0 in
     let w = holds_serves f v past s id law.0.1 in
     row_of f v past (Told s a) id _ o is (touched_id f v (Told s a ∷ past) _ (serves f v past s) id w.0)
-    (concerns_item f v past (Told s a) s id (ToldOne a) ord law.2 (gave_told f v past s a id w.0) law.0.1 refl refl)
+    (concerns_item f v past (Told s a) s id (ToldOne a) ord law.2 (gave_told f v past s a id w.0) law.0.1 law.0.2 refl refl)
 
 -- only journalled transactions are restored
 
@@ -119,6 +121,7 @@ subject_recovered f v past s c over o ord law was is =
     (record {
       shown = ap (held_shown f v past (Recovered s c)) law.0.2;
       under_way = record { below = (serves_below f v past s id ord w.0).1; unfinished = w.1 };
+      due = refl;
       after = refl;
       others = λ j d. refl;
       count = refl;

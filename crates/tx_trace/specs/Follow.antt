@@ -10,7 +10,7 @@ use Rattle.flow_model.specs.declared.flow.Flow.{Flow}
 use Rattle.flow_model.specs.Places.{parts_of}
 use Rattle.tx_machine.specs.declared.machine.Machine.{Machine}
 use Rattle.tx_machine.specs.Contract.{IsSound, tx_state}
-use Rattle.tx_machine.specs.Table.{TxState, next}
+use Rattle.tx_machine.specs.Table.{TxState, is_due, next}
 use Rattle.tx_machine.specs.Due.{due_of}
 use Rattle.tx_history.specs.declared.event.Event.{Event}
 use Rattle.tx_history.specs.declared.event.Event.TheVariants.{Answered, Chose, Told, Recovered, Taken}
@@ -93,6 +93,10 @@ is_take _ = false
 abbrev pub led_by : Flow → TxState → Event → TxState
 led_by f st e = option_map_or (next f st) (item_of e) st
 
+-- the item that an event gives, if any, is due to a transaction in this state
+abbrev pub gives_due : TxState → Event → Bool
+gives_due st e = option_map_or (is_due st) (item_of e) true
+
 -- the journalled transactions up to this id are over, when one has ended
 abbrev pub over_then : Bool → ℕ → ℕ → ℕ
 over_then ended id over = if ended then id else over
@@ -106,6 +110,7 @@ pub record IsUnderWay (f : Flow) (v : Start) (past : List Event) (id : ℕ) : Ty
 pub record Concerns (f : Flow) (v : Start) (past : List Event) (e : Event) (id : ℕ) : Type 0 where
   pub shown : shown_at f v past e ≡ tx_shown f v past e id
   pub under_way : IsUnderWay f v past id
+  pub due : gives_due (state_of f v past id) e ≡ true
   pub after : state_of f v (e ∷ past) id ≡ led_by f (state_of f v past id) e
   pub others : (j : ℕ) → (id ≡ j → ⊥) → state_of f v (e ∷ past) j ≡ state_of f v past j
   pub count : next_id v (e ∷ past) ≡ next_id v past

@@ -1,6 +1,6 @@
 //! A tracer: it goes through the entries of an engine once, and gives the line of each.
 
-ghost use Rattle.std.specs.Prelude.{◌≡◌, ◌<◌, ◌+◌, ◌∷◌, ℕ, false, List, Some, None};
+ghost use Rattle.std.specs.Prelude.{◌≡◌, ◌<◌, ◌+◌, ◌∷◌, ℕ, true, false, List, Some, None};
 ghost use Rattle.std.specs.Prelude.{IfOk, OnErr, OnOk, if◌then◌else◌};
 ghost use Rattle.std.specs.Prelude.{not, ◌&&◌, option_map, string_bytes};
 ghost use Rattle.tx_machine.specs.Contract.{IsSound, tx_state};
@@ -19,7 +19,7 @@ ghost use Rattle.tx_trace.specs.Follow.{AreFound, Concerns, Follows, IsBegun};
 ghost use Rattle.tx_trace.specs.Follow.{IsLeft, IsNext, IsSubject};
 ghost use Rattle.tx_trace.specs.Follow.{IsTraced, IsUnderWay, PutsMove};
 ghost use Rattle.tx_trace.specs.Follow.{IsMachineOf, Tracks, is_given};
-ghost use Rattle.tx_trace.specs.Follow.{count_of, earlier, led_by, lines_given};
+ghost use Rattle.tx_trace.specs.Follow.{count_of, earlier, gives_due, led_by, lines_given};
 ghost use Rattle.tx_trace.specs.Follow.{next_recovered, over_after, shelved_after};
 ghost use Rattle.tx_trace.specs.declared.shown.Shown.TheVariants.{Plain};
 
@@ -374,7 +374,8 @@ fn next_recovered(
 
 // A copy of the machine, as the event leaves it.
 fn led(alloc: Global, code: &Code, machine: &Machine, event: &Event) -> Result<Machine, AllocError>
-    requires { IsSound code.now machine.now }
+    requires sound { IsSound code.now machine.now }
+    requires due { gives_due (tx_state code.now machine.now) event.now ≡ true }
     ensures sound { IfOk result (IsSound code.now) }
     ensures state { IfOk result (λ m. tx_state code.now m
         ≡ led_by code.now (tx_state code.now machine.now) event.now) }

@@ -1,10 +1,13 @@
-use Rattle.std.proofs.Common.{◌∙◌, ap, List, ℕ}
+use Rattle.std.proofs.Common.{◌∙◌, ap, List, [], ℕ}
 use Rattle.tx_machine.specs.Contract.{tx_state}
 use Rattle.tx_machine.specs.Table.{next}
 use Rattle.tx_machine.specs.declared.values.Item.TheVariants.{Answer}
 use Rattle.tx_engine.specs.contracts.engine.Engine.{the_view}
-use Rattle.tx_engine.proofs.Dues.{gives_answer}
+use Rattle.tx_engine.proofs.Dues.{allows_of, gives_answer}
 use Rattle.tx_engine.proofs.engine.Engine.answered.Goals as goal
+
+pub after_answer-requires-clause-due : goal.after_answer-requires-clause-due
+after_answer-requires-clause-due c = (allows_of (the_view c.self.inside) _ c.args.s _ _ c.self.view_is c.in_ok-hold.ensures).asked.0 c.args.byte []
 
 pub give-requires : goal.give-requires
 give-requires c =

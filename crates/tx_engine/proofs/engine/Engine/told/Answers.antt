@@ -1,6 +1,10 @@
+use Rattle.std.proofs.Common.{None}
 use Rattle.tx_engine.specs.contracts.engine.Engine.{the_view}
-use Rattle.tx_engine.proofs.Dues.{gives_told}
+use Rattle.tx_engine.proofs.Dues.{allows_of, gives_told}
 use Rattle.tx_engine.proofs.engine.Engine.told.Goals as goal
+
+pub after_told-requires-clause-due : goal.after_told-requires-clause-due
+after_told-requires-clause-due c = (allows_of (the_view c.self.inside) _ c.args.s _ _ c.self.view_is c.in_ok-hold.ensures).asked.0 None
 
 pub give-requires : goal.give-requires
 give-requires c =
