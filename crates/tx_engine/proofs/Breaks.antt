@@ -1,7 +1,7 @@
 -- How a breakpoint that is set or cleared keeps what the running parts say of the history.
 -- for: engine::breaks
 use Rattle.std.proofs.Common.{◌≡◌, ◌≢◌, ℕ, ◌<◌, Bool, true, false, List, [], ◌∷◌, length, Option, Some, None, refl, sym, ◌∙◌, ap, subst, arith, suc, zero}
-use Rattle.std.specs.Prelude.{◌+◌, if◌then◌else◌, slice_get, slice_set, ◌==◌, not, ◌&&◌, ◌||◌}
+use Rattle.std.specs.Prelude.{◌+◌, if◌then◌else◌, slice_set, ◌==◌, not, ◌&&◌, ◌||◌}
 use Rattle.std.specs.List.{list_any, range_with_len}
 use Rattle.std.proofs.lemmas.Bool.Decides.{nat_tests}
 use Rattle.flow_model.specs.declared.flow.Flow.{Flow}

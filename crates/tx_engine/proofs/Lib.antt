@@ -15,3 +15,4 @@ mod Unknown
 mod Cuts
 mod Unfinished
 mod Held
+mod SavedContexts

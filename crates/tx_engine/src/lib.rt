@@ -9,5 +9,5 @@ mod offer;
 
 pub use engine::{Engine, TakenTx};
 pub use error::EngineError;
-pub use offer::Offer;
+pub use offer::{Offer, context_of};
 pub use tx_slots::{At, Next, reopened, restored_by};

@@ -1,11 +1,11 @@
-//! Offers that are prepared before they are made.
+//! Contexts as bytes, and offers that are prepared before they are made.
 
 ghost use Rattle.std.specs.Prelude.{◌≡◌, IfOk};
 ghost use Rattle.sw_context.specs.Spelling.{bytes_of, IsSpelled};
 
-use std::alloc::AllocError;
+use std::alloc::{AllocError, Global};
 use std::marker::Model;
-use sw_context::Context;
+use sw_context::{Context, ContextError};
 use sw_participant::Bytes;
 
 /// The context's bytes. That they are those of a context is known from its length.
@@ -15,6 +15,18 @@ pub(crate) fn spelled(context: &Context) -> Result<Bytes, AllocError>
 {
     let _names = context.len();
     Ok(Bytes::new(context.to_bytes()?))
+}
+
+/// The context whose bytes these are. The only refusal is out of memory.
+pub fn context_of(alloc: Global, bytes: &[u8]) -> Result<Context, AllocError>
+    requires { IsSpelled bytes.now }
+    ensures { IfOk result (λ context. bytes.now ≡ bytes_of context) }
+{
+    match Context::from_bytes(alloc, bytes) {
+        Ok(context) => Ok(context),
+        Err(ContextError::OutOfMemory) => Err(AllocError),
+        Err(_) => unreachable!(),
+    }
 }
 
 /// A context to be offered, already in the memory in which the history and the queue keep it, so that

@@ -11,6 +11,7 @@ ghost use Rattle.tx_engine.specs.Calls.{next_refusal, rest_of, saved_of, unfinis
 
 use super::Engine;
 use crate::error::EngineError;
+use crate::offer::context_of;
 use flow_asm::Code;
 use std::alloc::{AllocError, Global};
 use std::collections::BTreeMap;
@@ -183,10 +184,8 @@ impl Engine {
         let Slot::Holding(hold) = &self.slots[s] else {
             return Ok(None);
         };
-        match Context::from_bytes(alloc, hold.machine.saved()) {
-            Ok(context) => Ok(Some((hold.id, context))),
-            Err(_) => Err(EngineError::OutOfMemory),
-        }
+        let context = context_of(alloc, hold.machine.saved())?;
+        Ok(Some((hold.id, context)))
     }
 
     /// Where the session's transaction stands, and its due call; none for an idle or unknown session.

@@ -9,7 +9,7 @@ ghost use Rattle.tx_engine.specs.Calls.{spare_of, take_refusal, with_reserved};
 
 use super::{Engine, LAST_ID, MOST_ENTRIES};
 use crate::error::EngineError;
-use crate::offer::Offer;
+use crate::offer::{Offer, context_of};
 use std::alloc::Global;
 use sw_context::Context;
 use tx_history::{Change, Entry, Event, Row, Waiting};
@@ -164,9 +164,7 @@ impl Engine {
     {
         let first = self.allow_take(s)?;
         let tries = first.tries;
-        let Ok(context) = Context::from_bytes(alloc, first.context.as_slice()) else {
-            return Err(EngineError::OutOfMemory);
-        };
+        let context = context_of(alloc, first.context.as_slice())?;
         let saved = first.context.copy()?;
         let machine = Machine::start(alloc, &self.code, tries, saved.into_vec());
         let id = self.next_id;

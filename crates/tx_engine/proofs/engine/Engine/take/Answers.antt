@@ -2,8 +2,10 @@ use Rattle.std.proofs.Common.{◌≡◌, ◌+◌, ℕ, length, arith, List, Opti
 use Rattle.tx_machine.specs.Contract.{tx_state}
 use Rattle.tx_machine.specs.Table.{opening}
 use Rattle.tx_engine.proofs.Keeps.{kept_step, length_past, length_set, past_snoc}
+use Rattle.tx_engine.proofs.SavedContexts.{first_spelled}
 use Rattle.tx_engine.proofs.Takes.{can_take, steps_taken}
 use Rattle.sw_base.specs.Refusals.{Accepts}
+use Rattle.sw_context.specs.Spelling.{IsSpelled}
 use Rattle.std.specs.Option.{option_map}
 use Rattle.tx_history.specs.History.{next_id}
 use Rattle.tx_history.specs.declared.event.Event.TheVariants.{Taken}
@@ -15,6 +17,11 @@ use Rattle.tx_engine.proofs.engine.Engine.take.Goals as goal
 
 accepted : {A E : Type 0} (m : E) (o : Option E) (x : A) (D : A → Type 0) (S : Type 0) → o ≡ None → D x → Accepts m o (Ok x) D S
 accepted m o x D S none done = subst (λ o. Accepts m o (Ok x) D S) (sym none) done
+
+pub context_of-requires : goal.context_of-requires
+context_of-requires c =
+    let can = can_take c.self.inside.code _ _ c.self.inside.lists.entries.items c.self.inside.mark _ _ c.args.s _ c.self.view_is c.in_ok-first.ensures in
+    subst IsSpelled (sym c.as_slice.ensures) (first_spelled (the_view c.self.inside) _ _ c.in_ok-first.first.now c.self.invariant can.first)
 
 pub taken_change-requires : goal.taken_change-requires
 taken_change-requires c =
@@ -62,5 +69,5 @@ returns c =
             view;
       };
       id_is = c.self.invariant.numbered ∙ ap (λ (w : World). next_id w.start w.past) view;
-      context_is = ap (option_map (λ (w : Waiting). w.context)) c.in_ok-first.ensures.first_is ∙ ap Some (sym c.as_slice.ensures ∙ c.in-Ok.ensures.1);
+      context_is = ap (option_map (λ (w : Waiting). w.context)) c.in_ok-first.ensures.first_is ∙ ap Some (sym c.as_slice.ensures ∙ c.in_ok-context.ensures);
     })
