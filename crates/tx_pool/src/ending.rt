@@ -141,8 +141,9 @@ fn take_back<K: Run, O: Source>(
     if let Some(fault) = fault {
         return Err(fault);
     }
+    // Where a thread was not started, or memory refused, there is a fault.
     let (Some(fed), Some(sessions)) = (fed, sessions) else {
-        return Err(Fault::OutOfMemory);
+        return Err(mismatch(running.engine()));
     };
     if sessions.len() != running.engine().sessions() {
         return Err(mismatch(running.engine()));

@@ -8,8 +8,9 @@ use tx_journal::JournalError;
 pub enum Fault {
     /// The journal refused a write.
     Journal(JournalError),
-    /// A receipt, a station's call, an offer, a written copy or a session contradicts the history. The
-    /// number is the one after the last entry, or 1 if the keeper found nothing to write.
+    /// A receipt, a station's call, an offer, a written copy or a session contradicts the history, or
+    /// the source or the sessions did not come back. The number is the one after the last entry, or 1
+    /// if the keeper found nothing to write.
     ReceiptMismatch(usize),
     /// The engine refused an event, for example because the ids are spent.
     Engine(EngineError),

@@ -1,9 +1,8 @@
 //! Stations in a run: each remembers the calls that it made.
 
-ghost use Rattle.std.specs.Prelude.{◌≡◌, [], ◌∷◌, ◌++◌, IfOk, OnOk, get_or, true};
+ghost use Rattle.std.specs.Prelude.{◌≡◌, [], ◌∷◌, ◌++◌, IfOk, get_or, true};
 ghost use Rattle.sw_participant.specs.Callers.{Within};
 ghost use Rattle.tx_pool.specs.Linked.{IsStation, made, station_seen};
-ghost use Rattle.tx_pool.specs.declared.station.MadeCall.{MadeCall as Call₁};
 
 use crate::run::Run;
 use std::alloc::{AllocError, Global};
@@ -89,6 +88,13 @@ fn copy_reply(reply: &Reply) -> Result<Reply, AllocError>
     }
 }
 
+// Copies of what a call left.
+fn copy_left(reply: &Reply, context: &Context) -> Result<(Reply, Context), NoMemory>
+    ensures { IfOk result (λ r. (r.0 ≡ reply.now) × (r.1 ≡ context.now)) }
+{
+    Ok((copy_reply(reply)?, context.copy()?))
+}
+
 impl<K: Run, C: Caller> StationLog<K, C> {
     /// A station as it is when the run begins.
     pub(crate) fn new(alloc: Global, index: usize, parts: StationParts<C>) -> StationLog<K, C>
@@ -113,25 +119,6 @@ impl<K: Run, C: Caller> StationLog<K, C> {
         }
     }
 
-    // Makes the call, and remembers it.
-    fn make(&mut self, call: &Call, context: Context) -> Result<(), NoMemory>
-        ensures made { OnOk result ((m : Call₁) × (self.new.log ≡ self.old.log ++ m ∷ [])
-            × (m.call ≡ call.now) × (m.before ≡ context)) }
-    {
-        self.log.reserve(1)?;
-        let before = context.copy()?;
-        let mut context = context;
-        let reply = self.participant.make(call, &mut context)?;
-        self.calls = self.calls.saturating_add(1);
-        self.log.push_reserved(MadeCall {
-            call: *call,
-            reply,
-            before,
-            after: context,
-        });
-        Ok(())
-    }
-
     /// Makes the call with this context, and returns the reply and the context that it left. After
     /// `NoMemory` the run has to end: the call may have been made.
     pub(crate) fn call(
@@ -142,11 +129,19 @@ impl<K: Run, C: Caller> StationLog<K, C> {
         ensures made { IfOk result (λ r.
             self.new.log ≡ self.old.log ++ made call.now r.0 context r.1 ∷ []) }
     {
-        self.make(call, context)?;
-        let Some(made) = self.log.last() else {
-            return Err(NoMemory);
-        };
-        Ok((copy_reply(&made.reply)?, made.after.copy()?))
+        self.log.reserve(1)?;
+        let before = context.copy()?;
+        let mut after = context;
+        let reply = self.participant.make(call, &mut after)?;
+        let left = copy_left(&reply, &after);
+        self.calls = self.calls.saturating_add(1);
+        self.log.push_reserved(MadeCall {
+            call: *call,
+            reply,
+            before,
+            after,
+        });
+        left
     }
 
     /// Which station it was, its parts, and its calls in the run.

@@ -9,14 +9,14 @@ close_sessions-receipts-requires-clause-room g c =
     let r = c.into_parts-running.result in
     let same = since_sessions g.K.Run.start (core r.running.engine r.running.seats) r.getter.passed r.book.total r.made.items
     c.into_parts-running.ensures.since in
-    grind (arith, nat_tests, same, c.requires.room, c.if-len-sessions.false, c.len.ensures, c.sessions.ensures, c.engine.ensures)
+    grind (arith, nat_tests, same, c.requires.room, c.if-len-sessions.false, c.len.ensures, c.sessions.ensures, c.engine-2.ensures)
 
 pub returns-clause-sessions : goal.returns-clause-sessions
 returns-clause-sessions g c =
     let r = c.into_parts-running.result in
     let same = since_sessions g.K.Run.start (core r.running.engine r.running.seats) r.getter.passed r.book.total r.made.items
     c.into_parts-running.ensures.since in
-    grind (arith, nat_tests, same, c.close_sessions-receipts.ensures.count, c.if-len-sessions.false, c.len.ensures, c.sessions.ensures, c.engine.ensures)
+    grind (arith, nat_tests, same, c.close_sessions-receipts.ensures.count, c.if-len-sessions.false, c.len.ensures, c.sessions.ensures, c.engine-2.ensures)
 
 pub returns-clause-longer : goal.returns-clause-longer
 returns-clause-longer g c =

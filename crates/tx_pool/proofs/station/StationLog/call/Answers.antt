@@ -1,7 +1,8 @@
-use Rattle.std.proofs.Common.{[], ◌∷◌, ◌++◌, get_or, refl, sym, ap, subst, ◌∙◌}
+use Rattle.std.proofs.Common.{◌≡◌, [], ◌∷◌, ◌++◌, Result, Ok, Err, get_or, sym, ap, subst, ◌∙◌}
+use Rattle.std.specs.Prelude.{IfOk}
 use Rattle.tx_pool.specs.Linked.{IsStation, made}
 use Rattle.tx_pool.proofs.Linking.{station_more}
-use Rattle.tx_pool.proofs.station.StationLog.make.Goals as goal
+use Rattle.tx_pool.proofs.station.StationLog.call.Goals as goal
 
 pub invariant_of-self-2 : goal.invariant_of-self-2
 invariant_of-self-2 g c =
@@ -23,14 +24,23 @@ invariant_of-self-2 g c =
       c.self.invariant.1,
     )
 
+if_ok : {A B : Type 0} (P Q : A → Type 0) (r : Result A B) → ((a : A) → P a → Q a) → IfOk r P → IfOk r Q
+if_ok P Q (Ok a) so is = so a is
+if_ok P Q (Err e) so is = tt
+
 pub returns : goal.returns
 returns g c =
-    let x = made c.args.call.now c.in_ok-reply.reply c.in_ok-before.before c.make.new.context in
+    let call = c.args.call.now in
+    let reply = c.in_ok-reply.reply in
+    let after = c.make.new.context in
+    let old = c.args.self.now.log in
+    let x = made call reply c.in_ok-before.before after in
+    let log = c.push_reserved.ensures.items ∙ ap (λ l. l ++ x ∷ []) (c.in_ok-reserve.ensures.items ∙ ap (λ z. z.log) c.self.view_is) in
+    let context = c.args.context in
     record {
-      made = (
-        x,
-        c.push_reserved.ensures.items ∙ ap (λ l. l ++ x ∷ []) (c.in_ok-reserve.ensures.items ∙ ap (λ z. z.log) c.self.view_is),
-        refl,
-        c.in_ok-before.ensures,
-      );
+      made = if_ok (λ r. (r.0 ≡ reply) × (r.1 ≡ after)) (λ r. _ ≡ old ++ made call r.0 context r.1 ∷ []) c.copy_left-left.result
+          (λ r is. log ∙ ap (λ b. old ++ made call reply b after ∷ []) c.in_ok-before.ensures
+          ∙ ap (λ q. old ++ made call q context after ∷ []) (sym is.0)
+          ∙ ap (λ y. old ++ made call r.0 context y ∷ []) (sym is.1))
+          c.copy_left-left.ensures;
     }
