@@ -9,7 +9,7 @@ text_of refusal.BadSessions = codes "bad number of sessions: expected 1 to 16"
 text_of refusal.Busy = codes "the session holds a transaction"
 text_of refusal.Empty = codes "the queue is empty"
 text_of refusal.Recovering = codes "transactions of the journal are being recovered"
-text_of refusal.IdsSpent = 
+text_of refusal.IdsSpent =
     codes "all transaction ids are used: the next id would be 9223372036854775807; expected a lower one"
 text_of refusal.NotDue = codes "no call of this kind is due"
 text_of refusal.NoAdvice = codes "no advice is stored at this place"

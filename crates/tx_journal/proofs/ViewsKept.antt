@@ -8,10 +8,10 @@ use Rattle.sqlite_trees.specs.Tree.{Trees}
 use Rattle.tx_history.specs.declared.journal.JournalView.{JournalView}
 use Rattle.journal_rows.specs.Faults.{IsFaultIn, IsViewIn}
 use Rattle.journal_rows.specs.Tables.{Tables, first_tables_of, tables_of}
-use Rattle.journal_rows.specs.Turn.{turned}
+use Rattle.journal_rows.specs.Convert.{converted}
 use Rattle.journal_tables.specs.Schema.{first_schema}
-use Rattle.journal_tables.specs.Turning.{IsFirst}
-use Rattle.journal_tables.proofs.Types.{turned_from}
+use Rattle.journal_tables.specs.Converting.{IsFirst}
+use Rattle.journal_tables.proofs.Types.{converted_from}
 use Rattle.tx_journal.specs.Kept.{OpensAs}
 use Rattle.tx_journal.specs.Making.{new_tables}
 use Rattle.tx_journal.specs.Opened.{IsViewOf}
@@ -27,7 +27,7 @@ new_fine = record { in_tx = None; in_shelf = None; is_tx = refl; is_shelf = refl
 view_opened : (db : Database) (v : JournalView) (t : Tables) → IsViewOf db v → OpensAs db.trees t → IsViewIn t v
 view_opened db v t (inl is) o = subst (λ (u : Tables). IsViewIn u v) (sym (opens_sound db.trees t (journal_sound db is.0) o)) is.1
 view_opened db v t (inr (inl is)) o =
-    let stays = turned_from db is.0 is.1 in
+    let stays = converted_from db is.0 is.1 in
     subst (λ (u : Tables). IsViewIn u v) (sym (opens_first db.trees t (first_sound db is.0) o)) (record { sound = stays.sound; reads = stays.same ∙ is.2 })
 view_opened db v t (inr (inr is)) o = subst (λ (u : Tables). IsViewIn u v) (sym (opens_empty db.trees t is.0 o))
     (record { sound = new_fine; reads = sym is.1 })
@@ -35,7 +35,7 @@ view_opened db v t (inr (inr is)) o = subst (λ (u : Tables). IsViewIn u v) (sym
 -- a database that has a view can be opened
 opened_of : (db : Database) (v : JournalView) → IsViewOf db v → (t : Tables) × OpensAs db.trees t
 opened_of db v (inl is) = (tables_of db.trees, inl (journal_sound db is.0, refl))
-opened_of db v (inr (inl is)) = (turned (first_tables_of db.trees), inr (inl (first_sound db is.0, is.1, refl)))
+opened_of db v (inr (inl is)) = (converted (first_tables_of db.trees), inr (inl (first_sound db is.0, is.1, refl)))
 opened_of db v (inr (inr is)) = (new_tables, inr (inr (is.0, refl)))
 
 pub view_kept : (was : Trees) (t : Tables) → OpensAs was t → (db : Database) (v : JournalView) → db.trees ≡ was → IsViewOf db v → IsViewIn t v

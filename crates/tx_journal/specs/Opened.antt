@@ -9,7 +9,7 @@ use Rattle.journal_rows.specs.Reads.{read}
 use Rattle.journal_rows.specs.Tables.{Tables, first_tables_of, tables_of}
 use Rattle.journal_rows.specs.declared.layout.Layout.TheVariants.{First}
 use Rattle.journal_tables.specs.Steps.{IsJournal}
-use Rattle.journal_tables.specs.Turning.{IsFirst}
+use Rattle.journal_tables.specs.Converting.{IsFirst}
 use Rattle.tx_journal.specs.Kept.{JournalState, left_by}
 use Rattle.tx_journal.specs.Making.{no_schema}
 
