@@ -762,6 +762,7 @@ CASES = [
     ends,
     switch_killed,
     advices_between_reads,
+    advices_of_two_hosts,
     echo_answered,
     echo_after_a_close,
     echo_unanswered,
@@ -791,11 +792,12 @@ def main():
     parser.add_argument("word", nargs="?", default="")
     parser.add_argument("--program", default=kills.BUILT)
     given = parser.parse_args()
+    cases = [case for case in CASES if given.word in case.__name__]
+    if not cases:
+        parser.error(f"no case has {given.word!r} in its name")
     began, passed, failed = time.monotonic(), 0, 0
     signal.signal(signal.SIGALRM, overdue)
-    for case in CASES:
-        if given.word not in case.__name__:
-            continue
+    for case in cases:
         room = tempfile.mkdtemp()
         signal.alarm(CASE)
         try:

@@ -154,6 +154,8 @@ def judged(path, unedited):
 def main():
     word = sys.argv[1] if len(sys.argv) > 1 else ""
     paths = [it for it in sorted(glob.glob(f"{TOP}/tests/planted/*.edit")) if word in os.path.basename(it)]
+    if not paths:
+        sys.exit(f"planted.py: no edit has {word!r} in its name")
     failed = 0
     with tempfile.TemporaryDirectory() as room:
         unedited = Unedited(room)

@@ -256,7 +256,10 @@ def main():
         sys.exit(f"there is no program {given.program}: ./test builds it, or name one by --program")
     began, failed, mosts = time.monotonic(), 0, [0]
     with tempfile.TemporaryDirectory() as path, ThreadPoolExecutor(os.cpu_count() or 2) as pool:
-        for name, running in [*started(Room(given.program, path), pool, given)]:
+        runs = [*started(Room(given.program, path), pool, given)]
+        if not runs:
+            sys.exit(f"threads.py: no run has {given.word!r} in its name")
+        for name, running in runs:
             wrong, most = running.result()
             mosts.append(most)
             failed += bool(wrong)
