@@ -26,7 +26,7 @@ pub enum DecodeError {
     #[error("bitmap: expected 16 hexadecimal digits")]
     BadBitmap,
     /// The lowest field number that is set in a bitmap and that the profile does not have.
-    #[error("field {0}: unknown field; expected {}", FIELD_NUMBERS)]
+    #[error("{}: unknown field; expected {}", FieldLabel(*.0), FIELD_NUMBERS)]
     FieldNotInProfile(u8),
     /// The length of a variable field is not written in digits, or is more than the field takes.
     #[error("{}: bad length, expected {}", FieldLabel(*.0), ExpectedValue(*.0))]

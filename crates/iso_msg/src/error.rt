@@ -23,7 +23,7 @@ pub enum MessageError {
     #[error("out of memory")]
     OutOfMemory,
     /// The number is not a field of the profile.
-    #[error("field {0}: unknown field; expected {}", FIELD_NUMBERS)]
+    #[error("{}: unknown field; expected {}", FieldLabel(*.0), FIELD_NUMBERS)]
     FieldNotInProfile(u8),
     /// The value is shorter or longer than the field takes.
     #[error("{}: wrong length, expected {}", FieldLabel(*.0), ExpectedValue(*.0))]
