@@ -1,8 +1,11 @@
 //! Echo tests: network management requests (0800) to a host that gets nothing else or is silent.
 
-ghost use Rattle.std.specs.Prelude.{◌≡◌, ◌+◌, ◌*◌, ◌/◌, ◌%◌, ◌<◌, length, pos, IfOk, Some};
+ghost use Rattle.std.specs.Prelude.{◌≡◌, ◌+◌, ◌*◌, ◌/◌, ◌%◌, ◌<◌, length, pos, true, IfOk, None, OnOk, Some};
+ghost use Rattle.std.specs.List.{list_all};
+ghost use Rattle.iso_msg.specs.Messages.{with_value};
+ghost use Rattle.iso_msg.specs.Values.{refusal};
 ghost use Rattle.jiff_core.specs.Date.{epoch_day};
-ghost use Rattle.sw_base.specs.Digits.{number_of};
+ghost use Rattle.sw_base.specs.Digits.{is_digit, number_of};
 ghost use Rattle.sw_hosts.specs.Echoes.{IsEcho, IsStamp, echo_message, stamp_of, two_digits};
 
 use iso_codec::encode;
@@ -31,14 +34,16 @@ fn date_of(seconds: u64) -> Date
 
 fn two_digits(number: u8) -> [u8; 2]
     requires { number < 100 }
-    ensures { result ≡ two_digits number }
+    ensures shown { result ≡ two_digits number }
+    ensures digits { list_all is_digit result ≡ true }
 {
     [b'0' + number / 10, b'0' + number % 10]
 }
 
 // Month, day, hour, minute and second.
 fn stamp_of(date: Date, seconds: u64) -> [u8; 10]
-    ensures { result ≡ stamp_of date (seconds % 86400) }
+    ensures shown { result ≡ stamp_of date (seconds % 86400) }
+    ensures digits { list_all is_digit result ≡ true }
 {
     let time = seconds % DAY;
     let month = two_digits(date.month);
@@ -55,7 +60,8 @@ fn stamp_of(date: Date, seconds: u64) -> [u8; 10]
 // The six digits of a STAN.
 fn stan_digits(stan: u32) -> [u8; 6]
     requires { stan < 1000000 }
-    ensures { number_of result ≡ Some stan }
+    ensures shown { number_of result ≡ Some stan }
+    ensures digits { list_all is_digit result ≡ true }
 {
     [
         b'0' + (stan / 100_000) as u8,
@@ -67,15 +73,36 @@ fn stan_digits(stan: u32) -> [u8; 6]
     ]
 }
 
-// The message, by its fields 7 and 11. They fit the table of fields, so out of memory is the only
-// refusal.
-fn message_of(alloc: Global, stamp: &[u8], stan: &[u8]) -> Result<Message, MessageError>
+// Puts a value at a field that takes it.
+fn put(alloc: Global, message: &mut Message, number: u8, value: &[u8]) -> Result<(), NoMemory>
+    requires { refusal number value.now ≡ None }
+    ensures { OnOk result (message.new ≡ record {
+      mti = message.old.mti;
+      fields = with_value number value.now message.old.fields;
+    }) }
+{
+    match message.set(alloc, number, value) {
+        Ok(()) => Ok(()),
+        Err(MessageError::OutOfMemory) => Err(NoMemory),
+        Err(_) => unreachable!(),
+    }
+}
+
+// The message, by its fields 7 and 11.
+fn message_of(alloc: Global, stamp: &[u8], stan: &[u8]) -> Result<Message, NoMemory>
+    requires stamp { length stamp.now ≡ 10 }
+    requires stamp_digits { list_all is_digit stamp.now ≡ true }
+    requires stan { length stan.now ≡ 6 }
+    requires stan_digits { list_all is_digit stan.now ≡ true }
     ensures { IfOk result (λ message. message ≡ echo_message stamp.now stan.now) }
 {
-    let mut message = Message::new(alloc, Mti::new(b"0800")?);
-    message.set(alloc, 7, stamp)?;
-    message.set(alloc, 11, stan)?;
-    message.set(alloc, 70, b"301")?;
+    let Ok(mti) = Mti::new(b"0800") else {
+        unreachable!()
+    };
+    let mut message = Message::new(alloc, mti);
+    put(alloc, &mut message, 7, stamp)?;
+    put(alloc, &mut message, 11, stan)?;
+    put(alloc, &mut message, 70, b"301")?;
     Ok(message)
 }
 
@@ -85,12 +112,11 @@ pub fn echo_frame(alloc: Global, seconds: u64, stan: u32) -> Result<Vec<u8>, NoM
     ensures { IfOk result (λ bytes. IsEcho seconds stan bytes.items) }
 {
     let stamp = stamp_of(date_of(seconds), seconds);
-    let Ok(message) = message_of(alloc, &stamp, &stan_digits(stan)) else {
-        return Err(NoMemory);
-    };
+    let message = message_of(alloc, &stamp, &stan_digits(stan))?;
     let text = encode(alloc, &message)?;
     match frame(alloc, &text) {
         Ok(bytes) => Ok(bytes),
-        Err(_) => Err(NoMemory),
+        Err(FrameError::OutOfMemory) => Err(NoMemory),
+        Err(_) => unreachable!(),
     }
 }
