@@ -272,7 +272,7 @@ ACTIONS = {
 def refused(fault):
     """How the message begins when a flow or the number of sessions is refused."""
     if fault.name == "BadSessions":
-        return "the engine refused: bad number of sessions"
+        return "the settings before this line: bad number of sessions"
     return f"the settings before this line: the flow is refused: {texts.told(fault)}"
 
 

@@ -70,6 +70,8 @@ pub enum LineError {
     Calls,
     /// `auto` with more words.
     Auto,
+    /// An action after settings that state another number of sessions than 1 to 16.
+    BadSessions,
     /// No memory was left for what the line means.
     OutOfMemory,
 }
@@ -121,6 +123,9 @@ impl LineError {
             LineError::Saved => "missing or invalid session; usage: saved S",
             LineError::Calls => "missing or invalid name; usage: calls NAME",
             LineError::Auto => "unexpected words; usage: auto",
+            LineError::BadSessions => {
+                "the settings before this line: bad number of sessions; expected 1 to 16"
+            }
             LineError::OutOfMemory => "out of memory",
         }
     }
@@ -161,7 +166,7 @@ impl<T: Drop> From<AllocFailed<T>> for LineError {
 /// Why a script is refused, and at which line, counted from 1. The lines before it have run.
 #[derive(Drop)]
 pub enum ScriptError {
-    /// The line is malformed.
+    /// The line is malformed, or the settings before it state a number of sessions that no engine has.
     Line {
         line: usize,
         cause: LineError,

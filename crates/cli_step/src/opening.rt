@@ -7,14 +7,13 @@ ghost use Rattle.flow_model.specs.Check.{IsChecked};
 ghost use Rattle.cli_step.specs.Prompts.{AreSame, HasBadSessions, HeadAnswers, IsFaultOf};
 ghost use Rattle.cli_step.specs.Prompts.{IsHeadLine, IsMade, IsPrompted, IsReported, IsUnopened};
 ghost use Rattle.cli_step.specs.Prompts.{OpenedOver, SomeIsMade, TalkedOver, heading};
-ghost use Rattle.cli_step.specs.Prompts.{is_of_sessions};
 ghost use Rattle.cli_step.specs.declared.opening.HeadLine.TheVariants as head;
 ghost use Rattle.cli_step.specs.Runs.{Grows};
 
-use crate::error::{ActionError, StepError};
+use crate::error::StepError;
 use crate::prompt::{answer, ask, leave, refusal, report, talk};
 use crate::prompt_words::{HELP, PromptWord, prompt_word_at};
-use crate::script::memory_journal;
+use crate::script::{memory_journal, plant_refused};
 use cli_io::write_out;
 use cli_lines::Lines;
 use cli_script::{Opening, ScriptError, next_setting, open_settings};
@@ -24,8 +23,7 @@ use std::alloc::{AllocError, Global};
 use std::io::{Read, Write};
 use sw_participant::Station;
 use sw_scripted::Scripted;
-use tx_engine::EngineError;
-use tx_plant::{Plant, PlantError};
+use tx_plant::Plant;
 use tx_trace::Tracer;
 
 /// What a line is before a flow is opened.
@@ -84,24 +82,6 @@ fn flow_of(alloc: Global, file: &Option<Code>) -> Result<Option<Flow>, AllocErro
     }
 }
 
-// Whether the number of sessions is refused.
-fn is_of_sessions(cause: &PlantError) -> bool
-    ensures { result ≡ is_of_sessions cause.now }
-{
-    matches!(cause, PlantError::Engine(EngineError::BadSessions))
-}
-
-// The refusal of a number of sessions, at the line of this number; any other error ends the session.
-fn plant_refused(cause: PlantError, line: usize) -> Result<StepError, StepError>
-    ensures refused { IfOk result (λ _. is_of_sessions cause ≡ true) }
-    ensures fault { IfErr result (IsFaultOf ⊥) }
-{
-    if is_of_sessions(&cause) {
-        return Ok(StepError::Plant { line, cause });
-    }
-    Err(ActionError::Plant(cause).at_line(line))
-}
-
 // Answers a line over a plant of these stations with a journal in memory, and then all that are still to come; or
 // returns why no plant is made. (Apart from `open_over`, so that its proof does not carry how the stations are
 // made.)
@@ -135,7 +115,7 @@ fn talk_over<R: Read, W: Write, E: Write>(
     };
     let mut plant = match Plant::new(alloc, code, journal, stations, sessions) {
         Ok(plant) => plant,
-        Err((cause, _, _)) => return Ok(Err(plant_refused(cause, before + 1)?)),
+        Err((cause, _, _)) => return Ok(Err(plant_refused(alloc, cause, before + 1, sessions)?)),
     };
     let mut tracer = Tracer::new(alloc, plant.engine());
     answer(alloc, &mut plant, &mut tracer, line, before, out, err)?;

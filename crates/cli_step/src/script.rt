@@ -1,21 +1,22 @@
 //! The run of a script.
 
 ghost use Rattle.std.specs.Prelude.{◌≡◌, ◌≤◌, [], IfErr, IfOk, IfSome, Ok, OnErr, OnOk, false};
-ghost use Rattle.std.specs.Prelude.{length};
+ghost use Rattle.std.specs.Prelude.{length, true};
 ghost use Rattle.std.specs.Io.KnownBytes.{Appends, Keeps};
 ghost use Rattle.cli_lines.specs.Lines.{room, to_come};
 ghost use Rattle.flow_model.specs.Check.{IsChecked};
 ghost use Rattle.tx_trace.specs.Follow.{Follows};
 ghost use Rattle.cli_step.specs.Doing.{point_of};
+ghost use Rattle.cli_step.specs.Prompts.{IsFaultOf, is_of_sessions};
 ghost use Rattle.cli_step.specs.Runs.{Grows, IsLineFailed, IsOfJournal, IsRun, IsUnwritten, IsWriting, PlayedOn};
 ghost use Rattle.cli_step.specs.Runs.{Ran, RanAll, RunsLine, Stopped};
 
 use crate::actions::run_action;
 use crate::error::{ActionError, StepError};
 use crate::head::read_head;
-use cli_io::{WriteError, write_whole};
+use cli_io::{Quoted, WriteError, write_whole};
 use cli_lines::Lines;
-use cli_script::{Action, Actions, Script, open_script};
+use cli_script::{Action, Actions, LineError, Script, ScriptError, open_script};
 use flow_asm::{Code, assemble};
 use flow_model::Flow;
 use sqlite::{Alter, Connection, MemStore};
@@ -23,6 +24,7 @@ use std::alloc::Global;
 use std::io::{Read, Write};
 use sw_participant::Station;
 use sw_scripted::Scripted;
+use tx_engine::EngineError;
 use tx_journal::Journal;
 use tx_plant::{Plant, PlantError};
 use tx_trace::Tracer;
@@ -111,6 +113,34 @@ pub fn memory_journal(alloc: Global) -> Result<Journal<MemStore>, ActionError>
     }
 }
 
+// Whether the number of sessions is refused.
+fn is_of_sessions(cause: &PlantError) -> bool
+    ensures { result ≡ is_of_sessions cause.now }
+{
+    matches!(cause, PlantError::Engine(EngineError::BadSessions))
+}
+
+/// The refusal of this number of sessions, at the first line that is not a setting; any other error ends the run.
+pub fn plant_refused(
+    alloc: Global,
+    cause: PlantError,
+    line: usize,
+    sessions: usize,
+) -> Result<StepError, StepError>
+    ensures refused { IfOk result (λ _. is_of_sessions cause ≡ true) }
+    ensures fault { IfErr result (IsFaultOf ⊥) }
+{
+    if !is_of_sessions(&cause) {
+        return Err(ActionError::Plant(cause).at_line(line));
+    }
+    let found = format!(in alloc; "{sessions}")?;
+    Ok(StepError::Script(ScriptError::Line {
+        line,
+        cause: LineError::BadSessions,
+        found: Quoted::of(found.as_bytes()),
+    }))
+}
+
 // Runs the lines that are still to come, each before the next one is read.
 fn run_rest<R: Read, S: Alter, W: Write>(
     alloc: Global,
@@ -158,7 +188,7 @@ fn play_over<R: Read, W: Write>(
     };
     let mut plant = match Plant::new(alloc, code, journal, stations, sessions) {
         Ok(plant) => plant,
-        Err((cause, _, _)) => return Err(ActionError::Plant(cause).at_line(first)),
+        Err((cause, _, _)) => return Err(plant_refused(alloc, cause, first, sessions)?),
     };
     let mut tracer = Tracer::new(alloc, plant.engine());
     run_actions(alloc, &mut plant, &mut tracer, actions, out)?;
