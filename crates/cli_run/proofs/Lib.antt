@@ -19,3 +19,4 @@ mod Batched
 mod Shown
 mod Counting
 mod Advancing
+mod Names

@@ -5,7 +5,9 @@ ghost use Rattle.std.specs.Prelude.{IfErr, IfNone, IfOk, IfSome, OnErr, OnOk};
 ghost use Rattle.tx_engine.specs.Calls.{waits};
 ghost use Rattle.std.specs.Io.KnownBytes.{Appends};
 ghost use Rattle.flow_model.specs.declared.flow.Flow.{Flow};
+ghost use Rattle.sw_context.specs.Names.{is_name};
 ghost use Rattle.sw_issuers.specs.Sending.{SendsAdvice};
+ghost use Rattle.sw_participant.specs.Stations.{calls_of, name_of};
 ghost use Rattle.tx_history.specs.declared.journal.JournalView.{JournalView};
 ghost use Rattle.tx_journal.specs.Kept.{kept};
 ghost use Rattle.tx_plant.specs.Plant.{IsEngine, Seen, seen};
@@ -39,7 +41,7 @@ use std::sync::Wait;
 use std::thread::Threads;
 use std::time::Clock;
 use sw_issuers::Sender;
-use sw_participant::{Bystander, Station, StationError, Unjoined};
+use sw_participant::{Bystander, NoMemory, Participant, Station, StationError, Unjoined};
 use sw_parts::{CheckFields, Forward, Limits, Link, QueryIssuer, Respond, Reverse, Route, StandIn};
 use tx_engine::Engine;
 use tx_journal::Journal;
@@ -310,6 +312,23 @@ fn boxed<P: Unjoined>(alloc: Global, participant: P) -> Result<Box<Bystander<P>>
     Ok(Box::new(alloc, Bystander::new(participant))?)
 }
 
+// The station of a participant whose name is good.
+fn named(
+    alloc: Global,
+    name: &str,
+    participant: Box<dyn Participant + Send>,
+) -> Result<Station, NoMemory>
+    requires { is_name name.now ≡ true }
+    ensures named { IfOk result (λ station. name_of station ≡ name.now) }
+    ensures none_made { IfOk result (λ station. calls_of station ≡ 0) }
+{
+    match Station::new(alloc, name, participant) {
+        Ok(station) => Ok(station),
+        Err(StationError::BadName) => unreachable!(),
+        Err(StationError::OutOfMemory) => Err(NoMemory),
+    }
+}
+
 /// Recovers what the journal has unfinished. Without an input, it prints the lines of that, and does nothing more.
 /// Otherwise it answers the requests of the input as they come, then runs what is on the shelf, and sends the
 /// stored advices. Between two reads of the input it sends some of them in turn, at most as many as the setup says.
@@ -398,17 +417,17 @@ pub fn run<S: Alter + Drop, T: Threads + Wait + Clock + Sync, R: Read + Drop, O:
         return Err(ServeError::OutOfMemory);
     };
     let (Ok(check), Ok(limits), Ok(route), Ok(reverse)) = (
-        Station::new(alloc, "check", check),
-        Station::new(alloc, "limits", limits),
-        Station::new(alloc, "route", route),
-        Station::new(alloc, "reverse", reverse),
+        named(alloc, "check", check),
+        named(alloc, "limits", limits),
+        named(alloc, "route", route),
+        named(alloc, "reverse", reverse),
     ) else {
         return Err(ServeError::OutOfMemory);
     };
     let (Ok(standin), Ok(forward), Ok(respond)) = (
-        Station::new(alloc, "standin", standin),
-        Station::new(alloc, "forward", forward),
-        Station::new(alloc, "respond", respond),
+        named(alloc, "standin", standin),
+        named(alloc, "forward", forward),
+        named(alloc, "respond", respond),
     ) else {
         return Err(ServeError::OutOfMemory);
     };

@@ -15,6 +15,7 @@ use Rattle.cli_run.specs.Traces.{Log, passed_over}
 use Rattle.cli_run.specs.declared.error.ServeError.{ServeError}
 use Rattle.cli_run.specs.declared.stream.StreamEnd.{StreamEnd}
 use Rattle.std.proofs.KnownBytes.{Keeps-refl}
+use Rattle.cli_run.proofs.Names.{check_good, forward_good, limits_good, respond_good, reverse_good, route_good, standin_good}
 use Rattle.cli_run.proofs.Stops.{on_err_of}
 use Rattle.cli_run.proofs.serving.run.Goals as goal
 
@@ -78,3 +79,24 @@ returns-in-Err-BadName-clause-stopped g c = inl (Keeps-refl _)
 
 pub returns-in-Err-OutOfMemory-clause-stopped : goal.returns-in-Err-OutOfMemory-clause-stopped
 returns-in-Err-OutOfMemory-clause-stopped g c = inl (Keeps-refl _)
+
+pub named-requires : goal.named-requires
+named-requires g c = check_good
+
+pub named-requires-2 : goal.named-requires-2
+named-requires-2 g c = limits_good
+
+pub named-requires-3 : goal.named-requires-3
+named-requires-3 g c = route_good
+
+pub named-requires-4 : goal.named-requires-4
+named-requires-4 g c = reverse_good
+
+pub named-requires-5 : goal.named-requires-5
+named-requires-5 g c = standin_good
+
+pub named-requires-6 : goal.named-requires-6
+named-requires-6 g c = forward_good
+
+pub named-requires-7 : goal.named-requires-7
+named-requires-7 g c = respond_good
