@@ -227,6 +227,10 @@ pub on_err : {E : Type 0} {First Second : Type 0} (r : Result Unit E) → (First
 on_err (Ok u) f holds = tt
 on_err (Err e) f holds = f holds
 
+pub nothing_grown : {A E : Type 0} (r : Result A E) (before : Known) → OnErr r (Grows before before)
+nothing_grown (Ok a) before = tt
+nothing_grown (Err e) before = grows_none before
+
 pub if_some : {A : Type 0} {First Second : A → Type 0} (o : Option A) → ((x : A) → First x → Second x) → IfSome o First → IfSome o Second
 if_some None f holds = tt
 if_some (Some x) f holds = f x holds

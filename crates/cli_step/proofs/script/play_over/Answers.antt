@@ -1,5 +1,5 @@
 use Rattle.cli_step.proofs.Adding.{on_ok}
-use Rattle.cli_step.proofs.Joining.{grows_then, if_some, on_err, ran_grows, ran_whole}
+use Rattle.cli_step.proofs.Joining.{grows_then, if_some, nothing_grown, on_err, ran_grows, ran_whole}
 use Rattle.cli_lines.specs.Lines.{to_come}
 use Rattle.cli_step.proofs.script.play_over.Goals as goal
 
@@ -22,3 +22,6 @@ returns-clause-grown g c =
     on_err c.run_rest.result (λ grown. grows_then (g.W.Write.contents c.args.out.now) (g.W.Write.contents c.run_actions.new.out)
     (g.W.Write.contents c.run_rest.new.out) (ran_grows c.args.actions.now c.run_actions.new.actions _ _ _ _ c.in_ok-run_actions.ensures.ran) grown)
     c.run_rest.ensures.grown
+
+pub returns-in_err-plant_refused-in-Err-new-clause-grown : goal.returns-in_err-plant_refused-in-Err-new-clause-grown
+returns-in_err-plant_refused-in-Err-new-clause-grown g c = nothing_grown c.from_residual.result (g.W.Write.contents c.args.out.now)
