@@ -25,21 +25,21 @@ none_before p (x ∷ xs) = by (p x) refl (none_before p xs)
 
 -- where the index is the length, there is no mark
 pub none_at_all : (c : ℕ) (xs : List ℕ) (end : ℕ) → end ≡ position_or_len (λ b. b == c) xs → end ≡ length xs → has_byte c xs ≡ false
-none_at_all c xs end place last =
-    subst (λ (l : List ℕ). has_byte c l ≡ false) (take_all (position_or_len (λ b. b == c) xs) xs (omega (arith, place, last))) (none_before (λ b. b == c) xs)
+none_at_all c xs end index last =
+    subst (λ (l : List ℕ). has_byte c l ≡ false) (take_all (position_or_len (λ b. b == c) xs) xs (omega (arith, index, last))) (none_before (λ b. b == c) xs)
 
 pub parts_are : (c : ℕ) (xs : List ℕ) (end : ℕ) → end ≡ position_or_len (λ b. b == c) xs → end < length xs
     → (take end xs ++ c ∷ take (length xs - (end + 1)) (drop (end + 1) xs) ≡ xs) × (has_byte c (take end xs) ≡ false)
-parts_are c xs end place within =
+parts_are c xs end index within =
     let p = λ (b : ℕ). b == c in
-    let inside : position_or_len p xs < length xs = omega (arith, place, within) in
+    let inside : position_or_len p xs < length xs = omega (arith, index, within) in
     let here : get_or xs (position_or_len p xs) 0 ≡ c = eqb-true _ c (passes_at_first p xs 0 inside) in
     let whole = split_at_first p xs 0 inside in (
-      ap (λ k. take k xs ++ c ∷ take (length xs - (k + 1)) (drop (k + 1) xs)) place
+      ap (λ k. take k xs ++ c ∷ take (length xs - (k + 1)) (drop (k + 1) xs)) index
           ∙ ap (λ (l : List ℕ). before_first p xs ++ c ∷ l) (take_rest xs (position_or_len p xs + 1))
           ∙ ap (λ b. before_first p xs ++ b ∷ after_first p xs) (sym here)
           ∙ sym whole,
-      subst (λ k. has_byte c (take k xs) ≡ false) (sym place) (none_before p xs),
+      subst (λ k. has_byte c (take k xs) ≡ false) (sym index) (none_before p xs),
     )
 
 -- ---- a mark is where it is

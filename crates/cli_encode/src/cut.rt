@@ -6,7 +6,7 @@ ghost use Rattle.cli_encode.specs.Lines.{has_byte, IsCut, IsAfter, IsNotBefore};
 
 // The index of the first `mark`, or the length if there is none.
 fn mark_index(bytes: &[u8], mark: u8) -> usize
-    ensures place { result ≡ position_or_len (λ b. b == mark) bytes.now }
+    ensures index { result ≡ position_or_len (λ b. b == mark) bytes.now }
     ensures within { result ≤ length bytes.now }
 {
     bytes
@@ -20,11 +20,11 @@ pub fn cut_at(bytes: &[u8], mark: u8) -> Option<(&[u8], &[u8])>
     ensures { MatchOption result (has_byte mark bytes.entry.now ≡ false)
         (IsCut mark bytes.entry.now) }
 {
-    let place = mark_index(bytes, mark);
-    if place == bytes.len() {
+    let at = mark_index(bytes, mark);
+    if at == bytes.len() {
         return None;
     }
-    Some((&bytes[..place], &bytes[place + 1..]))
+    Some((&bytes[..at], &bytes[at + 1..]))
 }
 
 /// What comes after `front`; `None` if the bytes do not begin with it.

@@ -25,11 +25,11 @@ fn no_station(alloc: Global, code: &Code, number: usize) -> ServeError
 }
 
 // The error for the station at this index, which has the name of an earlier one.
-fn double_station(alloc: Global, stations: &[Station], place: usize) -> ServeError
-    ensures { IsDouble (names_of stations.now) place result }
+fn double_station(alloc: Global, stations: &[Station], index: usize) -> ServeError
+    ensures { IsDouble (names_of stations.now) index result }
 {
-    let Some(station) = stations.get(place) else {
-        return ServeError::Seating(SeatingError::DoubleStation(place));
+    let Some(station) = stations.get(index) else {
+        return ServeError::Seating(SeatingError::DoubleStation(index));
     };
     match Text::from_str(alloc, station.name()) {
         Ok(name) => ServeError::DoubleStation(name),
@@ -49,8 +49,8 @@ pub(crate) fn cause_of(
 {
     match error {
         PlantError::Seating(SeatingError::NoStation(number)) => no_station(alloc, code, number),
-        PlantError::Seating(SeatingError::DoubleStation(place)) => {
-            double_station(alloc, stations, place)
+        PlantError::Seating(SeatingError::DoubleStation(index)) => {
+            double_station(alloc, stations, index)
         }
         PlantError::Engine(EngineError::BadSessions) => ServeError::BadSessions(sessions),
         other => ServeError::from(other),

@@ -28,9 +28,9 @@ pub pairs_at : (fs : List Field) (i : ℕ) (f : Field) → i < length fs → f �
 pairs_at fs i f h e = drop-map pair i fs ∙ ap (λ (x : List Field). map pair x) (drop_more fs i f h ∙ ap (λ (g : Field). g ∷ drop (i + 1) fs) (sym e))
     ∙ ap (λ (x : Fields). pair f ∷ x) (sym (drop-map pair (i + 1) fs))
 
-pub place_step : (fs : List Field) (i n : ℕ) (f : Field) (r : Result ℕ ℕ) → i < length fs → f ≡ get_or fs i f → f.number < n →
+pub index_step : (fs : List Field) (i n : ℕ) (f : Field) (r : Result ℕ ℕ) → i < length fs → f ≡ get_or fs i f → f.number < n →
     shift i (field_index n (drop i (pairs fs))) ≡ r → shift (i + 1) (field_index n (drop (i + 1) (pairs fs))) ≡ r
-place_step fs i n f r h e lt so_far =
+index_step fs i n f r h e lt so_far =
     sym (shift_more i (field_index n (drop (i + 1) (pairs fs))))
     ∙ sym (ap (λ (b : Bool). shift i (cond b (shift 1 (field_index n (drop (i + 1) (pairs fs)))) (cond (eqb f.number n) (Ok 0) (Err 0))))
     (lt-ltb _ _ lt)) ∙ sym (ap (λ (x : Fields). shift i (field_index n x)) (pairs_at fs i f h e)) ∙ so_far
@@ -39,16 +39,16 @@ place_step fs i n f r h e lt so_far =
 here : (f : ℕ × List ℕ) (fs : Fields) (n : ℕ) → n ≤ f.0 → field_index n (f ∷ fs) ≡ (cond (eqb f.0 n) (Ok 0) (Err 0))
 here f fs n h = rw (le-ltb f.0 n h) refl
 
-pub place_here : (fs : List Field) (i n : ℕ) (f : Field) (r : Result ℕ ℕ) → i < length fs → f ≡ get_or fs i f → n ≤ f.number →
+pub index_here : (fs : List Field) (i n : ℕ) (f : Field) (r : Result ℕ ℕ) → i < length fs → f ≡ get_or fs i f → n ≤ f.number →
     shift i (field_index n (drop i (pairs fs))) ≡ r → shift i (cond (eqb f.number n) (Ok 0) (Err 0)) ≡ r
-place_here fs i n f r h e le so_far =
+index_here fs i n f r h e le so_far =
     sym (ap (shift i) (here (pair f) (drop (i + 1) (pairs fs)) n le)) ∙ sym (ap (λ (x : Fields). shift i (field_index n x)) (pairs_at fs i f h e)) ∙ so_far
 
-pub place_found : (i a n : ℕ) (r : Result ℕ ℕ) → a ≡ n → shift i (cond (eqb a n) (Ok 0) (Err 0)) ≡ r → Ok i ≡ r
-place_found i a n r e so_far = ap Ok (sym (add-zero i)) ∙ sym (ap (λ (b : Bool). shift i (cond b (Ok 0) (Err 0))) (equal-eqb a n e)) ∙ so_far
+pub index_found : (i a n : ℕ) (r : Result ℕ ℕ) → a ≡ n → shift i (cond (eqb a n) (Ok 0) (Err 0)) ≡ r → Ok i ≡ r
+index_found i a n r e so_far = ap Ok (sym (add-zero i)) ∙ sym (ap (λ (b : Bool). shift i (cond b (Ok 0) (Err 0))) (equal-eqb a n e)) ∙ so_far
 
-pub place_missing : (i a n : ℕ) (r : Result ℕ ℕ) → (a ≡ n → ⊥) → shift i (cond (eqb a n) (Ok 0) (Err 0)) ≡ r → Err i ≡ r
-place_missing i a n r e so_far = ap Err (sym (add-zero i)) ∙ sym (ap (λ (b : Bool). shift i (cond b (Ok 0) (Err 0))) (eqb-false_from a n e)) ∙ so_far
+pub index_missing : (i a n : ℕ) (r : Result ℕ ℕ) → (a ≡ n → ⊥) → shift i (cond (eqb a n) (Ok 0) (Err 0)) ≡ r → Err i ≡ r
+index_missing i a n r e so_far = ap Err (sym (add-zero i)) ∙ sym (ap (λ (b : Bool). shift i (cond b (Ok 0) (Err 0))) (eqb-false_from a n e)) ∙ so_far
 
 pub value_step : (fs : List Field) (i n : ℕ) (f : Field) (r : Option (List ℕ)) → i < length fs → f ≡ get_or fs i f → (f.number ≡ n → ⊥) →
     value_at n (drop i (pairs fs)) ≡ r → value_at n (drop (i + 1) (pairs fs)) ≡ r

@@ -28,24 +28,24 @@ rises low (f ∷ fs) i zero d a h k = absurd (omega arith)
 rises low (f ∷ fs) zero (suc j) d a h k = above f.number fs j d a.2 (omega arith)
 rises low (f ∷ fs) (suc i) (suc j) d a h k = rises f.number fs i j d a.2 (omega arith) (omega arith)
 
-place_at : (low : ℕ) (fs : List Field) (n i : ℕ) → AreFields low (pairs fs) → i < length fs → ((d : Field) → (get_or fs i d).number ≡ n) →
+index_at : (low : ℕ) (fs : List Field) (n i : ℕ) → AreFields low (pairs fs) → i < length fs → ((d : Field) → (get_or fs i d).number ≡ n) →
     field_index n (pairs fs) ≡ Ok i
-place_at low [] n i a h e = absurd (omega arith)
-place_at low (f ∷ fs) n zero a h e = rw (le-ltb f.number n (omega (arith, e f)), equal-eqb f.number n (e f)) refl
-place_at low (f ∷ fs) n (suc i) a h e =
+index_at low [] n i a h e = absurd (omega arith)
+index_at low (f ∷ fs) n zero a h e = rw (le-ltb f.number n (omega (arith, e f)), equal-eqb f.number n (e f)) refl
+index_at low (f ∷ fs) n (suc i) a h e =
     let under : f.number < n = omega (arith, above f.number fs i f a.2 (omega arith), e f) in
-    rw (lt-ltb f.number n under) (ap (shift 1) (place_at f.number fs n i a.2 (omega arith) e) ∙ ap Ok (omega arith))
+    rw (lt-ltb f.number n under) (ap (shift 1) (index_at f.number fs n i a.2 (omega arith) e) ∙ ap Ok (omega arith))
 
-place_between : (fs : List Field) (n i : ℕ) → i ≤ length fs → ((j : ℕ) (d : Field) → j < i → (get_or fs j d).number < n) →
+index_between : (fs : List Field) (n i : ℕ) → i ≤ length fs → ((j : ℕ) (d : Field) → j < i → (get_or fs j d).number < n) →
     ((j : ℕ) (d : Field) → i ≤ j → j < length fs → n < (get_or fs j d).number)
     → field_index n (pairs fs) ≡ Err i
-place_between [] n i h under over = ap Err (omega arith)
-place_between (f ∷ fs) n zero h under over =
+index_between [] n i h under over = ap Err (omega arith)
+index_between (f ∷ fs) n zero h under over =
     let more : n < f.number = over 0 f (omega arith) (omega arith) in
     rw (le-ltb f.number n (omega arith), eqb-false_from f.number n (λ e. omega arith)) refl
-place_between (f ∷ fs) n (suc i) h under over =
+index_between (f ∷ fs) n (suc i) h under over =
     rw (lt-ltb f.number n (under 0 f (omega arith)))
-    (ap (shift 1) (place_between fs n i (omega arith) (λ j d l. under (suc j) d (omega arith)) (λ j d l m. over (suc j) d (omega arith) (omega arith)))
+    (ap (shift 1) (index_between fs n i (omega arith) (λ j d l. under (suc j) d (omega arith)) (λ j d l m. over (suc j) d (omega arith) (omega arith)))
     ∙ ap Err (omega arith))
 
 module _ (fs : List Field) (n : ℕ) (a : AreFields 1 (pairs fs)) where
@@ -60,10 +60,10 @@ module _ (fs : List Field) (n : ℕ) (a : AreFields 1 (pairs fs)) where
   -- a binary search by number finds the index
   pub searched : (r : Result ℕ ℕ) → IsSearchInRange r (length fs) → IsBinarySearchResult (λ (f : Field). nat_cmp f.number n) fs r
       → r ≡ field_index n (pairs fs)
-  searched (Ok i) within equal = sym (place_at 1 fs n i a within (λ d. ranked _ n _ (sym (equal d))))
+  searched (Ok i) within equal = sym (index_at 1 fs n i a within (λ d. ranked _ n _ (sym (equal d))))
   searched (Err i) within parted =
       let q = parted comparisons_rise in
-      sym (place_between fs n i within (λ j d l. ranked _ n _ (sym (q.0 j d (omega arith) l))) (λ j d l m. ranked _ n _ (sym (q.1 j d l m))))
+      sym (index_between fs n i within (λ j d l. ranked _ n _ (sym (q.0 j d (omega arith) l))) (λ j d l m. ranked _ n _ (sym (q.1 j d l m))))
 
 -- a field goes after those with lower numbers
 after_all : (fs : List Field) (n : ℕ) (v : List ℕ) → ((i : ℕ) (d : Field) → i < length fs → (get_or fs i d).number < n) →

@@ -133,12 +133,12 @@ impl Message {
     }
 
     /// The number and the value of the field at an index, counted from 0 in rising order.
-    pub fn field_at(&self, place: usize) -> (u8, &[u8])
-        requires { place < length self.now.fields }
-        ensures field { (result.0, result.1.now) ≡ get_or self.now.fields place (0, []) }
+    pub fn field_at(&self, index: usize) -> (u8, &[u8])
+        requires { index < length self.now.fields }
+        ensures field { (result.0, result.1.now) ≡ get_or self.now.fields index (0, []) }
         ensures valid { refusal result.0 result.1.now ≡ None }
     {
-        let field = &self.fields[place];
+        let field = &self.fields[index];
         (field.number, &field.value)
     }
 

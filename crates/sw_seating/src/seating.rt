@@ -22,11 +22,11 @@ pub enum SeatingError {
     DoubleStation(usize),
 }
 
-fn name_at(stations: &[Station], place: usize) -> &str
-    requires { place < length stations.now }
-    ensures { result.now ≡ get_or (names_of stations.now) place [] }
+fn name_at(stations: &[Station], index: usize) -> &str
+    requires { index < length stations.now }
+    ensures { result.now ≡ get_or (names_of stations.now) index [] }
 {
-    stations[place].name()
+    stations[index].name()
 }
 
 // Whether one of the stations before `end` has the name.
@@ -34,8 +34,8 @@ fn has_name(stations: &[Station], end: usize, name: &str) -> bool
     requires { end ≤ length stations.now }
     ensures { result ≡ is_among name.now (take end (names_of stations.now)) }
 {
-    for place in 0..end {
-        if name_at(stations, place) == name {
+    for index in 0..end {
+        if name_at(stations, index) == name {
             return true;
         }
     }
@@ -58,9 +58,9 @@ fn test_doubles(stations: &[Station]) -> Result<(), SeatingError>
     ensures { result
         ≡ refused (first_at (double_station (names_of stations.now)) 0 (names_of stations.now)) }
 {
-    for place in 0..stations.len() {
-        if has_name(stations, place, name_at(stations, place)) {
-            return Err(SeatingError::DoubleStation(place));
+    for index in 0..stations.len() {
+        if has_name(stations, index, name_at(stations, index)) {
+            return Err(SeatingError::DoubleStation(index));
         }
     }
     Ok(())

@@ -7,13 +7,13 @@ use Rattle.std.proofs.lemmas.List.Elements.{All-from_recursion, recursion_from_A
 use Rattle.flow_model.specs.declared.flow.Flow.{Flow}
 use Rattle.flow_model.specs.Places.{parts_of}
 use Rattle.flow_asm.specs.Steps.{layout, stages}
-use Rattle.tx_machine.specs.declared.walk.Frame.{Frame}
+use Rattle.tx_machine.specs.declared.walk.StackFrame.{StackFrame}
 use Rattle.tx_machine.specs.declared.machine.Machine.{Machine}
 use Rattle.tx_machine.specs.Table.{Prepare, TxState}
 use Rattle.tx_machine.specs.Position.{frame_upcoming, upcoming_at, rest_of, shown, entries_in, stack_upcoming, IsStackFrame}
 use Rattle.tx_machine.specs.Contract.{IsReady, state}
 
-same_upcoming : (f : Flow) (xs ys : List Frame) → map shown xs ≡ map shown ys → stack_upcoming f xs ≡ stack_upcoming f ys
+same_upcoming : (f : Flow) (xs ys : List StackFrame) → map shown xs ≡ map shown ys → stack_upcoming f xs ≡ stack_upcoming f ys
 same_upcoming f [] [] h = refl
 same_upcoming f [] (y ∷ ys) h = absurd cc
 same_upcoming f (x ∷ xs) [] h = absurd cc
@@ -26,7 +26,7 @@ same_upcoming f (x ∷ xs) (y ∷ ys) h =
     ∙ ap (λ gs. stack_upcoming f ys ++ (map Prepare (entries_in f gs) ++ upcoming_at f x.back)) pending
     ∙ ap (λ k. stack_upcoming f ys ++ (map Prepare (entries_in f y.pending.items) ++ upcoming_at f k)) back
 
-same_rest : (f : Flow) (step : ℕ) (xs ys : List Frame) → map shown xs ≡ map shown ys → rest_of f step xs ≡ rest_of f step ys
+same_rest : (f : Flow) (step : ℕ) (xs ys : List StackFrame) → map shown xs ≡ map shown ys → rest_of f step xs ≡ rest_of f step ys
 same_rest f step xs ys h = ap (λ ms. upcoming_at f step ++ ms) (same_upcoming f xs ys h)
 
 pub record IsSame (m n : Machine) : Type 0 where
@@ -47,7 +47,7 @@ same_state f m n s =
     ∙ ap (λ k. rest_of f k m.stack.items) s.step in
     rw (s.phase, rest, s.retry, s.bound, s.calls, s.joined, s.told, s.tries, s.saved) refl
 
-same_frames : (f : Flow) (xs ys : List Frame) → map shown xs ≡ map shown ys → AllByRecursion (IsStackFrame f) ys → AllByRecursion (IsStackFrame f) xs
+same_frames : (f : Flow) (xs ys : List StackFrame) → map shown xs ≡ map shown ys → AllByRecursion (IsStackFrame f) ys → AllByRecursion (IsStackFrame f) xs
 same_frames f [] [] h all = tt
 same_frames f [] (y ∷ ys) h all = absurd cc
 same_frames f (x ∷ xs) [] h all = absurd cc
@@ -60,7 +60,7 @@ same_frames f (x ∷ xs) (y ∷ ys) h all =
       same_frames f xs ys rest all.1,
     )
 
-same_empty : (xs ys : List Frame) → map shown xs ≡ map shown ys → ys ≡ [] → xs ≡ []
+same_empty : (xs ys : List StackFrame) → map shown xs ≡ map shown ys → ys ≡ [] → xs ≡ []
 same_empty [] ys h e = refl
 same_empty (x ∷ xs) [] h e = absurd cc
 same_empty (x ∷ xs) (y ∷ ys) h e = absurd cc

@@ -9,7 +9,7 @@ use Rattle.flow_model.specs.declared.flow.Flow.{Flow}
 use Rattle.flow_model.specs.declared.flow.PlacedEntry.{PlacedEntry}
 use Rattle.flow_asm.specs.Steps.{first_step, layout}
 use Rattle.flow_asm.specs.Places.{group_at}
-use Rattle.tx_machine.specs.declared.walk.Frame.{Frame}
+use Rattle.tx_machine.specs.declared.walk.StackFrame.{StackFrame}
 use Rattle.tx_machine.specs.Table.{Upcoming, Prepare, Select, passed, passed_if}
 use Rattle.tx_machine.specs.Position.{upcoming_at, left_at, frame_upcoming, stack_upcoming, frame_left, stack_left, groups_left, rest_of}
 use Rattle.tx_machine.specs.Position.{entries_in, IsStackFrame}
@@ -17,22 +17,22 @@ use Rattle.tx_machine.specs.Position.{IsCall, IsPick}
 use Rattle.tx_machine.proofs.StepsAhead.{is_first, stack_upcoming_top, stack_left_top}
 
 -- the stack is what lies below, and the top
-top_of : (xs : List Frame) (top : ℕ) (d : Frame) → length xs ≡ top + 1 → xs ≡ take top xs ++ get_or xs top d ∷ []
+top_of : (xs : List StackFrame) (top : ℕ) (d : StackFrame) → length xs ≡ top + 1 → xs ≡ take top xs ++ get_or xs top d ∷ []
 top_of xs top d e = sym (take_all (top + 1) xs (omega arith)) ∙ take_more xs top d (omega arith)
 
-set_top : (xs : List Frame) (top : ℕ) (y : Frame) → length xs ≡ top + 1 → set xs top y ≡ take top xs ++ y ∷ []
+set_top : (xs : List StackFrame) (top : ℕ) (y : StackFrame) → length xs ≡ top + 1 → set xs top y ≡ take top xs ++ y ∷ []
 set_top xs top y e = set_split xs top y (omega arith) ∙ ap (λ zs. take top xs ++ y ∷ zs) (drop_all (suc top) xs (omega arith))
 
 -- a return leads from one stack to a step and another
-pub record IsLeft (f : Flow) (step : ℕ) (new old : List Frame) : Type 0 where
+pub record IsLeft (f : Flow) (step : ℕ) (new old : List StackFrame) : Type 0 where
   pub rest : rest_of f step new ≡ stack_upcoming f old
   pub left : left_at f step + stack_left f new ≡ stack_left f old
 
 -- the top frame has no group left: the way back
-goes_back : (f : Flow) (xs : List Frame) (top : ℕ) (d : Frame) → length xs ≡ top + 1 → (get_or xs top d).pending.items ≡ [] →
+goes_back : (f : Flow) (xs : List StackFrame) (top : ℕ) (d : StackFrame) → length xs ≡ top + 1 → (get_or xs top d).pending.items ≡ [] →
     IsLeft f (get_or xs top d).back (take top xs) xs
 goes_back f xs top d e p =
-    let t : Frame = get_or xs top d in
+    let t : StackFrame = get_or xs top d in
     let whole : xs ≡ take top xs ++ t ∷ [] = top_of xs top d e in
     let upcoming : stack_upcoming f xs ≡ frame_upcoming f t ++ stack_upcoming f (take top xs) =
     ap (stack_upcoming f) whole ∙ stack_upcoming_top f (take top xs) t in
@@ -44,10 +44,10 @@ goes_back f xs top d e p =
     }
 
 -- the top frame's next group is entered
-goes_in : (f : Flow) (xs : List Frame) (top : ℕ) (d new : Frame) (g : ℕ) (gs : List ℕ) → length xs ≡ top + 1 → (get_or xs top d).pending.items ≡ g ∷ gs →
+goes_in : (f : Flow) (xs : List StackFrame) (top : ℕ) (d new : StackFrame) (g : ℕ) (gs : List ℕ) → length xs ≡ top + 1 → (get_or xs top d).pending.items ≡ g ∷ gs →
     new.pending.items ≡ gs → new.back ≡ (get_or xs top d).back → g < length (layout f) → IsLeft f (first_step f g) (set xs top new) xs
 goes_in f xs top d new g gs e p q b h =
-    let t : Frame = get_or xs top d in
+    let t : StackFrame = get_or xs top d in
     let first = is_first f g h in
     let whole : xs ≡ take top xs ++ t ∷ [] = top_of xs top d e in
     let ss : List PlacedEntry = group_at (layout f) g in
@@ -107,29 +107,29 @@ pub passed_if_nil : (aborting : Bool) → passed_if aborting [] ≡ []
 passed_if_nil true = refl
 passed_if_nil false = refl
 
-pub back_at : (f : Flow) (xs ys : List Frame) (top : ℕ) (t : Frame) → length xs ≡ top + 1 → t ≡ get_or xs top t → t.pending.items ≡ [] →
+pub back_at : (f : Flow) (xs ys : List StackFrame) (top : ℕ) (t : StackFrame) → length xs ≡ top + 1 → t ≡ get_or xs top t → t.pending.items ≡ [] →
     ys ≡ take top (set xs top t) → IsLeft f t.back ys xs
 back_at f xs ys top t e h p q =
-    let w = goes_back f xs top t e (ap (λ (x : Frame). x.pending.items) (sym h) ∙ p) in
+    let w = goes_back f xs top t e (ap (λ (x : StackFrame). x.pending.items) (sym h) ∙ p) in
     let same : take top xs ≡ ys = sym (q ∙ take-set xs top t) in
-    subst (λ zs. IsLeft f t.back zs xs) same (subst (λ (x : Frame). IsLeft f x.back (take top xs) xs) (sym h) w)
+    subst (λ zs. IsLeft f t.back zs xs) same (subst (λ (x : StackFrame). IsLeft f x.back (take top xs) xs) (sym h) w)
 
-pub in_at : (f : Flow) (xs : List Frame) (top : ℕ) (t new : Frame) (g step : ℕ) → length xs ≡ top + 1 → t ≡ get_or xs top t →
+pub in_at : (f : Flow) (xs : List StackFrame) (top : ℕ) (t new : StackFrame) (g step : ℕ) → length xs ≡ top + 1 → t ≡ get_or xs top t →
     g ≡ get_or t.pending.items 0 g → 0 < length t.pending.items → new.pending.items ≡ remove t.pending.items 0 → new.back ≡ t.back → g < length (layout f) →
     step ≡ first_step f g → IsLeft f step (set xs top new) xs
 in_at f xs top t new g step e h v l q b w s =
-    let cut : (get_or xs top t).pending.items ≡ g ∷ remove t.pending.items 0 = ap (λ (x : Frame). x.pending.items) (sym h) ∙ uncons t.pending.items g l
+    let cut : (get_or xs top t).pending.items ≡ g ∷ remove t.pending.items 0 = ap (λ (x : StackFrame). x.pending.items) (sym h) ∙ uncons t.pending.items g l
     ∙ ap (λ n. n ∷ remove t.pending.items 0) (sym v) in
-    let way : new.back ≡ (get_or xs top t).back = b ∙ ap (λ (x : Frame). x.back) h in
+    let way : new.back ≡ (get_or xs top t).back = b ∙ ap (λ (x : StackFrame). x.back) h in
     subst (λ n. IsLeft f n (set xs top new) xs) (sym s) (goes_in f xs top t new g (remove t.pending.items 0) e cut q way w)
 
-pub frame_at : (f : Flow) (xs : List Frame) (top : ℕ) (t : Frame) → length xs ≡ top + 1 → t ≡ get_or xs top t → All (IsStackFrame f) xs → IsStackFrame f t
+pub frame_at : (f : Flow) (xs : List StackFrame) (top : ℕ) (t : StackFrame) → length xs ≡ top + 1 → t ≡ get_or xs top t → All (IsStackFrame f) xs → IsStackFrame f t
 frame_at f xs top t e h all = subst (IsStackFrame f) (sym h) (all top t (omega arith))
 
-pub group_within : (f : Flow) (t : Frame) (g : ℕ) → IsStackFrame f t → 0 < length t.pending.items → g ≡ get_or t.pending.items 0 g → g < length (layout f)
+pub group_within : (f : Flow) (t : StackFrame) (g : ℕ) → IsStackFrame f t → 0 < length t.pending.items → g ≡ get_or t.pending.items 0 g → g < length (layout f)
 group_within f t g h l v = subst (λ n. n < length (layout f)) (sym v) (h.pending 0 g l)
 
-pub frames_below : (f : Flow) (xs ys : List Frame) (top n : ℕ) (t : Frame) → All (IsStackFrame f) xs → IsStackFrame f t
+pub frames_below : (f : Flow) (xs ys : List StackFrame) (top n : ℕ) (t : StackFrame) → All (IsStackFrame f) xs → IsStackFrame f t
     → ys ≡ take n (set xs top t) → All (IsStackFrame f) ys
 frames_below f xs ys top n t all one e =
     subst (All (IsStackFrame f)) (sym e) (All-take (IsStackFrame f) n (set xs top t) (All-set (IsStackFrame f) xs top t one all))

@@ -10,7 +10,7 @@ use Rattle.flow_asm.specs.declared.code.Step.TheVariants.{Call, Pick, Return}
 use Rattle.flow_asm.specs.Steps.{first_step, Stage, AtCall, AtPick, AtReturn, layout, stages, starts_of, steps_of}
 use Rattle.flow_asm.specs.Places.{group_at, place_at, place_of}
 use Rattle.flow_asm.proofs.Stages.{call_shown, first_at, front, group_past, length-starts, length-steps, pick_shown, read_step, return_shown}
-use Rattle.tx_machine.specs.declared.walk.Frame.{Frame}
+use Rattle.tx_machine.specs.declared.walk.StackFrame.{StackFrame}
 use Rattle.tx_machine.specs.Table.{Upcoming, Prepare, Select}
 use Rattle.tx_machine.specs.Due.{places_of}
 use Rattle.tx_machine.specs.Position.{calls_of, upcoming_at, upcoming_from, rest_of, entries_in, stack_upcoming}
@@ -77,7 +77,7 @@ groups_visited f gs i d h =
     ∙ places_of-append (map Prepare (group_at (layout f) g)) (map Prepare (entries_in f (drop (i + 1) gs)))
 
 -- the top frame, and what lies below
-pub frames_visited : (f : Flow) (below : List Frame) (top : Frame) → places_of (stack_upcoming f (below ++ top ∷ []))
+pub frames_visited : (f : Flow) (below : List StackFrame) (top : StackFrame) → places_of (stack_upcoming f (below ++ top ∷ []))
     ≡ places_of (map Prepare (entries_in f top.pending.items)) ++ (places_of (upcoming_at f top.back) ++ places_of (stack_upcoming f below))
 frames_visited f below top =
     let entered : List Upcoming = map Prepare (entries_in f top.pending.items) in
@@ -88,6 +88,6 @@ frames_visited f below top =
 pub step_on : {X : Type 0} (old new here later before all : List X) → new ≡ old ++ here → before ≡ here ++ later → old ++ before ≡ all → new ++ later ≡ all
 step_on old new here later before all n b is = ap (λ xs. xs ++ later) n ∙ append_assoc old here later ∙ ap (λ xs. old ++ xs) (sym b) ∙ is
 
-pub places_of_rest : (f : Flow) (step : ℕ) (stack : List Frame) → places_of (rest_of f step stack) ≡ places_of (upcoming_at f step)
+pub places_of_rest : (f : Flow) (step : ℕ) (stack : List StackFrame) → places_of (rest_of f step stack) ≡ places_of (upcoming_at f step)
     ++ places_of (stack_upcoming f stack)
 places_of_rest f step stack = places_of-append (upcoming_at f step) (stack_upcoming f stack)

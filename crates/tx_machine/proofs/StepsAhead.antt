@@ -14,7 +14,7 @@ use Rattle.flow_asm.specs.declared.view.StepView.TheVariants as view
 use Rattle.flow_asm.specs.Views.{IsStepView}
 use Rattle.flow_asm.proofs.Stages.{front, group_front}
 use Rattle.flow_asm.proofs.StepOrder.{Goes, Picks, after_call, after_pick, goes_group, goes_within, picks_within}
-use Rattle.tx_machine.specs.declared.walk.Frame.{Frame}
+use Rattle.tx_machine.specs.declared.walk.StackFrame.{StackFrame}
 use Rattle.tx_machine.specs.Table.{Prepare, Select}
 use Rattle.tx_machine.specs.Position.{calls_of, upcoming_from, upcoming_at, left_from, left_at, IsAhead, frame_upcoming, stack_upcoming}
 use Rattle.tx_machine.specs.Position.{frame_left, stack_left}
@@ -105,11 +105,11 @@ is_first f g h =
     }
 
 -- the top frame
-pub stack_upcoming_top : (f : Flow) (xs : List Frame) (frame : Frame) → stack_upcoming f (xs ++ frame ∷ []) ≡ frame_upcoming f frame ++ stack_upcoming f xs
+pub stack_upcoming_top : (f : Flow) (xs : List StackFrame) (frame : StackFrame) → stack_upcoming f (xs ++ frame ∷ []) ≡ frame_upcoming f frame ++ stack_upcoming f xs
 stack_upcoming_top f [] frame = sym (append-nil (frame_upcoming f frame))
 stack_upcoming_top f (x ∷ xs) frame = ap (λ ms. ms ++ frame_upcoming f x) (stack_upcoming_top f xs frame) ∙ append_assoc (frame_upcoming f frame)
     (stack_upcoming f xs) (frame_upcoming f x)
 
-pub stack_left_top : (f : Flow) (xs : List Frame) (frame : Frame) → stack_left f (xs ++ frame ∷ []) ≡ frame_left f frame + stack_left f xs
+pub stack_left_top : (f : Flow) (xs : List StackFrame) (frame : StackFrame) → stack_left f (xs ++ frame ∷ []) ≡ frame_left f frame + stack_left f xs
 stack_left_top f [] frame = omega arith
 stack_left_top f (x ∷ xs) frame = omega (arith, stack_left_top f xs frame)

@@ -8,7 +8,7 @@ use Rattle.flow_asm.specs.declared.view.StepView.{StepView}
 use Rattle.flow_asm.specs.declared.view.StepView.TheVariants as view
 use Rattle.flow_asm.specs.Steps.{Stage, AtCall, AtPick, AtReturn, layout, stages, stages_of_group}
 use Rattle.flow_asm.specs.Places.{group_at}
-use Rattle.tx_machine.specs.declared.walk.Frame.{Frame}
+use Rattle.tx_machine.specs.declared.walk.StackFrame.{StackFrame}
 use Rattle.tx_machine.specs.Table.{Upcoming, Prepare, Select, entered}
 
 -- the calls up to the next return
@@ -34,19 +34,19 @@ abbrev pub entries_in : Flow → List ℕ → List PlacedEntry
 entries_in f groups = flat_map (group_at (layout f)) groups
 
 -- the groups still to be entered, and then what the way back leads to
-abbrev pub frame_upcoming : Flow → Frame → List Upcoming
+abbrev pub frame_upcoming : Flow → StackFrame → List Upcoming
 frame_upcoming f frame = map Prepare (entries_in f frame.pending.items) ++ upcoming_at f frame.back
 
 -- what a frame says
-abbrev pub shown : Frame → ℕ × List ℕ
+abbrev pub shown : StackFrame → ℕ × List ℕ
 shown frame = (frame.back, frame.pending.items)
 
 -- the last frame is the top one
-abbrev pub stack_upcoming : Flow → List Frame → List Upcoming
+abbrev pub stack_upcoming : Flow → List StackFrame → List Upcoming
 stack_upcoming f [] = []
 stack_upcoming f (frame ∷ above) = stack_upcoming f above ++ frame_upcoming f frame
 
-abbrev pub rest_of : Flow → ℕ → List Frame → List Upcoming
+abbrev pub rest_of : Flow → ℕ → List StackFrame → List Upcoming
 rest_of f step stack = upcoming_at f step ++ stack_upcoming f stack
 
 -- how many steps can be taken from a step on, the return among them
@@ -63,15 +63,15 @@ abbrev pub groups_left : Flow → List ℕ → ℕ
 groups_left f [] = 0
 groups_left f (g ∷ gs) = length (stages_of_group (group_at (layout f) g)) + groups_left f gs
 
-abbrev pub frame_left : Flow → Frame → ℕ
+abbrev pub frame_left : Flow → StackFrame → ℕ
 frame_left f frame = groups_left f frame.pending.items + left_at f frame.back
 
-abbrev pub stack_left : Flow → List Frame → ℕ
+abbrev pub stack_left : Flow → List StackFrame → ℕ
 stack_left f [] = 0
 stack_left f (frame ∷ above) = stack_left f above + frame_left f frame
 
 -- a frame of this flow
-pub record IsStackFrame (f : Flow) (frame : Frame) : Type 0 where
+pub record IsStackFrame (f : Flow) (frame : StackFrame) : Type 0 where
   pub back : frame.back < length (stages f)
   pub pending : All (λ g. g < length (layout f)) frame.pending.items
 

@@ -17,7 +17,7 @@ use crate::places::{add_frames, add_steps, spot};
 use crate::rules::{MAX_CALLS, end_of, is_open, join, outcome_of, phase_after, retry_by, save};
 use crate::selection::{chosen_groups, end_step, main_step};
 use crate::values::{Due, Item, Phase};
-use crate::walk::{Frame, copy_frames, enter, look, next_due};
+use crate::walk::{StackFrame, copy_frames, enter, look, next_due};
 use flow_asm::{Code, StepView};
 use std::alloc::{AllocError, Global};
 
@@ -27,7 +27,7 @@ pub struct Machine {
     // The step that is due, or a return if nothing is to come.
     step: usize,
     // The selections under way, the latest one last.
-    stack: Vec<Frame>,
+    stack: Vec<StackFrame>,
     retry: bool,
     bound: bool,
     calls: u16,

@@ -10,7 +10,7 @@ ghost use Rattle.tx_machine.specs.Position.{upcoming_at, entries_in, stack_upcom
 ghost use Rattle.tx_machine.specs.Table.{Prepare};
 
 use crate::values::Spot;
-use crate::walk::Frame;
+use crate::walk::StackFrame;
 use flow_asm::{Code, Step, place};
 use std::alloc::AllocError;
 
@@ -93,7 +93,7 @@ fn add_groups(
 pub(crate) fn add_frames(
     places: &mut Vec<(usize, usize)>,
     code: &Code,
-    stack: &[Frame],
+    stack: &[StackFrame],
 ) -> Result<(), AllocError>
     ensures { OnOk result (places.new.items
         ≡ places.old.items ++ places_of (stack_upcoming code.now stack.now)) }

@@ -14,7 +14,7 @@ use flow_asm::{Code, StepView};
 use std::alloc::{AllocError, Global};
 
 /// A selection that is under way.
-pub(crate) struct Frame {
+pub(crate) struct StackFrame {
     /// The step after the selector's.
     pub(crate) back: usize,
     /// The numbers of the chosen groups still to be entered before that; at most 16.
@@ -22,9 +22,9 @@ pub(crate) struct Frame {
 }
 
 // Written out, so that no caller proves again how its parts are dropped.
-impl Drop for Frame {
+impl Drop for StackFrame {
     fn drop(self) {
-        let Frame {
+        let StackFrame {
             back: _,
             pending: _,
         } = self;
@@ -53,7 +53,7 @@ pub(crate) fn group_step(code: &Code, group: usize) -> usize
 }
 
 /// Enters the next group of the top frame, or takes the frame off; `None` if the stack is empty.
-pub(crate) fn leave(code: &Code, stack: &mut Vec<Frame>) -> Option<usize>
+pub(crate) fn leave(code: &Code, stack: &mut Vec<StackFrame>) -> Option<usize>
     requires { All (IsStackFrame code.now) stack.old.items }
     ensures frames { All (IsStackFrame code.now) stack.new.items }
     ensures none { IfNone result ((stack.old.items ≡ []) × (stack.new.items ≡ [])) }
@@ -84,7 +84,7 @@ pub(crate) fn enter(
     code: &Code,
     pick: usize,
     pending: Vec<usize>,
-    stack: &mut Vec<Frame>,
+    stack: &mut Vec<StackFrame>,
 ) -> Result<usize, MachineError>
     requires next { pick + 1 < length (stages code.now) }
     requires small { length (stages code.now) < 2 ^ 64 }
@@ -100,7 +100,7 @@ pub(crate) fn enter(
     ensures memory { IfErr result (λ e. e ≡ MachineError.OutOfMemory) }
 {
     let back = pick + 1;
-    stack.push(Frame { back, pending })?;
+    stack.push(StackFrame { back, pending })?;
     match leave(code, stack) {
         Some(step) => Ok(step),
         None => Ok(back),
@@ -109,7 +109,12 @@ pub(crate) fn enter(
 
 /// Goes on from a step to the next one where a call is due, or to the end. While aborting, calls of
 /// participants that are not abort-aware are passed over.
-pub(crate) fn next_due(code: &Code, aborting: bool, from: usize, stack: &mut Vec<Frame>) -> usize
+pub(crate) fn next_due(
+    code: &Code,
+    aborting: bool,
+    from: usize,
+    stack: &mut Vec<StackFrame>,
+) -> usize
     requires from { from < length (stages code.now) }
     requires frames { All (IsStackFrame code.now) stack.old.items }
     ensures within { result < length (stages code.now) }
@@ -137,13 +142,16 @@ pub(crate) fn next_due(code: &Code, aborting: bool, from: usize, stack: &mut Vec
 }
 
 /// A copy of the frames. The only refusal is out of memory.
-pub(crate) fn copy_frames(alloc: Global, stack: &[Frame]) -> Result<Vec<Frame>, AllocError>
+pub(crate) fn copy_frames(
+    alloc: Global,
+    stack: &[StackFrame],
+) -> Result<Vec<StackFrame>, AllocError>
     ensures { IfOk result (λ copy. map shown copy.items ≡ map shown stack.now) }
 {
     let mut copy = Vec::new(alloc);
     for frame in stack {
         let pending = Vec::from_slice(alloc, frame.pending.as_slice())?;
-        copy.push(Frame {
+        copy.push(StackFrame {
             back: frame.back,
             pending,
         })?;

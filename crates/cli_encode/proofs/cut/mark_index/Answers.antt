@@ -5,8 +5,8 @@ use Rattle.cli_io.proofs.Positions.{end_found}
 use Rattle.cli_encode.proofs.cut.mark_index.Goals as goal
 use Rattle.std.proofs.Common.{◌∙◌}
 
-pub returns-clause-place : goal.returns-clause-place
-returns-clause-place c =
+pub returns-clause-index : goal.returns-clause-index
+returns-clause-index c =
     let test : ℕ → Bool = λ b. b == c.args.mark in
     c.unwrap_or.ensures
     ∙ end_found test c.args.bytes.now c.position.result

@@ -2,7 +2,7 @@ use Rattle.std.proofs.Common.{◌≡◌, ◌+◌, ◌-◌, ◌<◌, [], length, 
 use Rattle.std.proofs.lemmas.Grind.{common_steps}
 use Rattle.std.proofs.lemmas.List.{nil_from_length}
 use Rattle.flow_asm.specs.Steps.{layout}
-use Rattle.tx_machine.specs.declared.walk.Frame.{Frame}
+use Rattle.tx_machine.specs.declared.walk.StackFrame.{StackFrame}
 use Rattle.tx_machine.proofs.Frames.{IsLeft, back_at, frame_at, frames_below, group_within, in_at}
 use Rattle.tx_machine.proofs.walk.leave.Goals as goal
 use Rattle.tx_machine.proofs.walk.leave.Goals.{After-remove-group, After-group_step, Joined-pop}
@@ -14,7 +14,7 @@ group_step-requires c =
     group_within c.args.code.now c.index_mut-frame.result.now _ (frame_at c.args.code.now c.args.stack.now.items _ c.index_mut-frame.result.now long
     c.index_mut-frame.ensures.value c.requires) some c.remove-group.ensures.value
 
-prepares_next : (c : After-group_step) (new : Frame) → new.pending.items ≡ c.remove-group.new.self.items → new.back ≡ c.index_mut-frame.result.now.back →
+prepares_next : (c : After-group_step) (new : StackFrame) → new.pending.items ≡ c.remove-group.new.self.items → new.back ≡ c.index_mut-frame.result.now.back →
     IsLeft c.args.code.now c.group_step.result (set c.args.stack.now.items (c.len-top.result - 1) new) c.args.stack.now.items
 prepares_next c new p b =
     let long : length c.args.stack.now.items ≡ (c.len-top.result - 1) + 1 = grind (arith, common_steps, c.args.stack.now.ok.0) in
