@@ -141,9 +141,8 @@ place_few f v past s id a st g h d = by (nat_lt id v.view.next_id) refl
     by false e =
         let above : v.view.next_id ≤ id = grind (arith, nat_tests) in
         let p = g.proper id above (serves_below f v past s id st.view.ordered h).1 in
-        let t = p.told in
-        let m = p.members in
-        let c = p.calls in
+        let few = p.bounds.few in
+        let lt = told_below (not (is_open (state_of f v past id).phase)) (state_of f v past id).told (length (state_of f v past id).joined) d in
         omega arith
     by true e =
         let below : id < v.view.next_id = grind (arith, nat_tests) in

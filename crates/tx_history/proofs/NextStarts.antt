@@ -28,7 +28,7 @@ use Rattle.std.specs.Str.{bytes_eq}
 use Rattle.std.proofs.lemmas.Slice.Eq.{bytes_eq-Decides}
 use Rattle.flow_model.specs.declared.numbering.Part.{Part}
 use Rattle.flow_model.specs.Places.{parts_of, number_in}
-use Rattle.tx_history.proofs.Rows.{Proper, as_row_fits, row_some, telling, as_row, doing}
+use Rattle.tx_history.proofs.Rows.{Proper, as_row_fits, names_joined, row_some, telling, as_row, doing}
 use Rattle.tx_history.proofs.SoundJournals.{Good, good}
 use Rattle.tx_history.specs.Views.{AreSessions}
 use Rattle.tx_history.specs.Lives.{closes_of, opened, stopped, after_cut}
@@ -111,8 +111,9 @@ known_told : (f : Flow) (r : Row) (d : Option (List ℕ)) → All (Known f) r.jo
 known_told f r None h k = h
 known_told f r (Some n) h k = All-push (Known f) r.joined n h k
 
-row_known : (f : Flow) (s : TxState) → Proper f s → is_ended f s ≡ false → All (Known f) (to_tell (as_row f s) (as_row f s).doing)
-row_known f s p u = known_told f (as_row f s) (as_row f s).doing (known_names f s.joined p.names) (known_doing f s (due_of f s) (as_row_fits f s p u).doing)
+row_known : (f : Flow) (s : TxState) → FlowFits f → Proper f s → is_ended f s ≡ false → All (Known f) (to_tell (as_row f s) (as_row f s).doing)
+row_known f s fits p u = known_told f (as_row f s) (as_row f s).doing (known_names f s.joined (names_joined f s fits p))
+    (known_doing f s (due_of f s) (as_row_fits f s fits p u).doing)
 
 told_none : (r : Row) (d : Option (List ℕ)) → d ≡ None → to_tell r d ≡ r.joined
 told_none r None e = refl
@@ -134,22 +135,22 @@ old_known f (Some q) false (x ∷ items) r h e =
     (All-same (Known f) (to_tell (as_row f s) (as_row f s).doing) (to_tell q q.doing) (told_none (as_row f s) (as_row f s).doing t.doing_none ∙ names)
     (h q refl))
 
-known_if : (f : Flow) (v : Start) (past : List Event) (j : ℕ) (r : Row) → StartFits f v → Good f v past → j < next_id v past → (b : Bool) →
+known_if : (f : Flow) (v : Start) (past : List Event) (j : ℕ) (r : Row) → FlowFits f → StartFits f v → Good f v past → j < next_id v past → (b : Bool) →
     nat_lt j v.view.next_id ≡ b
     → (if b then old_row f (look j v.view.rows) (is_closed past j) (own_items f v past j) else row f (state_of f v past j)) ≡ Some r →
     All (Known f) (to_tell r r.doing)
-known_if f v past j r st g lt true e h = old_known f (look j v.view.rows) (is_closed past j) (own_items f v past j) r (st.knows j) h
-known_if f v past j r st g lt false e h =
+known_if f v past j r fits st g lt true e h = old_known f (look j v.view.rows) (is_closed past j) (own_items f v past j) r (st.knows j) h
+known_if f v past j r fits st g lt false e h =
     let above : v.view.next_id ≤ j = grind (arith, nat_tests) in
     let w = row_some f (state_of f v past j) r h in
-    subst (λ (r : Row). All (Known f) (to_tell r r.doing)) w.1 (row_known f (state_of f v past j) (g.proper j above lt) w.0)
+    subst (λ (r : Row). All (Known f) (to_tell r r.doing)) w.1 (row_known f (state_of f v past j) fits (g.proper j above lt) w.0)
 
-pub journal_known : (f : Flow) (v : Start) (past : List Event) → StartFits f v → Good f v past → Knows f (journal f v past)
-journal_known f v past st g id r h =
+pub journal_known : (f : Flow) (v : Start) (past : List Event) → FlowFits f → StartFits f v → Good f v past → Knows f (journal f v past)
+journal_known f v past fits st g id r h =
     let n = st.view.ordered.next in
     let w = look_gather (row_at f v past) 1 (ids v past) id r h in
     let b = w.below in
-    known_if f v past id r st g (omega arith) (nat_lt id v.view.next_id) refl w.is
+    known_if f v past id r fits st g (omega arith) (nat_lt id v.view.next_id) refl w.is
 
 drop_all : {A : Type 0} (P : A → Type 0) (n : ℕ) (xs : List A) → All P xs → All P (drop n xs)
 drop_all P zero xs h = h
@@ -162,7 +163,7 @@ stopped_fits f v past n fits st most ss sp law = record {
   view = journal_ok f v past n fits st most ss sp law;
   queue = All-nil WaitingFits;
   knows =
-      journal_known f v past st (good f v past fits st sp law);
+      journal_known f v past fits st (good f v past fits st sp law);
 }
 
 pub cut_fits : (f : Flow) (v : Start) (past : List Event) (bs : List ℕ) (n : ℕ) → FlowFits f → StartFits f v → n ≤ 16 → AreSessions n past →
@@ -170,5 +171,5 @@ pub cut_fits : (f : Flow) (v : Start) (past : List Event) (bs : List ℕ) (n : �
 cut_fits f v past bs n fits st most ss sp law = record {
   view = journal_ok f v past n fits st most ss sp law;
   queue = drop_all WaitingFits (takes past) (arrivals f v past) (good f v past fits st sp law).arrived;
-  knows = journal_known f v past st (good f v past fits st sp law);
+  knows = journal_known f v past fits st (good f v past fits st sp law);
 }

@@ -220,7 +220,7 @@ good_gave f v past e id x fits g i d h = record {
         let same : j ≡ id = grind (arith, nat_tests) in
         let q : Proper f (state_of f v past id) = subst (λ (i : ℕ). Proper f (state_of f v past i)) same p in
         subst (λ (i : ℕ). Proper f (state_of f v (e ∷ past) i)) (sym same)
-        (subst (Proper f) (sym (state_given f v past e id x g)) (next_proper f (state_of f v past id) x fits i d q))
+        (subst (Proper f) (sym (state_given f v past e id x g)) (next_proper f (state_of f v past id) x i d q))
     by j false z p = let differ : j ≢ id = grind (arith, nat_tests) in subst (Proper f) (sym (state_other f v past e id x j g differ)) p
 
 begun_proper : (f : Flow) (o : Option Waiting) (ws : List Waiting) (k : ℕ) → FlowFits f → All WaitingFits ws → k < length ws → slice_get ws k ≡ o →
@@ -231,7 +231,7 @@ begun_proper f None ws k fits all lt e = absurd (within ws k lt e)
     within [] k lt e = omega arith
     within (w ∷ ws) zero lt e = cc
     within (w ∷ ws) (suc k) lt e = within ws k (omega arith) e
-begun_proper f (Some w) ws k fits all lt e = let i = get_all WaitingFits ws k w all e in opening_proper f w.tries w.context fits i.tries i.context
+begun_proper f (Some w) ws k fits all lt e = let i = get_all WaitingFits ws k w all e in opening_proper f w.tries w.context i.tries i.context
 
 taken_proper : (f : Flow) (v : Start) (past : List Event) (s : ℕ) → FlowFits f → IsOrdered v.view → IsLawful f v (Taken s ∷ past) → Good f v past →
     Proper f (state_of f v (Taken s ∷ past) (next_id v past))
@@ -304,18 +304,18 @@ old_fits f v (Some q) false (x ∷ items) r h e =
     let k = h q refl in
     subst RowFits w.1 (reopened_fits f q (x ∷ items) k.0 k.1 w.0)
 
-row_if : (f : Flow) (v : Start) (past : List Event) (j : ℕ) (r : Row) → StartFits f v → Good f v past → j < next_id v past → (b : Bool) →
+row_if : (f : Flow) (v : Start) (past : List Event) (j : ℕ) (r : Row) → FlowFits f → StartFits f v → Good f v past → j < next_id v past → (b : Bool) →
     nat_lt j v.view.next_id ≡ b
     → (if b then old_row f (look j v.view.rows) (is_closed past j) (own_items f v past j) else row f (state_of f v past j)) ≡ Some r → RowFits r
-row_if f v past j r st g lt true e h = old_fits f v (look j v.view.rows) (is_closed past j) (own_items f v past j) r
+row_if f v past j r fits st g lt true e h = old_fits f v (look j v.view.rows) (is_closed past j) (own_items f v past j) r
     (λ q i. (st.view.rows j q i, st.knows j q i)) h
-row_if f v past j r st g lt false e h =
+row_if f v past j r fits st g lt false e h =
     let above : v.view.next_id ≤ j = grind (arith, nat_tests) in
-    row_fits f (state_of f v past j) r (g.proper j above lt) h
+    row_fits f (state_of f v past j) r fits (g.proper j above lt) h
 
-pub row_at_fits : (f : Flow) (v : Start) (past : List Event) (j : ℕ) (r : Row) → StartFits f v → Good f v past → j < next_id v past →
+pub row_at_fits : (f : Flow) (v : Start) (past : List Event) (j : ℕ) (r : Row) → FlowFits f → StartFits f v → Good f v past → j < next_id v past →
     row_at f v past j ≡ Some r → RowFits r
-row_at_fits f v past j r st g lt h = row_if f v past j r st g lt (nat_lt j v.view.next_id) refl h
+row_at_fits f v past j r fits st g lt h = row_if f v past j r fits st g lt (nat_lt j v.view.next_id) refl h
 
 -- no id with a row is on the shelf
 

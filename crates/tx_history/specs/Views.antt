@@ -4,8 +4,8 @@ use Rattle.std.specs.List.{All}
 use Rattle.sw_context.specs.Names.{is_name}
 use Rattle.sw_context.specs.Spelling.{IsSpelled}
 use Rattle.flow_model.specs.declared.flow.Flow.{Flow}
-use Rattle.flow_model.specs.declared.flow.PlacedEntry.{PlacedEntry}
-use Rattle.flow_model.specs.Places.{entries_named, parts_of}
+use Rattle.flow_model.specs.declared.numbering.Part.{Part}
+use Rattle.flow_model.specs.Places.{parts_of}
 use Rattle.tx_machine.specs.declared.values.Item.{Item}
 use Rattle.tx_machine.specs.declared.values.Item.TheVariants.{Answer, Choice, Told as ToldOne}
 use Rattle.tx_machine.specs.Table.{is_open}
@@ -15,7 +15,7 @@ use Rattle.tx_history.specs.declared.journal.JournalView.{JournalView}
 use Rattle.tx_history.specs.declared.journal.Row.{Row}
 use Rattle.tx_history.specs.declared.journal.Waiting.{Waiting}
 use Rattle.tx_history.specs.Keys.{Rising, look, place_lt}
-use Rattle.tx_history.specs.History.{Start, name_of, number_of, to_tell}
+use Rattle.tx_history.specs.History.{Start, number_of, to_tell}
 use Rattle.tx_history.specs.Journal.{IsLawful}
 
 -- ids rise from 1 and are below the next id, and no id with a row is on the shelf
@@ -70,7 +70,7 @@ pub record IsOk (v : JournalView) : Type 0 where
 -- of a flow: what a checked flow is
 pub record FlowFits (f : Flow) : Type 0 where
   pub retries : f.retries ≤ 100
-  pub names : (name : List ℕ) → All (λ (s : PlacedEntry). IsNamed (name_of f s.participant)) (entries_named f name)
+  pub names : All (λ (x : Part). IsNamed x.name) (parts_of f)
 
 -- the flow has every participant that is to be notified
 abbrev pub Knows : Flow → JournalView → Type 0
