@@ -55,7 +55,7 @@ pub plain_value : (form : Option Form) (text : List ℕ) → (form ≡ Some Bina
 plain_value None text other none = (refl, none)
 plain_value (Some Binary) text other none = absurd (other refl)
 plain_value (Some (Fixed content exact)) text other none = (refl, none)
-plain_value (Some (Variable content places most)) text other none = (refl, none)
+plain_value (Some (Variable content length_digits most)) text other none = (refl, none)
 
 -- ---- each line
 
@@ -86,7 +86,7 @@ value_once : (form : Option Form) (v w : List ℕ) → IsOnLine form v → IsOnL
 value_once None v w h k e = e
 value_once (Some Binary) v w h k e = hex_once v w h.1 k.1 e
 value_once (Some (Fixed content exact)) v w h k e = e
-value_once (Some (Variable content places most)) v w h k e = e
+value_once (Some (Variable content length_digits most)) v w h k e = e
 
 fields_once : (n k : ℕ) (v w : List ℕ) → n ≡ k → v ≡ w → Field n v ≡ Field k w
 fields_once n k v w p q = ap (λ j. Field j v) p ∙ ap (λ (x : List ℕ). Field k x) q
@@ -113,7 +113,7 @@ value_free : (form : Option Form) (v : List ℕ) → IsOnLine form v → has_byt
 value_free None v h = h
 value_free (Some Binary) v h = none_in_hex v h.1
 value_free (Some (Fixed content exact)) v h = h
-value_free (Some (Variable content places most)) v h = h
+value_free (Some (Variable content length_digits most)) v h = h
 
 digits_free : (ds : List ℕ) → list_all is_digit ds ≡ true → has_byte 10 ds ≡ false
 digits_free [] h = refl

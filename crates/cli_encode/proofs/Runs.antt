@@ -150,7 +150,7 @@ on_line : (form : Option Form) (n : ℕ) (v : List ℕ) → refusal_by form n v 
 on_line None n v e = absurd cc
 on_line (Some Binary) n v e = let p = accepted (length v == 8) (list_all is_byte v) n e in (eqb-true (length v) 8 p.0, p.1)
 on_line (Some (Fixed content exact)) n v e = content_free content v (accepted (length v == exact) (takes content v) n e).1
-on_line (Some (Variable content places most)) n v e = content_free content v (accepted (leb (length v) most) (takes content v) n e).1
+on_line (Some (Variable content length_digits most)) n v e = content_free content v (accepted (leb (length v) most) (takes content v) n e).1
 
 fields_valid : (low : ℕ) (fs : Fields) → AreFields low fs → All IsLine (map field_of fs)
 fields_valid low [] a = λ k d h. absurd (omega (arith, h))

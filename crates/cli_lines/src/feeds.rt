@@ -5,7 +5,7 @@ ghost use Rattle.cli_lines.specs.Feeds.{is_line_feed};
 
 /// The index of the first line feed, or the length if there is none.
 pub fn line_end(bytes: &[u8]) -> usize
-    ensures place { result ≡ position_or_len is_line_feed bytes.now }
+    ensures index { result ≡ position_or_len is_line_feed bytes.now }
     ensures within { result ≤ length bytes.now }
 {
     bytes

@@ -74,9 +74,9 @@ clean_known (n ∷ ns) = clean_bind (or_fault (form_of n) (FieldNotInProfile n))
 clean_text : (form : Form) (n : ℕ) (bytes : List ℕ) → Clean (text_at form n bytes)
 unfolding after_length octets_at
 clean_text (Fixed content exact) n bytes = clean_part exact bytes
-clean_text (Variable content places most) n bytes =
-    clean_bind (part places bytes) (λ digits. or_fault (number_of digits.0) (BadLength n) >>= λ len. cond (ltb most len) (Err (BadLength n))
-    (part len digits.1)) (clean_part places bytes)
+clean_text (Variable content length_digits most) n bytes =
+    clean_bind (part length_digits bytes) (λ digits. or_fault (number_of digits.0) (BadLength n) >>= λ len. cond (ltb most len) (Err (BadLength n))
+    (part len digits.1)) (clean_part length_digits bytes)
     (λ digits. clean_bind (or_fault (number_of digits.0) (BadLength n)) (λ len. cond (ltb most len) (Err (BadLength n)) (part len digits.1))
     (clean_or (number_of digits.0) (BadLength n) tt)
     (λ len. clean_if (ltb most len) (Err (BadLength n)) (part len digits.1) tt (clean_part len digits.1)))

@@ -20,7 +20,7 @@ use Rattle.iso_codec.proofs.Encoding.{picked, hex_length, bits_length}
 abbrev most_text : Option Form → ℕ
 most_text None = 0
 most_text (Some (Fixed content exact)) = exact
-most_text (Some (Variable content places most)) = 3 + most
+most_text (Some (Variable content length_digits most)) = 3 + most
 most_text (Some Binary) = 16
 
 -- nor are the texts of this many numbers from n on, taken together
@@ -35,8 +35,8 @@ all_below = refl
 all_texts : most_texts 127 2 < 9900
 all_texts = ltb-true (most_texts 127 2) 9900 all_below
 
-decimal_short : (places n : ℕ) → length (decimal places n) ≤ 3
-decimal_short places n = by (eqb places 3)
+decimal_short : (length_digits n : ℕ) → length (decimal length_digits n) ≤ 3
+decimal_short length_digits n = by (eqb length_digits 3)
   where
     by : (b : Bool) → length (cond b ((48 + n / 100) ∷ []) [] ++ ((48 + n / 10 % 10) ∷ (48 + n % 10) ∷ [])) ≤ 3
     by true = omega arith
@@ -47,9 +47,9 @@ text_short None n v e = absurd cc
 text_short (Some (Fixed c l)) n v e =
     let p = picked (has_length (Fixed c l) (length v)) (has_content (Fixed c l) v) _ _ e in
     omega (arith, eqb-true (length v) l p.0)
-text_short (Some (Variable c places most)) n v e =
-    let p = picked (has_length (Variable c places most) (length v)) (has_content (Variable c places most) v) _ _ e in
-    omega (arith, leb-true (length v) most p.0, decimal_short places (length v), length-append (decimal places (length v)) v)
+text_short (Some (Variable c length_digits most)) n v e =
+    let p = picked (has_length (Variable c length_digits most) (length v)) (has_content (Variable c length_digits most) v) _ _ e in
+    omega (arith, leb-true (length v) most p.0, decimal_short length_digits (length v), length-append (decimal length_digits (length v)) v)
 text_short (Some Binary) n v e =
     let p = picked (has_length Binary (length v)) (has_content Binary v) _ _ e in
     omega (arith, eqb-true (length v) 8 p.0, hex_length v)

@@ -73,8 +73,8 @@ value_spelled None n v k e = absurd cc
 value_spelled (Some (Fixed c l)) n v k e =
     let p = picked (has_length (Fixed c l) (length v)) (has_content (Fixed c l) v) _ _ e in
     (refl, eqb-true (length v) l p.0, p.1)
-value_spelled (Some (Variable c places most)) n v k e =
-    let p = picked (has_length (Variable c places most) (length v)) (has_content (Variable c places most) v) _ _ e in
+value_spelled (Some (Variable c length_digits most)) n v k e =
+    let p = picked (has_length (Variable c length_digits most) (length v)) (has_content (Variable c length_digits most) v) _ _ e in
     let h : length v ≤ most = leb-true (length v) most p.0 in
     elim k.2 [
       | inl w ↦ let s : length v < 100 = omega (arith, w.1) in

@@ -31,15 +31,15 @@ fixed_found c k n bytes x e t =
     let p = part_ok k bytes x e in
     record { text = x.0; whole = p.whole; spells = (refl, p.len, t) }
 
-variable_found : (c : Content) (places most n : ℕ) (bytes : List ℕ) (x : List ℕ × List ℕ) → text_at (Variable c places most) n bytes ≡ Ok x →
-    takes c x.0 ≡ true → Front (Some (Variable c places most)) bytes x.0 x.1
+variable_found : (c : Content) (length_digits most n : ℕ) (bytes : List ℕ) (x : List ℕ × List ℕ) → text_at (Variable c length_digits most) n bytes ≡ Ok x →
+    takes c x.0 ≡ true → Front (Some (Variable c length_digits most)) bytes x.0 x.1
 unfolding after_length
-variable_found c places most n bytes x e t =
-    let a = bind_ok (part places bytes) (λ digits. or_fault (number_of digits.0) (BadLength n) >>= λ len. cond (ltb most len) (Err (BadLength n))
+variable_found c length_digits most n bytes x e t =
+    let a = bind_ok (part length_digits bytes) (λ digits. or_fault (number_of digits.0) (BadLength n) >>= λ len. cond (ltb most len) (Err (BadLength n))
     (part len digits.1)) x e in
     let b = bind_ok (or_fault (number_of a.0.0) (BadLength n)) (λ len. cond (ltb most len) (Err (BadLength n)) (part len a.0.1)) x a.2 in
     let g = guard_then (ltb most b.0) (BadLength n) (part b.0 a.0.1) x b.2 in
-    let p = part_ok places bytes a.0 a.1 in
+    let p = part_ok length_digits bytes a.0 a.1 in
     let q = part_ok b.0 a.0.1 x g.1 in
     record {
       text = a.0.0 ++ x.0;
@@ -59,7 +59,7 @@ binary_found n bytes x e =
 
 text_found : (f : Form) (n : ℕ) (bytes : List ℕ) (x : List ℕ × List ℕ) → text_at f n bytes ≡ Ok x → has_content f x.0 ≡ true → Front (Some f) bytes x.0 x.1
 text_found (Fixed c k) n bytes x e t = fixed_found c k n bytes x e t
-text_found (Variable c places most) n bytes x e t = variable_found c places most n bytes x e t
+text_found (Variable c length_digits most) n bytes x e t = variable_found c length_digits most n bytes x e t
 text_found Binary n bytes x e t = binary_found n bytes x e
 
 pub value_found : (o : Option Form) (n : ℕ) (bytes : List ℕ) (x : List ℕ × List ℕ) → field_at o n bytes ≡ Ok x → Front o bytes x.0 x.1
@@ -110,9 +110,9 @@ pub value_again : (o : Option Form) (n : ℕ) (text v rest : List ℕ) → Spell
 unfolding after_length octets_at
 value_again None n text v rest s = absurd s
 value_again (Some (Fixed c k)) n text v rest s = rw (s.0, part_again k v rest s.1, s.2) refl
-value_again (Some (Variable c places most)) n text v rest s =
+value_again (Some (Variable c length_digits most)) n text v rest s =
     let short : ltb most (length v) ≡ false = le-ltb _ _ s.4 in
-    rw (s.1, append_assoc s.0 v rest, part_again places s.0 (v ++ rest) s.2, s.3, short, part_again (length v) v rest refl, s.5) refl
+    rw (s.1, append_assoc s.0 v rest, part_again length_digits s.0 (v ++ rest) s.2, s.3, short, part_again (length v) v rest refl, s.5) refl
 value_again (Some Binary) n text v rest s = rw (part_again 16 text rest s.0, s.1, octets_bytes text v s.1) refl
 
 -- fields at the front

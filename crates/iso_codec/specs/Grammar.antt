@@ -16,8 +16,8 @@ abbrev pub SpellsValue : Option Form → List ℕ → List ℕ → Type 0
 SpellsValue None text value = ⊥
 SpellsValue (Some (Fixed content exact)) text value =
     (text ≡ value) × (length value ≡ exact) × (takes content value ≡ true)
-SpellsValue (Some (Variable content places most)) text value =
-    (digits : List ℕ) × (text ≡ digits ++ value) × (length digits ≡ places) × (number_of digits ≡ Some (length value))
+SpellsValue (Some (Variable content length_digits most)) text value =
+    (digits : List ℕ) × (text ≡ digits ++ value) × (length digits ≡ length_digits) × (number_of digits ≡ Some (length value))
     × (length value ≤ most) × (takes content value ≡ true)
 SpellsValue (Some Binary) text value = (length text ≡ 16) × (octets text ≡ Some value)
 

@@ -70,8 +70,8 @@ front_at bytes = do
 
 -- a text after the digits of its length
 unfoldable pub after_length : ℕ → ℕ → ℕ → List ℕ → Result (List ℕ × List ℕ) DecodeError
-after_length places most n bytes = do
-  digits ← part places bytes
+after_length length_digits most n bytes = do
+  digits ← part length_digits bytes
   len ← or_fault (number_of digits.0) (BadLength n)
   if nat_lt most len then Err (BadLength n) else part len digits.1
 
@@ -85,7 +85,7 @@ octets_at n bytes = do
 -- a value of a field's form, whatever its bytes
 abbrev pub text_at : Form → ℕ → List ℕ → Result (List ℕ × List ℕ) DecodeError
 text_at (Fixed content exact) n bytes = part exact bytes
-text_at (Variable content places most) n bytes = after_length places most n bytes
+text_at (Variable content length_digits most) n bytes = after_length length_digits most n bytes
 text_at Binary n bytes = octets_at n bytes
 
 -- the value of a field

@@ -30,7 +30,7 @@ bitmaps ns = if list_any (λ n. nat_lt 64 n) ns then bitmap (1 ∷ ns) 1 32 else
 
 -- a length of two or three decimal digits
 abbrev pub decimal : ℕ → ℕ → List ℕ
-decimal places n = (if places == 3 then (48 + n / 100) ∷ [] else []) ++ ((48 + n / 10 % 10) ∷ (48 + n % 10) ∷ [])
+decimal length_digits n = (if length_digits == 3 then (48 + n / 100) ∷ [] else []) ++ ((48 + n / 10 % 10) ∷ (48 + n % 10) ∷ [])
 
 abbrev pub hex : ℕ → List ℕ
 hex b = upper (b / 16) ∷ upper (b % 16) ∷ []
@@ -38,7 +38,7 @@ hex b = upper (b / 16) ∷ upper (b % 16) ∷ []
 abbrev pub text_of : Option Form → List ℕ → List ℕ
 text_of None value = []
 text_of (Some (Fixed content exact)) value = value
-text_of (Some (Variable content places most)) value = decimal places (length value) ++ value
+text_of (Some (Variable content length_digits most)) value = decimal length_digits (length value) ++ value
 text_of (Some Binary) value = flat_map hex value
 
 abbrev pub field_text : ℕ × List ℕ → List ℕ

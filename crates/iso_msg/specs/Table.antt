@@ -122,7 +122,7 @@ definitions n (suc count) = definition_of n ∷ definitions (suc n) count
 -- there are as many digits of length as the greatest length has
 abbrev pub IsForm : Form → Type 0
 IsForm (Fixed content exact) = Unit {0}
-IsForm (Variable content places most) = ((places ≡ 2) × (most < 100)) ⊎ ((places ≡ 3) × (most < 1000))
+IsForm (Variable content length_digits most) = ((length_digits ≡ 2) × (most < 100)) ⊎ ((length_digits ≡ 3) × (most < 1000))
 IsForm Binary = Unit {0}
 
 -- a number that has a form is one of 2 to 128: bit 1 is not a field

@@ -23,12 +23,12 @@ takes Printable value = list_all is_text value
 
 abbrev pub has_length : Form → ℕ → Bool
 has_length (Fixed content exact) len = len == exact
-has_length (Variable content places most) len = nat_le len most
+has_length (Variable content length_digits most) len = nat_le len most
 has_length Binary len = len == 8
 
 abbrev pub has_content : Form → List ℕ → Bool
 has_content (Fixed content exact) value = takes content value
-has_content (Variable content places most) value = takes content value
+has_content (Variable content length_digits most) value = takes content value
 has_content Binary value = list_all is_byte value
 
 -- why a field of this form doesn't take a value, or None where it does

@@ -29,7 +29,7 @@ abbrev pub with_items : PlainBook → Items → PlainBook
 with_items book items = record { limit = book.limit; items = items }
 
 abbrev pub key_eq : BookKey → BookKey → Bool
-key_eq k q = bytes_eq k.places q.places
+key_eq k q = bytes_eq k.bytes q.bytes
 
 abbrev pub card_eq : Card → Card → Bool
 card_eq c q = bytes_eq c.digits q.digits

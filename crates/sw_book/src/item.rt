@@ -13,7 +13,7 @@ pub struct Card {
 #[derive(Clone, Copy, PartialEq, Eq, Hash)]
 pub struct BookKey {
     /// The 43 bytes.
-    pub places: [u8; 43],
+    pub bytes: [u8; 43],
 }
 
 /// How far an item has come.

@@ -17,4 +17,4 @@ copied (n ∷ ns) from to = copied ns from (with_field n (value_at n from) to)
 
 -- with a part over as many bytes, from `at` on
 abbrev pub put_at : ℕ → List ℕ → List ℕ → List ℕ
-put_at at part places = take at places ++ (part ++ drop (length part) (drop at places))
+put_at at part bytes = take at bytes ++ (part ++ drop (length part) (drop at bytes))

@@ -6,8 +6,8 @@ use Rattle.sw_messages.specs.Placing.{with_field, copied}
 
 -- a value with zeros in front of it, up to this length; all zeros if there is no value
 abbrev pub zeros_before : ℕ → Option (List ℕ) → List ℕ
-zeros_before places None = replicate places 48
-zeros_before places (Some value) = replicate (places - length value) 48 ++ value
+zeros_before width None = replicate width 48
+zeros_before width (Some value) = replicate (width - length value) 48 ++ value
 
 -- field 90, the original data elements: message type, STAN (11), transmission date and time (7),
 -- acquiring (32) and forwarding (33) institution of the request

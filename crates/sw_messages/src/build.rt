@@ -49,11 +49,11 @@ pub fn copy_fields(
 }
 
 /// Overwrites as many bytes as the part has, from `at` on, with the part.
-pub fn put_part(places: &mut [u8], at: usize, part: &[u8])
-    requires { at + length part.now ≤ length places.old }
-    ensures { places.new ≡ put_at at part.now places.old }
+pub fn put_part(bytes: &mut [u8], at: usize, part: &[u8])
+    requires { at + length part.now ≤ length bytes.old }
+    ensures { bytes.new ≡ put_at at part.now bytes.old }
 {
-    places[at..at + part.len()].copy_from_slice(part);
+    bytes[at..at + part.len()].copy_from_slice(part);
 }
 
 /// The bytes of a message under another type, which is the first four of them.

@@ -11,15 +11,15 @@ use sw_participant::NoMemory;
 /// The fields that a reversal copies from its request.
 const COPIED: [u8; 12] = [2, 3, 4, 7, 11, 12, 13, 32, 37, 41, 42, 49];
 
-fn push_padded(out: &mut Vec<u8>, places: usize, value: Option<&[u8]>) -> Result<(), AllocError>
-    requires { places ≤ 11 }
+fn push_padded(out: &mut Vec<u8>, width: usize, value: Option<&[u8]>) -> Result<(), AllocError>
+    requires { width ≤ 11 }
     ensures { OnOk result (out.new.items
-        ≡ out.old.items ++ zeros_before places (option_map (λ v. v.now) value.entry)) }
+        ≡ out.old.items ++ zeros_before width (option_map (λ v. v.now) value.entry)) }
 {
     let Some(value) = value else {
-        return push_zeros(out, places);
+        return push_zeros(out, width);
     };
-    push_zeros(out, places.saturating_sub(value.len()))?;
+    push_zeros(out, width.saturating_sub(value.len()))?;
     out.extend_from_slice(value)?;
     Ok(())
 }

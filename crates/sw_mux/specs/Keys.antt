@@ -22,7 +22,7 @@ trimmed text = unspaced_end (unspaced text)
 
 -- a text with `0`s in front of it, up to this length
 abbrev pub padded : ℕ → List ℕ → List ℕ
-padded places text = replicate (places - length text) 48 ++ text
+padded width text = replicate (width - length text) 48 ++ text
 
 -- the key by its parts: type, terminal, STAN
 abbrev pub key_by : List ℕ → List ℕ → List ℕ → List ℕ

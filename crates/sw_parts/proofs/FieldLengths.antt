@@ -8,8 +8,8 @@ use Rattle.iso_msg.specs.Table.{form_of, definition_of, rows}
 use Rattle.iso_msg.specs.Values.{refusal, refusal_by}
 use Rattle.sw_mux.proofs.FieldLengths.{exact_length, form-41, form-11}
 
-most_by : (content : Content) (places most n : ℕ) (v : List ℕ) → refusal_by (Some (Variable content places most)) n v ≡ None → length v ≤ most
-most_by content places most n v h = by (nat_le (length v) most) refl
+most_by : (content : Content) (length_digits most n : ℕ) (v : List ℕ) → refusal_by (Some (Variable content length_digits most)) n v ≡ None → length v ≤ most
+most_by content length_digits most n v h = by (nat_le (length v) most) refl
   where
     by : (b : Bool) → nat_le (length v) most ≡ b → length v ≤ most
     by true e = grind arith

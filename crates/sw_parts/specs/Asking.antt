@@ -18,7 +18,7 @@ card_of digits = record { digits = digits ++ drop (length digits) (replicate 19 
 -- card, terminal, STAN, transmission date and time
 abbrev pub key_of : Card → List ℕ → List ℕ → List ℕ → BookKey
 key_of card terminal stan sent =
-    record { places = ((card.digits ++ terminal) ++ stan) ++ sent }
+    record { bytes = ((card.digits ++ terminal) ++ stan) ++ sent }
 
 -- a value of a message, if its field is there
 abbrev pub Value : Type 0

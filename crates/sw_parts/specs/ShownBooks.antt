@@ -35,7 +35,7 @@ item_parts_code =
 abbrev pub item_of : ItemParts → Item
 item_of p = record {
   card = record { digits = p.0 };
-  key = record { places = p.1.0 };
+  key = record { bytes = p.1.0 };
   amount = p.1.1.0;
   state = p.1.1.1;
 }
@@ -43,7 +43,7 @@ item_of p = record {
 abbrev pub item_code : Coded Item
 item_code =
     code_by ItemParts item_parts_code
-    (λ i. (i.card.digits, (i.key.places, (i.amount, i.state)))) item_of (λ _. refl)
+    (λ i. (i.card.digits, (i.key.bytes, (i.amount, i.state)))) item_of (λ _. refl)
 
 abbrev pub book_code : Coded PlainBook
 book_code =

@@ -39,9 +39,9 @@ fn card_of(digits: &[u8]) -> Card
     requires { length digits.now ≤ 19 }
     ensures { result ≡ card_of digits.now }
 {
-    let mut places = [b' '; 19];
-    places[..digits.len()].copy_from_slice(digits);
-    Card { digits: places }
+    let mut bytes = [b' '; 19];
+    bytes[..digits.len()].copy_from_slice(digits);
+    Card { digits: bytes }
 }
 
 fn key_of(card: Card, terminal: &[u8], stan: &[u8], sent: &[u8]) -> BookKey
@@ -51,12 +51,12 @@ fn key_of(card: Card, terminal: &[u8], stan: &[u8], sent: &[u8]) -> BookKey
     requires sent { length sent.now ≡ 10 }
     ensures { result ≡ key_of card terminal.now stan.now sent.now }
 {
-    let mut places = [b' '; 43];
-    put_part(&mut places, 0, &card.digits);
-    put_part(&mut places, 19, terminal);
-    put_part(&mut places, 27, stan);
-    put_part(&mut places, 33, sent);
-    BookKey { places }
+    let mut bytes = [b' '; 43];
+    put_part(&mut bytes, 0, &card.digits);
+    put_part(&mut bytes, 19, terminal);
+    put_part(&mut bytes, 27, stan);
+    put_part(&mut bytes, 33, sent);
+    BookKey { bytes }
 }
 
 fn asked(request: &Message) -> Option<Item>

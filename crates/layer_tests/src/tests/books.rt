@@ -8,9 +8,9 @@ const CARD: Card = Card {
 };
 
 fn key(first: u8) -> BookKey {
-    let mut places = [b' '; 43];
-    places[0] = first;
-    BookKey { places }
+    let mut bytes = [b' '; 43];
+    bytes[0] = first;
+    BookKey { bytes }
 }
 
 /// A call of a book by a transaction's number, or by the first byte of a key; a reservation has both, and an amount.

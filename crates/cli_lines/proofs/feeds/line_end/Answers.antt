@@ -8,8 +8,8 @@ use Rattle.cli_lines.proofs.feeds.line_end.Goals as goal
 pub returns : goal.returns
 returns c =
     let bytes = c.args.bytes.now in
-    let place = c.unwrap_or.ensures
+    let index = c.unwrap_or.ensures
     ∙ end_found is_line_feed bytes c.position.result
     (position_from_yields_List is_line_feed _ _ c.position.result c.position.ensures.ran
     (YieldsList-from_slice bytes (cc)) (λ x b q k. search (rules, tests))) in
-    record { place = place; within = end_within is_line_feed bytes _ place }
+    record { index = index; within = end_within is_line_feed bytes _ index }

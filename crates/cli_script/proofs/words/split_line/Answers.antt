@@ -5,16 +5,16 @@ use Rattle.cli_script.proofs.words.split_line.Goals as goal
 
 pub returns-then-end-script : goal.returns-then-end-script
 returns-then-end-script c =
-    let place = c.line_end-end.ensures.place in (
+    let index = c.line_end-end.ensures.index in (
       search rules,
-      whole_line is_line_feed c.args.script.now _ place c.if-end-script.true,
-      nothing_after is_line_feed c.args.script.now _ place c.if-end-script.true,
+      whole_line is_line_feed c.args.script.now _ index c.if-end-script.true,
+      nothing_after is_line_feed c.args.script.now _ index c.if-end-script.true,
     )
 
 pub returns : goal.returns
 returns c =
-    let place = c.line_end-end.ensures.place in (
+    let index = c.line_end-end.ensures.index in (
       search rules,
-      before_end is_line_feed c.args.script.now _ place,
-      after_end is_line_feed c.args.script.now _ place,
+      before_end is_line_feed c.args.script.now _ index,
+      after_end is_line_feed c.args.script.now _ index,
     )
