@@ -49,7 +49,8 @@ parts_named ps (e ∷ es) h k = parts_named (add_new ps e) es (by (added_cases p
         → AreNamed (add_new ps e)
     by (inl same) = subst AreNamed (sym same.0) h
     by (inr more) = subst AreNamed (sym more)
-        (All-push (λ (x : Part). IsNamed x.name) ps (record { name = e.participant; kind = e.kind }) h (All-head (λ (e : Entry). IsNamed e.participant) e es k))
+        (All-push (λ (x : Part). IsNamed x.name) ps (record { name = e.participant; kind = e.kind }) h
+        (All-head (λ (e : Entry). IsNamed e.participant) e es k))
 
 pub checked_fits : (f : Flow) → IsChecked f → FlowFits f
 unfolding first_fault

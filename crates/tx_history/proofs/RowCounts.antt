@@ -414,7 +414,8 @@ journal_ok f v past n fits st most ss sp law =
       ordered = journal_ordered f v past o;
       last = ids_last f v past st.view.last law;
       few = few_if f v past n st.view most ss law (recovering f v past) refl (nat_lt 0 (takes past)) refl;
-      rows = λ id r h. (let w = look_gather (row_at f v past) 1 (ids v past) id r h in let b = w.below in row_at_fits f v past id r fits st g (omega arith) w.is);
+      rows = λ id r h. (let w = look_gather (row_at f v past) 1 (ids v past) id r h in let b = w.below in
+          row_at_fits f v past id r fits st g (omega arith) w.is);
       shelf = λ id x h. (let w = look_gather (shelved_at f v (arrivals f v past) past) 1 (ids v past) id x h in let b = w.below in
           shelf_fits f v past id x st g (omega arith) w.is);
       advices = advices_rise f v past fits st sp law;

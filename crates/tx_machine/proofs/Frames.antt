@@ -44,7 +44,8 @@ goes_back f xs top d e p =
     }
 
 -- the top frame's next group is entered
-goes_in : (f : Flow) (xs : List StackFrame) (top : ℕ) (d new : StackFrame) (g : ℕ) (gs : List ℕ) → length xs ≡ top + 1 → (get_or xs top d).pending.items ≡ g ∷ gs →
+goes_in : (f : Flow) (xs : List StackFrame) (top : ℕ) (d new : StackFrame) (g : ℕ) (gs : List ℕ) → length xs ≡ top + 1
+    → (get_or xs top d).pending.items ≡ g ∷ gs →
     new.pending.items ≡ gs → new.back ≡ (get_or xs top d).back → g < length (layout f) → IsLeft f (first_step f g) (set xs top new) xs
 goes_in f xs top d new g gs e p q b h =
     let t : StackFrame = get_or xs top d in
@@ -123,7 +124,8 @@ in_at f xs top t new g step e h v l q b w s =
     let way : new.back ≡ (get_or xs top t).back = b ∙ ap (λ (x : StackFrame). x.back) h in
     subst (λ n. IsLeft f n (set xs top new) xs) (sym s) (goes_in f xs top t new g (remove t.pending.items 0) e cut q way w)
 
-pub frame_at : (f : Flow) (xs : List StackFrame) (top : ℕ) (t : StackFrame) → length xs ≡ top + 1 → t ≡ get_or xs top t → All (IsStackFrame f) xs → IsStackFrame f t
+pub frame_at : (f : Flow) (xs : List StackFrame) (top : ℕ) (t : StackFrame) → length xs ≡ top + 1 → t ≡ get_or xs top t → All (IsStackFrame f) xs
+    → IsStackFrame f t
 frame_at f xs top t e h all = subst (IsStackFrame f) (sym h) (all top t (omega arith))
 
 pub group_within : (f : Flow) (t : StackFrame) (g : ℕ) → IsStackFrame f t → 0 < length t.pending.items → g ≡ get_or t.pending.items 0 g → g < length (layout f)

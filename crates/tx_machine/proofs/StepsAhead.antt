@@ -105,7 +105,8 @@ is_first f g h =
     }
 
 -- the top frame
-pub stack_upcoming_top : (f : Flow) (xs : List StackFrame) (frame : StackFrame) → stack_upcoming f (xs ++ frame ∷ []) ≡ frame_upcoming f frame ++ stack_upcoming f xs
+pub stack_upcoming_top : (f : Flow) (xs : List StackFrame) (frame : StackFrame)
+    → stack_upcoming f (xs ++ frame ∷ []) ≡ frame_upcoming f frame ++ stack_upcoming f xs
 stack_upcoming_top f [] frame = sym (append-nil (frame_upcoming f frame))
 stack_upcoming_top f (x ∷ xs) frame = ap (λ ms. ms ++ frame_upcoming f x) (stack_upcoming_top f xs frame) ∙ append_assoc (frame_upcoming f frame)
     (stack_upcoming f xs) (frame_upcoming f x)

@@ -4,7 +4,8 @@ use Rattle.tx_machine.specs.declared.walk.StackFrame.{StackFrame}
 use Rattle.tx_machine.specs.Position.{shown}
 use Rattle.tx_machine.proofs.walk.copy_frames.Goals as goal
 
-next_frame : (stack copies on : List StackFrame) (i : ℕ) (x y : StackFrame) → on ≡ copies ++ y ∷ [] → shown y ≡ shown x → i < length stack → x ≡ get_or stack i x →
+next_frame : (stack copies on : List StackFrame) (i : ℕ) (x y : StackFrame) → on ≡ copies ++ y ∷ [] → shown y ≡ shown x
+    → i < length stack → x ≡ get_or stack i x →
     map shown copies ≡ map shown (take i stack) → map shown on ≡ map shown (take (i + 1) stack)
 next_frame stack copies on i x y pushed same within is before =
     let one : take (i + 1) stack ≡ take i stack ++ x ∷ [] = take_more stack i x within ∙ ap (λ (z : StackFrame). take i stack ++ z ∷ []) (sym is) in
