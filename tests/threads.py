@@ -170,19 +170,19 @@ def followed(run, count):
     return most
 
 
-def tail_of(chosen):
-    """The end of a stream that is refused, and what is reported of it."""
+def tail_of(chosen, count):
+    """The end of a stream that is refused after this many frames, and what is reported of it."""
     frame = messages.framed(messages.encode(b"0800", {11: b"000001", 70: b"301"}))
     if chosen.random() < 0.5:
         tail = frame[: chosen.randrange(1, len(frame))]
         return tail, texts.END["Truncated"].format(at=len(tail))
-    return b"00%c1" % chosen.choice(b"x :/\n") + frame, texts.END["BadLength"]
+    return b"00%c1" % chosen.choice(b"x :/\n") + frame, texts.END["BadLength"].format(at=count + 1)
 
 
 def ends(run):
     made = requests.apart(run.chosen, 10)
     made.insert(run.chosen.randrange(11), run.chosen.choice(requests.UNREADABLE))
-    tail, text = tail_of(run.chosen)
+    tail, text = tail_of(run.chosen, len(made))
     out = Switch(run.flow, run.limit).run(made)
     give, _ = run.input_of(made, tail)
     plain = run.ran(give)

@@ -27,7 +27,7 @@ FILE = {
 
 # Why the stream of `run` is refused, and that a journal is refused.
 END = {
-    "BadLength": "cardswitch: standard input: bad frame length; expected four digits; cardswitch decode shows the frames before it",
+    "BadLength": "cardswitch: standard input: frame {at}: bad length; expected four digits; cardswitch decode shows the frames before it",
     "Truncated": "cardswitch: standard input: ends within a frame; found {at} bytes of it",
 }
 REFUSED = "cannot read or write the journal: its file or its disk refuses it; expected an undamaged file on a disk with room"

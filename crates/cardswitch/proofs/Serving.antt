@@ -23,7 +23,7 @@ RanTo threads f n j sender most unread before after k l end =
 -- an end that is no error is that of a whole input
 whole : (P : StreamEnd → Type 0) (end : StreamEnd) → Ok tt ≡ result_of end → P end → P Whole
 whole P Whole no_error h = h
-whole P BadLength no_error h = cc
+whole P (BadLength n) no_error h = cc
 whole P (Truncated k) no_error h = cc
 whole P (Unread e) no_error h = cc
 

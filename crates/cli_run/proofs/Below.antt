@@ -16,6 +16,7 @@ use Rattle.tx_engine.specs.Calls.{held_id}
 use Rattle.tx_plant.specs.declared.seat.Seat.{Seat}
 use Rattle.tx_plant.specs.declared.turn.Outcome.{Outcome}
 use Rattle.tx_plant.specs.declared.turn.Outcome.TheVariants as outcome
+use Rattle.tx_plant.specs.declared.turn.StepFault.{StepFault}
 use Rattle.tx_plant.specs.declared.turn.PlantError.{PlantError}
 use Rattle.tx_plant.specs.declared.turn.Turn.{Turn}
 use Rattle.tx_plant.specs.declared.turn.Turn.TheVariants as turn
@@ -101,7 +102,7 @@ adds_below p q s seated same (inr (l, x, there, more)) h =
     subst (λ (n : ℕ). AreBelow n q.ended) (sym same) (subst (AreBelow (next_id p.world.start p.world.past)) (sym more)
     (below_insert _ l.id x p.ended (held_below p s l seated there) h))
 
-stepped_below : (p q : Core) (s : ℕ) (m : List Moved) (x : Result Outcome AllocError) → Seated p → Stepped p s m x q → EndedBelow p → EndedBelow q
+stepped_below : (p q : Core) (s : ℕ) (m : List Moved) (x : Result Outcome StepFault) → Seated p → Stepped p s m x q → EndedBelow p → EndedBelow q
 stepped_below p q s m x seated stepped h =
     let k = stepping_of s p q m x stepped in
     adds_below p q s seated (entered_next s p.world q.world k.enters) k.adds h

@@ -13,10 +13,12 @@ use Rattle.tx_engine.specs.World.{World}
 use Rattle.tx_journal.specs.declared.error.JournalError.{JournalError}
 use Rattle.tx_plant.specs.declared.turn.Outcome.{Outcome}
 use Rattle.tx_plant.specs.declared.turn.Outcome.TheVariants as outcome
+use Rattle.tx_plant.specs.declared.turn.StepFault.{StepFault}
+use Rattle.tx_plant.specs.declared.turn.StepFault.TheVariants as fault
 use Rattle.tx_plant.specs.declared.turn.Turn.{Turn}
 use Rattle.tx_plant.specs.declared.turn.Turn.TheVariants as turn
 use Rattle.tx_plant.specs.Steps.{Moved}
-use Rattle.tx_plant.specs.Plant.{Driven, GoesOn, Seen, Turned, Whole, Writes, journal_fault, raised}
+use Rattle.tx_plant.specs.Plant.{Driven, GoesOn, Seen, Turned, Whole, Writes, journal_fault, raised, step_fault}
 use Rattle.plant_outcome.specs.Lives.{AllDriven, Done, Drive}
 use Rattle.cli_run.specs.declared.progress.Progress.{Progress}
 use Rattle.cli_run.specs.Points.{IsAllWritten, Point}
@@ -62,6 +64,11 @@ unfaulted R o (Err e) same holds = cc
 pub unraised : (R : Result Outcome AllocError → Type 0) (o : Outcome) (x : Result Outcome AllocError) → Ok o ≡ raised x → R x → R (Ok o)
 unraised R o (Ok y) same holds = rw (same_outcome o y same) holds
 unraised R o (Err e) same holds = cc
+
+pub stepped_as : (R : Result Outcome StepFault → Type 0) (o : Outcome) (x : Result Outcome StepFault) → Ok o ≡ step_fault x → R x → R (Ok o)
+stepped_as R o (Ok y) same holds = rw (same_outcome o y same) holds
+stepped_as R o (Err fault.OutOfMemory) same holds = cc
+stepped_as R o (Err (fault.NoStation n)) same holds = cc
 
 record Wrote (w to : World) : Type 0 where
   mark : ℕ

@@ -4,7 +4,6 @@ use Rattle.std.proofs.Common.{◌≡◌, ◌<◌, ◌≤◌, ℕ, zero, suc, ◌
 use Rattle.std.proofs.Common.{sym, ap, subst, arith, ◌∙◌}
 use Rattle.std.specs.Prelude.{◌⊎◌, replicate}
 use Rattle.std.specs.List.{AllByRecursion}
-use Rattle.std.specs.declared.alloc.AllocError.{AllocError}
 use Rattle.std.specs.declared.cmp.Ordering.{Ordering}
 use Rattle.std.specs.declared.cmp.Ordering.TheVariants.{Less, Equal, Greater}
 use Rattle.std.specs.Ordering.{match_ordering, nat_cmp}
@@ -31,6 +30,7 @@ use Rattle.tx_engine.specs.Calls.{held_id, next_in, waits}
 use Rattle.tx_engine.specs.Opening.{first_start, opened_world}
 use Rattle.tx_plant.specs.declared.seat.Seat.{Seat}
 use Rattle.tx_plant.specs.declared.turn.Outcome.{Outcome}
+use Rattle.tx_plant.specs.declared.turn.StepFault.{StepFault}
 use Rattle.tx_plant.specs.declared.turn.PlantError.{PlantError}
 use Rattle.tx_plant.specs.declared.turn.Turn.{Turn}
 use Rattle.tx_plant.specs.declared.turn.Turn.TheVariants as turn
@@ -43,7 +43,7 @@ use Rattle.plant_outcome.specs.Seated.{Seated, seat_id}
 use Rattle.cli_run.specs.declared.progress.Progress.{Progress}
 use Rattle.cli_run.specs.Points.{above}
 use Rattle.cli_run.specs.Rounds.{Acts, Recovers}
-use Rattle.cli_run.proofs.Doings.{Marked, acts_once, acts_then, marked, unraised}
+use Rattle.cli_run.proofs.Doings.{Marked, acts_once, acts_then, marked, stepped_as}
 use Rattle.cli_run.proofs.Ended.{not_above}
 use Rattle.cli_run.proofs.SessionSteps.{Adds, Enters, gives_by, steps_of}
 
@@ -150,7 +150,7 @@ low_then view p q b (inl same) = subst (AreBelow view.next_id) (sym same) b.low
 low_then view p q b (inr (l, x, there, more)) = subst (AreBelow view.next_id) (sym more)
     (below_insert view.next_id l.id x p.ended (recovered_low view p l b there) b.low)
 
-stepped : (view : JournalView) (p q : Core) (m : List Moved) (r : Result Outcome AllocError) → Begun view p → Seated q → Stepped p 0 m r q → Begun view q
+stepped : (view : JournalView) (p q : Core) (m : List Moved) (r : Result Outcome StepFault) → Begun view p → Seated q → Stepped p 0 m r q → Begun view q
 stepped view p q m r b seated h =
     let s = steps_of p q m r h in
     let k = quiet p.world q.world s.enters in
@@ -193,7 +193,7 @@ turned_on seats view (turn.Write most) o m p q own b turned go =
     let k = mark_only o m p q all on in
     written view p.core q.core k.mark b (seats (turn.Write most) (Ok o) m p q b.seated go turned) k.core
 turned_on seats view (turn.Step s) o m p q own b turned go =
-    let step = unraised (λ x. Stepped p.core s m x q.core) o turned.0 turned.1 turned.2 in
+    let step = stepped_as (λ x. Stepped p.core s m x q.core) o turned.0 turned.1 turned.2 in
     let first : Stepped p.core 0 m (Ok o) q.core = subst (λ (z : ℕ). Stepped p.core z m (Ok o) q.core) own step in
     stepped view p.core q.core m (Ok o) b (seats (turn.Step s) (Ok o) m p q b.seated go turned) first
 turned_on seats view (turn.Offer x) o m p q own b turned go = absurd own

@@ -3,7 +3,6 @@
 -- for: switch::Switch::serve_next, serving::Switch::recover, batches::Switch::answer_batch
 use Rattle.std.proofs.Common.{◌≡◌, ◌⊎◌, ℕ, suc, Bool, true, false, inl, inr, List, Option, Some, None, Result, Ok, Err, get_or, refl, ap, subst, ◌∙◌}
 use Rattle.std.specs.Prelude.{slice_set}
-use Rattle.std.specs.declared.alloc.AllocError.{AllocError}
 use Rattle.std.specs.Ordering.{nat_cmp}
 use Rattle.std.specs.BTreeMap.{insert_entry}
 use Rattle.sw_context.specs.Pairs.{Pairs}
@@ -25,6 +24,7 @@ use Rattle.tx_engine.specs.Calls.{due_call, held_id, next_in, next_of}
 use Rattle.tx_plant.specs.declared.seat.Seat.{Seat}
 use Rattle.tx_plant.specs.declared.turn.Outcome.{Outcome}
 use Rattle.tx_plant.specs.declared.turn.Outcome.TheVariants as outcome
+use Rattle.tx_plant.specs.declared.turn.StepFault.{StepFault}
 use Rattle.tx_plant.specs.Steps.{Asked, Moved, Rests, Serves, Waits, event_of}
 use Rattle.tx_plant.specs.Core.{Core, ReseatsBy, Served, Stepped, fate_after, fate_by, left, newcomer, seat_of}
 use Rattle.tx_plant.proofs.SeatFates.{leaves_by}
@@ -86,7 +86,7 @@ pub record Replies (s : ℕ) (w : World) (l t : Seat) (to : World) : Type 0 wher
 replies_rests : (s : ℕ) (w to : World) (l t : Seat) (m : List Moved) → Rests l t m → to ≡ w → Replies s w l t to
 replies_rests s w to l t m rests same = record { enters = inl same; id = ap (λ (z : Seat). z.id) rests.0 }
 
-replies : (s : ℕ) (w to : World) (l t : Seat) (m : List Moved) (r : Result Outcome AllocError) → Serves w s l t m r to → Replies s w l t to
+replies : (s : ℕ) (w to : World) (l t : Seat) (m : List Moved) (r : Result Outcome StepFault) → Serves w s l t m r to → Replies s w l t to
 replies s w to l t m (Ok (outcome.Accepted n)) (c, r, asked, seat, recorded) = record {
   enters = inr (r, c.context, recorded.history);
   id = ap (λ (z : Seat). z.id) seat ∙ same_id _ _ l c m r asked;
@@ -109,7 +109,7 @@ adds_by s (Some (k, Some r)) item p l t to there id = inl refl
 adds_by s (Some (k, None)) None p l t to there id = inr (l, t.context, there, ap (λ (n : ℕ). insert_entry nat_cmp p.ended n t.context) id)
 adds_by s (Some (k, None)) (Some x) p l t to there id = inl refl
 
-adds_of : (s : ℕ) (r : Result Outcome AllocError) (p : Core) (l t : Seat) (w to : World) → seat_of p s ≡ Some l → t.id ≡ l.id →
+adds_of : (s : ℕ) (r : Result Outcome StepFault) (p : Core) (l t : Seat) (w to : World) → seat_of p s ≡ Some l → t.id ≡ l.id →
     Adds s p (left p s (fate_after r w) t to)
 adds_of s (Ok (outcome.Accepted n)) p l t w to there id = adds_by s (change w.flow w.start w.past).row (change w.flow w.start w.past).shelved p l t to there id
 adds_of s (Ok (outcome.Refused e)) p l t w to there id = inl refl
@@ -126,15 +126,15 @@ adds_same s p q r (inl none) same = inl (same ∙ none)
 adds_same s p q r (inr (l, x, there, more)) same = inr (l, x, there, same ∙ more)
 
 -- what the session leaves of its transaction, before session 0 is given another
-abbrev left_at : (s : ℕ) (p q : Core) (r : Result Outcome AllocError) → Seat → Core
+abbrev left_at : (s : ℕ) (p q : Core) (r : Result Outcome StepFault) → Seat → Core
 left_at s p q r after = left p s (fate_after r q.world) after q.world
 
-gives_of : (s : ℕ) (p q : Core) (m : List Moved) (r : Result Outcome AllocError) → (h : Served p s m r q) → Gives (left_at s p q r h.after) q
+gives_of : (s : ℕ) (p q : Core) (m : List Moved) (r : Result Outcome StepFault) → (h : Served p s m r q) → Gives (left_at s p q r h.after) q
 gives_of s p q m r h =
     let to = left_at s p q r h.after in
     leaves_by (fate_after r q.world) to q (Gives to q) h.leaves (gives_none to q) (gives_by (seat_of to 0) (newcomer to) to q)
 
-stepping_served : (s : ℕ) (p q : Core) (m : List Moved) (r : Result Outcome AllocError) → Served p s m r q → Stepping s p q
+stepping_served : (s : ℕ) (p q : Core) (m : List Moved) (r : Result Outcome StepFault) → Served p s m r q → Stepping s p q
 stepping_served s p q m r h =
     let reply = replies s p.world q.world h.before h.after m r h.serves in
     record {
@@ -142,22 +142,22 @@ stepping_served s p q m r h =
       adds = adds_same s p (left_at s p q r h.after) q (adds_of s r p h.before h.after q.world q.world h.seated reply.id) (gives_of s p q m r h).ended;
     }
 
-pub stepping_of : (s : ℕ) (p q : Core) (m : List Moved) (r : Result Outcome AllocError) → Stepped p s m r q → Stepping s p q
+pub stepping_of : (s : ℕ) (p q : Core) (m : List Moved) (r : Result Outcome StepFault) → Stepped p s m r q → Stepping s p q
 stepping_of s p q m r (inl stood) = (let same : q ≡ p = stood.0.1 in rw same (record { enters = inl refl; adds = inl refl }))
 stepping_of s p q m r (inr served) = stepping_served s p q m r served
 
-steps_served : (p q : Core) (m : List Moved) (r : Result Outcome AllocError) → Served p 0 m r q → Steps p q
+steps_served : (p q : Core) (m : List Moved) (r : Result Outcome StepFault) → Served p 0 m r q → Steps p q
 steps_served p q m r h =
     let k = stepping_served 0 p q m r h in
     record { enters = k.enters; adds = k.adds; others = λ s. (gives_of 0 p q m r h).others s ∙ other_seats p.seats _ s }
 
-pub steps_of : (p q : Core) (m : List Moved) (r : Result Outcome AllocError) → Stepped p 0 m r q → Steps p q
+pub steps_of : (p q : Core) (m : List Moved) (r : Result Outcome StepFault) → Stepped p 0 m r q → Steps p q
 steps_of p q m r (inl stood) = steps_none p q stood.0.1
 steps_of p q m r (inr served) = steps_served p q m r served
 
 -- where it answers that the session is idle, nothing is due to it
 
-same_idle : (o : Outcome) → ◌≡◌ {A = Result Outcome AllocError} (Ok outcome.Idle) (Ok o) → o ≡ outcome.Idle
+same_idle : (o : Outcome) → ◌≡◌ {A = Result Outcome StepFault} (Ok outcome.Idle) (Ok o) → o ≡ outcome.Idle
 same_idle o e = cc
 
 stood_idle : (n : Next) (o : Outcome) → o ≡ outcome.Idle → Waits n o → n ≡ next.Idle

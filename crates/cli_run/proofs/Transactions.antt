@@ -34,7 +34,7 @@ use Rattle.plant_outcome.specs.Lives.{Drive}
 use Rattle.plant_outcome.specs.Seated.{Seated, seat_id}
 use Rattle.cli_run.specs.Points.{IsAllWritten, IsAtRest, Point, ended_at, next_at, with_ended, world_at}
 use Rattle.cli_run.specs.Rounds.{Acts, Does, IsDone, Transacts, doing}
-use Rattle.cli_run.proofs.Doings.{acts_then, did, unraised}
+use Rattle.cli_run.proofs.Doings.{acts_then, did, stepped_as, unraised}
 use Rattle.cli_run.proofs.SessionSteps.{Enters, none_due, none_held, other_seats, same_world, steps_of}
 
 -- the contexts that ended
@@ -277,7 +277,7 @@ one_more os t o = ap (λ (l : List Drive). doing (turn.Take 0) t ∷ l) (sym (ma
 pub stepped : (p q r : Point) (o : Outcome) → Under p q → Does (turn.Step 0) o q r → Seated r.plant.core → Under p r
 stepped p q r o u does seated =
     let d = did (turn.Step 0) o q r does in
-    let step : Stepped q.plant.core 0 d.moved (Ok o) d.between.core = unraised (λ x. Stepped q.plant.core 0 d.moved x d.between.core) o d.turned.0
+    let step : Stepped q.plant.core 0 d.moved (Ok o) d.between.core = stepped_as (λ x. Stepped q.plant.core 0 d.moved x d.between.core) o d.turned.0
     d.turned.1 d.turned.2 in
     let s = stays q.plant.core d.between.core r.plant.core (next_at p) d.mark d.moved o u.seated u.recovered u.taken step d.on.engine d.core in
     let twice = ended_twice (next_at p) u.own s.own (ended_at p) in
@@ -303,7 +303,7 @@ idle_then : (p q r : Point) → Under p q → Does (turn.Step 0) outcome.Idle q 
 idle_then p q r u does =
     let d = did (turn.Step 0) outcome.Idle q r does in
     let step : Stepped q.plant.core 0 d.moved (Ok outcome.Idle) d.between.core =
-    unraised (λ x. Stepped q.plant.core 0 d.moved x d.between.core) outcome.Idle d.turned.0 d.turned.1 d.turned.2 in
+    stepped_as (λ x. Stepped q.plant.core 0 d.moved x d.between.core) outcome.Idle d.turned.0 d.turned.1 d.turned.2 in
     let none = none_held (world_at q) 0 (none_due q.plant.core d.between.core d.moved step) in
     let same : d.between.core.world ≡ world_at q = same_world q.plant.core d.between.core d.moved step in
     let here : held_id (record d.between.core.world { mark = d.mark }) 0 ≡ None = subst (λ (w : World). held_id w 0 ≡ None) (sym same) none in

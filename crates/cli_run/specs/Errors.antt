@@ -53,22 +53,22 @@ IsNoStation f n _ = ⊥
 
 -- the station at this index has the name of an earlier one, or there was no memory to say so; or there is no such index
 abbrev pub IsDouble : List (List ℕ) → ℕ → ServeError → Type 0
-IsDouble names place (DoubleStation name) = slice_get names place ≡ Some name
-IsDouble names place OutOfMemory = ⊤
-IsDouble names place (Seating e) = slice_get names place ≡ None
-IsDouble names place _ = ⊥
+IsDouble names index (DoubleStation name) = slice_get names index ≡ Some name
+IsDouble names index OutOfMemory = ⊤
+IsDouble names index (Seating e) = slice_get names index ≡ None
+IsDouble names index _ = ⊥
 
 -- why no plant was made of stations with these names, and this many sessions
 abbrev pub IsCause : Flow → List (List ℕ) → ℕ → PlantError → ServeError → Type 0
 IsCause f names sessions (plant.Seating (seating.NoStation n)) e = IsNoStation f n e
-IsCause f names sessions (plant.Seating (seating.DoubleStation place)) e = IsDouble names place e
+IsCause f names sessions (plant.Seating (seating.DoubleStation index)) e = IsDouble names index e
 IsCause f names sessions (plant.Engine engine.BadSessions) e = e ≡ BadSessions sessions
 IsCause f names sessions cause e = e ≡ error_of_plant cause
 
 -- a stream that was refused is an error
 abbrev pub result_of : StreamEnd → Result (Unit {0}) ServeError
 result_of Whole = Ok tt
-result_of BadLength = Err BadFrameLength
+result_of (BadLength n) = Err (BadFrameLength n)
 result_of (Truncated n) = Err (TruncatedFrame n)
 result_of (Unread e) = Err (error_of_read e)
 

@@ -28,7 +28,7 @@ requests frames = map request_of (readable frames)
 -- how the stream ended: whole frames were read to the end of the input; or a length is not four digits; or the input ends within a frame
 abbrev pub EndsAs : StreamEnd → State → Option (List ℕ) → Type 0
 EndsAs Whole s left = (s.failed ≡ false) × (s.pending ≡ []) × IsAtEnd left
-EndsAs BadLength s left = s.failed ≡ true
+EndsAs (BadLength n) s left = s.failed ≡ true
 EndsAs (Truncated n) s left = (s.failed ≡ false) × (length s.pending ≡ n) × (0 < n) × IsAtEnd left
 EndsAs (Unread e) s left = ⊤
 

@@ -30,7 +30,8 @@ pub enum ServeError {
     /// A link has this name.
     #[error("bad link name {}; expected at most 26 bytes of a-z A-Z 0-9 _ - .", .0.as_str())]
     BadLinkName(Text),
-    /// The stations do not suit the flow, at an index that neither of them has. No run ends with this error.
+    /// The stations do not suit the flow, at an index that neither of them has, or a due call has no station. No run
+    /// ends with this error.
     #[error("{0}")]
     Seating(SeatingError),
     /// The message of this number cannot be put in a context. No message causes this error.
@@ -51,9 +52,9 @@ pub enum ServeError {
     /// The output could not be written.
     #[error("standard output: cannot write: {0}")]
     Write(WriteError),
-    /// The four bytes of a length are not digits.
-    #[error("standard input: bad frame length; expected four digits; cardswitch decode shows the frames before it")]
-    BadLength,
+    /// Where the frame of this number would begin, from 1, there are no four digits of length.
+    #[error("standard input: frame {0}: bad length; expected four digits; cardswitch decode shows the frames before it")]
+    BadLength(u64),
     /// The input ends within a frame, this many bytes after the beginning of the frame.
     #[error("standard input: ends within a frame; found {0} bytes of it")]
     Truncated(usize),

@@ -1,7 +1,7 @@
 //! The frames of a stream, answered as they come.
 
 ghost use Rattle.std.specs.Prelude.{◌≡◌, ◌<◌, ℕ, false, List, [], IfNone, IfOk, IfSome, OnErr, OnOk, Option, Some};
-ghost use Rattle.std.specs.Prelude.{length, map, option_to_list};
+ghost use Rattle.std.specs.Prelude.{◌+◌, length, map, min, option_to_list};
 ghost use Rattle.std.specs.Io.KnownBytes.{IsAtEnd};
 ghost use Rattle.cli_io.specs.declared.error.ReadError.{ReadError};
 ghost use Rattle.sw_frame.specs.Feeds.{messages};
@@ -15,7 +15,7 @@ ghost use Rattle.cli_run.specs.Errors.{result_of};
 ghost use Rattle.cli_run.specs.Requests.{EndsAs, FramesIn, ReadTo, ReadsOn, if_read, request_of, requests};
 ghost use Rattle.cli_run.specs.Stopped.{Halts, HaltsOn, StopsWithin};
 ghost use Rattle.cli_run.specs.Traces.{Reports, ReportsFor, Tells, if_passed, log_of, passed_over};
-ghost use Rattle.cli_run.specs.declared.stream.StreamEnd.TheVariants.{Unread};
+ghost use Rattle.cli_run.specs.declared.stream.StreamEnd.TheVariants.{BadLength, Unread};
 
 use crate::advices::{Advisor, send_between};
 use crate::error::ServeError;
@@ -39,8 +39,8 @@ pub(crate) const PIECE: usize = 65_536;
 pub enum StreamEnd {
     /// After a whole frame, or before the first.
     Whole,
-    /// The four bytes of a length were not digits.
-    BadLength,
+    /// Where the frame of this number would begin, from 1, there are no four digits of length.
+    BadLength(u64),
     /// Within a frame, of which this many bytes came.
     Truncated(usize),
     /// It could not be read any further.
@@ -54,7 +54,7 @@ impl StreamEnd {
     {
         match self {
             StreamEnd::Whole => Ok(()),
-            StreamEnd::BadLength => Err(ServeError::BadLength),
+            StreamEnd::BadLength(frame) => Err(ServeError::BadLength(frame)),
             StreamEnd::Truncated(bytes) => Err(ServeError::Truncated(bytes)),
             StreamEnd::Unread(error) => Err(ServeError::from(error)),
         }
@@ -201,14 +201,17 @@ impl Requests {
         }
     }
 
-    // How the stream ended, if it did, after a read that gave `count` bytes.
-    fn end_after(&self, count: usize) -> Option<StreamEnd>
+    // How the stream ended, if it did, after a read that gave `count` bytes and completed `frames` frames.
+    fn end_after(&self, count: usize, frames: usize) -> Option<StreamEnd>
+        ensures number { (n : ℕ) → result ≡ Some (BadLength n)
+            → n ≡ min (self.now.count + frames + 1) 18446744073709551615 }
         ensures ends { (left : Option (List ℕ)) → (count ≡ 0 → IsAtEnd left)
             → IfSome result (λ end. EndsAs end self.now.framer left) }
         ensures goes_on { IfNone result (self.now.framer.failed ≡ false) }
     {
         if self.framer.failed() {
-            return Some(StreamEnd::BadLength);
+            let before = self.count.saturating_add(frames as u64);
+            return Some(StreamEnd::BadLength(before.saturating_add(1)));
         }
         if count > 0 {
             return None;
@@ -248,7 +251,7 @@ impl Requests {
             Err(error) => return unread(alloc, error),
         };
         let messages = self.feed(alloc, &buf[..count])?;
-        let end = self.end_after(count);
+        let end = self.end_after(count, messages.len());
         Ok(Piece { messages, end })
     }
 

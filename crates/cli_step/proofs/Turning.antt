@@ -11,12 +11,14 @@ use Rattle.tx_journal.specs.declared.error.JournalError.{JournalError}
 use Rattle.tx_plant.specs.Core.{Core, Stepped, Stood, seat_of}
 use Rattle.tx_engine.specs.Calls.{next_of, next_refusal}
 use Rattle.tx_engine.specs.declared.error.EngineError.{EngineError}
-use Rattle.tx_plant.specs.Plant.{Driven, Logged, Raises, Seen, Stops, Turned, Whole, Writes, journal_fault, raised}
+use Rattle.tx_plant.specs.Plant.{Driven, Logged, Raises, Seen, Stops, Turned, Whole, Writes, journal_fault, raised, step_fault}
 use Rattle.tx_plant.specs.Steps.{Moved, Serves, Waits, event_of}
 use Rattle.tx_plant.specs.Turns.{Cuts, IsLogged, Logs, Takes, event_for, refusal_for}
 use Rattle.tx_plant.specs.declared.seat.Seat.{Seat}
 use Rattle.tx_plant.specs.declared.turn.Outcome.{Outcome}
 use Rattle.tx_plant.specs.declared.turn.Outcome.TheVariants as outcome
+use Rattle.tx_plant.specs.declared.turn.StepFault.{StepFault}
+use Rattle.tx_plant.specs.declared.turn.StepFault.TheVariants as fault
 use Rattle.tx_plant.specs.declared.turn.Turn.{Turn}
 use Rattle.tx_plant.specs.declared.turn.Turn.TheVariants as turn
 use Rattle.tx_trace.specs.Follow.{Follows}
@@ -138,6 +140,11 @@ unraised R o p q k = raised_ok k.0 k.1 k.2 where
   raised_ok (Ok y) same holds = rw (same_outcome o y same) holds
   raised_ok (Err e) same holds = cc
 
+stepped_as : (R : Result Outcome StepFault → Type 0) (o : Outcome) (x : Result Outcome StepFault) → Ok o ≡ step_fault x → R x → R (Ok o)
+stepped_as R o (Ok y) same holds = rw (same_outcome o y same) holds
+stepped_as R o (Err fault.OutOfMemory) same holds = cc
+stepped_as R o (Err (fault.NoStation n)) same holds = cc
+
 unfaulted : (R : Result Outcome JournalError → Type 0) (o : Outcome) (x : Result Outcome JournalError)
     → Ok o ≡ journal_fault x → R x → R (Ok o)
 unfaulted R o (Ok y) same holds = rw (same_outcome o y same) holds
@@ -153,7 +160,7 @@ event_logged t o m p q k =
 pub world_after : (t : Turn) (o : Outcome) (m : List Moved) (p q : Whole) → Turned t (Ok o) m p q
     → IsWorldAfter o p.core.world q.core.world
 world_after (turn.Take s) o m p q k = taken p.core q.core s m o (unraised (λ x. Takes p.core s m x q.core) o p q k)
-world_after (turn.Step s) o m p q k = stepped p.core q.core s m o (unraised (λ x. Stepped p.core s m x q.core) o p q k)
+world_after (turn.Step s) o m p q k = stepped p.core q.core s m o (stepped_as (λ x. Stepped p.core s m x q.core) o k.0 k.1 k.2)
 world_after (turn.Write most) o m p q k =
     written most p.core.world q.core.world p.journal q.journal o
     (unfaulted (λ x. Writes most p.core.world p.journal x q.core.world q.journal) o k.2 k.3 k.4)

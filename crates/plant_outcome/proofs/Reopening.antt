@@ -14,7 +14,7 @@ use Rattle.tx_history.specs.declared.journal.Row.{Row}
 use Rattle.tx_history.specs.Keys.{Rising, look}
 use Rattle.tx_history.specs.History.{Start, number_of, to_tell}
 use Rattle.tx_history.specs.Journal.{journal}
-use Rattle.tx_history.specs.Views.{FlowFits, IsHistory, Knows, StartFits}
+use Rattle.tx_history.specs.Views.{IsHistory}
 use Rattle.tx_history.proofs.NextStarts.{stopped_fits}
 use Rattle.tx_history.proofs.RisingKeys.{look_within}
 use Rattle.tx_journal.proofs.HistoryChanges.{earlier}
@@ -23,7 +23,7 @@ use Rattle.tx_engine.specs.declared.error.EngineError.TheVariants.{BadSessions, 
 use Rattle.tx_engine.specs.Opening.{are_bad_sessions, open_refusal, unknown_in, unknown_of}
 use Rattle.tx_engine.specs.World.{World}
 use Rattle.tx_plant.specs.declared.turn.Outcome.TheVariants as outcome
-use Rattle.tx_plant.specs.Plant.{IsClean, IsEngine, Reads, Seen, Stops, Whole}
+use Rattle.tx_plant.specs.Plant.{IsClean, IsEngine, Stops, Whole}
 use Rattle.tx_plant.specs.Steps.{Moved}
 use Rattle.tx_plant.specs.Written.{Written}
 use Rattle.plant_outcome.specs.Seated.{Seated}
