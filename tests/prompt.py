@@ -7,7 +7,7 @@ Random scripts come over a pipe, one line after the other. After each line, what
 seconds, and nothing more. A line that the model refuses has to end the run with status 1, before another line is sent.
 
 With `--prompt` each line is asked for by a prompt, a line that the model refuses is reported and changes nothing, and the run goes on. The
-lines `help`, `list` and `info` and refused ones come among the others. The sessions that docs/DEBUGGER.md shows are typed on a pseudo-terminal,
+lines `help`, `list` and `info`, empty ones, comments, further spaces and refused lines come among the others, and `quit` may end it. The sessions that docs/DEBUGGER.md shows are typed on a pseudo-terminal,
 and what is on the screen has to be what the page shows.
 """
 
@@ -96,12 +96,19 @@ def spoilt(chosen, text):
     """The lines of a script, with some that only a prompt has, and some that are refused."""
     for line in script.lines_of(text):
         while chosen.random() < 0.2:
-            yield chosen.choice([b"help", b"list", b"info"]) if chosen.random() < 0.5 else refused_line(chosen)
-        yield line
+            yield chosen.choice([b"help", b"list", b"info", b"", b"  ", b"# a comment", b"#"]) if chosen.random() < 0.5 else refused_line(chosen)
+        yield typed(chosen, line)
+        if chosen.random() < 0.005:
+            yield b" quit"
+
+
+def typed(chosen, line):
+    """A line with further spaces around and between its words, sometimes."""
+    return line.replace(b" ", b" " * chosen.randrange(1, 4)) + b" " * chosen.randrange(2) if chosen.random() < 0.2 else line
 
 
 def refused_line(chosen):
-    words = [*generate.SPOILT, *generate.SPOILT_ACTIONS, "help me", "lists", "Info", "", " list", "retries 101", "sessions 17"]
+    words = [*generate.SPOILT, *generate.SPOILT_ACTIONS, "help me", "lists", "Info", "quit now", "retries 101", "sessions 17"]
     return chosen.choice(words).encode()
 
 
@@ -129,18 +136,22 @@ def prompt_faults(program, lines):
             yield "no prompt came"
             return
         for number, line in enumerate(lines, 1):
-            text, begins = run.answer(number, line)
+            text, begins = run.answer(line)
             process.stdin.write(line + b"\n")
-            wanted = text.encode() + PROMPT
+            wanted = text.encode() + PROMPT * (not run.has_quit)
             got, message = answer(out, wanted), told(err, begins)
             if got != wanted or message is not None:
                 process.kill()
                 yield f"line {number}, {line}: {got}, {message}, wanted {wanted}, {begins}"
                 return
-        process.stdin.close()
-        last = answer(out, b"\n")
+            if run.has_quit:
+                break
+        else:
+            process.stdin.close()
+        end = b"" if run.has_quit else b"\n"
+        last = answer(out, end)
         status = process.wait(SECONDS)
-        if (last, status, process.stderr.read()) != (b"\n", 0, b""):
+        if (last, status, process.stderr.read()) != (end, 0, b""):
             yield f"at the end {last}, status {status}"
 
 

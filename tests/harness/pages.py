@@ -72,23 +72,22 @@ def commands_of(block):
     return commands
 
 
-# What README runs through the toolchain, run with the built program: the words after `--`.
-RT = 'rt() { while [ "$1" != -- ]; do shift; done; shift; cardswitch "$@"; }'
-LAID_OUT = "mkdir -p crates/cardswitch examples && cp switch.toml crates/cardswitch && cp switch.toml requests.frames examples"
+# What README builds, with the built program in its place.
+BUILD = 'mkdir out && printf \'#!/bin/sh\\nln -sf "%s" out/cardswitch\\n\' "$(command -v cardswitch)" > build && chmod +x build'
+LAID_OUT = f"mkdir examples && cp switch.toml requests.frames examples && {BUILD}"
 
 
 def built_case(name, block, _page, examples):
     """A command that builds the program and answers the examples: the program gives their responses."""
-    case = Case(f"{name}: {block[0]}", f"{RT}\n{LAID_OUT} && {block[0]}", files=dict(examples))
+    case = Case(f"{name}: {block[0]}", f"{LAID_OUT} && PATH=/usr/bin:/bin\n{block[0]}", files=dict(examples))
     case.stdout = Exactly(examples["responses.frames"])
     return case
 
 
 def path_case(name, block, _page, examples):
     """The command that puts the built program on the path, for the examples."""
-    built = 'mkdir crates/cardswitch/out && ln -s "$(command -v cardswitch)" crates/cardswitch/out && PATH=/usr/bin:/bin'
     run = "cardswitch run --flow switch.toml < requests.frames"
-    case = Case(f"{name}: {block[0]}", f"{LAID_OUT} && {built}\n{block[0]}\n{run}", files=dict(examples))
+    case = Case(f"{name}: {block[0]}", f"{LAID_OUT} && PATH=/usr/bin:/bin && ./build\n{block[0]}\n{run}", files=dict(examples))
     case.stdout = Exactly(examples["responses.frames"])
     return case
 
@@ -127,7 +126,7 @@ def elsewhere(_name, _block, _page, _examples):
 
 # How blocks begin that are neither an example nor a file of one, and what is made of each.
 FORMS = [
-    ("(cd crates/cardswitch && rt ", built_case),
+    ("./build", built_case),
     ("cd examples; PATH=", path_case),
     ("CREATE TABLE ", schema_case),
     ("sqlite> ", turned_case),

@@ -246,6 +246,8 @@ auto                       runs one transaction with an empty context to its end
 list                       shows the steps of the flow, and where the sessions are
 info                       shows each session, the queue, the shelf and what is written
 help                       shows these lines
+quit                       ends the session
+An empty line repeats the line before, once the flow is open. A line that begins with # is a comment.
 """.splitlines()
 
 # How many words follow, and what the line then does.
@@ -273,7 +275,26 @@ def refused(fault):
     """How the message begins when a flow or the number of sessions is refused."""
     if fault.name == "BadSessions":
         return "the settings before this line: bad number of sessions"
-    return f"the settings before this line: the flow is refused: {texts.told(fault)}"
+    return f"the settings before this line: {brief(fault)}"
+
+
+def brief(fault):
+    """The same at a prompt."""
+    return "the settings before this line: bad number of sessions" if fault.name == "BadSessions" else f"the flow is refused: {texts.told(fault)}"
+
+
+def readable(text):
+    """A line as a prompt shows it: values of a saved context as text where they are printable."""
+    if not text.startswith("saved "):
+        return text
+    word, number, *puts = text.split(" ")
+    shown = []
+    for put in puts:
+        name, _, digits = put.partition("=")
+        value = bytes.fromhex(digits)
+        is_text = all(0x20 <= byte <= 0x7E and byte != 0x22 for byte in value)
+        shown.append(f'{name}="{value.decode()}"' if is_text else put)
+    return " ".join([word, number, *shown])
 
 
 class Prompt(Script):
@@ -281,20 +302,33 @@ class Prompt(Script):
 
     TEXT = "cardswitch> "
 
-    def answer(self, number, line):
-        """What the line of this number prints, and how the message about it begins (None: there is none)."""
+    def __init__(self, file=None):
+        super().__init__(file)
+        # What an empty line repeats, and whether `quit` was typed.
+        self.last, self.has_quit = b"", False
+
+    def answer(self, line):
+        """What a line prints, and how the message about it begins (None: there is none)."""
+        line = b" ".join(word for word in line.split(b" ") if word) or self.last
+        if not line or line.startswith(b"#"):
+            return "", None
+        if line == b"quit":
+            self.has_quit = True
+            return "", None
         try:
             return "".join(f"{it}\n" for it in self.shown(line)), None
         except Malformed:
-            return "", f"cardswitch: line {number}: "
+            return "", "cardswitch: "
         except flows.Fault as fault:
-            return "", f"cardswitch: line {number}: {refused(fault)}"
+            return "", f"cardswitch: {brief(fault)}"
+        finally:
+            self.last = line if self.engine else b""
 
     def shown(self, line):
         if line == b"help":
             return HELP
         if line not in (b"list", b"info"):
-            return self.line(line)
+            return [readable(text) for text in self.line(line)]
         self.begin()
         places = [self.engine.where(number) for number in range(len(self.engine.sessions))]
         if line == b"list":

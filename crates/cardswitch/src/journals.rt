@@ -12,6 +12,7 @@ use sqlite_std_file::File;
 use sqlite_store::FileStore;
 use sqlite_trees::store::Store;
 use std::alloc::Global;
+use std::fs;
 use std::io::{self, ErrorKind};
 use sw_participant::Text;
 use tx_journal::{Cause, Journal, JournalError};
@@ -91,6 +92,23 @@ pub fn open_file(
     match Connection::open(rt, path) {
         Ok(conn) => open_at(alloc, path, conn),
         Err(error) => Err(refusal(alloc, path, fault_of(error, read, laid))),
+    }
+}
+
+/// Opens the journal of the file at a path, which has to be there: no file is made.
+pub fn open_existing(
+    alloc: Global,
+    rt: &HostRuntime,
+    path: &str,
+) -> Result<Journal<FileStore<File>>, RunError>
+    ensures journal { IfOk result (IsOfFile ⟦<FileStore<File> as Store>⟧ path.now) }
+    ensures failed { IfErr result (IsOpenFault path.now) }
+{
+    match fs::metadata(rt, path) {
+        Err(cause) if cause.kind() == ErrorKind::NotFound => {
+            Err(refusal(alloc, path, JournalFault::Open(cause)))
+        }
+        _ => open_file(alloc, rt, path),
     }
 }
 

@@ -14,7 +14,7 @@ ghost use Rattle.cardswitch.specs.Runs.{ended_at, wanted};
 
 use crate::error::RunError;
 use crate::flow_file::flow_at;
-use crate::journals::{open_file, open_in_memory};
+use crate::journals::{open_existing, open_file, open_in_memory};
 use cli_config::Config;
 use cli_options::choice::{RecoverOptions, RunOptions, StatsLines, TraceForm};
 use cli_run::{Form, Setup, StandardError, Stats, SwitchLink, run};
@@ -241,7 +241,7 @@ fn recover_by<T: Threads + Wait + Clock + Sync, O: Write>(
     let stated = config?;
     let setup = recovery(alloc, &stated)?;
     let named = Text::from_str(alloc, path)?;
-    let journal = open_file(alloc, rt, path)?;
+    let journal = open_existing(alloc, rt, path)?;
     let mut sink = std::io::sink();
     let mut stderr = StandardError {
         err: &mut sink,
@@ -256,7 +256,8 @@ fn recover_by<T: Threads + Wait + Clock + Sync, O: Write>(
     in_file(named, ended)
 }
 
-/// Finishes what the journal in a file has unfinished, and prints the lines of the history.
+/// Finishes what the journal in a file has unfinished, and prints the lines of the history. A file that is not there is
+/// refused, and none is made.
 pub fn recover<T: Threads + Wait + Clock + Sync, O: Write>(
     threads: &T,
     alloc: Global,

@@ -48,7 +48,8 @@ impl<R: Read> Lines<R> {
 
     /// How many lines were given.
     pub fn count(&self) -> usize
-        ensures { result ≡ lines_given self.now }
+        ensures count { result ≡ lines_given self.now }
+        ensures few { result ≤ 2 ^ 32 }
     {
         self.count
     }
@@ -106,7 +107,7 @@ impl<R: Read> Lines<R> {
             (lines_given self.new ≡ lines_given self.old)
             (λ _. lines_given self.new ≡ lines_given self.old + 1)) }
         ensures few { IfOk result (λ o. IfSome o (λ line.
-            lines_given self.new + length line.items < 2 ^ 64)) }
+            lines_given self.new + length line.items ≤ 2 ^ 32 + 1)) }
         ensures room { IfOk result (λ o. IfSome o (λ line.
             room self.new + length line.items ≤ room self.old)) }
         ensures small { room self.old ≤ 2 ^ 32 }

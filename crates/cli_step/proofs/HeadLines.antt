@@ -1,6 +1,6 @@
 -- A line that is refused before a flow is opened, and one at which the flow is refused.
--- for: opening::head_line, opening::run_prompted
-use Rattle.std.proofs.Common.{◌≡◌, ◌≢◌, ℕ, Bool, List, Option, Err, is_some, refl, subst, sym}
+-- for: opening::head_line, opening::answer_or_open
+use Rattle.std.proofs.Common.{◌≡◌, ◌≢◌, ℕ, Bool, List, Option, Result, Ok, Err, IfOk, is_some, refl, subst, sym}
 use Rattle.cli_script.specs.Scripts.{IsNextSetting}
 use Rattle.cli_script.specs.declared.error.ScriptError.{ScriptError}
 use Rattle.cli_script.specs.declared.error.ScriptError.TheVariants as script
@@ -13,9 +13,12 @@ pub refused_head : (has_file : Bool) (n : ℕ) (line : List ℕ) (reported cause
 refused_head has_file n line reported cause same is_refusal next =
     subst (λ (e : ScriptError). IsScriptHeadLine has_file line (head.Refused e)) (sym same) (is_refusal, (n, next.1))
 
-pub unopened_head : (file steps : Option Flow) (line settings : List ℕ) (out err err_after : Option (List ℕ)) → steps ≡ file
-    → IsHeadLine (is_some steps) line head.Opens → IsUnopened steps settings → IsReported err err_after
-    → HeadAnswers file line (heading settings out err) (heading settings out err_after)
-unopened_head file steps line settings out err err_after same is unopened reported =
-    subst (λ (f : Option Flow). HeadAnswers f line (heading settings out err) (heading settings out err_after)) same
+pub unopened_head : (file : Option Flow) (line settings : List ℕ) (out err err_after : Option (List ℕ)) → IsHeadLine (is_some file) line head.Opens
+    → IsUnopened file settings → IsReported err err_after → HeadAnswers file line (heading settings out err) (heading settings out err_after)
+unopened_head file line settings out err err_after is unopened reported =
     (head.Opens, is, (unopened, record { settings = refl; out = refl; err = reported }))
+
+-- what follows from three facts of a value
+pub three_ok : {A E : Type 0} {P Q R S : A → Type 0} (r : Result A E) → ((a : A) → P a → Q a → R a → S a) → IfOk r P → IfOk r Q → IfOk r R → IfOk r S
+three_ok (Ok a) f p q s = f a p q s
+three_ok (Err e) f p q s = tt

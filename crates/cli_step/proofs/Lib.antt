@@ -9,3 +9,4 @@ mod Puts
 mod Sessions
 mod Turning
 mod Writing
+mod Spacing

@@ -1,7 +1,7 @@
 -- A session at a prompt, one line after the other.
 -- for: prompt::ask, prompt::leave, prompt::report, prompt::show_word, prompt::answer, prompt::talk, opening::talk_over, opening::run_prompted
 use Rattle.std.proofs.Common.{◌≡◌, ◌≢◌, ◌∙◌, ◌++◌, ◌∷◌, [], ℕ, ◌+◌, Bool, true, false, List, Option, None, Some, IfSome, Result, Err, Ok}
-use Rattle.std.proofs.Common.{IfErr, OnOk, inl, inr, refl, sym, subst}
+use Rattle.std.proofs.Common.{IfErr, OnOk, ap, inl, inr, refl, sym, subst}
 use Rattle.std.specs.Bool.{⊤}
 use Rattle.std.specs.Borrow.{Bor}
 use Rattle.std.specs.Io.KnownBytes.{Appends}
@@ -26,11 +26,15 @@ use Rattle.tx_plant.specs.declared.turn.PlantError.{PlantError}
 use Rattle.tx_plant.specs.declared.turn.PlantError.TheVariants as plant
 use Rattle.tx_trace.specs.Trace.{Text}
 use Rattle.cli_step.proofs.Joining.{Known, if_some}
-use Rattle.cli_step.specs.Doing.{Point}
+use Rattle.cli_step.specs.Doing.{Point, world_of}
 use Rattle.cli_step.specs.Errors.{at_line, error_of_read, error_of_write}
-use Rattle.cli_step.specs.Prompts.{Answers, AnswersBy, AreFirst, HasBadSessions, HeadAnswers, HeadPrompted, HeadTalks, Heading, IsFaultOf, IsHeadLine}
-use Rattle.cli_step.specs.Prompts.{IsHeadLineBy, IsLeft, IsPrompted, IsReported, IsRunOrReported, OpenedAt, Prompted, Scene, Talked, TalkedOver}
-use Rattle.cli_step.specs.Prompts.{Talks, heading, is_of_sessions, scene}
+use Rattle.cli_step.specs.Prompts.{ActsBy, Answers, AnswersBy, AnswersTyped, AreFirst, HasBadSessions, HeadAnswers, HeadPrompted, HeadTalks, HeadTyped}
+use Rattle.cli_step.specs.Prompts.{IsFaultOf, IsHeadLine, IsHeadLineBy, IsPrompted, IsReported, IsRunOrReported, Leaves, OpenedAt, Prompted, Scene}
+use Rattle.cli_step.specs.Prompts.{Heading, Talked, TalkedOver, Talks, heading, is_of_sessions, saved_session, scene}
+use Rattle.cli_step.specs.Shown.{IsReadableLine}
+use Rattle.cli_step.specs.Typed.{kept, typed}
+use Rattle.cli_step.specs.declared.typed.Typed.{Typed}
+use Rattle.cli_step.specs.declared.typed.Typed.TheVariants.{Line, Nothing, Quit}
 use Rattle.cli_step.specs.PromptWords.{prompt_word_of}
 use Rattle.cli_step.specs.Runs.{Begun, Grows, IsLineFailed, IsOfJournal, IsWriting, Means, RunsLine}
 use Rattle.cli_step.specs.declared.error.ActionError.{ActionError}
@@ -109,14 +113,30 @@ ran_line_grows a p q before after (more, acts, written) = (more, written)
 
 -- lines one after the other
 
-pub talks_more : (lines : List (List ℕ)) (line : List ℕ) (a b asked c : Scene) → Talks lines a b → Prompted b asked → Answers line asked c
-    → Talks (lines ++ line ∷ []) a c
-talks_more [] line a b asked c same prompted answers = (asked, c, subst (λ s. Prompted s asked) same prompted, answers, refl)
-talks_more (l ∷ lines) line a b asked c (first, second, one, other, more) prompted answers =
-    (first, second, one, other, talks_more lines line second b asked c more prompted answers)
+-- the line that is kept after these
+abbrev pub kept_after : List ℕ → List (List ℕ) → List ℕ
+kept_after last [] = last
+kept_after last (line ∷ lines) = kept_after (kept last line) lines
+
+kept_more : (last : List ℕ) (lines : List (List ℕ)) (line : List ℕ) → kept_after last (lines ++ line ∷ []) ≡ kept (kept_after last lines) line
+kept_more last [] line = refl
+kept_more last (l ∷ lines) line = kept_more (kept last l) lines line
+
+-- a line was typed, and what it means was done, after the line that is kept
+abbrev pub DoesTyped : List ℕ → List ℕ → Scene → Scene → Type 0
+DoesTyped last line a b = AnswersTyped (typed last line) (kept last line) a b
+
+pub talks_more : (last : List ℕ) (lines : List (List ℕ)) (line : List ℕ) (a b asked c : Scene) → Talks last lines a b → Prompted b asked
+    → DoesTyped (kept_after last lines) line asked c → Talks last (lines ++ line ∷ []) a c
+talks_more last [] line a b asked c same prompted answers = (asked, c, subst (λ s. Prompted s asked) same prompted, answers, refl)
+talks_more last (l ∷ lines) line a b asked c (first, second, one, other, more) prompted answers =
+    (first, second, one, other, talks_more (kept last l) lines line second b asked c more prompted answers)
+
+abbrev pub HeadDoesTyped : Option Flow → List ℕ → Heading → Heading → Type 0
+HeadDoesTyped file line a b = HeadTyped file (typed [] line) (kept [] line) a b
 
 pub head_talks_more : (file : Option Flow) (lines : List (List ℕ)) (line : List ℕ) (a b asked c : Heading) → HeadTalks file lines a b
-    → HeadPrompted b asked → HeadAnswers file line asked c → HeadTalks file (lines ++ line ∷ []) a c
+    → HeadPrompted b asked → HeadDoesTyped file line asked c → HeadTalks file (lines ++ line ∷ []) a c
 head_talks_more file [] line a b asked c same prompted answers =
     (asked, c, subst (λ s. HeadPrompted s asked) same prompted, answers, refl)
 head_talks_more file (l ∷ lines) line a b asked c (first, second, one, other, more) prompted answers =
@@ -127,48 +147,68 @@ pub first_more : (lines : List (List ℕ)) (line bytes rest after : List ℕ) �
 first_more [] line bytes rest after same one = subst (λ (l : List ℕ). AreFirst (line ∷ []) l after) same one
 first_more (l ∷ lines) line bytes rest after (some, is, more) one = (some, is, first_more lines line (others_of bytes) rest after more one)
 
--- lines were answered up to here, where the bytes that were to come are known
-pub record TalkedTo (bytes : List ℕ) (now : Known) (a b : Scene) : Type 0 where
+-- lines were answered up to here, where the bytes that were to come are known; `last` is kept first, and `later` after them
+pub record TalkedTo (last later bytes : List ℕ) (now : Known) (a b : Scene) : Type 0 where
   pub lines : List (List ℕ)
   pub rest : List ℕ
   pub is : now ≡ Some rest
   pub are : AreFirst lines bytes rest
-  pub talks : Talks lines a b
+  pub keeps : later ≡ kept_after last lines
+  pub talks : Talks last lines a b
 
-abbrev pub TalksTo : Known → Known → Scene → Scene → Type 0
-TalksTo None now a b = Unit {0}
-TalksTo (Some bytes) now a b = TalkedTo bytes now a b
+abbrev pub TalksTo : List ℕ → List ℕ → Known → Known → Scene → Scene → Type 0
+TalksTo last later None now a b = Unit {0}
+TalksTo last later (Some bytes) now a b = TalkedTo last later bytes now a b
 
-pub none_talked : (known : Known) (a : Scene) → TalksTo known known a a
-none_talked None a = tt
-none_talked (Some bytes) a = record { lines = []; rest = bytes; is = refl; are = refl; talks = refl }
+pub none_talked : (last : List ℕ) (known : Known) (a : Scene) → TalksTo last last known known a a
+none_talked last None a = tt
+none_talked last (Some bytes) a = record { lines = []; rest = bytes; is = refl; are = refl; keeps = refl; talks = refl }
 
-pub talks_on : (x y z : Known) (line : List ℕ) (a b asked c : Scene) → TalksTo x y a b → IsNextLine y z (Some line) → Prompted b asked
-    → Answers line asked c → TalksTo x z a c
-talks_on None y z line a b asked c to next prompted answers = tt
-talks_on (Some bytes) y z line a b asked c to next prompted answers =
+pub talks_on : (last later : List ℕ) (x y z : Known) (line : List ℕ) (a b asked c : Scene) → TalksTo last later x y a b
+    → IsNextLine y z (Some line) → Prompted b asked → DoesTyped later line asked c → TalksTo last (kept later line) x z a c
+talks_on last later None y z line a b asked c to next prompted answers = tt
+talks_on last later (Some bytes) y z line a b asked c to next prompted answers =
     let is : IsNextLine (Some to.rest) z (Some line) = subst (λ (k : Known). IsNextLine k z (Some line)) to.is next in
+    let done : DoesTyped (kept_after last to.lines) line asked c = subst (λ (l : List ℕ). DoesTyped l line asked c) to.keeps answers in
     record {
       lines = to.lines ++ line ∷ [];
       rest = others_of to.rest;
       is = is.2;
       are = first_more to.lines line bytes to.rest (others_of to.rest) to.are (is.0, is.1, refl);
-      talks = talks_more to.lines line a b asked c to.talks prompted answers;
+      keeps = ap (λ l. kept l line) to.keeps ∙ sym (kept_more last to.lines line);
+      talks = talks_more last to.lines line a b asked c to.talks prompted done;
     }
 
-pub talked : (x y z : Known) (a b c : Scene) → TalksTo x y a b → IsNextLine y z None → IsLeft b.out c.out → c.err ≡ b.err → c.at ≡ b.at
-    → IfSome x (λ input. Talked input a c)
-talked None y z a b c to next left err at = tt
-talked (Some bytes) y z a b c to next left err at =
+-- a comment, or an empty line with nothing to repeat
+pub nothing_typed : (last line : List ℕ) (kind : Typed) (a : Scene) → kind ≡ typed last line → kind ≡ Nothing → DoesTyped last line a a
+nothing_typed last line kind a is nothing =
+    subst (λ (k : Typed). AnswersTyped k (kept last line) a a) (sym nothing ∙ is) refl
+
+-- a line that is answered
+pub line_typed : (last line : List ℕ) (kind : Typed) (a b : Scene) → kind ≡ typed last line → kind ≡ Line → Answers (kept last line) a b
+    → DoesTyped last line a b
+line_typed last line kind a b is line_is answers =
+    subst (λ (k : Typed). AnswersTyped k (kept last line) a b) (sym line_is ∙ is) answers
+
+pub talked : (last later : List ℕ) (x y z : Known) (a b c : Scene) → TalksTo last later x y a b → IsNextLine y z None → Leaves b c
+    → IfSome x (λ input. Talked last input a c)
+talked last later None y z a b c to next leaves = tt
+talked last later (Some bytes) y z a b c to next leaves =
     let is : IsNextLine (Some to.rest) z None = subst (λ (k : Known). IsNextLine k z None) to.is next in
+    record { lines = to.lines; rest = to.rest; are = to.are; last = b; talks = to.talks; ends = inl (is.0, leaves) }
+
+pub quits : (last later : List ℕ) (x y z : Known) (line : List ℕ) (a b c : Scene) → TalksTo last later x y a b → IsNextLine y z (Some line)
+    → typed later line ≡ Quit → Prompted b c → IfSome x (λ input. Talked last input a c)
+quits last later None y z line a b c to next quit prompted = tt
+quits last later (Some bytes) y z line a b c to next quit prompted =
+    let is : IsNextLine (Some to.rest) z (Some line) = subst (λ (k : Known). IsNextLine k z (Some line)) to.is next in
     record {
       lines = to.lines;
-      are = subst (AreFirst to.lines bytes) is.0 to.are;
+      rest = to.rest;
+      are = to.are;
       last = b;
       talks = to.talks;
-      left = left;
-      err = err;
-      at = at;
+      ends = inr ((is.0, (later, subst (λ (l : List ℕ). typed later l ≡ Quit) is.1 quit)), prompted);
     }
 
 -- the same before a flow is opened
@@ -194,7 +234,7 @@ head_first file known settings out err none =
     subst (λ (s : List ℕ). HeadTalksTo file known known (heading [] out err) (heading s out err)) (sym none) (head_none file known (heading [] out err))
 
 pub head_on : (file : Option Flow) (x y z : Known) (line : List ℕ) (a b asked c : Heading) → HeadTalksTo file x y a b
-    → IsNextLine y z (Some line) → HeadPrompted b asked → HeadAnswers file line asked c → HeadTalksTo file x z a c
+    → IsNextLine y z (Some line) → HeadPrompted b asked → HeadDoesTyped file line asked c → HeadTalksTo file x z a c
 head_on file None y z line a b asked c to next prompted answers = tt
 head_on file (Some bytes) y z line a b asked c to next prompted answers =
     let is : IsNextLine (Some to.rest) z (Some line) = subst (λ (k : Known). IsNextLine k z (Some line)) to.is next in
@@ -205,6 +245,14 @@ head_on file (Some bytes) y z line a b asked c to next prompted answers =
       are = first_more to.lines line bytes to.rest (others_of to.rest) to.are (is.0, is.1, refl);
       talks = head_talks_more file to.lines line a b asked c to.talks prompted answers;
     }
+
+-- what was typed before a flow is opened
+pub head_nothing : (file : Option Flow) (line : List ℕ) (kind : Typed) (a : Heading) → kind ≡ typed [] line → kind ≡ Nothing → HeadDoesTyped file line a a
+head_nothing file line kind a is nothing = subst (λ (k : Typed). HeadTyped file k (kept [] line) a a) (sym nothing ∙ is) refl
+
+pub head_line : (file : Option Flow) (line : List ℕ) (kind : Typed) (a b : Heading) → kind ≡ typed [] line → kind ≡ Line
+    → HeadAnswers file (kept [] line) a b → HeadDoesTyped file line a b
+head_line file line kind a b is line_is answers = subst (λ (k : Typed). HeadTyped file k (kept [] line) a b) (sym line_is ∙ is) answers
 
 pub head_left : (file : Option Flow) (x y z : Known) (out err : Known) (b asked : Heading) (out_after err_after : Known)
     → HeadTalksTo file x y (heading [] out err) b → IsNextLine y z None → HeadPrompted b asked → Appends asked.out out_after (10 ∷ [])
@@ -224,14 +272,14 @@ head_left file (Some bytes) y z out err b asked out_after err_after to next prom
     }
 
 pub head_opened : (file : Option Flow) (x y z : Known) (line : List ℕ) (out err : Known) (b asked : Heading) (out_after err_after : Known)
-    → HeadTalksTo file x y (heading [] out err) b → IsNextLine y z (Some line) → HeadPrompted b asked
-    → IfSome z (λ others. OpenedAt file asked.settings line others asked.out asked.err out_after err_after)
+    → HeadTalksTo file x y (heading [] out err) b → IsNextLine y z (Some line) → HeadPrompted b asked → typed [] line ≡ Line
+    → IfSome z (λ others. OpenedAt file asked.settings (kept [] line) others asked.out asked.err out_after err_after)
     → IfSome x (λ input. IsPrompted file input out err out_after err_after)
-head_opened file None y z line out err b asked out_after err_after to next prompted opened = tt
-head_opened file (Some bytes) y z line out err b asked out_after err_after to next prompted opened =
+head_opened file None y z line out err b asked out_after err_after to next prompted line_is opened = tt
+head_opened file (Some bytes) y z line out err b asked out_after err_after to next prompted line_is opened =
     let is : IsNextLine (Some to.rest) z (Some line) = subst (λ (k : Known). IsNextLine k z (Some line)) to.is next in
-    let over : OpenedAt file asked.settings line (others_of to.rest) asked.out asked.err out_after err_after =
-    subst (λ (k : Known). IfSome k (λ others. OpenedAt file asked.settings line others asked.out asked.err out_after err_after)) is.2 opened in
+    let over : OpenedAt file asked.settings (kept [] line) (others_of to.rest) asked.out asked.err out_after err_after =
+    subst (λ (k : Known). IfSome k (λ others. OpenedAt file asked.settings (kept [] line) others asked.out asked.err out_after err_after)) is.2 opened in
     record {
       lines = to.lines;
       rest = to.rest;
@@ -240,7 +288,28 @@ head_opened file (Some bytes) y z line out err b asked out_after err_after to ne
       talks = to.talks;
       asked = asked;
       prompted = prompted;
-      ends = inr (is.0, subst (λ (l : List ℕ). OpenedAt file asked.settings l (others_of to.rest) asked.out asked.err out_after err_after) is.1 over);
+      ends = inr (inr (record {
+        some = is.0;
+        line = subst (λ (l : List ℕ). typed [] l ≡ Line) is.1 line_is;
+        opened =
+            subst (λ (l : List ℕ). OpenedAt file asked.settings (kept [] l) (others_of to.rest) asked.out asked.err out_after err_after) is.1 over;
+      }));
+    }
+
+pub head_quits : (file : Option Flow) (x y z : Known) (line : List ℕ) (out err : Known) (b asked : Heading) → HeadTalksTo file x y (heading [] out err) b
+    → IsNextLine y z (Some line) → HeadPrompted b asked → typed [] line ≡ Quit → IfSome x (λ input. IsPrompted file input out err asked.out asked.err)
+head_quits file None y z line out err b asked to next prompted quit = tt
+head_quits file (Some bytes) y z line out err b asked to next prompted quit =
+    let is : IsNextLine (Some to.rest) z (Some line) = subst (λ (k : Known). IsNextLine k z (Some line)) to.is next in
+    record {
+      lines = to.lines;
+      rest = to.rest;
+      are = to.are;
+      last = b;
+      talks = to.talks;
+      asked = asked;
+      prompted = prompted;
+      ends = inr (inl ((is.0, ([], subst (λ (l : List ℕ). typed [] l ≡ Quit) is.1 quit)), refl, refl));
     }
 
 -- a plant that is not made for its number of sessions
@@ -273,7 +342,7 @@ bad_sessions flow n names j k e is unmade =
     (why.1.0, why.1.3)
 
 pub talked_over : (flow : Flow) (n : ℕ) (line : List ℕ) (z : Known) (start : Point) (out err : Known) (answered end : Scene) → Begun flow n start
-    → Answers line (scene start out err) answered → IfSome z (λ others. Talked others answered end)
+    → Answers line (scene start out err) answered → IfSome z (λ others. Talked line others answered end)
     → IfSome z (λ others. TalkedOver flow n line others out err end.out end.err)
 talked_over flow n line z start out err answered end begun first rest = if_some z (λ others talked. record {
   start = start;
@@ -289,12 +358,26 @@ talked_over flow n line z start out err answered end begun first rest = if_some 
 -- a line of a script, as its next action has it
 
 pub does : (old new : Actions) (line : List ℕ) (action : Action) (p q : Point) (out out_after err : Known) → old.rest.now ≡ line
-    → IsNextAction old new (Ok (Some action)) → RunsLine action p out q out_after → IsRunOrReported line (scene p out err) (scene q out_after err)
-does old new line action p q out out_after err same next (text, acts, written) = inl (record {
+    → IsNextAction old new (Ok (Some action)) → saved_session action ≡ None → RunsLine action p out q out_after
+    → IsRunOrReported line (scene p out err) (scene q out_after err)
+does old new line action p q out out_after err same next other (text, acts, written) = inl (record {
   action = action;
   means = subst (λ (l : List ℕ). Means l action) same (next.0, next.3, next.4);
   text = text;
-  acts = acts;
+  acts = subst (λ (o : Option ℕ). ActsBy o action p text q) (sym other) acts;
+  out = written;
+  err = refl;
+})
+
+pub shows_saved : (old new : Actions) (line : List ℕ) (action : Action) (s : ℕ) (p : Point) (out out_after err : Known) → old.rest.now ≡ line
+    → IsNextAction old new (Ok (Some action)) → saved_session action ≡ Some s
+    → ((text : Text) × IsReadableLine (world_of p) s text × Appends out out_after text)
+    → IsRunOrReported line (scene p out err) (scene p out_after err)
+shows_saved old new line action s p out out_after err same next session (text, shown, written) = inl (record {
+  action = action;
+  means = subst (λ (l : List ℕ). Means l action) same (next.0, next.3, next.4);
+  text = text;
+  acts = subst (λ (o : Option ℕ). ActsBy o action p text p) (sym session) (shown, refl);
   out = written;
   err = refl;
 })

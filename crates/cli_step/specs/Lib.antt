@@ -8,3 +8,4 @@ pub mod Errors
 pub mod PromptWords
 pub mod Prompts
 pub mod Totals
+pub mod Typed

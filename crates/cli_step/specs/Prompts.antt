@@ -8,6 +8,7 @@ use Rattle.cli_script.specs.Scripts.{HasNoSetting, IsActionRefusal, IsRefusedAt,
 use Rattle.cli_script.specs.declared.error.ScriptError.{ScriptError}
 use Rattle.cli_script.specs.declared.error.ScriptError.TheVariants as script
 use Rattle.cli_script.specs.declared.line.Action.{Action}
+use Rattle.cli_script.specs.declared.line.Action.TheVariants as action
 use Rattle.cli_script.specs.declared.script.Opening.{Opening}
 use Rattle.flow_model.specs.declared.flow.Flow.{Flow}
 use Rattle.tx_history.specs.declared.journal.JournalView.{JournalView}
@@ -19,6 +20,10 @@ use Rattle.tx_trace.specs.Trace.{Text}
 use Rattle.cli_step.specs.Doing.{Point, world_of}
 use Rattle.cli_step.specs.PromptWords.{prompt_word_of, prompt_word_text}
 use Rattle.cli_step.specs.Runs.{Acts, Begun, Means}
+use Rattle.cli_step.specs.Shown.{IsReadableLine}
+use Rattle.cli_step.specs.Typed.{kept, typed}
+use Rattle.cli_step.specs.declared.typed.Typed.{Typed}
+use Rattle.cli_step.specs.declared.typed.Typed.TheVariants.{Nothing, Quit, Line}
 use Rattle.cli_step.specs.declared.error.StepError.{StepError}
 use Rattle.cli_step.specs.declared.error.StepError.TheVariants as error
 use Rattle.cli_step.specs.declared.prompt_words.TheConstants.{HELP}
@@ -62,12 +67,25 @@ pub record Shows (w : PromptWord) (a b : Scene) : Type 0 where
   pub out : Appends a.out b.out (prompt_word_text w (world_of a.at))
   pub err : b.err ≡ a.err
 
+-- the session whose saved context an action shows
+abbrev pub saved_session : Action → Option ℕ
+saved_session (action.Saved s) = Some s
+saved_session _ = None
+
+-- a saved context is shown with its values as text where they are printable; any other action is done as in a script
+abbrev pub ActsBy : Option ℕ → Action → Point → Text → Point → Type 0
+ActsBy (Some s) act p text q = IsReadableLine (world_of p) s text × (q ≡ p)
+ActsBy None act p text q = Acts act p text q
+
+abbrev pub ActsTyped : Action → Point → Text → Point → Type 0
+ActsTyped act p text q = ActsBy (saved_session act) act p text q
+
 -- an action is done, and its text is written
 pub record Does (line : List ℕ) (a b : Scene) : Type 0 where
   pub action : Action
   pub means : Means line action
   pub text : Text
-  pub acts : Acts action a.at text b.at
+  pub acts : ActsTyped action a.at text b.at
   pub out : Appends a.out b.out text
   pub err : b.err ≡ a.err
 
@@ -89,10 +107,17 @@ AnswersBy None line a b = IsRunOrReported line a b
 abbrev pub Answers : List ℕ → Scene → Scene → Type 0
 Answers line a b = AnswersBy (prompt_word_of (line_of line)) line a b
 
--- lines were asked for and answered, one after the other
-abbrev pub Talks : List (List ℕ) → Scene → Scene → Type 0
-Talks [] a b = b ≡ a
-Talks (line ∷ lines) a b = (asked : Scene) × (answered : Scene) × Prompted a asked × Answers line asked answered × Talks lines answered b
+-- what was typed was answered: a comment, and an empty line with nothing to repeat, by nothing
+abbrev pub AnswersTyped : Typed → List ℕ → Scene → Scene → Type 0
+AnswersTyped Nothing line a b = b ≡ a
+AnswersTyped Quit line a b = ⊥
+AnswersTyped Line line a b = Answers line a b
+
+-- lines were asked for and answered, one after the other; `last` is the line that an empty one repeats
+abbrev pub Talks : List ℕ → List (List ℕ) → Scene → Scene → Type 0
+Talks last [] a b = b ≡ a
+Talks last (line ∷ lines) a b = (asked : Scene) × (answered : Scene) × Prompted a asked
+    × AnswersTyped (typed last line) (kept last line) asked answered × Talks (kept last line) lines answered b
 
 -- these are the first lines, and this follows
 abbrev pub AreFirst : List (List ℕ) → List ℕ → List ℕ → Type 0
@@ -103,15 +128,28 @@ AreFirst (line ∷ lines) bytes rest = (bytes ≢ []) × (line ≡ first_line by
 abbrev pub IsLeft : Option (List ℕ) → Option (List ℕ) → Type 0
 IsLeft before after = (asked : Option (List ℕ)) × Appends before asked prompt × Appends asked after (10 ∷ [])
 
--- all lines of the input were answered, up to its end
-pub record Talked (input : List ℕ) (a b : Scene) : Type 0 where
+-- the first line is `quit`
+abbrev pub Quits : List ℕ → Type 0
+Quits rest = (rest ≢ []) × ((last : List ℕ) × (typed last (first_line rest) ≡ Quit))
+
+-- a session ends at the end of the input
+pub record Leaves (a b : Scene) : Type 0 where
+  pub left : IsLeft a.out b.out
+  pub err : b.err ≡ a.err
+  pub at : b.at ≡ a.at
+
+-- a session ends at the end of the input, or at `quit`, after which nothing more is read
+abbrev pub EndsTalk : List ℕ → Scene → Scene → Type 0
+EndsTalk rest a b = ((rest ≡ []) × Leaves a b) ⊎ (Quits rest × Prompted a b)
+
+-- all lines of the input were answered, up to its end or to `quit`
+pub record Talked (kept input : List ℕ) (a b : Scene) : Type 0 where
   pub lines : List (List ℕ)
-  pub are : AreFirst lines input []
+  pub rest : List ℕ
+  pub are : AreFirst lines input rest
   pub last : Scene
-  pub talks : Talks lines a last
-  pub left : IsLeft last.out b.out
-  pub err : b.err ≡ last.err
-  pub at : b.at ≡ last.at
+  pub talks : Talks kept lines a last
+  pub ends : EndsTalk rest last b
 
 -- what a line of a script is before a flow is opened
 abbrev pub IsScriptHeadLine : Bool → List ℕ → HeadLine → Type 0
@@ -174,11 +212,17 @@ pub record HeadPrompted (a b : Heading) : Type 0 where
   pub out : Appends a.out b.out prompt
   pub err : b.err ≡ a.err
 
+-- what was typed was answered; no line is repeated, since a setting that is given twice may be refused
+abbrev pub HeadTyped : Option Flow → Typed → List ℕ → Heading → Heading → Type 0
+HeadTyped file Nothing line a b = b ≡ a
+HeadTyped file Quit line a b = ⊥
+HeadTyped file Line line a b = HeadAnswers file line a b
+
 -- lines were asked for and answered that open no flow, one after the other
 abbrev pub HeadTalks : Option Flow → List (List ℕ) → Heading → Heading → Type 0
 HeadTalks file [] a b = b ≡ a
-HeadTalks file (line ∷ lines) a b =
-    (asked : Heading) × (answered : Heading) × HeadPrompted a asked × HeadAnswers file line asked answered × HeadTalks file lines answered b
+HeadTalks file (line ∷ lines) a b = (asked : Heading) × (answered : Heading) × HeadPrompted a asked
+    × HeadTyped file (typed [] line) (kept [] line) asked answered × HeadTalks file lines answered b
 
 -- a plant was made of the flow, the line was answered over it, and then all others of the input
 pub record TalkedOver (flow : Flow) (sessions : ℕ) (line others : List ℕ) (out err out_after err_after : Option (List ℕ)) : Type 0 where
@@ -187,7 +231,7 @@ pub record TalkedOver (flow : Flow) (sessions : ℕ) (line others : List ℕ) (o
   pub answered : Scene
   pub first : Answers line (scene start out err) answered
   pub end : Scene
-  pub rest : Talked others answered end
+  pub rest : Talked line others answered end
   pub out_is : out_after ≡ end.out
   pub err_is : err_after ≡ end.err
 
@@ -206,11 +250,18 @@ OpenedAt file settings line others out err out_after err_after =
 abbrev pub AreSame : {L W E : Type 0} → L → L → W → W → E → E → Type 0
 AreSame lines lines_now out out_now err err_now = (lines_now ≡ lines) × (out_now ≡ out) × (err_now ≡ err)
 
--- the input ended, or a flow was opened at its first line
+-- the flow was opened at the line that was typed first
+pub record OpensHead (file : Option Flow) (rest : List ℕ) (asked : Heading) (out_after err_after : Option (List ℕ)) : Type 0 where
+  pub some : rest ≢ []
+  pub line : typed [] (first_line rest) ≡ Line
+  pub opened : OpenedAt file asked.settings (kept [] (first_line rest)) (others_of rest) asked.out asked.err out_after err_after
+
+-- the input ended, or `quit` was typed, or a flow was opened
 abbrev pub EndsHead : Option Flow → List ℕ → Heading → Option (List ℕ) → Option (List ℕ) → Type 0
 EndsHead file rest asked out_after err_after =
     ((rest ≡ []) × Appends asked.out out_after (10 ∷ []) × (err_after ≡ asked.err))
-    ⊎ ((rest ≢ []) × OpenedAt file asked.settings (first_line rest) (others_of rest) asked.out asked.err out_after err_after)
+    ⊎ (Quits rest × (out_after ≡ asked.out) × (err_after ≡ asked.err))
+    ⊎ OpensHead file rest asked out_after err_after
 
 -- all lines of the input were asked for and answered, over the flow of a flow file where there is one
 pub record IsPrompted (file : Option Flow) (input : List ℕ) (out err out_after err_after : Option (List ℕ)) : Type 0 where

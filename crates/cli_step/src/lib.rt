@@ -19,6 +19,7 @@ mod script;
 mod shown;
 mod turn_lines;
 mod turns;
+mod typed;
 
 pub use actions::turn_of;
 pub use error::StepError;

@@ -1,12 +1,12 @@
 //! A session at a prompt: its settings, and the line at which a plant is made of them.
 
-ghost use Rattle.std.specs.Prelude.{◌≡◌, ◌≢◌, ◌+◌, ◌<◌, ◌^◌, [], false, true, IfErr, IfOk, IfSome};
+ghost use Rattle.std.specs.Prelude.{◌≡◌, ◌≢◌, ◌+◌, ◌<◌, ◌≤◌, ◌^◌, [], false, true, IfErr, IfOk, IfSome};
 ghost use Rattle.std.specs.Prelude.{OnErr, OnOk, is_some, length};
 ghost use Rattle.cli_lines.specs.Lines.{lines_given, to_come};
 ghost use Rattle.flow_model.specs.Check.{IsChecked};
 ghost use Rattle.cli_step.specs.Prompts.{AreSame, HasBadSessions, HeadAnswers, IsFaultOf};
 ghost use Rattle.cli_step.specs.Prompts.{IsHeadLine, IsMade, IsPrompted, IsReported, IsUnopened};
-ghost use Rattle.cli_step.specs.Prompts.{OpenedOver, SomeIsMade, TalkedOver, heading};
+ghost use Rattle.cli_step.specs.Prompts.{OpenedAt, OpenedOver, SomeIsMade, TalkedOver, heading};
 ghost use Rattle.cli_step.specs.declared.opening.HeadLine.TheVariants as head;
 ghost use Rattle.cli_step.specs.Runs.{Grows};
 
@@ -14,6 +14,7 @@ use crate::error::StepError;
 use crate::prompt::{answer, ask, leave, refusal, report, talk};
 use crate::prompt_words::{HELP, PromptWord, prompt_word_at};
 use crate::script::{memory_journal, plant_refused};
+use crate::typed::{Typed, keep};
 use cli_io::write_out;
 use cli_lines::Lines;
 use cli_script::{Opening, ScriptError, next_setting, open_settings};
@@ -96,7 +97,7 @@ fn talk_over<R: Read, W: Write, E: Write>(
     err: &mut E,
 ) -> Result<Result<(), StepError>, StepError>
     requires some { line.now ≢ [] }
-    requires few { lines_given lines.old + length line.now < 2 ^ 64 }
+    requires few { length line.now < 2 ^ 63 }
     requires given { lines_given lines.old ≢ 0 }
     ensures talked { IfOk result (λ r. OnOk r (IfSome (to_come R.remaining lines.old) (λ others.
         TalkedOver code.now sessions line.now others
@@ -118,8 +119,9 @@ fn talk_over<R: Read, W: Write, E: Write>(
         Err((cause, _, _)) => return Ok(Err(plant_refused(alloc, cause, before + 1, sessions)?)),
     };
     let mut tracer = Tracer::new(alloc, plant.engine());
+    let last = Vec::from_slice(alloc, line)?;
     answer(alloc, &mut plant, &mut tracer, line, before, out, err)?;
-    talk(alloc, &mut plant, &mut tracer, lines, out, err)?;
+    talk(alloc, &mut plant, &mut tracer, last, lines, out, err)?;
     Ok(Ok(()))
 }
 
@@ -136,7 +138,7 @@ fn open_over<R: Read, W: Write, E: Write>(
 ) -> Result<Result<(), StepError>, StepError>
     requires checked { IsChecked opening.flow }
     requires some { line.now ≢ [] }
-    requires few { lines_given lines.old + length line.now < 2 ^ 64 }
+    requires few { length line.now < 2 ^ 63 }
     requires given { lines_given lines.old ≢ 0 }
     ensures talked { IfOk result (λ r. OnOk r (IfSome (to_come R.remaining lines.old) (λ others.
         TalkedOver opening.flow opening.sessions line.now others
@@ -184,7 +186,7 @@ fn open_or_report<R: Read, W: Write, E: Write>(
     err: &mut E,
 ) -> Result<bool, StepError>
     requires some { line.now ≢ [] }
-    requires few { lines_given lines.old + length line.now < 2 ^ 64 }
+    requires few { length line.now < 2 ^ 63 }
     requires given { lines_given lines.old ≢ 0 }
     ensures opened { IfOk result (λ opened. opened ≡ true →
         IfSome (to_come R.remaining lines.old) (λ others.
@@ -255,9 +257,45 @@ fn answer_head<W: Write, E: Write>(
     }
 }
 
-/// Runs a session at a prompt: writes the prompt, reads a line, and answers it before the next prompt, up to the
-/// end of the input, where it ends the last prompt's line. The settings come first. At the first line that needs a
-/// plant, the flow that they state is opened, over that of a flow file if there is one.
+// Answers a line that was typed before a flow is opened, and, if the flow is opened for it, all lines that are still to
+// come. Returns whether the session has ended.
+fn answer_or_open<R: Read, W: Write, E: Write>(
+    alloc: Global,
+    file: &Option<Code>,
+    settings: &mut Vec<u8>,
+    line: &[u8],
+    lines: &mut Lines<R>,
+    out: &mut W,
+    err: &mut E,
+) -> Result<bool, StepError>
+    requires some { line.now ≢ [] }
+    requires few { length line.now < 2 ^ 63 }
+    requires given { lines_given lines.old ≢ 0 }
+    ensures opened { IfOk result (λ ended. ended ≡ true →
+        IfSome (to_come R.remaining lines.old) (λ others.
+        OpenedAt file.now settings.old.items line.now others
+        (W.contents out.old) (E.contents err.old) (W.contents out.new) (E.contents err.new))) }
+    ensures answered { IfOk result (λ ended. ended ≡ false → HeadAnswers file.now line.now
+        (heading settings.old.items (W.contents out.old) (E.contents err.old))
+        (heading settings.new.items (W.contents out.new) (E.contents err.new))) }
+    ensures stays { IfOk result (λ ended. ended ≡ false → lines.new ≡ lines.old) }
+    ensures grows_out { Grows (W.contents out.old) (W.contents out.new) }
+    ensures grows_err { Grows (E.contents err.old) (E.contents err.new) }
+    ensures fault { IfErr result (IsFaultOf SomeIsMade) }
+{
+    let before = lines.count() - 1;
+    if !answer_head(alloc, file, settings, line, before, out, err)? {
+        return Ok(false);
+    }
+    open_or_report(alloc, file, settings.as_slice(), line, lines, out, err)
+}
+
+/// Runs a session at a prompt: writes the prompt, reads a line, and answers it before the next prompt, up to `quit` or
+/// to the end of the input, where it ends the last prompt's line. The settings come first. At the first line that
+/// needs a plant, the flow that they state is opened, over that of a flow file if there is one.
+///
+/// Any number of spaces may separate words, and a line that begins with # is a comment. Once the flow is opened, an
+/// empty line repeats the line before it.
 ///
 /// A line that is refused is reported on `err` and changes nothing, and the session goes on. If the flow or the
 /// number of sessions is refused, the settings stay, and more may follow.
@@ -278,11 +316,18 @@ pub fn run_prompted<R: Read, W: Write, E: Write>(
 {
     let steps = code_of(alloc, file)?;
     let mut settings = Vec::new(alloc);
-    while let Some(line) = ask(alloc, lines, out)? {
-        let (line, before) = (line.as_slice(), lines.count() - 1);
-        let opens = answer_head(alloc, &steps, &mut settings, line, before, out, err)?;
-        if opens && open_or_report(alloc, &steps, settings.as_slice(), line, lines, out, err)? {
-            return Ok(());
+    while let Some(read) = ask(alloc, lines, out)? {
+        // No setting is repeated by an empty line: one that is given twice may be refused.
+        let mut line = Vec::new(alloc);
+        match keep(alloc, &mut line, read.as_slice())? {
+            Typed::Nothing => {}
+            Typed::Quit => return Ok(()),
+            Typed::Line => {
+                let line = line.as_slice();
+                if answer_or_open(alloc, &steps, &mut settings, line, lines, out, err)? {
+                    return Ok(());
+                }
+            }
         }
     }
     leave(out)

@@ -7,7 +7,9 @@ ghost use Rattle.cli_lines.specs.Lines.{IsNextLine, lines_given, room, to_come};
 ghost use Rattle.tx_trace.specs.Follow.{Follows};
 ghost use Rattle.cli_step.specs.Doing.{point_of, world_of};
 ghost use Rattle.cli_step.specs.Prompts.{Answers, IsFaultOf, IsReported, SomeIsMade};
-ghost use Rattle.cli_step.specs.Prompts.{Talked, prompt, scene};
+ghost use Rattle.cli_step.specs.Prompts.{Talked, prompt, saved_session, scene};
+ghost use Rattle.cli_step.specs.Shown.{IsReadableLine};
+ghost use Rattle.tx_trace.specs.Trace.{Text};
 ghost use Rattle.cli_script.specs.declared.error.ScriptError.TheVariants as script;
 ghost use Rattle.cli_step.specs.PromptWords.{prompt_word_text};
 ghost use Rattle.cli_step.specs.Runs.{Grows};
@@ -15,11 +17,14 @@ ghost use Rattle.cli_step.specs.Runs.{Grows};
 use crate::error::StepError;
 use crate::prompt_words::{PromptWord, prompt_word_at, prompt_word_text};
 use crate::script::run_line;
+use crate::shown::readable_line;
+use crate::typed::{Typed, keep};
 use cli_io::{write_out, write_whole};
 use cli_lines::Lines;
-use cli_script::{Actions, LineError, ScriptError};
+use cli_script::{Action, Actions, LineError, ScriptError};
 use sqlite::Alter;
 use std::alloc::Global;
+use std::fmt;
 use std::io::{Read, Write};
 use tx_plant::Plant;
 use tx_trace::Tracer;
@@ -58,16 +63,29 @@ pub fn leave<W: Write>(out: &mut W) -> Result<(), StepError>
     Ok(write_out(out, b"\n")?)
 }
 
-// Names `help` if the first word is not a command.
-fn hint(cause: &StepError) -> &'static str {
-    match cause {
-        StepError::Script(
+/// Why a line is refused, at a prompt: the line stands right above, so its number and its words are left out.
+#[derive(Drop)]
+struct Brief<'a>(&'a StepError);
+
+impl fmt::Display for Brief<'_> {
+    fn fmt<W: fmt::Write>(&self, f: &mut fmt::Formatter<W>) -> fmt::Result {
+        let StepError::Script(refusal) = self.0 else {
+            let cause = self.0;
+            return write!(f, "{cause}");
+        };
+        match refusal {
             ScriptError::Line {
                 cause: LineError::Command,
+                found,
                 ..
-            },
-        ) => "; try help",
-        _ => "",
+            } => write!(f, "unknown command {found}; try help"),
+            ScriptError::Line { cause, .. } => write!(f, "{cause}"),
+            ScriptError::FlowBesideFile { .. } => f.write_str("the flow is that of the flow file"),
+            ScriptError::LateSetting { .. } => f.write_str("settings come before all other lines"),
+            ScriptError::Crowded { .. } => f.write_str("a context has at most 64 names"),
+            ScriptError::Flow { cause, .. } => write!(f, "the flow is refused: {cause}"),
+            ScriptError::OutOfMemory => f.write_str("out of memory"),
+        }
     }
 }
 
@@ -78,8 +96,8 @@ pub fn report<E: Write>(alloc: Global, cause: &StepError, err: &mut E) -> Result
     ensures fault { IfErr result (IsFaultOf ⊤) }
     ensures head_fault { IfErr result (IsFaultOf SomeIsMade) }
 {
-    let hint = hint(cause);
-    let text = format!(in alloc; "{cause}{hint}\n")?;
+    let brief = Brief(cause);
+    let text = format!(in alloc; "{brief}\n")?;
     write_whole(err, b"cardswitch: ")?;
     Ok(write_out(err, text.as_bytes())?)
 }
@@ -98,6 +116,33 @@ fn show_word<S: Alter, W: Write>(
 {
     let text = prompt_word_text(alloc, plant.engine(), word)?;
     Ok(write_out(out, text.as_slice())?)
+}
+
+// The session whose saved context an action shows.
+fn saved_session(action: &Action) -> Option<u64>
+    ensures { result ≡ saved_session action.now }
+{
+    match action {
+        Action::Saved(s) => Some(*s),
+        _ => None,
+    }
+}
+
+// Shows the saved context of a session's transaction.
+fn show_saved<S: Alter, W: Write>(
+    alloc: Global,
+    plant: &Plant<S>,
+    s: u64,
+    out: &mut W,
+) -> Result<(), StepError>
+    ensures shown { OnOk result ((text : Text)
+        × IsReadableLine (world_of (point_of S.Store plant.now)) s text
+        × Appends (W.contents out.old) (W.contents out.new) text) }
+    ensures grows { Grows (W.contents out.old) (W.contents out.new) }
+    ensures fault { IfErr result (IsFaultOf ⊤) }
+{
+    let line = readable_line(alloc, plant.engine(), s as usize)?;
+    Ok(write_out(out, line.as_bytes())?)
 }
 
 /// The refusal of a line. Out of memory is not one, and ends the session.
@@ -139,32 +184,45 @@ pub fn answer<S: Alter, W: Write, E: Write>(
     }
     let mut actions = Actions::new(line, before);
     match actions.next(alloc) {
-        Ok(Some(action)) => run_line(alloc, plant, tracer, action, before + 1, out),
+        Ok(Some(action)) => match saved_session(&action) {
+            Some(s) => show_saved(alloc, plant, s, out),
+            None => run_line(alloc, plant, tracer, action, before + 1, out),
+        },
         Ok(None) => unreachable!(),
         Err(error) => report(alloc, &StepError::Script(refusal(error)?), err),
     }
 }
 
-/// Asks for the lines that are still to come, and answers each, up to the end of the input.
+/// Asks for the lines that are still to come, and answers each, up to the end of the input or to `quit`. `last` is
+/// the line that an empty one repeats.
 pub fn talk<R: Read, S: Alter, W: Write, E: Write>(
     alloc: Global,
     plant: &mut Plant<S>,
     tracer: &mut Tracer,
+    last: Vec<u8>,
     lines: &mut Lines<R>,
     out: &mut W,
     err: &mut E,
 ) -> Result<(), StepError>
     requires { Follows plant.old.running.engine tracer.old }
-    ensures talked { OnOk result (IfSome (to_come R.remaining lines.old) (λ input. Talked input
+    ensures talked { OnOk result (IfSome (to_come R.remaining lines.old) (λ input.
+        Talked last.items input
         (scene (point_of S.Store plant.old) (W.contents out.old) (E.contents err.old))
         (scene (point_of S.Store plant.new) (W.contents out.new) (E.contents err.new)))) }
     ensures grows_out { Grows (W.contents out.old) (W.contents out.new) }
     ensures grows_err { Grows (E.contents err.old) (E.contents err.new) }
     ensures fault { IfErr result (IsFaultOf ⊤) }
 {
-    while let Some(line) = ask(alloc, lines, out)? {
-        let before = lines.count() - 1;
-        answer(alloc, plant, tracer, line.as_slice(), before, out, err)?;
+    let mut last = last;
+    while let Some(read) = ask(alloc, lines, out)? {
+        match keep(alloc, &mut last, read.as_slice())? {
+            Typed::Nothing => {}
+            Typed::Quit => return Ok(()),
+            Typed::Line => {
+                let before = lines.count() - 1;
+                answer(alloc, plant, tracer, last.as_slice(), before, out, err)?;
+            }
+        }
     }
     leave(out)
 }

@@ -58,6 +58,8 @@ auto                       runs one transaction with an empty context to its end
 list                       shows the steps of the flow, and where the sessions are
 info                       shows each session, the queue, the shelf and what is written
 help                       shows these lines
+quit                       ends the session
+An empty line repeats the line before, once the flow is open. A line that begins with # is a comment.
 ";
 
 /// `queue Q, shelf H, written M of N`

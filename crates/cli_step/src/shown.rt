@@ -1,15 +1,16 @@
 //! The lines that show something.
 
 ghost use Rattle.std.specs.Prelude.{◌≡◌, ◌++◌, [], IfOk, OnErr, OnOk, option_map, slice_get};
-ghost use Rattle.std.specs.Prelude.{string_bytes};
-ghost use Rattle.std.specs.List.{flat_map};
+ghost use Rattle.std.specs.Prelude.{string_bytes, true};
+ghost use Rattle.std.specs.List.{flat_map, list_all};
 ghost use Rattle.std.specs.Option.{option_map_or};
 ghost use Rattle.tx_engine.specs.Calls.{rest_of};
 ghost use Rattle.tx_trace.specs.Trace.{hex_text};
 ghost use Rattle.cli_step.specs.Doing.{Adds, point_of};
-ghost use Rattle.cli_step.specs.Places.{calls_text, entry_text, put_text, rest_text, saved_text};
+ghost use Rattle.cli_step.specs.Places.{calls_text, entry_text, is_readable, put_in};
+ghost use Rattle.cli_step.specs.Places.{rest_text, saved_text};
 ghost use Rattle.cli_step.specs.TurnLines.{whole_line};
-ghost use Rattle.cli_step.specs.Shown.{IsSavedLine, IsShown, Shows, calls_made};
+ghost use Rattle.cli_step.specs.Shown.{IsReadableLine, IsSavedLine, IsShown, Shows, calls_made};
 
 use crate::error::ActionError;
 use crate::places::CallsText;
@@ -18,9 +19,19 @@ use cli_script::Action;
 use sqlite::Alter;
 use std::alloc::{AllocError, Global};
 use sw_context::Context;
+use sw_json::is_printable;
 use tx_engine::{Engine, EngineError};
 use tx_plant::Plant;
 use tx_trace::{Hex, Names, rest};
+
+/// How the values of a context are shown.
+#[derive(Clone, Copy)]
+pub enum Values {
+    /// In hexadecimal digits.
+    Hexadecimal,
+    /// As text between quotation marks where all bytes are printable, otherwise in hexadecimal digits.
+    Readable,
+}
 
 /// Adds a line to a text, if there is one.
 pub fn push_line(text: &mut String, line: Option<String>) -> Result<(), AllocError>
@@ -78,15 +89,57 @@ fn push_hex(alloc: Global, text: &mut String, bytes: &[u8]) -> Result<(), AllocE
     Ok(())
 }
 
-// Adds ` N=HEX` for the entry of the context with this index.
+fn is_readable(value: &[u8]) -> bool
+    ensures { result ≡ list_all is_readable value.now }
+{
+    value
+        .iter()
+        .all(|byte| is_printable(*byte) && *byte != b'"')
+}
+
+// Adds bytes that are readable.
+fn push_readable(text: &mut String, value: &[u8]) -> Result<(), AllocError>
+    requires { list_all is_readable value.now ≡ true }
+    ensures { OnOk result (string_bytes text.new ≡ string_bytes text.old ++ value.now) }
+{
+    for byte in value {
+        text.push(char::from(*byte))?;
+    }
+    Ok(())
+}
+
+// Adds ` N=HEX` or ` N="TEXT"` for an entry of a context.
 fn push_put(
+    alloc: Global,
+    text: &mut String,
+    name: &str,
+    value: &[u8],
+    values: Values,
+) -> Result<(), AllocError>
+    ensures { OnOk result (string_bytes text.new
+        ≡ string_bytes text.old ++ put_in values (name.now, value.now)) }
+{
+    text.push_str(format!(in alloc; " {name}=")?.as_str())?;
+    match values {
+        Values::Readable if is_readable(value) => {
+            text.push('"')?;
+            push_readable(text, value)?;
+            text.push('"')
+        }
+        _ => push_hex(alloc, text, value),
+    }
+}
+
+// The same for the entry of the context with this index.
+fn push_put_at(
     alloc: Global,
     text: &mut String,
     context: &Context,
     index: usize,
+    values: Values,
 ) -> Result<(), AllocError>
-    ensures { OnOk result (string_bytes text.new
-        ≡ string_bytes text.old ++ option_map_or put_text (slice_get context.now index) []) }
+    ensures { OnOk result (string_bytes text.new ≡ string_bytes text.old
+        ++ option_map_or (put_in values) (slice_get context.now index) []) }
 {
     let Some(name) = context.name_at(index) else {
         return Ok(());
@@ -94,27 +147,37 @@ fn push_put(
     let Some(value) = context.value_at(index) else {
         return Ok(());
     };
-    text.push_str(format!(in alloc; " {name}=")?.as_str())?;
-    push_hex(alloc, text, value)
+    push_put(alloc, text, name, value, values)
 }
 
 // `saved ID[ N=HEX ..]`
-fn saved_text(alloc: Global, id: u64, context: &Context) -> Result<String, AllocError>
-    ensures { IfOk result (λ line. string_bytes line ≡ saved_text id context.now) }
+fn saved_text(
+    alloc: Global,
+    id: u64,
+    context: &Context,
+    values: Values,
+) -> Result<String, AllocError>
+    ensures { IfOk result (λ line. string_bytes line ≡ saved_text (put_in values) id context.now) }
 {
     let mut text = format!(in alloc; "saved {id}")?;
     for index in 0..context.len() {
-        push_put(alloc, &mut text, context, index)?;
+        push_put_at(alloc, &mut text, context, index, values)?;
     }
     Ok(text)
 }
 
 // The line of `saved S`: the saved context of the session's transaction.
-fn saved_line(alloc: Global, engine: &Engine, s: usize) -> Result<String, AllocError>
-    ensures { IfOk result (λ line. IsSavedLine engine.now s (string_bytes line)) }
+fn saved_line(
+    alloc: Global,
+    engine: &Engine,
+    s: usize,
+    values: Values,
+) -> Result<String, AllocError>
+    ensures { IfOk result (λ line.
+        IsSavedLine (put_in values) engine.now s (string_bytes line)) }
 {
     match engine.saved(alloc, s) {
-        Ok(Some((id, context))) => saved_text(alloc, id, &context),
+        Ok(Some((id, context))) => saved_text(alloc, id, &context, values),
         Ok(None) => format!(in alloc; "idle {s}"),
         Err(EngineError::OutOfMemory) => Err(AllocError),
         Err(error) => {
@@ -122,6 +185,15 @@ fn saved_line(alloc: Global, engine: &Engine, s: usize) -> Result<String, AllocE
             format!(in alloc; "refused {name}")
         }
     }
+}
+
+/// What `saved S` prints at a prompt: values are shown as text where they are printable.
+pub fn readable_line(alloc: Global, engine: &Engine, s: usize) -> Result<String, AllocError>
+    ensures { IfOk result (λ text. IsReadableLine engine.now s (string_bytes text)) }
+{
+    let mut line = saved_line(alloc, engine, s, Values::Readable)?;
+    line.push('\n')?;
+    Ok(line)
 }
 
 // How many calls were made of the station of this name; 0 if there is no such station.
@@ -157,7 +229,9 @@ fn shown<S: Alter>(
     match action {
         Action::Where(s) => where_line(alloc, engine, *s as usize).map(Some),
         Action::Rest(s) => rest_line(alloc, engine, *s as usize).map(Some),
-        Action::Saved(s) => saved_line(alloc, engine, *s as usize).map(Some),
+        Action::Saved(s) => {
+            saved_line(alloc, engine, *s as usize, Values::Hexadecimal).map(Some)
+        }
         Action::Calls(name) => calls_line(alloc, plant, name.as_str()).map(Some),
         _ => Ok(None),
     }

@@ -27,7 +27,7 @@ returns-clause-talked g c =
     let opened = c.in-Ok-new.ensures.opened in
     talked_over c.args.code.now c.args.sessions c.args.line.now (to_come g.R.Read.remaining c.args.lines.now) _ _ _ _ _
     (record { journal = _; fresh = c.in-Ok.ensures.whole; view = opened.0; opened = opened.1; seated = c.in-Ok-new.ensures.seated })
-    c.in_ok-answer.ensures.answers c.in_ok-talk.ensures.talked
+    c.in_ok-answer.ensures.answers (rw c.in_ok-last.ensures.items at c.in_ok-talk.ensures.talked)
 
 pub returns-in-Err-new-clause-refused : goal.returns-in-Err-new-clause-refused
 returns-in-Err-new-clause-refused g c =

@@ -6,15 +6,15 @@ use Rattle.cli_step.specs.Prompts.{scene}
 use Rattle.cli_step.specs.Runs.{Grows}
 use Rattle.cli_step.proofs.prompt.talk.Given as goal
 
-abbrev pub invariant-loop-line : goal.invariant-loop-line
-invariant-loop-line g l = record {
+abbrev pub invariant-loop-last : goal.invariant-loop-last
+invariant-loop-last g l = record {
   follows : Follows l.plant.running.engine l.tracer;
-  talked : TalksTo (to_come g.R.Read.remaining l.fn.lines) (to_come g.R.Read.remaining l.lines)
+  talked : TalksTo l.fn.last.items l.last.items (to_come g.R.Read.remaining l.fn.lines) (to_come g.R.Read.remaining l.lines)
       (scene (point_of g.S.Store l.fn.plant) (g.W.Write.contents l.fn.out) (g.E.Write.contents l.fn.err))
       (scene (point_of g.S.Store l.plant) (g.W.Write.contents l.out) (g.E.Write.contents l.err));
   grows_out : Grows (g.W.Write.contents l.fn.out) (g.W.Write.contents l.out);
   grows_err : Grows (g.E.Write.contents l.fn.err) (g.E.Write.contents l.err);
 }
 
-abbrev pub decreases-loop-line : goal.decreases-loop-line
-decreases-loop-line g l = room l.lines
+abbrev pub decreases-loop-last : goal.decreases-loop-last
+decreases-loop-last g l = room l.lines
