@@ -31,7 +31,7 @@ _cardswitch() {
         words="step asm list graph decode encode recover journal run help --help --version"
     else
         case ${COMP_WORDS[1]} in
-            step) words="--flow --prompt --help" ;;
+            step) words="--flow --prompt --switch --help" ;;
             asm | list | encode) words="--help" ;;
             graph) words="--flow --dot --help" ;;
             decode) words="--mask --help" ;;

@@ -6,9 +6,9 @@
 Random scripts come over a pipe, one line after the other. After each line, what the plain model prints for it has to come within a few
 seconds, and nothing more. A line that the model refuses has to end the run with status 1, before another line is sent.
 
-With `--prompt` each line is asked for by a prompt, a line that the model refuses is reported and changes nothing, and the run goes on. The
-lines `help`, `list` and `info`, empty ones, comments, further spaces and refused lines come among the others, and `quit` may end it. The sessions that docs/DEBUGGER.md shows are typed on a pseudo-terminal,
-and what is on the screen has to be what the page shows.
+With `--prompt` each line is asked for by a prompt, a line that the model refuses is reported and changes nothing, and the run goes on.
+The lines `help`, `list` and `info`, empty ones, comments, further spaces and refused lines come among the others, and `quit` may end it.
+The sessions that docs/DEBUGGER.md shows are typed on a pseudo-terminal, and what is on the screen has to be what the page shows.
 """
 
 import argparse

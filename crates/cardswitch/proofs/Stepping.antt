@@ -1,15 +1,18 @@
 -- What `step` has done, by what became of its flow file.
--- for: steps::step_script, steps::step_over, steps::step_prompted, steps::prompt_over
-use Rattle.std.proofs.Common.{◌≡◌, ℕ, [], List, Option, Some, None, Result, Ok, Err, IfErr, IfOk, IfSome, OnOk, Bor, ap, subst, sym}
+-- for: steps::cast, steps::step_script, steps::step_over, steps::step_prompted, steps::prompt_over
+use Rattle.std.proofs.Common.{◌≡◌, ℕ, Bool, true, false, [], List, Option, Some, None, Result, Ok, Err, IfErr, IfOk, IfSome, OnOk, Bor, ap, refl, subst, sym}
 use Rattle.flow_model.specs.Check.{IsChecked}
 use Rattle.flow_model.specs.declared.flow.Flow.{Flow}
 use Rattle.std.proofs.KnownBytes.{Appends-nil}
+use Rattle.cli_run.specs.Links.{switch_routes}
+use Rattle.cli_step.specs.declared.cast.Cast.TheVariants.{Switch}
 use Rattle.cli_step.specs.Prompts.{IsFaultOf, IsPrompted, SomeIsMade}
 use Rattle.cli_step.specs.Runs.{Grows, IsRun}
 use Rattle.cli_step.specs.declared.error.StepError.{StepError}
 use Rattle.cli_step.specs.declared.error.StepError.TheVariants as step
+use Rattle.sw_simulated.specs.declared.setup.SimulatedSetup.{SimulatedSetup}
 use Rattle.cardswitch.specs.Errors.{error_of_step}
-use Rattle.cardswitch.specs.Steps.{IsFileFlow, IsFileFlowFault, IsScriptFault, IsPromptFault, IsPromptedStep, IsSessionFault, IsStepFault, IsStepped}
+use Rattle.cardswitch.specs.Steps.{IsFileFlow, IsFileFlowFault, IsScriptFault, IsPromptFault, IsPromptedStep, IsSessionFault, IsStepFault, IsStepped, IsCastBy}
 use Rattle.cardswitch.specs.Steps.{PromptsOver, RunsScript}
 use Rattle.cardswitch.specs.declared.error.RunError.{RunError}
 use Rattle.cardswitch.specs.declared.error.RunError.TheVariants as error
@@ -26,6 +29,7 @@ ran_over file flow known unread before after took same ran =
 pub script_error : (before after : Option (List ℕ)) (e : StepError) → Grows before after → IsScriptFault before after (error_of_step e)
 script_error before after (step.Script e) grown = (tt, grown)
 script_error before after (step.Plant n e) grown = (tt, grown)
+script_error before after (step.NoParticipant name) grown = (tt, grown)
 script_error before after (step.Journal n e) grown = (tt, grown)
 script_error before after (step.Read e) grown = grown
 script_error before after (step.Write e) grown = grown
@@ -108,6 +112,7 @@ prompted_over file flow known unread out err out_after err_after took same ran =
 pub session_error : (e : StepError) → IsFaultOf SomeIsMade e → IsSessionFault (error_of_step e)
 session_error (step.Script e) fault = absurd fault
 session_error (step.Plant n e) fault = fault
+session_error (step.NoParticipant name) fault = tt
 session_error (step.Journal n e) fault = tt
 session_error (step.Read e) fault = tt
 session_error (step.Write e) fault = tt
@@ -150,3 +155,9 @@ prompt_failed path (Ok flow) before after (Err e) refused no_flow failed session
 prompt_failed path (Err f) before after (Ok done) refused no_flow failed session = tt
 prompt_failed path (Err f) before after (Err e) refused no_flow failed session =
     subst (IsPromptFault path before after) (sym (same_error e f no_flow.0)) (flow_fault path before after f refused no_flow.1, file_session path f refused)
+
+-- the switch's own participants
+pub switch_cast : (switch : Bool) (setup : SimulatedSetup) → switch ≡ true → setup.limit ≡ 10000 → setup.stand_in ≡ 1000
+    → setup.routes ≡ switch_routes → IsCastBy switch (Switch setup)
+switch_cast true setup is limit stand_in routes = (setup, refl, record { limit = limit; stand_in = stand_in; routes = routes })
+switch_cast false setup is limit stand_in routes = let differ : false ≡ true = is in cc

@@ -37,7 +37,7 @@ IsEncodedText unread written written_now = IfSome unread (λ bytes. IsEncoded by
 
 -- what is said of the bytes that were to be read and those that are written, `files` being the store over files
 abbrev pub IsDone : {S : Type 0} → Ghosts S → Options → Option (List ℕ) → Option (List ℕ) → Option (List ℕ) → Type 0
-IsDone files (Step flow prompt) unread written written_now = IsSteppedBy prompt flow unread written written_now
+IsDone files (Step o) unread written written_now = IsSteppedBy o.prompt o.flow unread written written_now
 IsDone files (Recover o) unread written written_now =
     (f : Flow) × IsChecked f × Recovered files f o.journal.now written written_now
 IsDone files (Run o) unread written written_now =
@@ -84,7 +84,7 @@ IsEncodeFault unread written written_now _ = ⊥
 
 -- what an error says of the bytes that were to be read and those that are written
 abbrev pub IsErrorOf : Options → Option (List ℕ) → Option (List ℕ) → Option (List ℕ) → RunError → Type 0
-IsErrorOf (Step flow prompt) unread written written_now e = IsStepFaultBy prompt flow written written_now e
+IsErrorOf (Step o) unread written written_now e = IsStepFaultBy o.prompt o.flow written written_now e
 IsErrorOf (Recover o) unread written written_now e = IsRecoverFault o written written_now e
 IsErrorOf (Run o) unread written written_now e = IsRunFault o written written_now e
 IsErrorOf (Journal o) unread written written_now e = IsLookFault o written written_now e
@@ -98,7 +98,7 @@ IsErrorOf Encode unread written written_now e = IsEncodeFault unread written wri
 -- reports lines that it refuses
 abbrev pub IsQuiet : Options → Type 0
 IsQuiet (Run o) = ⊥
-IsQuiet (Step flow prompt) = prompt ≡ false
+IsQuiet (Step o) = o.prompt ≡ false
 IsQuiet _ = ⊤
 
 -- a status that is not 0 is that of an error, and the error holds

@@ -4,10 +4,14 @@ use Rattle.std.specs.Borrow.{Bor}
 use Rattle.flow_model.specs.Check.{IsChecked}
 use Rattle.flow_model.specs.declared.flow.Flow.{Flow}
 use Rattle.cli_options.specs.CommandLine.{text_of}
+use Rattle.cli_run.specs.Links.{switch_routes}
 use Rattle.cli_step.specs.Prompts.{IsFaultOf, IsPrompted, SomeIsMade}
 use Rattle.cli_step.specs.Runs.{Grows, IsRun}
+use Rattle.cli_step.specs.declared.cast.Cast.{Cast}
+use Rattle.cli_step.specs.declared.cast.Cast.TheVariants.{Scripted, Switch}
 use Rattle.cli_step.specs.declared.error.StepError.{StepError}
 use Rattle.cli_step.specs.declared.error.StepError.TheVariants as script
+use Rattle.sw_simulated.specs.declared.setup.SimulatedSetup.{SimulatedSetup}
 use Rattle.cardswitch.specs.Runs.{IsFlowFault}
 use Rattle.cardswitch.specs.declared.error.RunError.{RunError}
 use Rattle.cardswitch.specs.declared.error.RunError.TheVariants as error
@@ -76,3 +80,14 @@ IsSteppedBy true path unread before after =
 abbrev pub IsStepFaultBy : Bool → Option (Bor (List ℕ)) → Option (List ℕ) → Option (List ℕ) → RunError → Type 0
 IsStepFaultBy false path before after e = IsStepFault path before after e
 IsStepFaultBy true path before after e = IsPromptFault path before after e
+
+-- the limits and routes of the switch's own participants
+pub record IsSwitchSetup (setup : SimulatedSetup) : Type 0 where
+  pub limit : setup.limit ≡ 10000
+  pub stand_in : setup.stand_in ≡ 1000
+  pub routes : setup.routes ≡ switch_routes
+
+-- whose participants a script's flow has
+abbrev pub IsCastBy : Bool → Cast → Type 0
+IsCastBy false who = who ≡ Scripted
+IsCastBy true who = (setup : SimulatedSetup) × (who ≡ Switch setup) × IsSwitchSetup setup

@@ -165,7 +165,7 @@ fn run_subcommand<
         (R.remaining input) (O.contents out.old) (O.contents out.new)) }
 {
     match options {
-        Options::Step { flow, prompt } => step(alloc, rt, *flow, *prompt, input, out, err),
+        Options::Step(options) => step(alloc, rt, options, input, out, err),
         Options::Asm => asm(alloc, input, out),
         Options::List => list(alloc, input, out),
         Options::Graph { flow, dot } => graph(alloc, rt, flow, *dot, out),

@@ -3,15 +3,18 @@
 ghost use Rattle.std.specs.Prelude.{◌≡◌, IfErr, IfOk, IfSome, OnOk, false};
 ghost use Rattle.std.specs.Io.KnownBytes.{Keeps};
 ghost use Rattle.flow_model.specs.Check.{IsChecked};
-ghost use Rattle.cardswitch.specs.Steps.{IsFileFlow, IsFileFlowFault, IsPromptFault, IsPromptedStep};
+ghost use Rattle.cardswitch.specs.Steps.{IsCastBy, IsFileFlow, IsFileFlowFault, IsPromptFault, IsPromptedStep};
 ghost use Rattle.cardswitch.specs.Steps.{IsScriptFault, IsSessionFault, IsStepFault, IsStepFaultBy};
 ghost use Rattle.cardswitch.specs.Steps.{IsStepped, IsSteppedBy, PromptsOver, RunsScript};
+ghost use Rattle.cardswitch.specs.declared.error.RunError.TheVariants as error;
 
 use crate::error::RunError;
 use crate::flow_file::flow_at;
 use cli_io::Input;
 use cli_lines::Lines;
-use cli_step::{run_lines, run_prompted};
+use cli_options::choice::StepOptions;
+use cli_setup::simulated;
+use cli_step::{Cast, run_lines, run_prompted};
 use flow_model::Flow;
 use std::alloc::Global;
 use std::io::{Read, Write};
@@ -31,6 +34,7 @@ fn file_flow(alloc: Global, rt: &HostRuntime, path: Option<&str>) -> Result<Opti
 // its file, so that contracts can say that its fault is reported first.)
 fn step_over<R: Read + Drop, O: Write>(
     alloc: Global,
+    cast: &Cast,
     file: Result<Option<Flow>, RunError>,
     input: R,
     out: &mut O,
@@ -44,13 +48,14 @@ fn step_over<R: Read + Drop, O: Write>(
 {
     let flow = file?;
     let mut lines = Lines::new(alloc, Input::new(input));
-    Ok(run_lines(alloc, flow, &mut lines, out)?)
+    Ok(run_lines(alloc, cast, flow, &mut lines, out)?)
 }
 
 // Runs the script of an input over the flow of its own lines, or over that of the flow file at a path.
 fn step_script<R: Read + Drop, O: Write>(
     alloc: Global,
     rt: &HostRuntime,
+    cast: &Cast,
     path: Option<&str>,
     input: R,
     out: &mut O,
@@ -61,13 +66,14 @@ fn step_script<R: Read + Drop, O: Write>(
         (IsStepFault path.entry (O.contents out.old) (O.contents out.new)) }
 {
     let file = file_flow(alloc, rt, path);
-    step_over(alloc, file, input, out)
+    step_over(alloc, cast, file, input, out)
 }
 
 // Answers the lines of an input at a prompt. (The flow is given as the result of reading its file, as in
 // `step_over`.)
 fn prompt_over<R: Read + Drop, O: Write, E: Write>(
     alloc: Global,
+    cast: &Cast,
     file: Result<Option<Flow>, RunError>,
     input: R,
     out: &mut O,
@@ -84,13 +90,14 @@ fn prompt_over<R: Read + Drop, O: Write, E: Write>(
 {
     let taken = file?;
     let mut lines = Lines::new(alloc, Input::new(input));
-    Ok(run_prompted(alloc, taken, &mut lines, out, err)?)
+    Ok(run_prompted(alloc, cast, taken, &mut lines, out, err)?)
 }
 
 // Answers the lines of an input at a prompt, over the flow of its own lines, or over that of the flow file at a path.
 fn step_prompted<R: Read + Drop, O: Write, E: Write>(
     alloc: Global,
     rt: &HostRuntime,
+    cast: &Cast,
     path: Option<&str>,
     input: R,
     out: &mut O,
@@ -102,29 +109,40 @@ fn step_prompted<R: Read + Drop, O: Write, E: Write>(
         (IsPromptFault path.entry (O.contents out.old) (O.contents out.new)) }
 {
     let file = file_flow(alloc, rt, path);
-    prompt_over(alloc, file, input, out, err)
+    prompt_over(alloc, cast, file, input, out, err)
 }
 
-/// Runs the script of an input over the flow of its own lines, or over that of the flow file at a path. What a
-/// line prints is written before the next one is read. With a prompt each line is asked for, and one that is refused is
-/// reported on `err` and passed over.
+// Whose participants a script's flow has.
+fn cast(alloc: Global, switch: bool) -> Result<Cast, RunError>
+    ensures cast { IfOk result (IsCastBy switch) }
+    ensures failed { IfErr result (λ e. e ≡ error.OutOfMemory) }
+{
+    if switch {
+        return Ok(Cast::Switch(simulated(alloc)?));
+    }
+    Ok(Cast::Scripted)
+}
+
+/// Runs the script of an input over the flow of its own lines, or over that of the flow file that the options name. Its
+/// participants reply as the script says, or are the switch's own. What a line prints is written before the next one
+/// is read. With a prompt each line is asked for, and one that is refused is reported on `err` and passed over.
 pub fn step<R: Read + Drop, O: Write, E: Write>(
     alloc: Global,
     rt: &HostRuntime,
-    path: Option<&str>,
-    prompt: bool,
+    options: &StepOptions<'_>,
     input: R,
     out: &mut O,
     err: &mut E,
 ) -> Result<(), RunError>
-    ensures stepped { OnOk result (IsSteppedBy prompt path.entry
+    ensures stepped { OnOk result (IsSteppedBy options.now.prompt options.now.flow
         (R.remaining input) (O.contents out.old) (O.contents out.new)) }
-    ensures failed { IfErr result
-        (IsStepFaultBy prompt path.entry (O.contents out.old) (O.contents out.new)) }
-    ensures quiet { prompt ≡ false → Keeps (E.contents err.old) (E.contents err.new) }
+    ensures failed { IfErr result (IsStepFaultBy options.now.prompt options.now.flow
+        (O.contents out.old) (O.contents out.new)) }
+    ensures quiet { options.now.prompt ≡ false → Keeps (E.contents err.old) (E.contents err.new) }
 {
-    if prompt {
-        return step_prompted(alloc, rt, path, input, out, err);
+    let cast = cast(alloc, options.switch)?;
+    if options.prompt {
+        return step_prompted(alloc, rt, &cast, options.flow, input, out, err);
     }
-    step_script(alloc, rt, path, input, out)
+    step_script(alloc, rt, &cast, options.flow, input, out)
 }

@@ -1,6 +1,6 @@
 -- The first line of bytes that stand one after the other.
 -- for: piece::Piece::give, lines::Lines::next
-use Rattle.std.proofs.Common.{◌≡◌, ◌≢◌, ◌∙◌, ◌⊎◌, ◌++◌, ◌∷◌, [], ◌+◌, ℕ, zero, suc, Bool, true, false, List, length, take, drop, refl, ap, sym, arith, cond}
+use Rattle.std.proofs.Common.{◌≡◌, ◌≢◌, ◌∙◌, ◌⊎◌, ◌++◌, ◌∷◌, [], ◌+◌, ℕ, suc, Bool, true, false, List, length, take, drop, refl, ap, sym, arith, cond}
 use Rattle.std.proofs.Common.{inl, inr, nat_lt, not, subst, take-append-drop}
 use Rattle.std.proofs.lemmas.Bool.Decides.{nat_tests}
 use Rattle.std.specs.List.{after_first, before_first, position_or_len}

@@ -1,6 +1,6 @@
 -- The next line of what an input has to give.
 -- for: lines::Lines::next
-use Rattle.std.proofs.Common.{◌≡◌, ◌≢◌, ◌∙◌, ◌++◌, ◌∷◌, [], ◌+◌, ℕ, Bool, true, false, List, Option, Some, None, IfSome, MatchOption, ◌≤◌, length, option_map}
+use Rattle.std.proofs.Common.{◌≡◌, ◌≢◌, ◌∙◌, ◌++◌, ◌∷◌, [], ◌+◌, ℕ, true, false, List, Option, Some, None, IfSome, MatchOption, ◌≤◌, length, option_map}
 use Rattle.std.proofs.Common.{refl, ap, sym, subst, append_assoc, append-nil, arith, length-append}
 use Rattle.std.proofs.KnownBytes.{Consumes-kept, Consumes-trans}
 use Rattle.std.specs.Io.KnownBytes.{Consumes, IsAtEnd, Keeps, prepend_known}

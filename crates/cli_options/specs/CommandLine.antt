@@ -12,6 +12,7 @@ use Rattle.cli_options.specs.declared.choice.Options.{Options}
 use Rattle.cli_options.specs.declared.choice.Options.TheVariants.{Asm, Decode, Encode, Graph, Journal, List as ListImage, Recover, Run, Step}
 use Rattle.cli_options.specs.declared.choice.JournalOptions.{JournalOptions}
 use Rattle.cli_options.specs.declared.choice.RecoverOptions.{RecoverOptions}
+use Rattle.cli_options.specs.declared.choice.StepOptions.{StepOptions}
 use Rattle.cli_options.specs.declared.choice.RunOptions.{RunOptions}
 use Rattle.cli_options.specs.declared.choice.TraceForm.{TraceForm}
 use Rattle.cli_options.specs.declared.choice.TraceForm.TheVariants as form
@@ -52,9 +53,9 @@ optional_rule name default = record (new_rule name) {
 abbrev pub flag_rule : Text → Rule
 flag_rule name = record (new_rule name) { long = Some name; action = Some SetTrue }
 
--- `step [--flow PATH] [--prompt]`
+-- `step [--flow PATH] [--prompt] [--switch]`
 abbrev pub step_app : App
-step_app = with_rule (with_rule (new_app (codes "step")) (option_rule (codes "flow"))) (flag_rule (codes "prompt"))
+step_app = with_rule (with_rule (with_rule (new_app (codes "step")) (option_rule (codes "flow"))) (flag_rule (codes "prompt"))) (flag_rule (codes "switch"))
 
 -- `asm`, without options
 abbrev pub asm_app : App
@@ -151,6 +152,12 @@ pub record AreRunOptions (rows : List Row) (o : RunOptions) : Type 0 where
   pub trace : trace_in (first_of (codes "trace") rows) ≡ Some o.trace
   pub stats : stats_in (first_of (codes "stats") rows) ≡ Some o.stats
 
+-- the same of `step`
+pub record AreStepOptions (rows : List Row) (o : StepOptions) : Type 0 where
+  pub flow : text_of o.flow ≡ first_of (codes "flow") rows
+  pub prompt : o.prompt ≡ is_set (first_of (codes "prompt") rows)
+  pub switch : o.switch ≡ is_set (first_of (codes "switch") rows)
+
 -- the same of `recover`
 pub record AreRecoverOptions (rows : List Row) (o : RecoverOptions) : Type 0 where
   pub flow : Some o.flow.now ≡ first_of (codes "flow") rows
@@ -165,8 +172,7 @@ pub record AreJournalOptions (rows : List Row) (o : JournalOptions) : Type 0 whe
 
 -- the options are those of the subcommand `name`, whose own options are in the rows
 abbrev pub AreOptionsAt : Text → List Row → Options → Type 0
-AreOptionsAt name rows (Step flow prompt) =
-    (name ≡ codes "step") × (text_of flow ≡ first_of (codes "flow") rows) × (prompt ≡ is_set (first_of (codes "prompt") rows))
+AreOptionsAt name rows (Step o) = (name ≡ codes "step") × AreStepOptions rows o
 AreOptionsAt name rows Asm = name ≡ codes "asm"
 AreOptionsAt name rows ListImage = name ≡ codes "list"
 AreOptionsAt name rows (Graph flow dot) =
@@ -179,7 +185,7 @@ AreOptionsAt name rows (Run o) = (name ≡ codes "run") × AreRunOptions rows o
 
 -- the same options, by whether standard input is a terminal
 abbrev pub at_terminal : Bool → Options → Options
-at_terminal is_terminal (Step flow prompt) = Step flow (prompt || is_terminal)
+at_terminal is_terminal (Step o) = Step (record o { prompt = o.prompt || is_terminal })
 at_terminal is_terminal o = o
 
 -- no options are those of the subcommand `name`

@@ -6,9 +6,8 @@ ghost use Rattle.cli_options.specs.CommandLine.{at_terminal};
 /// A subcommand with what it was given.
 #[derive(Clone, Copy)]
 pub enum Options<'a> {
-    /// `step`: a script of transactions comes from standard input. With `--flow` its flow is that of the flow file
-    /// at this path. With `--prompt` each line is asked for with a prompt.
-    Step { flow: Option<&'a str>, prompt: bool },
+    /// `step`: a script of transactions comes from standard input.
+    Step(StepOptions<'a>),
     /// `asm`: a flow file from standard input is printed as the image of its steps.
     Asm,
     /// `list`: an image from standard input is printed as a flow file.
@@ -37,13 +36,31 @@ impl<'a> Options<'a> {
         ensures { result ≡ at_terminal is_terminal self.entry }
     {
         match self {
-            Options::Step { flow, prompt } => Options::Step {
+            Options::Step(
+                StepOptions {
+                    flow,
+                    prompt,
+                    switch,
+                },
+            ) => Options::Step(StepOptions {
                 flow,
                 prompt: prompt || is_terminal,
-            },
+                switch,
+            }),
             other => other,
         }
     }
+}
+
+/// What `step` is given.
+#[derive(Clone, Copy)]
+pub struct StepOptions<'a> {
+    /// The path of the flow file, if there is one: the script then has no flow of its own.
+    pub flow: Option<&'a str>,
+    /// Whether each line is asked for with a prompt.
+    pub prompt: bool,
+    /// Whether the participants are the switch's own, over simulated issuers.
+    pub switch: bool,
 }
 
 /// What `recover` is given.

@@ -6,7 +6,9 @@ ghost use Rattle.cli_options.specs.CommandLine.{is_set, number_in, stats_in, tex
 ghost use Rattle.cli_options.specs.Refusal.{IsAccepted, IsBadForm, IsBadNumber, IsRefusalAt};
 ghost use Rattle.cli_options.specs.Refusal.{IsRefusalOf, IsRunRefusal};
 
-use crate::choice::{JournalOptions, Options, RecoverOptions, RunOptions, StatsLines, TraceForm};
+use crate::choice::{
+    JournalOptions, Options, RecoverOptions, RunOptions, StatsLines, StepOptions, TraceForm,
+};
 use crate::error::OptionsError;
 use crate::table::switch_command;
 use clap::ArgMatches;
@@ -131,10 +133,11 @@ fn options_at<'a>(name: &str, found: &ArgMatches<'a>) -> Result<Options<'a>, Opt
     ensures refused { IfErr result (IsRefusalAt name.now (rows_of (found_of found.now))) }
 {
     match name {
-        "step" => Ok(Options::Step {
+        "step" => Ok(Options::Step(StepOptions {
             flow: text_at(found, "flow"),
             prompt: is_set(text_at(found, "prompt")),
-        }),
+            switch: is_set(text_at(found, "switch")),
+        })),
         "asm" => Ok(Options::Asm),
         "list" => Ok(Options::List),
         "graph" => match text_at(found, "flow") {

@@ -61,6 +61,12 @@ const COMMANDS: [CommandRow<'static>; 9] = [
                 help: "Prompts for each line and goes on after a refused one [default: on a terminal]",
                 is_required: false,
             },
+            OptionRow {
+                name: "switch",
+                given: Given::Flag,
+                help: "Runs the switch's own participants over simulated issuers [default: the script says what each replies]",
+                is_required: false,
+            },
         ],
     },
     CommandRow {

@@ -8,7 +8,7 @@ use sw_book::Book;
 use sw_hosts::IssuerLink;
 use sw_issuers::{GroupLink, Sender};
 use sw_participant::{Sequence, Text};
-use sw_parts::{Link, Routing};
+use sw_parts::{Link, Routing, copy_routes};
 
 /// The links of the switch. (Only `run` names this type: it makes boxes of the participants that ask over
 /// links, and a box of what is generic in its link gets no proof.)
@@ -52,17 +52,6 @@ pub(crate) fn query_name(alloc: Global, link: &str) -> Result<String, AllocError
     format!(in alloc; "query_{link}")
 }
 
-// Copies of routes.
-fn copied(alloc: Global, routes: &[Routing]) -> Result<Sequence<Routing>, AllocError>
-    ensures { IfOk result (λ copy. copy ≡ routes.now) }
-{
-    let mut copy = Vec::new(alloc);
-    for routing in routes {
-        copy.push(routing.copy()?)?;
-    }
-    Ok(Sequence::new(copy))
-}
-
 /// What sends stored advices, by copies of these routes over these links.
 pub(crate) fn sender_over<L: Link>(
     alloc: Global,
@@ -71,5 +60,5 @@ pub(crate) fn sender_over<L: Link>(
 ) -> Result<Sender<L>, AllocError>
     ensures { IfOk result (λ sender. sender ≡ sender_with L.state routes.now links.items) }
 {
-    Ok(Sender::new(alloc, copied(alloc, routes)?, links))
+    Ok(Sender::new(alloc, copy_routes(alloc, routes)?, links))
 }

@@ -6,6 +6,7 @@
 //! - [`setup`] makes the book, the routes and the links of a run. A host that is reached by streams gets threads of its
 //!   own, which open nothing before the first message is sent.
 //! - [`recovery`] makes what a recovery needs: the same participants, over links that nothing is sent on.
+//! - [`simulated`] is what `step --switch` has: the switch's own limits and routes.
 //! - [`HostLines`] writes a line for each host that is reached by streams, with its counts.
 //! - [`journal_path`] is the path of the journal, if it is in a file.
 #![tactic(auto)]
@@ -19,4 +20,4 @@ mod plan;
 pub use error::{ConfigFileError, SetupError};
 pub use file::config_at;
 pub use host_lines::HostLines;
-pub use plan::{journal_path, recovery, setup};
+pub use plan::{journal_path, recovery, setup, simulated};

@@ -1,6 +1,7 @@
 //! What a run is set up with.
 
 ghost use Rattle.std.specs.Prelude.{◌≡◌, ◌<◌, ◌≤◌, [], Err, IfErr, IfOk, OnOk};
+ghost use Rattle.cli_run.specs.Links.{switch_routes};
 ghost use Rattle.cli_setup.specs.Plans.{IsLimitFault, IsSetUp, advices_of, journal_of, limit_of};
 ghost use Rattle.cli_setup.specs.Plans.{plain_setup, recovery_of, sessions_of, stand_in_of, threads_of};
 ghost use Rattle.cli_setup.specs.declared.error.SetupError.TheVariants.{BadLimit, OutOfMemory};
@@ -9,13 +10,14 @@ use crate::error::SetupError;
 use crate::links::{Links, links_to_hosts, routes, unasked};
 use cli_config::Config;
 use cli_options::choice::RunOptions;
-use cli_run::{DEFAULT_STAND_IN, Setup, SwitchLink};
+use cli_run::{DEFAULT_STAND_IN, Setup, SwitchLink, default_routes};
 use std::alloc::{AllocError, Global};
 use std::sync::Wait;
 use std::thread::Threads;
 use std::time::Clock;
 use sw_book::Book;
 use sw_participant::Text;
+use sw_simulated::SimulatedSetup;
 
 /// What a card may spend in one run, in minor units, if nothing states it.
 const LIMIT: u64 = 10_000;
@@ -111,6 +113,19 @@ pub fn setup<T: Threads + Wait + Clock + Clone + Drop + Send + 'static>(
         advices: advices(config) as usize,
         sessions: sessions(options, config) as usize,
         threads: threads(options, config),
+    })
+}
+
+/// What the switch's participants are set up with if nothing is stated, over simulated issuers.
+pub fn simulated(alloc: Global) -> Result<SimulatedSetup, AllocError>
+    ensures limit { IfOk result (λ s. s.limit ≡ 10000) }
+    ensures stand_in { IfOk result (λ s. s.stand_in ≡ 1000) }
+    ensures routes { IfOk result (λ s. s.routes ≡ switch_routes) }
+{
+    Ok(SimulatedSetup {
+        limit: LIMIT,
+        stand_in: DEFAULT_STAND_IN,
+        routes: default_routes(alloc)?,
     })
 }
 

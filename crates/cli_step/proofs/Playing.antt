@@ -101,6 +101,7 @@ writing_cause error.OutOfMemory lines rest before after text more w = tt
 writing_cause (error.Read e) lines rest before after text more w = absurd w
 writing_cause (error.Script e) lines rest before after text more w = absurd w
 writing_cause (error.Plant n e) lines rest before after text more w = absurd w
+writing_cause (error.NoParticipant name) lines rest before after text more w = absurd w
 writing_cause (error.Journal n e) lines rest before after text more w = absurd w
 
 -- the output fails at its end

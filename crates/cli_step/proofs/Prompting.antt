@@ -28,7 +28,7 @@ use Rattle.tx_trace.specs.Trace.{Text}
 use Rattle.cli_step.proofs.Joining.{Known, if_some}
 use Rattle.cli_step.specs.Doing.{Point, world_of}
 use Rattle.cli_step.specs.Errors.{at_line, error_of_read, error_of_write}
-use Rattle.cli_step.specs.Prompts.{ActsBy, Answers, AnswersBy, AnswersTyped, AreFirst, HasBadSessions, HeadAnswers, HeadPrompted, HeadTalks, HeadTyped}
+use Rattle.cli_step.specs.Prompts.{ActsOrShows, Answers, AnswersBy, AnswersTyped, AreFirst, HasBadSessions, HeadAnswers, HeadPrompted, HeadTalks, HeadTyped}
 use Rattle.cli_step.specs.Prompts.{IsFaultOf, IsHeadLine, IsHeadLineBy, IsPrompted, IsReported, IsRunOrReported, Leaves, OpenedAt, Prompted, Scene}
 use Rattle.cli_step.specs.Prompts.{Heading, Talked, TalkedOver, Talks, heading, is_of_sessions, saved_session, scene}
 use Rattle.cli_step.specs.Shown.{IsReadableLine}
@@ -61,6 +61,7 @@ writing_fault Made error.OutOfMemory w = tt
 writing_fault Made (error.Read e) w = absurd w
 writing_fault Made (error.Script e) w = absurd w
 writing_fault Made (error.Plant n e) w = absurd w
+writing_fault Made (error.NoParticipant name) w = absurd w
 writing_fault Made (error.Journal n e) w = absurd w
 
 action_fault : (n : ℕ) (Made : Type 0) → Made → (e : ActionError) → IsFaultOf Made (at_line n e)
@@ -88,6 +89,7 @@ other_fault n (plant.Seating cause) other = λ is. cc
 pub fault_more : {First Second : Type 0} → (First → Second) → (e : StepError) → IsFaultOf First e → IsFaultOf Second e
 fault_more f (error.Script e) h = absurd h
 fault_more f (error.Plant n e) h = λ is. f (h is)
+fault_more f (error.NoParticipant name) h = tt
 fault_more f (error.Journal n e) h = tt
 fault_more f (error.Read e) h = tt
 fault_more f (error.Write e) h = tt
@@ -364,7 +366,7 @@ does old new line action p q out out_after err same next other (text, acts, writ
   action = action;
   means = subst (λ (l : List ℕ). Means l action) same (next.0, next.3, next.4);
   text = text;
-  acts = subst (λ (o : Option ℕ). ActsBy o action p text q) (sym other) acts;
+  acts = subst (λ (o : Option ℕ). ActsOrShows o action p text q) (sym other) acts;
   out = written;
   err = refl;
 })
@@ -377,7 +379,7 @@ shows_saved old new line action s p out out_after err same next session (text, s
   action = action;
   means = subst (λ (l : List ℕ). Means l action) same (next.0, next.3, next.4);
   text = text;
-  acts = subst (λ (o : Option ℕ). ActsBy o action p text p) (sym session) (shown, refl);
+  acts = subst (λ (o : Option ℕ). ActsOrShows o action p text p) (sym session) (shown, refl);
   out = written;
   err = refl;
 })

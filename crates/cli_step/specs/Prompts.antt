@@ -73,12 +73,12 @@ saved_session (action.Saved s) = Some s
 saved_session _ = None
 
 -- a saved context is shown with its values as text where they are printable; any other action is done as in a script
-abbrev pub ActsBy : Option ℕ → Action → Point → Text → Point → Type 0
-ActsBy (Some s) act p text q = IsReadableLine (world_of p) s text × (q ≡ p)
-ActsBy None act p text q = Acts act p text q
+abbrev pub ActsOrShows : Option ℕ → Action → Point → Text → Point → Type 0
+ActsOrShows (Some s) act p text q = IsReadableLine (world_of p) s text × (q ≡ p)
+ActsOrShows None act p text q = Acts act p text q
 
 abbrev pub ActsTyped : Action → Point → Text → Point → Type 0
-ActsTyped act p text q = ActsBy (saved_session act) act p text q
+ActsTyped act p text q = ActsOrShows (saved_session act) act p text q
 
 -- an action is done, and its text is written
 pub record Does (line : List ℕ) (a b : Scene) : Type 0 where

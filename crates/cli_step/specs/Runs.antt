@@ -112,6 +112,7 @@ abbrev pub IsCause : StepError → ℕ → List ℕ → Option (List ℕ) → Op
 IsCause (error.Script e) lines rest before after text more =
     (rest ≢ []) × IsActionRefusal (lines + 1) (line_of rest) (meaning_of (line_of rest)) e × Appends before after text
 IsCause (error.Plant n e) lines rest before after text more = (n ≡ lines + 1) × IsFailed rest more × Appends before after (text ++ more)
+IsCause (error.NoParticipant name) lines rest before after text more = ⊥
 IsCause (error.Journal n e) lines rest before after text more = (n ≡ lines + 1) × IsFailed rest more × Appends before after (text ++ more)
 IsCause (error.Read e) lines rest before after text more = Appends before after text
 IsCause (error.Write e) lines rest before after text more = ⊤

@@ -8,7 +8,7 @@ ghost use Rattle.cli_step.specs.declared.error.StepError.TheVariants.{OutOfMemor
 use cli_io::{ReadError, WriteError};
 use cli_script::ScriptError;
 use std::alloc::{AllocError, AllocFailed};
-use sw_participant::NoMemory;
+use sw_participant::{NoMemory, Text};
 use thiserror::Error;
 use tx_journal::JournalError;
 use tx_plant::PlantError;
@@ -22,6 +22,10 @@ pub enum StepError {
     /// No plant can be made of what the settings state. The line is the first that is not a setting.
     #[error("line {line}: {cause}")]
     Plant { line: usize, cause: PlantError },
+    /// The switch has no participant of this name.
+    #[error("the flow has participant {}, which the switch does not have; expected check, limits, route, reverse, \
+        query_NAME, standin, forward or respond", .0.as_str())]
+    NoParticipant(Text),
     /// The journal refused.
     #[error("line {line}: the journal refused: {cause}")]
     Journal { line: usize, cause: JournalError },

@@ -9,6 +9,7 @@
 
 mod actions;
 mod auto;
+mod cast;
 mod error;
 mod head;
 mod opening;
@@ -22,6 +23,7 @@ mod turns;
 mod typed;
 
 pub use actions::turn_of;
+pub use cast::Cast;
 pub use error::StepError;
 pub use opening::run_prompted;
 pub use script::{run_actions, run_lines};

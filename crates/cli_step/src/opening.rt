@@ -10,6 +10,7 @@ ghost use Rattle.cli_step.specs.Prompts.{OpenedAt, OpenedOver, SomeIsMade, Talke
 ghost use Rattle.cli_step.specs.declared.opening.HeadLine.TheVariants as head;
 ghost use Rattle.cli_step.specs.Runs.{Grows};
 
+use crate::cast::{Cast, own_participant};
 use crate::error::StepError;
 use crate::prompt::{answer, ask, leave, refusal, report, talk};
 use crate::prompt_words::{HELP, PromptWord, prompt_word_at};
@@ -22,7 +23,7 @@ use flow_asm::{Code, assemble, list};
 use flow_model::Flow;
 use std::alloc::{AllocError, Global};
 use std::io::{Read, Write};
-use sw_participant::Station;
+use sw_participant::{Participant, Station};
 use sw_scripted::Scripted;
 use tx_plant::Plant;
 use tx_trace::Tracer;
@@ -125,11 +126,11 @@ fn talk_over<R: Read, W: Write, E: Write>(
     Ok(Ok(()))
 }
 
-// Makes for each participant of the flow one that replies as the settings say, and answers a line over their
-// plant, and then all that are still to come; or returns why no plant is made. (Like `play`, it hands no station
-// out.)
+// Makes the participants of the flow, as `play` does, and answers a line over their plant, and then all that are still to
+// come; or returns why no plant is made. (It hands no station out either.)
 fn open_over<R: Read, W: Write, E: Write>(
     alloc: Global,
+    cast: &Cast,
     opening: Opening,
     line: &[u8],
     lines: &mut Lines<R>,
@@ -158,8 +159,11 @@ fn open_over<R: Read, W: Write, E: Write>(
     } = opening;
     let mut stations = Vec::new(alloc);
     for part in code.participants() {
-        let replies = replies.take(alloc, part.name.as_str());
-        let participant = Box::new(alloc, Scripted::new(alloc, replies))?;
+        let name = part.name.as_str();
+        let participant: Box<dyn Participant + Send> = match cast {
+            Cast::Scripted => Box::new(alloc, Scripted::new(alloc, replies.take(alloc, name)))?,
+            Cast::Switch(setup) => Box::new(alloc, own_participant(alloc, setup, name)?)?,
+        };
         stations.push(Station::from_parts(part.name.copy()?, participant, 0))?;
     }
     talk_over(
@@ -178,6 +182,7 @@ fn open_over<R: Read, W: Write, E: Write>(
 // flow is not opened. Returns whether it is.
 fn open_or_report<R: Read, W: Write, E: Write>(
     alloc: Global,
+    cast: &Cast,
     file: &Option<Code>,
     settings: &[u8],
     line: &[u8],
@@ -203,7 +208,7 @@ fn open_or_report<R: Read, W: Write, E: Write>(
 {
     let flow = flow_of(alloc, file)?;
     match open_settings(alloc, flow, settings, lines.count()) {
-        Ok(opening) => match open_over(alloc, opening, line, lines, out, err)? {
+        Ok(opening) => match open_over(alloc, cast, opening, line, lines, out, err)? {
             Ok(()) => Ok(true),
             Err(cause) => {
                 report(alloc, &cause, err)?;
@@ -261,6 +266,7 @@ fn answer_head<W: Write, E: Write>(
 // come. Returns whether the session has ended.
 fn answer_or_open<R: Read, W: Write, E: Write>(
     alloc: Global,
+    cast: &Cast,
     file: &Option<Code>,
     settings: &mut Vec<u8>,
     line: &[u8],
@@ -287,7 +293,16 @@ fn answer_or_open<R: Read, W: Write, E: Write>(
     if !answer_head(alloc, file, settings, line, before, out, err)? {
         return Ok(false);
     }
-    open_or_report(alloc, file, settings.as_slice(), line, lines, out, err)
+    open_or_report(
+        alloc,
+        cast,
+        file,
+        settings.as_slice(),
+        line,
+        lines,
+        out,
+        err,
+    )
 }
 
 /// Runs a session at a prompt: writes the prompt, reads a line, and answers it before the next prompt, up to `quit` or
@@ -301,6 +316,7 @@ fn answer_or_open<R: Read, W: Write, E: Write>(
 /// number of sessions is refused, the settings stay, and more may follow.
 pub fn run_prompted<R: Read, W: Write, E: Write>(
     alloc: Global,
+    cast: &Cast,
     file: Option<Flow>,
     lines: &mut Lines<R>,
     out: &mut W,
@@ -324,7 +340,7 @@ pub fn run_prompted<R: Read, W: Write, E: Write>(
             Typed::Quit => return Ok(()),
             Typed::Line => {
                 let line = line.as_slice();
-                if answer_or_open(alloc, &steps, &mut settings, line, lines, out, err)? {
+                if answer_or_open(alloc, cast, &steps, &mut settings, line, lines, out, err)? {
                     return Ok(());
                 }
             }

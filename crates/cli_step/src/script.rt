@@ -12,6 +12,7 @@ ghost use Rattle.cli_step.specs.Runs.{Grows, IsLineFailed, IsOfJournal, IsRun, I
 ghost use Rattle.cli_step.specs.Runs.{Ran, RanAll, RunsLine, Stopped};
 
 use crate::actions::run_action;
+use crate::cast::{Cast, own_participant};
 use crate::error::{ActionError, StepError};
 use crate::head::read_head;
 use cli_io::{Quoted, WriteError, write_whole};
@@ -22,7 +23,7 @@ use flow_model::Flow;
 use sqlite::{Alter, Connection, MemStore};
 use std::alloc::Global;
 use std::io::{Read, Write};
-use sw_participant::Station;
+use sw_participant::{Participant, Station};
 use sw_scripted::Scripted;
 use tx_engine::EngineError;
 use tx_journal::Journal;
@@ -195,11 +196,12 @@ fn play_over<R: Read, W: Write>(
     run_rest(alloc, &mut plant, &mut tracer, lines, out)
 }
 
-// Makes for each participant of the flow one that replies as the script says, and runs the lines after the
-// settings: those of the script and those that are still to come. (It hands no station out, so that contracts know
-// whose each participant is.)
+// Makes the participants of the flow, each of which replies as the script says or is the switch's own, and runs the lines
+// after the settings: those of the script and those that are still to come. (It hands no station out, so that
+// contracts know whose each participant is.)
 fn play<R: Read, W: Write>(
     alloc: Global,
+    cast: &Cast,
     script: Script<'_>,
     lines: &mut Lines<R>,
     out: &mut W,
@@ -221,8 +223,11 @@ fn play<R: Read, W: Write>(
     } = script;
     let mut stations = Vec::new(alloc);
     for part in code.participants() {
-        let replies = replies.take(alloc, part.name.as_str());
-        let participant = Box::new(alloc, Scripted::new(alloc, replies))?;
+        let name = part.name.as_str();
+        let participant: Box<dyn Participant + Send> = match cast {
+            Cast::Scripted => Box::new(alloc, Scripted::new(alloc, replies.take(alloc, name)))?,
+            Cast::Switch(setup) => Box::new(alloc, own_participant(alloc, setup, name)?)?,
+        };
         stations.push(Station::from_parts(part.name.copy()?, participant, 0))?;
     }
     play_over(
@@ -238,12 +243,13 @@ fn play<R: Read, W: Write>(
 
 /// Runs the lines of a script in their order over a plant with a journal in memory, and writes what each
 /// prints before the next one is read. The flow is the one that its settings state, over that of a flow file if
-/// there is one; its participants reply as the settings say.
+/// there is one; its participants reply as the settings say, or are the switch's own.
 ///
 /// A line that is refused ends the run, and what the lines before it printed remains. What an engine
 /// refuses is printed, and the run goes on.
 pub fn run_lines<R: Read, W: Write>(
     alloc: Global,
+    cast: &Cast,
     file: Option<Flow>,
     lines: &mut Lines<R>,
     out: &mut W,
@@ -254,7 +260,7 @@ pub fn run_lines<R: Read, W: Write>(
 {
     let head = read_head(alloc, file.is_some(), lines)?;
     match open_script(alloc, file, head.as_slice())? {
-        Some(script) => play(alloc, script, lines, out),
+        Some(script) => play(alloc, cast, script, lines, out),
         None => flush(out),
     }
 }

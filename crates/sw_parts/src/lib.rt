@@ -37,5 +37,5 @@ pub use memory::{Heap, Memory};
 pub use query::{QueryIssuer, hear};
 pub use respond::Respond;
 pub use reverse::Reverse;
-pub use route::{Route, Routing, route_of};
+pub use route::{Route, Routing, copy_routes, route_of};
 pub use stand_in::StandIn;

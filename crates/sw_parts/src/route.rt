@@ -45,6 +45,17 @@ impl Routing {
     }
 }
 
+/// Copies of routes; the only refusal is out of memory.
+pub fn copy_routes(alloc: Global, routes: &[Routing]) -> Result<Sequence<Routing>, AllocError>
+    ensures { IfOk result (λ copy. copy ≡ routes.now) }
+{
+    let mut copy = Vec::new(alloc);
+    for routing in routes {
+        copy.push(routing.copy()?)?;
+    }
+    Ok(Sequence::new(copy))
+}
+
 /// Chooses the group that asks the issuer of a card: that of the longest prefix of the card number.
 /// An authorization whose card has none of the prefixes is refused with 91, issuer inoperative.
 pub struct Route {

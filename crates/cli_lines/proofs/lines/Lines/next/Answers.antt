@@ -1,8 +1,7 @@
-use Rattle.std.proofs.Common.{◌≡◌, ◌∙◌, ◌*◌, ◌≤◌, ◌+◌, ◌-◌, length, true, false, ap, arith, refl, subst, sym}
-use Rattle.std.specs.Io.KnownBytes.{Consumes}
+use Rattle.std.proofs.Common.{◌≡◌, ◌∙◌, ◌*◌, ◌+◌, ◌-◌, length, true, false, ap, arith, sym}
 use Rattle.cli_lines.specs.Feeds.{has_line_feed}
 use Rattle.cli_io.specs.Inputs.{unread}
-use Rattle.cli_lines.specs.Lines.{IsNextLine, has_line, reads_for, room, to_come}
+use Rattle.cli_lines.specs.Lines.{room, to_come}
 use Rattle.cli_lines.specs.Pieces.{left}
 use Rattle.cli_lines.proofs.NextLines.{at_end, found, lengths, plain_more, taken_more, within}
 use Rattle.cli_lines.proofs.lines.Lines.next.Goals as goal

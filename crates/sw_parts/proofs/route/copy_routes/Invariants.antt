@@ -1,5 +1,5 @@
 use Rattle.std.proofs.Common.{◌≡◌, take}
-use Rattle.cli_run.proofs.setup.copied.Given as goal
+use Rattle.sw_parts.proofs.route.copy_routes.Given as goal
 
 abbrev pub invariant-loop-routing : goal.invariant-loop-routing
 invariant-loop-routing l = l.copy.items ≡ take l.routing-index l.routes
