@@ -67,7 +67,7 @@ def cases(program, folder):
         yield [command, ""], sorted([*options, *files])
         yield [command, "--"], options
         yield [command, "--h"], ["--help"]
-        for option in {"--flow", "--journal"} & set(options):
+        for option in {"--flow", "--journal", "--log"} & set(options):
             yield [command, option, ""], sorted(os.listdir(folder))
             yield [command, option, "sw"], ["switch.toml"]
             yield [command, option, "=", "sw"], ["switch.toml"]

@@ -26,6 +26,7 @@ sys.dont_write_bytecode = True
 
 import kills  # noqa: E402
 from harness import pages  # noqa: E402
+from harness.connected import listening  # noqa: E402
 from harness.hosts import EXAMPLES, NETWORK_TEST, SECONDS, Run, Wire, Wrong, played, reply, request, small, wanted, worked  # noqa: E402
 from model import messages  # noqa: E402
 
@@ -600,6 +601,103 @@ def counted(program, room):
     wanted("advices in the journal", advices_in(room), [b"0420", b"0120"] * 4)
 
 
+def reported(what, err, lines, hosts="alpha beta"):
+    """After the line that the run is ready these lines are on standard error, and no others."""
+    ready = f"ready: flow {os.path.join(EXAMPLES, 'switch.toml')}, hosts {hosts}, journal in memory, sessions "
+    first, *others = err.decode().splitlines()
+    if not first.startswith(f"cardswitch: {ready}"):
+        raise Wrong(f"the first line on standard error: {first!r}")
+    wanted(what, others, [f"cardswitch: host {it}" for it in lines])
+
+
+def reported_lost(program, room):
+    """A host that dies is reported as lost, once, and as back when something is read from it again."""
+    for words in [], ["--threads", "--sessions", "4"]:
+        with tempfile.TemporaryDirectory(dir=room) as inner, switch(program, inner, *words) as (run, wire):
+            run.send(request(1))
+            wire.put(reply(wire.get()))
+            wanted("field 39 before", code(run.receive()), b"00")
+            wire.hang_up()
+            time.sleep(0.2)
+            for stan in 2, 3:
+                wanted("field 38 of a dead host", run.ask(request(stan, 400))[1].get(38), b"SI%04d" % stan)
+            wire.listen()
+            time.sleep(1.2)
+            run.send(request(4))
+            wire.put(reply(wire.get()))
+            wanted("field 38 of the host that is back", run.receive()[1].get(38), b"HOST42")
+            run.process.stdin.close()
+            answers(wire, *[b"00"] * 4)
+            reported("a host that was lost", run.end(), ["alpha: connection lost", "alpha: is back"])
+
+
+def reported_silent(program, room):
+    """A host that does not answer in time is reported as silent, once, with what follows; and as back when its answer comes."""
+    paused = "alpha: no answer in time; not asked for 60000 ms"
+    tested = "alpha: no answer in time; not asked until it sends something"
+    for alpha, line in ("retry_ms = 60000", paused), ("retry_ms = 60000\necho_s = 30", tested):
+        with tempfile.TemporaryDirectory(dir=room) as inner, switch(program, inner, alpha=alpha) as (run, wire):
+            run.send(request(1, 400))
+            message = wire.get()
+            wanted("field 38 of a silent host", run.receive()[1].get(38), b"SI0001")
+            wanted("field 38 of a host that is not asked", run.ask(request(2, 400))[1].get(38), b"SI0002")
+            wire.put(reply(message))
+            time.sleep(0.3)
+            run.ask(NETWORK_TEST)
+            reported("a silent host", run.end(), [line, "alpha: is back"])
+
+
+def reported_silent_again(program, room):
+    """Without `retry_ms` a host that answers nothing is reported as silent once, however many requests it gets."""
+    with switch(program, room) as (run, wire):
+        for stan in 1, 2:
+            run.send(request(stan, 400))
+            wire.get()
+            wanted("field 38 of a silent host", run.receive()[1].get(38), b"SI%04d" % stan)
+        run.process.stdin.close()
+        for _ in range(4):
+            wire.get()
+        reported("a silent host", run.end(), ["alpha: no answer in time"])
+
+
+def reported_unopened(program, room):
+    """A host whose paths are not there is reported, once, with the cause; the other host has paths, and nobody is at them."""
+    with switch(program, room, beta=PIPES) as (run, wire):
+        for path in wire.to, wire.back:
+            os.unlink(path)
+        for name in "beta.to", "beta.from":
+            os.mkfifo(os.path.join(room, name))
+        for stan in 1, 2:
+            wanted("field 38", run.ask(request(stan, 400))[1].get(38), b"SI%04d" % stan)
+        wanted("field 38", run.ask(request(3, 400, FIVE))[1].get(38), b"SI0003")
+        alpha = "alpha: cannot be opened: No such file or directory (os error 2)"
+        reported("hosts that are not there", run.end(), [alpha, "beta: is not open yet"])
+
+
+def reported_at_the_end(program, room):
+    """What happens to a host after the last request is reported at the end."""
+    with switch(program, room) as (run, wire):
+        run.send(request(1))
+        wire.put(reply(wire.get()))
+        wanted("field 39", code(run.receive()), b"00")
+        wire.hang_up()
+        time.sleep(0.3)
+        reported("a host that was lost at the end", run.end(), ["alpha: connection lost"])
+
+
+def counted_each_time(program, room):
+    """With `--stats 2` the lines of the hosts follow the numbers of the run each time."""
+    with switch(program, room, "--stats", "2", beta=PIPES) as (run, wire):
+        for stan in 1, 2, 3:
+            run.send(request(stan))
+            wire.put(reply(wire.get()))
+            wanted("field 39", code(run.receive()), b"00")
+        lines = [line.split(b" approved=")[0] for line in run.end().splitlines()[1:]]
+        hosts = [b"cardswitch: host %s: not-asked=0 echo-tests=0 unanswered=0 late=0 unreadable=0 dropped=0" % it for it in (b"alpha", b"beta")]
+        numbers = [b"cardswitch: stats: requests=%d" % it for it in (2, 4, 4)]
+        wanted("lines on standard error", lines, [numbers[0], *hosts, numbers[1], *hosts, numbers[2], *hosts])
+
+
 def asked_at_once(program, room):
     """With threads two hosts are asked at the same time: one of them answers only once both requests of the other are answered."""
     words = ["--threads", "--sessions", "4"]
@@ -676,6 +774,63 @@ def behind_socat(program, room):
             os.killpg(process.pid, signal.SIGKILL)
         process.wait()
     wanted(f"what it prints ({err.decode(errors='replace')})", out, b"the same responses\n")
+
+
+def asked_over(run, host, stan):
+    """A request of this number is answered by the host."""
+    run.send(request(stan))
+    wanted("the query", message := host.get(), request(stan))
+    host.put(reply(message)[4:])
+    wanted("field 38", run.receive()[1].get(38), b"HOST42")
+
+
+def over_a_connection(program, room):
+    """`examples/hosts/connect.py` carries frames over a connection, also with lengths of two bytes."""
+    for words in [], ["--binary"]:
+        with tempfile.TemporaryDirectory(dir=room) as inner, listening(program, inner, *words) as (run, host):
+            for stan in 1, 2:
+                asked_over(run, host, stan)
+            run.end()
+
+
+def connected_again(program, room):
+    """A connection that the host closes: the switch stands in at once, and asks the host again once it is connected again."""
+    with listening(program, room) as (run, host):
+        asked_over(run, host, 1)
+        host.server.close()
+        host.peer.close()
+        time.sleep(0.5)
+        began = time.monotonic()
+        wanted("field 38 without a host", run.ask(small(2))[1].get(38), b"SI0002")
+        if time.monotonic() - began > AT_ONCE:
+            raise Wrong("the switch did not stand in at once")
+        address = host.carrier.args[-3].split(":")
+        host.server = socket.create_server((address[0], int(address[1])))
+        host.server.settimeout(SECONDS)
+        host.accept()
+        # (the pipes are opened at most once a second)
+        time.sleep(1.2)
+        asked_over(run, host, 3)
+        run.process.stdin.close()
+        for wants in b"0420", b"0120":
+            message = host.get()
+            wanted("an advice", message[:4], wants)
+            host.put(reply(message)[4:])
+        run.process.wait(SECONDS)
+
+
+def bad_length_over_a_connection(program, room):
+    """A host that sends a bad length: the connection is closed, and made again."""
+    with listening(program, room) as (run, host):
+        run.send(small(1))
+        host.get()
+        host.peer.sendall(b"12x4")
+        wanted("field 38", run.receive()[1].get(38), b"SI0001")
+        host.peer.close()
+        host.accept()
+        time.sleep(1.2)
+        asked_over(run, host, 2)
+        run.process.kill()
 
 
 def block_of(page, begin):
@@ -774,10 +929,19 @@ CASES = [
     late_ends_silence,
     silent_while_idle,
     counted,
+    counted_each_time,
+    reported_lost,
+    reported_silent,
+    reported_silent_again,
+    reported_unopened,
+    reported_at_the_end,
     asked_at_once,
     silent_in_a_batch,
     worked_host,
     behind_socat,
+    over_a_connection,
+    connected_again,
+    bad_length_over_a_connection,
     by_hand,
     behind_a_socket,
 ]

@@ -1,5 +1,5 @@
 #!/usr/bin/env python3
-"""Looks at the trace of `cardswitch run` while it runs.
+"""Looks at the trace and the log of `cardswitch run` while it runs.
 
     tests/live.py [--seed N] [--count N] [--program PATH]
 
@@ -7,13 +7,14 @@ pipe      Each request is sent once the response and the lines of the one before
 one read  All requests come at once, and both outputs go into one pipe: the lines of each transaction come before the response of the
           next one.
 
-Random requests, with each form of the trace. What has to come is what the plain model answers. The last line has the counts; the status
-is 1 if something is wrong.
+Random requests, with each form of the trace, or with the log on standard error, whose times are left out. What has to come is what the
+plain model answers. The last line has the counts; the status is 1 if something is wrong.
 """
 
 import argparse
 import os
 import random
+import re
 import select
 import subprocess
 import sys
@@ -22,14 +23,17 @@ import time
 
 sys.dont_write_bytecode = True
 
-from model import messages, requests  # noqa: E402
+from model import messages, records, requests  # noqa: E402
 from model.switch import Switch  # noqa: E402
 
 TOP = os.path.dirname(os.path.dirname(os.path.abspath(__file__)))
 BUILT = os.path.join(TOP, "crates", "cardswitch", "out", "cardswitch")
 # How many seconds an answer may take, and how long nothing more may come after it.
 SECONDS, QUIET = 20, 0.002
-FORMS = ("", "=text", "=json")
+LOG = "the log"
+FORMS = ("", "=text", "=json", LOG)
+# What a log says of time, and that the run is ready.
+TIMES = re.compile(rb',"time":"\d{4}-\d\d-\d\dT\d\d:\d\d:\d\d\.\d{3}Z"|,"host_ms":\d+(?=,"stand_in")|,"ms":\d+(?=}\n)|^cardswitch: ready: .*\n')
 LIMIT = 10_000
 
 
@@ -37,23 +41,36 @@ def answers(form, made):
     """For each message its frame, and what has to come of it: the response, and the lines of the trace."""
     switch = Switch(requests.whole_flow(), LIMIT)
     for message in made:
-        lines = switch.answer(message)
+        if form is LOG:
+            told = f"{records.line(switch, message)}\n".encode()
+        else:
+            told = text_of(form, switch.answer(message))
         _, context = max(switch.engine.ended.items())
         response = messages.framed(context["response"]) if "response" in context else b""
-        yield messages.framed(message), response, text_of(form, lines)
-    yield b"", b"", text_of(form, [(line, None) for line in switch.send_advices()])
+        yield messages.framed(message), response, told
+    acked = switch.send_advices()
+    yield b"", b"", b"" if form is LOG else text_of(form, [(line, None) for line in acked])
+
+
+def options(form):
+    return ["--log", "-"] if form is LOG else [f"--trace{form}"]
+
+
+def untimed(form, text):
+    """A text, in which lines of the log have no times, and without the line of a run that is ready."""
+    return TIMES.sub(b"", text) if form is LOG else text
 
 
 def text_of(form, lines):
     return b"".join(requests.shown_in(form, line) + b"\n" for line in lines)
 
 
-def came(stream, wanted):
+def came(form, stream, wanted):
     """What came on a stream up to the length of what is wanted, and shortly after that."""
     text, until = b"", time.monotonic() + SECONDS
-    while len(text) < len(wanted) and (piece := read(stream, until - time.monotonic())):
+    while len(untimed(form, text)) < len(wanted) and (piece := read(stream, until - time.monotonic())):
         text += piece
-    return text + (read(stream, QUIET) or b"")
+    return untimed(form, text + (read(stream, QUIET) or b""))
 
 
 def read(stream, seconds):
@@ -65,14 +82,14 @@ def read(stream, seconds):
 def pipe_faults(words, form, made):
     """What is wrong if each request is sent once the one before it is answered and its lines are there."""
     streams = {"stdin": subprocess.PIPE, "stdout": subprocess.PIPE, "stderr": subprocess.PIPE, "bufsize": 0}
-    with subprocess.Popen([*words, f"--trace{form}"], **streams) as process:
+    with subprocess.Popen([*words, *options(form)], **streams) as process:
         for number, (frame, response, lines) in enumerate(answers(form, made), 1):
             if frame:
                 process.stdin.write(frame)
             else:
                 process.stdin.close()
-            for name, stream, wanted in ("response", process.stdout, response), ("trace", process.stderr, lines):
-                got = came(stream, wanted)
+            for name, stream, wanted in ("response", process.stdout, response), ("lines", process.stderr, lines):
+                got = came(form, stream, wanted)
                 if got != wanted:
                     process.kill()
                     yield f"message {number}: {name}: {got}, wanted {wanted}"
@@ -91,9 +108,9 @@ def read_faults(words, form, made):
         file.write(frames)
         file.seek(0)
         run = subprocess.run(
-            [*words, f"--trace{form}"], stdin=file, stdout=subprocess.PIPE, stderr=subprocess.STDOUT, timeout=SECONDS, check=False
+            [*words, *options(form)], stdin=file, stdout=subprocess.PIPE, stderr=subprocess.STDOUT, timeout=SECONDS, check=False
         )
-    if run.returncode or run.stdout != text:
+    if run.returncode or untimed(form, run.stdout) != text:
         yield f"status {run.returncode}, {run.stdout}, wanted {text}"
 
 
@@ -115,7 +132,7 @@ def main():
                 wrong = list(faults(words, form, made))
                 passed, failed = passed + (not wrong), failed + bool(wrong)
                 for fault in wrong:
-                    print(f"FAILED live: {name} {number} of seed {given.seed}, --trace{form}: {fault}")
+                    print(f"FAILED live: {name} {number} of seed {given.seed}, {' '.join(options(form))}: {fault}")
     print(f"{passed} passed, {failed} failed")
     return 1 if failed else 0
 

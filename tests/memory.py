@@ -239,6 +239,7 @@ def switch_commands(program, room):
     yield asm
     yield Command("list", [program, "list"], subprocess.run(asm.words, input=asm.stdin, capture_output=True, check=True).stdout)
     yield Command("decode", [program, "decode"], requests)
+    yield Command("check", [program, "check", "--flow", FLOW], b"")
 
 
 def commands(given, room, chosen):

@@ -7,7 +7,8 @@ A run answers some requests over a pipe, and then gets SIGTERM or SIGINT, or its
 end at once: by that signal, or with status 1 if its output is closed (SIGPIPE is ignored, so that the failed write is reported). The
 journal that it leaves has to recover, as after a kill (kills.py): no answered transaction is unfinished, and what is recovered is what
 the plain model makes of the rows. A run whose standard error is closed has to answer all requests and end with status 0, also with
---trace. Each case is run with threads and without.
+--trace. A run under contrib/serve.py that gets SIGTERM or SIGINT has to end as at the end of its input: with all responses, the numbers
+of the run, nothing unfinished and status 0. Each case is run with threads and without.
 """
 
 import argparse
@@ -26,6 +27,7 @@ from model import messages  # noqa: E402
 
 # How many requests are answered before the end, and how many seconds the end may take.
 EARLY, SECONDS = 5, 5
+SERVE = os.path.join(os.path.dirname(os.path.dirname(os.path.abspath(__file__))), "contrib", "serve.py")
 WAYS = {"SIGTERM": signal.SIGTERM, "SIGINT": signal.SIGINT, "closed output": None}
 
 
@@ -97,6 +99,48 @@ def quiet_faults(program, room, words):
     yield from kills.end_faults(path)
 
 
+def served_faults(program, room, words, sent):
+    """What is wrong with a run whose input ends by this signal, in the middle of a frame."""
+    made, _ = kills.frames(random.Random(9))
+    path = os.path.join(room, f"served{len(words)}{sent}.db")
+    command = [sys.executable, SERVE, program, "run", "--flow", kills.FLOW, "--journal", path, "--stats", *words]
+    streams = {"stdin": subprocess.PIPE, "stdout": subprocess.PIPE, "stderr": subprocess.PIPE, "bufsize": 0}
+    with subprocess.Popen(command, preexec_fn=heed, **streams) as process:
+        process.stdin.write(b"".join(made[:EARLY]) + made[EARLY][:-1])
+        came = answered_by(process, EARLY)
+        process.send_signal(sent)
+        status, fault = ended(process)
+        came, said = came + process.stdout.read(), process.stderr.read()
+    if fault:
+        yield fault
+    if status != 0:
+        yield f"status {status}, wanted 0"
+    if len(messages.frames(came)) != EARLY:
+        yield f"{len(messages.frames(came))} responses, wanted {EARLY}"
+    if not said.startswith(b"cardswitch: stats: requests=%d " % EARLY):
+        yield f"on standard error: {said!r}"
+    yield from kills.end_faults(path)
+
+
+def passed_on_faults(program):
+    """What is wrong with contrib/serve.py where no signal comes: input, output and status are the command's."""
+    made, _ = kills.frames(random.Random(9))
+    command = [program, "run", "--flow", kills.FLOW]
+    for name, data in ("whole frames", b"".join(made)), ("a bad length", made[0] + b"12x4"), ("an unfinished frame", made[0][:-1]):
+        with tempfile.TemporaryFile() as file:
+            file.write(data)
+            for its in command, [sys.executable, SERVE, *command]:
+                file.seek(0)
+                ran = subprocess.run(its, stdin=file, capture_output=True, timeout=60, check=False)
+                got = ran.returncode, ran.stdout, ran.stderr
+                wanted = got if its is command else wanted
+            if got != wanted:
+                yield f"{name} from a file: {got}, wanted {wanted}"
+        ran = subprocess.run([sys.executable, SERVE, *command], input=data, capture_output=True, timeout=60, check=False)
+        if (ran.returncode, ran.stdout, ran.stderr) != wanted:
+            yield f"{name} from a pipe: {ran}, wanted {wanted}"
+
+
 def tries(program, room):
     """All cases: a name, and what is wrong."""
     for threads in [], ["--threads", "--sessions", "4"]:
@@ -105,6 +149,9 @@ def tries(program, room):
             yield f"{name}{beside}", [*stop_faults(program, room, threads, name.replace(" ", "-"), sent)]
         for words in [*threads], [*threads, "--trace"]:
             yield f"closed standard error {' '.join(words)}", [*quiet_faults(program, room, words)]
+        for name, sent in (("SIGTERM", signal.SIGTERM), ("SIGINT", signal.SIGINT)):
+            yield f"served until {name}{beside}", [*served_faults(program, room, threads, sent)]
+    yield "served to the end", [*passed_on_faults(program)]
 
 
 def main():

@@ -3,7 +3,7 @@
 #
 #     try.sh PROGRAM        the path of cardswitch
 #
-# With socat each host listens on the loopback, and socat carries the frames. Without it the hosts are at the pipes themselves.
+# With socat each host listens on the loopback, and connect.py carries the frames. Without it the hosts are at the pipes themselves.
 program=$(realpath "$1") || exit 2
 here=$(cd "$(dirname "$0")" && pwd)
 room=$(mktemp -d) || exit 1
@@ -18,7 +18,7 @@ start() {
     if command -v socat > /dev/null; then
         socat "TCP-LISTEN:$port,bind=127.0.0.1,reuseaddr" "EXEC:python3 $here/host.py" &
         hosts="$hosts $!"
-        socat "TCP:127.0.0.1:$port,retry=50,interval=0.1" "OPEN:$name.to,rdonly!!OPEN:$name.from,wronly" &
+        python3 "$here/connect.py" --retry 0.1 "127.0.0.1:$port" "$name.to" "$name.from" &
     else
         python3 "$here/host.py" < "$name.to" > "$name.from" &
     fi

@@ -121,7 +121,7 @@ def config_case(name, block, _page, _examples):
 
 
 def elsewhere(_name, _block, _page, _examples):
-    """What other tests run: the gate, and `hosts.py`."""
+    """What other tests run: the gate, `hosts.py` and `signals.py`."""
 
 
 # How blocks begin that are neither an example nor a file of one, and what is made of each.
@@ -134,7 +134,8 @@ FORMS = [
     ("./test", elsewhere),
     ("examples/hosts/try.sh ", elsewhere),
     ("mkfifo alpha.to alpha.from", elsewhere),
-    ("socat TCP:", elsewhere),
+    ("python3 connect.py ", elsewhere),
+    ("contrib/serve.py ", elsewhere),
     ("socat -t 30 TCP-LISTEN:", elsewhere),
     ("cardswitch: host alpha: ", elsewhere),
 ]

@@ -30,6 +30,14 @@ def names(most):
     return text_like(NAME % most), f"1 to {most} of a-z A-Z 0-9 _ - ."
 
 
+def are_names(most):
+    return lambda value: isinstance(value, list) and all(text_like(NAME % most)(it) for it in value)
+
+
+def lists(most):
+    return are_names(most), f"an array of strings, each 1 to {most} of a-z A-Z 0-9 _ - ."
+
+
 def digits(most):
     return text_like(DIGITS % most), f"1 to {most} digits"
 
@@ -58,6 +66,7 @@ HOST = {
     "name": (names(26), True, False),
     "retry_ms": (integers(0, 3_600_000), False, True),
     "simulated": (SIMULATION, False, False),
+    "standin": (FLAG, False, False),
     "timeout_ms": (integers(1, 600_000), False, True),
     "to": (PATH, True, True),
 }
@@ -71,7 +80,9 @@ LIMITS = {
 }
 RUN = {
     "advices": (integers(0, 256), False, False),
+    "allow": (lists(32), False, False),
     "journal": (PATH, False, False),
+    "log": (PATH, False, False),
     "sessions": (integers(1, 16), False, False),
     "threads": (FLAG, False, False),
 }

@@ -2,7 +2,7 @@
 
 from harness import inputs
 from harness.case import Begins, Case, Exactly
-from model import flows, journal, messages, pictures, random_config, requests, script, shown, texts
+from model import flows, journal, messages, pictures, random_config, random_set_up, requests, script, shown, texts
 from model.flows import Entry, Flow, Group, Kind
 from model.law import unlawful
 from model.stops import Runs
@@ -715,6 +715,7 @@ def cases(random, count, is_every=False):
         yield journal.journal_case(random, f"random/journal {number}")
         yield shown.shown_case(random, f"random/shown {number}", any_message)
         yield random_config.config_case(random, f"random/config {number}")
+        yield random_set_up.rules_case(random, f"random/rules {number}")
     for number in range(count):
         word, made = kinds[number % len(kinds)]
         yield made(random, f"random/{word} {number}")

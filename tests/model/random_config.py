@@ -3,10 +3,12 @@
 from copy import deepcopy
 
 from harness.case import Begins, Case, Exactly
-from model import config, texts
+from model import config, flows, rules, texts
 
 # A flow whose participants every configuration has.
 FLOW = b'[[group]]\nname = "main"\nentry = [{ participant = "check" }, { participant = "respond", abort_aware = true }]\n'
+# The rules that it breaks, with the routes of this file.
+ALLOWED = ["no-query", "unknown-group", "picks-main"]
 ODD = ["", "a b", "é", "x" * 33, "0" * 20, "12", -1, 0, 17, 2**62, True, False, 1.5, [], [1], {}, {"a": 1}]
 NAMES = ["alpha", "beta", "host-1", "a.b_c", "x" * 26]
 PREFIXES = ["4", "5", "55", "6011", "9" * 19]
@@ -37,9 +39,10 @@ def document(random):
         "host": [host(random) for _ in range(random.choice([0, 1, 2, 3]))],
         "route": [route(random) for _ in range(random.choice([0, 1, 2, 3]))],
         "limits": some(random, {"per_card": random.choice([0, 10_000, 999_999_999_999_999]), "stand_in": random.choice([0, 999_999_999_999])}),
-        "run": some(random, {"advices": random.choice([0, 1, 256]), "sessions": random.randint(1, 16), "threads": random.random() < 0.5}),
+        "run": some(random, {"advices": random.choice([0, 1, 256]), "sessions": random.randint(1, 16), "threads": random.random() < 0.5})
+        | {"allow": ALLOWED},
     }
-    return some(random, made)
+    return {key: its for key, its in some(random, made).items() if key != "run"} | {"run": made["run"]}
 
 
 def tables_of(made):
@@ -120,4 +123,10 @@ def config_case(random, name):
     if isinstance(reads, str):
         begins = Begins if reads == texts.FILE["NotToml"] else Exactly
         case.stderr, case.status = begins(f"cardswitch: config.toml: {reads}".encode() + b"\n" * (begins is Exactly)), 1
+        return case
+    stated = flows.document_of(text.encode())
+    its = rules.SetUp(flows.read_flow(FLOW), stated)
+    lines = its.lines()
+    case.stderr = Exactly("".join(lines or [its.ready(stated.get("run", {}).get("sessions", 1))]).encode())
+    case.status = 1 if lines else 0
     return case

@@ -4,7 +4,7 @@ import json
 import re
 
 from harness.case import Case, Exactly, difference
-from model import messages, traces
+from model import messages, records, traces
 from model.flows import Entry, Flow, Group, Kind
 from model.switch import Switch
 
@@ -214,6 +214,8 @@ def run_case(random, name):
     flow = whole_flow() if random.random() < 0.8 else short_flow()
     limit = random.choice([10_000, 10_000, 0, 700, 999_999_999_999_999])
     made, is_file = stream(random), random.random() < 0.5
+    if random.random() < 0.2:
+        return recorded(name, flow, limit, made)
     form, every = random.choice([None, None, "", "=text", "=json"]), None
     if form is None:
         every = random.choice([None, None, None, 0, 1, 2, 3, 7])
@@ -239,6 +241,22 @@ def served(name, flow, limit, made, is_file, form=None, every=None):
     case.files = {"flow.toml": flow_file(flow)}
     case.stdout = Exactly(frames)
     case.stderr = Told(told, form) if every is None else Lines(lines)
+    return case
+
+
+# Takes the times out of the lines of a log, where they have their form.
+UNTIMED = 's/,"time":"[0-9]{4}-[0-9]{2}-[0-9]{2}T[0-9]{2}:[0-9]{2}:[0-9]{2}[.][0-9]{3}Z"//; s/,"host_ms":[0-9]+,/,/; s/,"ms":[0-9]+}$/}/'
+
+
+def recorded(name, flow, limit, made):
+    """The case of a run with a log, whose lines are then shown without their times."""
+    command = f"cardswitch run --flow flow.toml --limit {limit} --log log && sed -E '{UNTIMED}' log"
+    switch = Switch(flow, limit)
+    wanted = records.lines(switch, made)
+    case = Case(name, command, b"".join(map(messages.framed, made)))
+    case.files = {"flow.toml": flow_file(flow)}
+    case.stdout = Exactly(switch.responses() + wanted)
+    case.stderr = Ready(Told(passed(made)))
     return case
 
 
@@ -309,3 +327,17 @@ class Told:
         if len(lines) == len(self.wanted) and all(self.is_right(*pair) for pair in pairs):
             return None
         return difference(name, *(b"\n".join(them) for them in (self.wanted, lines)))
+
+
+class Ready:
+    """On standard error: the line that a run with a log is ready, and then what is told."""
+
+    LINE = b"cardswitch: ready: flow flow.toml, hosts alpha beta, journal in memory, sessions 1\n"
+
+    def __init__(self, told):
+        self.told = told
+
+    def wrong(self, name, came):
+        if not came.startswith(self.LINE):
+            return f"{name}: wanted a first line {self.LINE!r}, came {came!r}"
+        return self.told.wrong(name, came[len(self.LINE) :])

@@ -1,6 +1,6 @@
 -- What `run` and `recover` have done, from their parts.
--- for: requests::config_for, requests::answer_by, requests::answer_requests, requests::recover_by, requests::recover
-use Rattle.std.proofs.Common.{◌≡◌, ◌≢◌, ◌≤◌, ℕ, List, Option, Some, None, Result, Ok, Err, IfErr, IfOk, OnOk, Bor, arith, refl, sym, subst}
+-- for: requests::answer_by, requests::answer_requests, requests::recover_by, requests::recover
+use Rattle.std.proofs.Common.{◌≡◌, ◌≢◌, ◌≤◌, ℕ, List, Option, Some, None, Result, Ok, Err, IfErr, IfNone, IfOk, IfSome, OnOk, Bor, ap, arith, refl, sym, subst, ◌∙◌, false, true}
 use Rattle.sqlite_trees.specs.declared.store.Store.{Ghosts}
 use Rattle.sqlite_trees.specs.declared.memory.MemStore.{MemStore}
 use Rattle.sqlite.specs.Steps.{over_memory}
@@ -19,11 +19,12 @@ use Rattle.cli_run.specs.declared.error.ServeError.{ServeError}
 use Rattle.cli_run.specs.declared.error.ServeError.TheVariants as serve
 use Rattle.cli_run.specs.declared.setup.Setup.{Setup}
 use Rattle.cli_setup.specs.declared.error.ConfigFileError.{ConfigFileError}
-use Rattle.cli_setup.specs.Plans.{IsSetUp, journal_of, limit_of, no_config, plain_setup}
+use Rattle.cli_setup.specs.Plans.{IsSetUp, journal_of, limit_of, log_path_of, no_config, plain_setup}
 use Rattle.cardswitch.specs.Errors.{error_at}
 use Rattle.cardswitch.specs.Journals.{IsFound, IsNewJournal, IsOfFile}
-use Rattle.cardswitch.specs.Runs.{Answered, AnsweredBy, IfTaken, IsConfigAt, IsConfigFault, IsFileFault, IsFlowFault, IsOpenFault, IsRecoverFault, IsRunFault}
+use Rattle.cardswitch.specs.Runs.{Answered, AnsweredBy, IfTaken, IsConfigAt, IsConfigFault, IsFileFault, IsFlowFault, IsLogFault, IsOpenFault, IsRecoverFault, IsRunFault}
 use Rattle.cardswitch.specs.Runs.{IsRunFaultBy, IsServeError, IsServeFault, Recovered, Served, ended_at, sender_of_setup}
+use Rattle.cardswitch.specs.SetUps.{TakesSetUp}
 use Rattle.cardswitch.specs.declared.error.RunError.{RunError}
 use Rattle.cardswitch.specs.declared.error.RunError.TheVariants as error
 
@@ -43,14 +44,15 @@ taken P code config flow c one other h = rw (one, other) h
 
 answered_over : {S C : Type 0} (files : Ghosts S) (flow : Flow) (o : RunOptions) (c : Config) (setup : Setup (IssuerLink C)) (j : Seen)
     (unread before after : Option (List ℕ)) (r : Result (Unit {0}) RunError)
-    → IsSetUp o c setup → IsFound files (journal_of o c) j
+    → IsSetUp o c setup → TakesSetUp o.config flow c → IsFound files (journal_of o c) j
     → OnOk r (Served setup.threads flow setup.sessions j (sender_of_setup (plain_setup setup)) setup.advices unread before after)
     → OnOk r (AnsweredBy files flow o c unread before after)
-answered_over files flow o c setup j unread before after r set_up found h =
+answered_over files flow o c setup j unread before after r set_up takes found h =
     on_ok _ _ r (λ (served : Served setup.threads flow setup.sessions j (sender_of_setup (plain_setup setup)) setup.advices unread before after). record {
       setup = plain_setup setup;
       within = set_up.within;
       is_set_up = set_up.plain;
+      taken = takes;
       journal = j;
       found = found;
       served = served;
@@ -58,23 +60,33 @@ answered_over files flow o c setup j unread before after r set_up found h =
 
 pub answered_by_file : {S C : Type 0} (files : Ghosts S) (flow : Flow) (o : RunOptions) (c : Config) (setup : Setup (IssuerLink C)) (path named : List ℕ)
     (journal : Kept S) (unread before after : Option (List ℕ)) (r : Result (Unit {0}) RunError)
-    → IsSetUp o c setup → Some path ≡ journal_of o c → IsOfFile files path journal
+    → IsSetUp o c setup → TakesSetUp o.config flow c → Some path ≡ journal_of o c → IsOfFile files path journal
     → OnOk r (Served setup.threads flow setup.sessions (seen (kept files journal)) (sender_of_setup (plain_setup setup)) setup.advices unread before after)
     → OnOk (ended_at named r) (AnsweredBy files flow o c unread before after)
-answered_by_file files flow o c setup path named journal unread before after r set_up of_options opened h =
+answered_by_file files flow o c setup path named journal unread before after r set_up takes of_options opened h =
     done_at named (AnsweredBy files flow o c unread before after) r
-    (answered_over files flow o c setup (seen (kept files journal)) unread before after r set_up
+    (answered_over files flow o c setup (seen (kept files journal)) unread before after r set_up takes
     (subst (λ (x : Option (List ℕ)). IsFound files x (seen (kept files journal))) of_options (journal, opened, refl)) h)
 
 pub answered_in_memory : {S C : Type 0} (files : Ghosts S) (flow : Flow) (o : RunOptions) (c : Config) (setup : Setup (IssuerLink C))
     (journal : Kept MemStore) (unread before after : Option (List ℕ)) (r : Result (Unit {0}) RunError)
-    → IsSetUp o c setup → None ≡ journal_of o c → IsNewJournal journal
+    → IsSetUp o c setup → TakesSetUp o.config flow c → None ≡ journal_of o c → IsNewJournal journal
     → OnOk r (Served setup.threads flow setup.sessions (seen (kept over_memory journal)) (sender_of_setup (plain_setup setup)) setup.advices unread before
     after)
     → OnOk r (AnsweredBy files flow o c unread before after)
-answered_in_memory files flow o c setup journal unread before after r set_up none opened h =
-    answered_over files flow o c setup (seen (kept over_memory journal)) unread before after r set_up
+answered_in_memory files flow o c setup journal unread before after r set_up takes none opened h =
+    answered_over files flow o c setup (seen (kept over_memory journal)) unread before after r set_up takes
     (subst (λ (x : Option (List ℕ)). IsFound files x (seen (kept over_memory journal))) none (journal, opened, refl)) h
+
+-- a run that is answered by the steps of the flow is answered by the flow
+pub answered_by_code : {S : Type 0} (files : Ghosts S) (flow code : Flow) (o : RunOptions) (c : Config) (unread before after : Option (List ℕ))
+    (r : Result (Unit {0}) RunError)
+    → code ≡ flow → OnOk r (AnsweredBy files code o c unread before after) → OnOk r (AnsweredBy files flow o c unread before after)
+answered_by_code files flow code o c unread before after r same h =
+    subst (λ (f : Flow). OnOk r (AnsweredBy files f o c unread before after)) same h
+
+pub takes_code : (flow code : Flow) (o : RunOptions) (c : Config) → code ≡ flow → TakesSetUp o.config flow c → TakesSetUp o.config code c
+takes_code flow code o c same h = subst (λ (f : Flow). TakesSetUp o.config f c) (sym same) h
 
 -- of a flow and a configuration that were taken: all facts, where the run is done
 both : {F C E : Type 0} (P : F → Type 0) (Q : C → Type 0) (S : F → C → Type 0) (K : Type 0) (code : Result F E) (config : Result C E) (r : Result (Unit {0}) E)
@@ -109,6 +121,8 @@ flow_cases : (P : RunError → Type 0) (path : List ℕ) (e : RunError) → ((p 
 flow_cases P path (error.FlowFile p cause) file memory fault = file p cause fault
 flow_cases P path error.OutOfMemory file memory fault = memory
 flow_cases P path (error.ConfigFile p cause) file memory fault = absurd fault
+flow_cases P path (error.SetUp e) file memory fault = absurd fault
+flow_cases P path (error.LogFile p cause) file memory fault = absurd fault
 flow_cases P path (error.Serve e) file memory fault = absurd fault
 flow_cases P path (error.BadLimit n) file memory fault = absurd fault
 flow_cases P path (error.JournalFile p cause) file memory fault = absurd fault
@@ -127,6 +141,8 @@ config_cases : (P : RunError → Type 0) (path : Option (Bor (List ℕ))) (e : R
 config_cases P path (error.ConfigFile p cause) file memory fault = file p cause fault
 config_cases P path error.OutOfMemory file memory fault = memory
 config_cases P path (error.FlowFile p cause) file memory fault = absurd fault
+config_cases P path (error.SetUp e) file memory fault = absurd fault
+config_cases P path (error.LogFile p cause) file memory fault = absurd fault
 config_cases P path (error.Serve e) file memory fault = absurd fault
 config_cases P path (error.BadLimit n) file memory fault = absurd fault
 config_cases P path (error.JournalFile p cause) file memory fault = absurd fault
@@ -157,6 +173,8 @@ run_refused o c before after (error.Engine path cause) stated fault = (c, stated
 run_refused o c before after (error.Serve e) stated fault = (c, stated, fault)
 run_refused o c before after (error.FlowFile path cause) stated fault = absurd fault
 run_refused o c before after (error.ConfigFile path cause) stated fault = absurd fault
+run_refused o c before after (error.SetUp e) stated fault = (c, stated, fault)
+run_refused o c before after (error.LogFile p cause) stated fault = (c, stated, fault)
 run_refused o c before after error.Refused stated fault = absurd fault
 run_refused o c before after (error.Read e) stated fault = absurd fault
 run_refused o c before after (error.Write e) stated fault = absurd fault
@@ -207,6 +225,8 @@ served_fault o c before after (error.Serve e) limit none h = (limit, serve_error
 served_fault o c before after error.OutOfMemory limit none h = λ over. absurd (omega arith)
 served_fault o c before after (error.FlowFile path cause) limit none h = absurd h
 served_fault o c before after (error.ConfigFile path cause) limit none h = absurd h
+served_fault o c before after (error.SetUp e) limit none h = absurd h
+served_fault o c before after (error.LogFile p cause) limit none h = absurd h
 served_fault o c before after (error.BadLimit n) limit none h = absurd h
 served_fault o c before after (error.JournalFile path cause) limit none h = absurd h
 served_fault o c before after (error.Journal path cause) limit none h = absurd h
@@ -250,6 +270,8 @@ fault_in_file path before after (error.Serve e) h = error_in_file path before af
 fault_in_file path before after error.OutOfMemory h = tt
 fault_in_file path before after (error.FlowFile p cause) h = absurd h
 fault_in_file path before after (error.ConfigFile p cause) h = absurd h
+fault_in_file path before after (error.SetUp e) h = absurd h
+fault_in_file path before after (error.LogFile p cause) h = absurd h
 fault_in_file path before after (error.BadLimit n) h = absurd h
 fault_in_file path before after (error.JournalFile p cause) h = absurd h
 fault_in_file path before after (error.Journal p cause) h = absurd h
@@ -274,6 +296,8 @@ file_fault o c path before after (error.Serve e) limit named h = (limit, subst (
 file_fault o c path before after error.OutOfMemory limit named h = λ over. absurd (omega arith)
 file_fault o c path before after (error.FlowFile p cause) limit named h = absurd h
 file_fault o c path before after (error.ConfigFile p cause) limit named h = absurd h
+file_fault o c path before after (error.SetUp e) limit named h = absurd h
+file_fault o c path before after (error.LogFile p cause) limit named h = absurd h
 file_fault o c path before after (error.BadLimit n) limit named h = absurd h
 file_fault o c path before after error.Refused limit named h = absurd h
 file_fault o c path before after (error.Read e) limit named h = absurd h
@@ -298,6 +322,8 @@ open_fault path before (error.Journal p cause) h = absurd h
 open_fault path before (error.Engine p cause) h = absurd h
 open_fault path before (error.FlowFile p cause) h = absurd h
 open_fault path before (error.ConfigFile p cause) h = absurd h
+open_fault path before (error.SetUp e) h = absurd h
+open_fault path before (error.LogFile p cause) h = absurd h
 open_fault path before (error.BadLimit n) h = absurd h
 open_fault path before error.Refused h = absurd h
 open_fault path before (error.Read e) h = absurd h
@@ -311,6 +337,27 @@ pub unopened : (o : RunOptions) (c : Config) (path : List ℕ) (before after : O
 unopened o c path before after e limit named same h =
     subst (λ (x : Option (List ℕ)). IsRunFaultBy o c before x e) (sym same) (file_fault o c path before before e limit named (open_fault path before e h))
 
+-- no log is opened, and nothing is written
+pub unlogged : (o : RunOptions) (c : Config) (path : Option (List ℕ)) (before : Option (List ℕ)) (e : RunError) → limit_of o c ≤ 999999999999999
+    → path ≡ log_path_of o c → IfSome path (λ p. IsLogFault p e) → IfNone path (false ≡ true) → IsRunFaultBy o c before before e
+unlogged o c None before e limit is fault there = absurd (cc)
+unlogged o c (Some path) before (error.LogFile p cause) limit is fault there = (limit, sym is ∙ ap Some (sym fault), refl)
+unlogged o c (Some path) before error.OutOfMemory limit is fault there = λ over. refl
+unlogged o c (Some path) before (error.FlowFile p cause) limit is fault there = absurd fault
+unlogged o c (Some path) before (error.ConfigFile p cause) limit is fault there = absurd fault
+unlogged o c (Some path) before (error.SetUp x) limit is fault there = absurd fault
+unlogged o c (Some path) before (error.BadLimit n) limit is fault there = absurd fault
+unlogged o c (Some path) before (error.JournalFile p cause) limit is fault there = absurd fault
+unlogged o c (Some path) before (error.Journal p cause) limit is fault there = absurd fault
+unlogged o c (Some path) before (error.Engine p cause) limit is fault there = absurd fault
+unlogged o c (Some path) before (error.Serve x) limit is fault there = absurd fault
+unlogged o c (Some path) before (error.Read x) limit is fault there = absurd fault
+unlogged o c (Some path) before (error.Write x) limit is fault there = absurd fault
+unlogged o c (Some path) before (error.Step x) limit is fault there = absurd fault
+unlogged o c (Some path) before (error.Input x) limit is fault there = absurd fault
+unlogged o c (Some path) before (error.Text x) limit is fault there = absurd fault
+unlogged o c (Some path) before error.Refused limit is fault there = absurd fault
+
 recover_fault : (o : RecoverOptions) (before after : Option (List ℕ)) (e : RunError) → IsFileFault o.journal.now before after e
     → IsRecoverFault o before after e
 recover_fault o before after (error.JournalFile p cause) h = h
@@ -320,6 +367,8 @@ recover_fault o before after (error.Serve e) h = h
 recover_fault o before after error.OutOfMemory h = tt
 recover_fault o before after (error.FlowFile p cause) h = absurd h
 recover_fault o before after (error.ConfigFile p cause) h = absurd h
+recover_fault o before after (error.SetUp e) h = absurd h
+recover_fault o before after (error.LogFile p cause) h = absurd h
 recover_fault o before after (error.BadLimit n) h = absurd h
 recover_fault o before after error.Refused h = absurd h
 recover_fault o before after (error.Read e) h = absurd h

@@ -6,7 +6,8 @@ use Rattle.sw_issuers.specs.Sending.{PlainSender}
 use Rattle.tx_plant.specs.Plant.{Seen}
 use Rattle.cli_run.specs.Errors.{result_of}
 use Rattle.cli_run.specs.Ran.{Ran, all_lines}
-use Rattle.cli_run.specs.Shown.{TellsAll}
+use Rattle.cli_words.specs.declared.Words.{Words}
+use Rattle.cli_run.specs.Shown.{TellsRun, unfinished_in}
 use Rattle.cli_run.specs.Traces.{Log, passed_over}
 use Rattle.cli_run.specs.Requests.{ReadTo, requests}
 use Rattle.cli_run.specs.Rounds.{Round, RoundsFor}
@@ -15,10 +16,12 @@ use Rattle.cli_run.specs.declared.stream.StreamEnd.TheVariants.{Whole, BadLength
 use Rattle.cardswitch.specs.Runs.{Served, link_step}
 
 -- what a run has read, done and written, as `cli_run` has it
-abbrev RanTo : Bool → Flow → ℕ → Seen → PlainSender → ℕ → Option (List ℕ) → Option (List ℕ) → Option (List ℕ) → Log → Log → StreamEnd → Type 0
-RanTo threads f n j sender most unread before after k l end =
+abbrev RanTo : Bool → Flow → ℕ → Seen → PlainSender → ℕ → Option (List ℕ) → Option (List ℕ) → Option (List ℕ) → Option Words → Log → Log →
+    StreamEnd → Type 0
+RanTo threads f n j sender most unread before after words k l end =
     (frames : List (List ℕ)) × ReadTo end unread frames × (rounds : List Round) × RoundsFor threads (requests frames) rounds
-    × (ran : Ran f n j link_step sender most rounds before after) × TellsAll (all_lines ran.serves) (passed_over frames) ran.serves.end k l
+    × (ran : Ran f n j link_step sender most rounds before after)
+    × TellsRun words (unfinished_in ran.begins.view) (all_lines ran.serves) (passed_over frames) ran.serves.end k l
 
 -- an end that is no error is that of a whole input
 whole : (P : StreamEnd → Type 0) (end : StreamEnd) → Ok tt ≡ result_of end → P end → P Whole
@@ -27,16 +30,16 @@ whole P (BadLength n) no_error h = cc
 whole P (Truncated k) no_error h = cc
 whole P (Unread e) no_error h = cc
 
-served_of : (threads : Bool) (f : Flow) (n : ℕ) (j : Seen) (sender : PlainSender) (most : ℕ) (unread before after : Option (List ℕ)) (k l : Log)
-    → RanTo threads f n j sender most unread before after k l Whole → Served threads f n j sender most unread before after
-served_of threads f n j sender most unread before after k l h = record { frames = h.0; reads = h.1; rounds = h.2; answers = h.3; ran = h.4 }
+served_of : (threads : Bool) (f : Flow) (n : ℕ) (j : Seen) (sender : PlainSender) (most : ℕ) (unread before after : Option (List ℕ))
+    (words : Option Words) (k l : Log) → RanTo threads f n j sender most unread before after words k l Whole → Served threads f n j sender most unread before after
+served_of threads f n j sender most unread before after words k l h = record { frames = h.0; reads = h.1; rounds = h.2; answers = h.3; ran = h.4 }
 
 pub served : {R : Type 0} (threads : Bool) (f : Flow) (n : ℕ) (j : Seen) (sender : PlainSender) (most : ℕ) (remaining : R → Option (List ℕ))
-    (before after : Option (List ℕ)) (k l : Log) (end : StreamEnd) (input : Option R)
+    (before after : Option (List ℕ)) (words : Option Words) (k l : Log) (end : StreamEnd) (input : Option R)
     → Ok tt ≡ result_of end
-    → IfSome input (λ reader. RanTo threads f n j sender most (remaining reader) before after k l end)
+    → IfSome input (λ reader. RanTo threads f n j sender most (remaining reader) before after words k l end)
     → IfSome input (λ reader. Served threads f n j sender most (remaining reader) before after)
-served threads f n j sender most remaining before after k l end None no_error h = h
-served threads f n j sender most remaining before after k l end (Some reader) no_error h =
-    served_of threads f n j sender most (remaining reader) before after k l
-    (whole (λ (e : StreamEnd). RanTo threads f n j sender most (remaining reader) before after k l e) end no_error h)
+served threads f n j sender most remaining before after words k l end None no_error h = h
+served threads f n j sender most remaining before after words k l end (Some reader) no_error h =
+    served_of threads f n j sender most (remaining reader) before after words k l
+    (whole (λ (e : StreamEnd). RanTo threads f n j sender most (remaining reader) before after words k l e) end no_error h)

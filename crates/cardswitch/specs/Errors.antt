@@ -1,5 +1,7 @@
 -- The errors that end a run, and the program's exit statuses.
 use Rattle.std.specs.Prelude.{ℕ, List}
+use Rattle.cli_check.specs.declared.error.CheckError.{CheckError}
+use Rattle.cli_check.specs.declared.error.CheckError.TheVariants as check
 use Rattle.cli_decode.specs.declared.error.StreamError.{StreamError}
 use Rattle.cli_decode.specs.declared.error.StreamError.TheVariants as stream
 use Rattle.cli_encode.specs.declared.error.EncodeError.{EncodeError}
@@ -17,7 +19,7 @@ use Rattle.cli_step.specs.declared.error.StepError.TheVariants as step
 use Rattle.cardswitch.specs.declared.error.JournalFault.TheVariants as fault
 use Rattle.cardswitch.specs.declared.error.RunError.{RunError}
 use Rattle.cardswitch.specs.declared.error.RunError.TheVariants.{BadLimit, Engine, Input, Journal, JournalFile, OutOfMemory}
-use Rattle.cardswitch.specs.declared.error.RunError.TheVariants.{Read, Serve, Step, Text, Write}
+use Rattle.cardswitch.specs.declared.error.RunError.TheVariants.{Read, Serve, SetUp, Step, Text, Write}
 use Rattle.cli_run.specs.declared.error.ServeError.{ServeError}
 use Rattle.cli_run.specs.declared.error.ServeError.TheVariants as serve
 
@@ -59,6 +61,10 @@ error_of_serve e = Serve e
 abbrev pub error_of_setup : SetupError → RunError
 error_of_setup setup.OutOfMemory = OutOfMemory
 error_of_setup (setup.BadLimit limit) = BadLimit limit
+
+abbrev pub error_of_check : CheckError → RunError
+error_of_check check.OutOfMemory = OutOfMemory
+error_of_check e = SetUp e
 
 abbrev pub error_of_stream : StreamError → RunError
 error_of_stream (stream.Read e) = Read e

@@ -1,5 +1,7 @@
 pub mod Errors
 pub mod Journals
+pub mod SetUps
+pub mod Checking
 pub mod Runs
 pub mod Steps
 pub mod Drawings

@@ -25,9 +25,10 @@ use Rattle.cli_run.specs.declared.standard_error.Form.TheVariants as form
 use Rattle.cli_run.specs.declared.stream.StreamEnd.TheVariants.{Whole}
 use Rattle.cli_run.specs.declared.error.ServeError.{ServeError}
 use Rattle.cli_run.specs.declared.error.ServeError.TheVariants as serve
-use Rattle.cli_setup.specs.Plans.{PlainSetup, journal_of, limit_of, no_config, setup_of}
+use Rattle.cli_setup.specs.Plans.{PlainSetup, journal_of, limit_of, log_path_of, no_config, setup_of}
 use Rattle.cardswitch.specs.Errors.{error_at}
 use Rattle.cardswitch.specs.Journals.{IsFound, IsFoundAt}
+use Rattle.cardswitch.specs.SetUps.{IsMistake, TakesSetUp}
 use Rattle.cardswitch.specs.declared.error.RunError.{RunError}
 use Rattle.cardswitch.specs.declared.error.RunError.TheVariants as error
 
@@ -71,6 +72,7 @@ pub record AnsweredBy {S : Type 0} (files : Ghosts S) (flow : Flow) (o : RunOpti
   pub setup : PlainSetup
   pub within : limit_of o c ≤ 999999999999999
   pub is_set_up : setup ≡ setup_of o c
+  pub taken : TakesSetUp o.config flow c
   pub journal : Seen
   pub found : IsFound files (journal_of o c) journal
   pub served : Served setup.threads flow setup.sessions journal (sender_of_setup setup) setup.advices unread before after
@@ -138,11 +140,21 @@ IsFileFault path before after (error.Serve e) = IsServeError (Some path) e
 IsFileFault path before after error.OutOfMemory = ⊤
 IsFileFault path before after _ = ⊥
 
--- The faults of `run` by this configuration, the first of which it reports: its limit, its journal's file, and what is done
--- with the journal. Nothing is written before that, nor under a limit that is too great.
+-- why there is no log at a path
+abbrev pub IsLogFault : List ℕ → RunError → Type 0
+IsLogFault path (error.LogFile p cause) = p ≡ path
+IsLogFault path error.OutOfMemory = ⊤
+IsLogFault path _ = ⊥
+
+-- The faults of `run` by this configuration, the first of which it reports: its limit, its mistakes, its log, its journal's file,
+-- and what is done with the journal. Nothing is written before that, nor under a limit that is too great.
 abbrev pub IsRunFaultBy : RunOptions → Config → Option (List ℕ) → Option (List ℕ) → RunError → Type 0
 IsRunFaultBy o c before after (error.BadLimit limit) =
     (limit ≡ limit_of o c) × (999999999999999 < limit) × (after ≡ before)
+IsRunFaultBy o c before after (error.SetUp e) =
+    (limit_of o c ≤ 999999999999999) × IsMistake o.config c e × (after ≡ before)
+IsRunFaultBy o c before after (error.LogFile path cause) =
+    (limit_of o c ≤ 999999999999999) × (log_path_of o c ≡ Some path) × (after ≡ before)
 IsRunFaultBy o c before after (error.JournalFile path cause) =
     (limit_of o c ≤ 999999999999999) × (journal_of o c ≡ Some path) × (after ≡ before)
 IsRunFaultBy o c before after (error.Journal path cause) = (limit_of o c ≤ 999999999999999) × (journal_of o c ≡ Some path)

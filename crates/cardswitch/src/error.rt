@@ -1,11 +1,12 @@
 //! Why a run of the program ends early, and with which exit status.
 ghost use Rattle.std.specs.Prelude.{◌≡◌};
-ghost use Rattle.cardswitch.specs.Errors.{error_of_encode, error_of_flows, error_of_read, error_of_serve};
+ghost use Rattle.cardswitch.specs.Errors.{error_of_check, error_of_encode, error_of_flows, error_of_read, error_of_serve};
 ghost use Rattle.cardswitch.specs.Errors.{error_of_step};
 ghost use Rattle.cardswitch.specs.Errors.{error_of_setup, error_of_stream, error_of_write};
 ghost use Rattle.cardswitch.specs.Errors.{error_at, run_status};
 ghost use Rattle.cardswitch.specs.declared.error.RunError.TheVariants.{OutOfMemory};
 
+use cli_check::CheckError;
 use cli_decode::StreamError;
 use cli_encode::{EncodeError, TextError};
 use cli_flows::FlowsError;
@@ -85,12 +86,18 @@ pub enum RunError {
     /// The file at the path is not taken as a journal.
     #[error("{}: {cause}", .path.as_str())]
     JournalFile { path: Text, cause: JournalFault },
+    /// The file at the path is not opened as a log.
+    #[error("{}: cannot open: {cause}", .path.as_str())]
+    LogFile { path: Text, cause: io::Error },
     /// The flow file at the path is not taken.
     #[error("{}: {cause}", .path.as_str())]
     FlowFile { path: Text, cause: FlowsError },
     /// The configuration file at the path is not taken.
     #[error("{}: {cause}", .path.as_str())]
     ConfigFile { path: Text, cause: ConfigFileError },
+    /// The flow and the configuration have mistakes.
+    #[error("{0}")]
+    SetUp(CheckError),
     /// The standard input is not a flow file, or not an image.
     #[error("standard input: {0}")]
     Input(FlowsError),
@@ -242,6 +249,17 @@ impl From<SetupError> for RunError {
         match error {
             SetupError::OutOfMemory => RunError::OutOfMemory,
             SetupError::BadLimit(limit) => RunError::BadLimit(limit),
+        }
+    }
+}
+
+impl From<CheckError> for RunError {
+    ghost from_gives = { λ e f. f ≡ error_of_check e };
+
+    fn from(error: CheckError) -> RunError {
+        match error {
+            CheckError::OutOfMemory => RunError::OutOfMemory,
+            other => RunError::SetUp(other),
         }
     }
 }

@@ -1,11 +1,13 @@
-//! The flow file that an option names.
+//! The flow file and the configuration file that options name.
 
 ghost use Rattle.std.specs.Prelude.{IfErr, IfOk};
 ghost use Rattle.flow_model.specs.Check.{IsChecked};
-ghost use Rattle.cardswitch.specs.Runs.{IsFlowFault};
+ghost use Rattle.cardswitch.specs.Runs.{IsConfigAt, IsConfigFault, IsFlowFault};
 
 use crate::error::RunError;
+use cli_config::Config;
 use cli_flows::{FlowsError, open_flow};
+use cli_setup::{ConfigFileError, config_at};
 use flow_model::Flow;
 use std::alloc::Global;
 use std::fs::Files;
@@ -24,4 +26,22 @@ pub fn flow_at<F: Files>(alloc: Global, files: &F, path: &str) -> Result<Flow, R
             cause,
         }),
     }
+}
+
+/// The configuration of the file that `--config` names.
+pub fn config_for(alloc: Global, rt: &HostRuntime, path: Option<&str>) -> Result<Config, RunError>
+    ensures stated { IfOk result (IsConfigAt path.entry) }
+    ensures failed { IfErr result (IsConfigFault path.entry) }
+{
+    let cause = match config_at(alloc, rt, path) {
+        Ok(config) => return Ok(config),
+        Err(ConfigFileError::OutOfMemory) => return Err(RunError::OutOfMemory),
+        Err(cause) => cause,
+    };
+    // Without a path there is no file, and no error.
+    let Some(path) = path else { unreachable!() };
+    Err(RunError::ConfigFile {
+        path: Text::from_str(alloc, path)?,
+        cause,
+    })
 }

@@ -5,10 +5,12 @@
 //! write, 2 a bad command line, 3 a refusal of a journal, 4 out of memory.
 #![tactic(auto)]
 
+mod checking;
 mod error;
 mod flow_file;
 mod journal_file;
 mod journals;
+mod log_file;
 mod looking;
 mod program;
 mod requests;

@@ -11,6 +11,7 @@ ghost use Rattle.cli_decode.specs.Decoded.{IsDecodedStream};
 ghost use Rattle.cli_flows.specs.Subcommands.{IsAssembled, IsListed};
 ghost use Rattle.cli_options.specs.Refusal.{status_of};
 
+use crate::checking::check;
 use crate::error::RunError;
 use crate::flow_file::flow_at;
 use crate::looking::look_into;
@@ -173,7 +174,8 @@ fn run_subcommand<
         Options::Encode => encode(alloc, input, out),
         Options::Recover(options) => recover(threads, alloc, rt, options, out),
         Options::Journal(options) => look_into(alloc, rt, options, out),
-        Options::Run(options) => { answer_requests(threads, alloc, rt, options, input, out, err) }
+        Options::Check(options) => check(alloc, rt, options),
+        Options::Run(options) => answer_requests(threads, alloc, rt, options, input, out),
     }
 }
 

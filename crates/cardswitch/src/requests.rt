@@ -1,30 +1,38 @@
 //! The subcommands `run` and `recover`: the switch with its own participants, over a journal.
 
-ghost use Rattle.std.specs.Prelude.{◌≡◌, ◌<◌, IfErr, IfNone, IfOk, IfSome, OnOk, false, option_map};
+ghost use Rattle.std.specs.Prelude.{◌≡◌, ◌<◌, ◌||◌, IfErr, IfNone, IfOk, IfSome, IsOk, OnOk, false};
+ghost use Rattle.std.specs.Prelude.{is_some, option_map};
 ghost use Rattle.flow_model.specs.Check.{IsChecked};
 ghost use Rattle.flow_model.specs.declared.flow.Flow.{Flow};
 ghost use Rattle.tx_journal.specs.Kept.{kept};
 ghost use Rattle.tx_plant.specs.Plant.{seen};
 ghost use Rattle.cli_run.specs.Ran.{Printed};
 ghost use Rattle.cli_setup.specs.Plans.{limit_of, plain_setup};
-ghost use Rattle.cardswitch.specs.Runs.{Answered, AnsweredBy, IfTaken, IsConfigAt, IsConfigFault};
-ghost use Rattle.cardswitch.specs.Runs.{IsFileFault, IsFlowFault, IsRecoverFault, IsRunFault, IsRunFaultBy};
+ghost use Rattle.cli_setup.specs.Words.{IsWordsOf};
+ghost use Rattle.cardswitch.specs.Checking.{IsRunMistake};
+ghost use Rattle.cardswitch.specs.SetUps.{TakesSetUp};
+ghost use Rattle.cardswitch.specs.Runs.{Answered, AnsweredBy, IfTaken};
+ghost use Rattle.cardswitch.specs.Runs.{IsFileFault, IsFlowFault, IsLogFault, IsRecoverFault, IsRunFault, IsRunFaultBy};
 ghost use Rattle.cardswitch.specs.Runs.{IsServeFault, Recovered, Served, form_of, sender_of_setup};
 ghost use Rattle.cardswitch.specs.Runs.{ended_at, wanted};
 
+use crate::checking::check_run;
 use crate::error::RunError;
-use crate::flow_file::flow_at;
+use crate::flow_file::{config_for, flow_at};
 use crate::journals::{open_existing, open_file, open_in_memory};
+use crate::log_file::{Sink, open_log};
 use cli_config::Config;
 use cli_options::choice::{RecoverOptions, RunOptions, StatsLines, TraceForm};
-use cli_run::{Form, Setup, StandardError, Stats, SwitchLink, run};
-use cli_setup::{ConfigFileError, HostLines, config_at, journal_path, recovery, setup};
+use cli_run::{Form, RecordLog, Setup, StandardError, Stats, SwitchLink, run};
+use cli_setup::{journal_path, log_path, recovery, setup, words_of};
+use cli_words::Words;
 use flow_asm::{Code, assemble};
+use flow_model::Flow;
 use sqlite::Alter;
 use sqlite_std_file::File;
 use sqlite_store::FileStore;
 use sqlite_trees::store::Store;
-use std::alloc::Global;
+use std::alloc::{AllocError, Global};
 use std::io::{Empty, Read, Write};
 use std::sync::Wait;
 use std::thread::Threads;
@@ -32,8 +40,15 @@ use std::time::Clock;
 use sw_participant::Text;
 use tx_journal::Journal;
 
-// Runs over a journal. Then the lines of the hosts are written, if the numbers of the run are wanted.
-fn serve<S: Alter + Drop, T: Threads + Wait + Clock + Sync, R: Read + Drop, O: Write, E: Write>(
+// Runs over a journal. Then it is reported what has become new of the hosts, and their counts, if they are wanted.
+fn serve<
+    S: Alter + Drop,
+    T: Threads + Wait + Clock + Sync,
+    R: Read + Drop,
+    O: Write,
+    E: Write,
+    K: Clock,
+>(
     threads: &T,
     alloc: Global,
     setup: Setup<SwitchLink>,
@@ -41,7 +56,7 @@ fn serve<S: Alter + Drop, T: Threads + Wait + Clock + Sync, R: Read + Drop, O: W
     journal: Journal<S>,
     input: Option<R>,
     out: &mut O,
-    stderr: &mut StandardError<'_, E>,
+    stderr: &mut StandardError<'_, E, K>,
 ) -> Result<(), RunError>
     ensures served { OnOk result (IfSome input
         (λ reader. Served setup.threads code.now setup.sessions
@@ -51,9 +66,9 @@ fn serve<S: Alter + Drop, T: Threads + Wait + Clock + Sync, R: Read + Drop, O: W
         (seen (kept S.Store journal)) (O.contents out.old) (O.contents out.new))) }
     ensures failed { IfErr result IsServeFault }
 {
-    let hosts = HostLines::of(alloc, &setup)?;
     let ended = run(threads, alloc, code, journal, setup, input, out, stderr);
-    hosts.show(stderr);
+    stderr.say_news();
+    stderr.say_counts();
     Ok(ended?.into_result()?)
 }
 
@@ -77,24 +92,6 @@ fn code_at(alloc: Global, rt: &HostRuntime, path: &str) -> Result<Code, RunError
     Ok(assemble(alloc, &flow)?)
 }
 
-// The configuration of the file that `--config` names.
-fn config_for(alloc: Global, rt: &HostRuntime, path: Option<&str>) -> Result<Config, RunError>
-    ensures stated { IfOk result (IsConfigAt path.entry) }
-    ensures failed { IfErr result (IsConfigFault path.entry) }
-{
-    let cause = match config_at(alloc, rt, path) {
-        Ok(config) => return Ok(config),
-        Err(ConfigFileError::OutOfMemory) => return Err(RunError::OutOfMemory),
-        Err(cause) => cause,
-    };
-    // Without a path there is no file, and no error.
-    let Some(path) = path else { unreachable!() };
-    Err(RunError::ConfigFile {
-        path: Text::from_str(alloc, path)?,
-        cause,
-    })
-}
-
 // The form of the trace's lines, by that of the options.
 fn form_of(form: TraceForm) -> Form
     ensures { result ≡ form_of form }
@@ -116,16 +113,42 @@ fn stats_by<C: Clock>(rt: &C, lines: StatsLines) -> Option<Stats>
     }
 }
 
-// Where a run writes besides its responses: the trace and the numbers, if the options want them.
-fn stderr_by<'a, C: Clock, E>(
-    rt: &C,
+// What a run with a configuration or a log reports in words. Any other run reports nothing so.
+fn words_for(
+    alloc: Global,
     options: &RunOptions<'_>,
+    logged: bool,
+    journal: &Option<Text>,
+    setup: &Setup<SwitchLink>,
+) -> Result<Option<Words>, AllocError>
+    ensures wanted { IfOk result (λ words.
+        is_some words ≡ (is_some options.now.config || logged)) }
+    ensures words { IfOk result (λ words. IfSome words
+        (IsWordsOf options.now.flow.now journal.now setup.now)) }
+{
+    if options.config.is_some() || logged {
+        return Ok(Some(words_of(alloc, options.flow, journal, setup)?));
+    }
+    Ok(None)
+}
+
+// Where a run writes besides its responses: the trace and the numbers, if the options want them, its words, and the
+// log, if there is one.
+fn stderr_by<'a, C: Clock, E>(
+    rt: &'a C,
+    options: &RunOptions<'_>,
+    words: Option<Words>,
     err: &'a mut E,
-) -> StandardError<'a, E>
+    log: &'a mut E,
+    logged: bool,
+) -> StandardError<'a, E, C>
     ensures trace { result.trace ≡ option_map form_of options.now.trace }
     ensures stats { option_map (λ s. s.every) result.stats ≡ wanted options.now.stats }
     ensures none_lost { result.lost ≡ false }
     ensures none_passed { result.passed ≡ 0 }
+    ensures words { result.words ≡ words }
+    ensures log { result.log.wanted ≡ logged }
+    ensures none_lost_of_log { result.log.lost ≡ false }
 {
     StandardError {
         err,
@@ -136,7 +159,59 @@ fn stderr_by<'a, C: Clock, E>(
         lost: false,
         stats: stats_by(rt, options.stats),
         passed: 0,
+        log: RecordLog {
+            out: log,
+            clock: rt,
+            wanted: logged,
+            lost: false,
+            began: None,
+        },
+        words,
     }
+}
+
+// A run that writes no lines of its history, numbers, words or records.
+fn silent<'a, C: Clock, E: Write>(
+    rt: &'a C,
+    err: &'a mut E,
+    unused: &'a mut E,
+) -> StandardError<'a, E, C> {
+    StandardError {
+        err,
+        trace: None,
+        lost: false,
+        stats: None,
+        passed: 0,
+        words: None,
+        log: RecordLog::off(unused, rt),
+    }
+}
+
+// The log of a run, if it is wanted.
+fn log_at(alloc: Global, rt: &HostRuntime, path: &Option<Text>) -> Result<Sink, RunError>
+    ensures failed { IfErr result (λ error. IfSome path.now (λ p. IsLogFault p error)) }
+    ensures there { IfNone path.now (IsOk result) }
+{
+    match path {
+        Some(path) => open_log(alloc, rt, path.as_str()),
+        None => Ok(Sink::Nowhere),
+    }
+}
+
+// The steps of a flow that is taken with a configuration.
+fn code_by(
+    alloc: Global,
+    options: &RunOptions<'_>,
+    flow: &Flow,
+    config: &Config,
+) -> Result<Code, RunError>
+    requires { IsChecked flow.now }
+    ensures same { IfOk result (λ code. code ≡ flow.now) }
+    ensures taken { OnOk result (TakesSetUp options.now.config flow.now config.now) }
+    ensures refused { IfErr result (IsRunMistake options.now.config config.now) }
+{
+    check_run(alloc, options.flow, options.config, flow, config)?;
+    Ok(assemble(alloc, flow)?)
 }
 
 // Answers the requests of an input by a flow and a configuration. (Each is given as the result of reading its
@@ -144,38 +219,43 @@ fn stderr_by<'a, C: Clock, E>(
 fn answer_by<
     R: Read + Drop,
     O: Write,
-    E: Write,
     T: Threads + Wait + Clock + Sync + Clone + Drop + Send + 'static,
 >(
     threads: &T,
     alloc: Global,
     rt: &HostRuntime,
-    code: Result<Code, RunError>,
+    flow: Result<Flow, RunError>,
     config: Result<Config, RunError>,
     options: &RunOptions<'_>,
     input: R,
     out: &mut O,
-    err: &mut E,
 ) -> Result<(), RunError>
-    ensures no_flow { IfErr code (λ e. (result ≡ Err e)
+    requires { IfOk flow (λ f. IsChecked f) }
+    ensures no_flow { IfErr flow (λ e. (result ≡ Err e)
         × (O.contents out.new ≡ O.contents out.old)) }
-    ensures no_config { IfOk code (λ _. IfErr config (λ e. (result ≡ Err e)
+    ensures no_config { IfOk flow (λ _. IfErr config (λ e. (result ≡ Err e)
         × (O.contents out.new ≡ O.contents out.old))) }
-    ensures bad_limit { IfTaken code config (λ _ c. 999999999999999 < limit_of options.now c
+    ensures bad_limit { IfTaken flow config (λ _ c. 999999999999999 < limit_of options.now c
         → (result ≡ Err (RunError.BadLimit (limit_of options.now c)))
         × (O.contents out.new ≡ O.contents out.old)) }
-    ensures answered { IfTaken code config (λ flow c. OnOk result
-        (AnsweredBy ⟦<FileStore<File> as Store>⟧ flow options.now c
+    ensures answered { IfTaken flow config (λ f c. OnOk result
+        (AnsweredBy ⟦<FileStore<File> as Store>⟧ f options.now c
         (R.remaining input) (O.contents out.old) (O.contents out.new))) }
-    ensures failed { IfTaken code config (λ _ c. IfErr result
+    ensures failed { IfTaken flow config (λ _ c. IfErr result
         (IsRunFaultBy options.now c (O.contents out.old) (O.contents out.new))) }
 {
-    let code = code?;
+    let flow = flow?;
     let config = config?;
     let setup = setup(threads, alloc, rt, options, &config)?;
+    let code = code_by(alloc, options, &flow, &config)?;
     let path = journal_path(alloc, options, &config)?;
+    let log_path = log_path(alloc, options, &config)?;
+    let mut log = log_at(alloc, rt, &log_path)?;
+    let mut err = Sink::StandardError(rt.stderr());
+    let logged = log_path.is_some();
+    let words = words_for(alloc, options, logged, &path, &setup)?;
     let input = Some(input);
-    let stderr = &mut stderr_by(threads, options, err);
+    let stderr = &mut stderr_by(threads, options, words, &mut err, &mut log, logged);
     match path {
         Some(path) => {
             let journal = open_file(alloc, rt, path.as_str())?;
@@ -195,7 +275,6 @@ pub fn answer_requests<
     R: Read + Drop,
     T: Threads + Wait + Clock + Sync + Clone + Drop + Send + 'static,
     O: Write,
-    E: Write,
 >(
     threads: &T,
     alloc: Global,
@@ -203,7 +282,6 @@ pub fn answer_requests<
     options: &RunOptions<'_>,
     input: R,
     out: &mut O,
-    err: &mut E,
 ) -> Result<(), RunError>
     ensures answered { OnOk result ((flow : Flow) × IsChecked flow
         × Answered ⟦<FileStore<File> as Store>⟧ flow options.now
@@ -211,9 +289,9 @@ pub fn answer_requests<
     ensures failed { IfErr result
         (IsRunFault options.now (O.contents out.old) (O.contents out.new)) }
 {
-    let code = code_at(alloc, rt, options.flow);
+    let flow = flow_at(alloc, rt, options.flow);
     let config = config_for(alloc, rt, options.config);
-    answer_by(threads, alloc, rt, code, config, options, input, out, err)
+    answer_by(threads, alloc, rt, flow, config, options, input, out)
 }
 
 // Finishes what the journal in the file at a path has unfinished, by a flow and a configuration. (Both come as what
@@ -243,13 +321,8 @@ fn recover_by<T: Threads + Wait + Clock + Sync, O: Write>(
     let named = Text::from_str(alloc, path)?;
     let journal = open_existing(alloc, rt, path)?;
     let mut sink = std::io::sink();
-    let mut stderr = StandardError {
-        err: &mut sink,
-        trace: None,
-        lost: false,
-        stats: None,
-        passed: 0,
-    };
+    let mut unused = std::io::sink();
+    let mut stderr = silent(threads, &mut sink, &mut unused);
     let input: Option<Empty> = None;
     let stderr = &mut stderr;
     let ended = serve(threads, alloc, setup, &steps, journal, input, out, stderr);

@@ -19,9 +19,9 @@ use Rattle.cli_config.specs.Tables.{number_at, tables_if, tables_of, text_at, va
 use Rattle.cli_config.specs.Faults.{bad, bad_in, double, double_of, excludes_in, fault_in, first_fault, missing, missing_in, section_fault, table_fault}
 use Rattle.cli_config.specs.Faults.{unknown}
 use Rattle.cli_config.specs.ConfigFile.{config_of, host_of, limits_in, route_of, run_in, times_of, wire_by}
-use Rattle.cli_config.specs.Checked.{AreHosts, AreRoutes, AreTimes, IsChecked, IsHost, IsIn, IsPath, IsRoute, IsWire}
+use Rattle.cli_config.specs.Checked.{AreHosts, AreRoutes, AreShortNames, AreTimes, IsChecked, IsHost, IsIn, IsPath, IsRoute, IsWire}
 use Rattle.cli_config.proofs.NoFault.{digits_are_texts, digits_parts, is_fit, is_there, long_enough, name_parts, names_are_texts, none_of}
-use Rattle.cli_config.proofs.NoFault.{number_fits, path_fits, paths_are_texts, text_fits}
+use Rattle.cli_config.proofs.NoFault.{names_fit, number_fits, path_fits, paths_are_texts, text_fits}
 use Rattle.cli_config.proofs.Doubles.{texts_are_distinct}
 
 -- of a table without a fault: none of its keys is missing, and none has a bad value
@@ -53,7 +53,7 @@ module _ (n : ℕ) (ms : Members) where
   times_checked b = (
     (
       default_fits 1 600000 10000 (number_at key.TimeoutMs ms) (omega arith, omega arith)
-          (number_fits 1 600000 (value_at key.TimeoutMs ms) (is_fit host_path ms key.TimeoutMs b.1.1.1.1.1.0)),
+          (number_fits 1 600000 (value_at key.TimeoutMs ms) (is_fit host_path ms key.TimeoutMs b.1.1.1.1.1.1.0)),
       default_fits 0 3600000 0 (number_at key.RetryMs ms) (omega arith, omega arith)
           (number_fits 0 3600000 (value_at key.RetryMs ms) (is_fit host_path ms key.RetryMs b.1.1.1.0)),
     ),
@@ -67,8 +67,8 @@ module _ (n : ℕ) (ms : Members) where
       ap (λ (o : Option Data). if is_some o then Some key.Simulated else None) is in
       let from = text_fits want.Path paths_are_texts (value_at key.From ms) (is_there host_path ms key.From m.1.0 refl apart)
       (is_fit host_path ms key.From b.1.0) in
-      let to = text_fits want.Path paths_are_texts (value_at key.To ms) (is_there host_path ms key.To m.1.1.1.1.1.1.0 refl apart)
-      (is_fit host_path ms key.To b.1.1.1.1.1.1.0) in (
+      let to = text_fits want.Path paths_are_texts (value_at key.To ms) (is_there host_path ms key.To m.1.1.1.1.1.1.1.0 refl apart)
+      (is_fit host_path ms key.To b.1.1.1.1.1.1.1.0) in (
         (long_enough (text_at key.To ms) to, long_enough (text_at key.From ms) from),
         times_checked b,
       )
@@ -170,14 +170,17 @@ limits_checked ms h =
     )
 
 abbrev IsRun : Option Members → Type 0
-IsRun o = IfSome (run_in o).sessions (IsIn 1 16) × IfSome (run_in o).journal IsPath × IfSome (run_in o).advices (IsIn 0 256)
+IsRun o = IfSome (run_in o).sessions (IsIn 1 16) × IfSome (run_in o).journal IsPath × IfSome (run_in o).advices (IsIn 0 256) × IfSome (run_in o).log IsPath
+    × IfSome (run_in o).allow AreShortNames
 
 run_checked : (ms : Members) → table_fault run_path ms ≡ None → IsRun (Some ms)
 run_checked ms h =
     let b = none_bad run_path ms h in (
-      number_fits 1 16 (value_at key.Sessions ms) (is_fit run_path ms key.Sessions b.1.1.0),
-      path_fits (value_at key.Journal ms) (is_fit run_path ms key.Journal b.1.0),
+      number_fits 1 16 (value_at key.Sessions ms) (is_fit run_path ms key.Sessions b.1.1.1.1.0),
+      path_fits (value_at key.Journal ms) (is_fit run_path ms key.Journal b.1.1.0),
       number_fits 0 256 (value_at key.Advices ms) (is_fit run_path ms key.Advices b.0),
+      path_fits (value_at key.Log ms) (is_fit run_path ms key.Log b.1.1.1.0),
+      names_fit (value_at key.Allow ms) (is_fit run_path ms key.Allow b.1.0),
     )
 
 pub config_checked : (top : Members) → first_fault top ≡ None → IsChecked (config_of top)
@@ -186,7 +189,7 @@ config_checked top h =
     let s = none_of (section_fault top) sections (left_none _ _ h) in
     let doubles = right_none _ _ h in
     let limits = only_table section.Limits AreLimits (tt, tt) limits_checked (value_at key.Limits top) s.1.1.1.0 in
-    let run = only_table section.Run IsRun (tt, tt, tt) run_checked (value_at key.Run top) s.1.1.1.1.0 in
+    let run = only_table section.Run IsRun (tt, tt, tt, tt, tt) run_checked (value_at key.Run top) s.1.1.1.1.0 in
     record {
       hosts = if_there (value_at key.Host top) _ AreHosts (hosts_checked (tables_of section.Host top) s.1.0
           (left_none (double_of section.Host key.Name top) (double_of section.Route key.Prefix top) doubles));
@@ -198,4 +201,6 @@ config_checked top h =
       advices = run.2;
       sessions = run.0;
       journal = run.1;
+      log = run.3;
+      allow = run.4;
     }

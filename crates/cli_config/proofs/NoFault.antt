@@ -5,10 +5,10 @@ use Rattle.std.proofs.Common.{option_map, option_and_then, unwrap_or, IfSome, re
 use Rattle.std.specs.Char.{is_ascii_digit}
 use Rattle.std.specs.List.{AllByRecursion, list_all}
 use Rattle.std.proofs.lemmas.Bool.Decides.{nat_tests}
-use Rattle.sw_base.specs.Refusals.{first_of, or_else, refused_if}
+use Rattle.sw_base.specs.Refusals.{first_of, refused_if}
 use Rattle.sw_base.proofs.Unrefused.{left_none, right_none}
 use Rattle.sw_context.specs.Names.{is_name}
-use Rattle.toml.specs.Data.{Data, string, integer, float, boolean, datetime, array, table, Members, as_str, as_integer}
+use Rattle.toml.specs.Data.{Data, string, integer, float, boolean, datetime, array, table, Items, no_items, item, Members, as_str, as_integer}
 use Rattle.cli_config.specs.declared.error.TableError.{TableError}
 use Rattle.cli_config.specs.declared.error.TableError.TheVariants.{BadValue}
 use Rattle.cli_config.specs.declared.keys.TablePath.{TablePath}
@@ -16,9 +16,9 @@ use Rattle.cli_config.specs.declared.keys.Key.{Key}
 use Rattle.cli_config.specs.declared.keys.Want.{Want}
 use Rattle.cli_config.specs.declared.keys.Want.TheVariants as want
 use Rattle.cli_config.specs.Keys.{is_required, wants}
-use Rattle.cli_config.specs.Tables.{value_at, whole}
-use Rattle.cli_config.specs.Faults.{bad, excluded_in, fits, fits_text, found_of, missing, stands}
-use Rattle.cli_config.specs.Checked.{IsIn, IsPath}
+use Rattle.cli_config.specs.Tables.{names_below, names_in, value_at, whole}
+use Rattle.cli_config.specs.Faults.{are_names, bad, excluded_in, is_name_in, fits, fits_text, found_of, missing, stands}
+use Rattle.cli_config.specs.Checked.{AreShortNames, IsIn, IsPath}
 
 -- of several tests that refuse nothing, none does
 pub none_of : {A : Type 0} (test : A → Option TableError) (xs : List A) → first_of (map test xs) ≡ None → AllByRecursion (λ x. test x ≡ None) xs
@@ -118,6 +118,30 @@ digits_parts most s h =
 pub path_fits : (o : Option Data) → AreFit want.Path o → IfSome (option_map (λ d. unwrap_or (option_and_then as_str o) []) o) IsPath
 path_fits None fit = tt
 path_fits (Some d) fit = long_enough _ (paths_are_texts d (fit d refl))
+
+named : (d : Data) (ds : Items) → (is_name_in 32 d && are_names 32 ds) ≡ true → AreShortNames (names_in ds) → AreShortNames (names_in (item d ds))
+named (string s) ds h more = (name_parts 32 s (and_first (is_name_in 32 (string s)) (are_names 32 ds) h), more)
+named (integer z) ds h more = absurd (cc)
+named (float x) ds h more = absurd (cc)
+named (boolean b) ds h more = absurd (cc)
+named (datetime t) ds h more = absurd (cc)
+named (array es) ds h more = absurd (cc)
+named (table ms) ds h more = absurd (cc)
+
+names_of : (ds : Items) → are_names 32 ds ≡ true → AreShortNames (names_in ds)
+names_of no_items h = tt
+names_of (item d ds) h = named d ds h (names_of ds (and_second (is_name_in 32 d) (are_names 32 ds) h))
+
+-- the names at a key that may be there
+pub names_fit : (o : Option Data) → AreFit (want.Names 32) o → IfSome (option_map names_below o) AreShortNames
+names_fit None fit = tt
+names_fit (Some (array ds)) fit = names_of ds (fit (array ds) refl)
+names_fit (Some (string s)) fit = tt
+names_fit (Some (integer z)) fit = tt
+names_fit (Some (float x)) fit = tt
+names_fit (Some (boolean b)) fit = tt
+names_fit (Some (datetime t)) fit = tt
+names_fit (Some (table ms)) fit = tt
 
 -- the number at a key that may be there
 pub number_fits : (least most : ℕ) (o : Option Data) → AreFit (want.Number least most) o →

@@ -37,6 +37,10 @@ AreHosts hs = AllByRecursion IsHost hs × IsDistinct bytes_eq (map (λ (h : Host
 abbrev pub AreRoutes : List Route → Type 0
 AreRoutes rs = AllByRecursion IsRoute rs × IsDistinct bytes_eq (map (λ (r : Route). r.prefix) rs)
 
+-- names of at most 32 bytes
+abbrev pub AreShortNames : List (List ℕ) → Type 0
+AreShortNames names = AllByRecursion (λ name. (is_name name ≡ true) × (length name ≤ 32)) names
+
 pub record IsChecked (c : Config) : Type 0 where
   pub hosts : IfSome c.hosts AreHosts
   pub routes : IfSome c.routes AreRoutes
@@ -45,3 +49,5 @@ pub record IsChecked (c : Config) : Type 0 where
   pub advices : IfSome c.run.advices (IsIn 0 256)
   pub sessions : IfSome c.run.sessions (IsIn 1 16)
   pub journal : IfSome c.run.journal IsPath
+  pub log : IfSome c.run.log IsPath
+  pub allow : IfSome c.run.allow AreShortNames

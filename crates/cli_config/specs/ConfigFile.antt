@@ -1,5 +1,5 @@
 -- The configuration that a text states, or its first fault.
-use Rattle.std.specs.Prelude.{◌≡◌, ⊤, ℕ, List, map, Option, Some, None, option_map, unwrap_or, Result, Ok, Err}
+use Rattle.std.specs.Prelude.{◌≡◌, ⊤, ℕ, true, List, map, Option, Some, None, option_map, unwrap_or, Result, Ok, Err}
 use Rattle.toml.specs.Data.{Data, boolean, Members}
 use Rattle.toml.specs.Parse.{parse_document}
 use Rattle.toml.specs.Errors.{IsWithin}
@@ -17,7 +17,7 @@ use Rattle.cli_config.specs.declared.error.TableError.{TableError}
 use Rattle.cli_config.specs.declared.keys.Section.TheVariants as section
 use Rattle.cli_config.specs.declared.keys.Key.{Key}
 use Rattle.cli_config.specs.declared.keys.Key.TheVariants as key
-use Rattle.cli_config.specs.Tables.{flag_at, number_at, table_at, tables_of, text_at, value_at}
+use Rattle.cli_config.specs.Tables.{flag_at, names_at, number_at, table_at, tables_of, text_at, value_at}
 use Rattle.cli_config.specs.Faults.{first_fault}
 
 -- a text at a key, if there is one
@@ -45,8 +45,9 @@ wire_by (Some d) ms = wire.Silent
 abbrev pub wire_of : Members → Wire
 wire_of ms = wire_by (value_at key.Simulated ms) ms
 
+-- a host has a stand-in unless the file says that it has none
 abbrev pub host_of : Members → host.Host
-host_of ms = record { name = text_at key.Name ms; wire = wire_of ms }
+host_of ms = record { name = text_at key.Name ms; wire = wire_of ms; has_stand_in = unwrap_or (flag_at key.HasStandIn ms) true }
 
 abbrev pub route_of : Members → route.Route
 route_of ms = record { prefix = text_at key.Prefix ms; group = text_at key.Group ms }
@@ -56,11 +57,13 @@ limits_in None = record { per_card = None; stand_in = None }
 limits_in (Some ms) = record { per_card = number_at key.PerCard ms; stand_in = number_at key.StandIn ms }
 
 abbrev pub run_in : Option Members → run.RunTable
-run_in None = record { advices = None; sessions = None; journal = None; threads = None }
+run_in None = record { advices = None; allow = None; sessions = None; journal = None; log = None; threads = None }
 run_in (Some ms) = record {
   advices = number_at key.Advices ms;
+  allow = names_at key.Allow ms;
   sessions = number_at key.Sessions ms;
   journal = text_if key.Journal ms;
+  log = text_if key.Log ms;
   threads = flag_at key.Threads ms;
 }
 

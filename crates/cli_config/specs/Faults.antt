@@ -8,7 +8,7 @@ use Rattle.std.specs.Ordering.{is_lt, nat_cmp}
 use Rattle.std.specs.Cmp.Lexicographic.{slice_cmp}
 use Rattle.sw_base.specs.Refusals.{first_at, first_of, or_else, refused_if}
 use Rattle.sw_context.specs.Names.{is_name}
-use Rattle.toml.specs.Data.{Data, string, integer, float, boolean, datetime, array, table, Items, Members, no_members, member}
+use Rattle.toml.specs.Data.{Data, string, integer, float, boolean, datetime, array, table, Items, no_items, item, Members, no_members, member}
 use Rattle.toml.specs.Text.{are_tables}
 use Rattle.cli_config.specs.declared.error.TableError.{TableError}
 use Rattle.cli_config.specs.declared.error.TableError.TheVariants.{Unknown, Missing, BadValue, Excludes, Double}
@@ -41,8 +41,18 @@ fits_flag want.Flag b = true
 fits_flag want.Simulation b = b
 fits_flag w b = false
 
+abbrev pub is_name_in : ℕ → Data → Bool
+is_name_in most (string s) = is_name s && nat_le (length s) most
+is_name_in most d = false
+
+-- each is the text of a name of at most this many bytes
+abbrev pub are_names : ℕ → Items → Bool
+are_names most no_items = true
+are_names most (item d ds) = is_name_in most d && are_names most ds
+
 abbrev pub fits_array : Want → Items → Bool
 fits_array want.Tables ds = are_tables ds
+fits_array (want.Names most) ds = are_names most ds
 fits_array w ds = false
 
 abbrev pub fits_table : Want → Bool

@@ -22,10 +22,10 @@ sections = section.Top ∷ section.Host ∷ section.Route ∷ section.Limits ∷
 -- ascending by their spelling
 abbrev pub keys_of : Section → List Key
 keys_of section.Top = key.Host ∷ key.Limits ∷ key.Route ∷ key.Run ∷ []
-keys_of section.Host = key.EchoS ∷ key.From ∷ key.Name ∷ key.RetryMs ∷ key.Simulated ∷ key.TimeoutMs ∷ key.To ∷ []
+keys_of section.Host = key.EchoS ∷ key.From ∷ key.Name ∷ key.RetryMs ∷ key.Simulated ∷ key.HasStandIn ∷ key.TimeoutMs ∷ key.To ∷ []
 keys_of section.Route = key.Group ∷ key.Prefix ∷ []
 keys_of section.Limits = key.PerCard ∷ key.StandIn ∷ []
-keys_of section.Run = key.Advices ∷ key.Journal ∷ key.Sessions ∷ key.Threads ∷ []
+keys_of section.Run = key.Advices ∷ key.Allow ∷ key.Journal ∷ key.Log ∷ key.Sessions ∷ key.Threads ∷ []
 
 abbrev pub spelling : Key → List ℕ
 spelling key.Host = codes "host"
@@ -37,6 +37,7 @@ spelling key.From = codes "from"
 spelling key.Name = codes "name"
 spelling key.RetryMs = codes "retry_ms"
 spelling key.Simulated = codes "simulated"
+spelling key.HasStandIn = codes "standin"
 spelling key.TimeoutMs = codes "timeout_ms"
 spelling key.To = codes "to"
 spelling key.Group = codes "group"
@@ -44,7 +45,9 @@ spelling key.Prefix = codes "prefix"
 spelling key.PerCard = codes "per_card"
 spelling key.StandIn = codes "stand_in"
 spelling key.Advices = codes "advices"
+spelling key.Allow = codes "allow"
 spelling key.Journal = codes "journal"
+spelling key.Log = codes "log"
 spelling key.Sessions = codes "sessions"
 spelling key.Threads = codes "threads"
 
@@ -59,6 +62,7 @@ wants key.From = want.Path
 wants key.Name = want.Name 26
 wants key.RetryMs = want.Number 0 3600000
 wants key.Simulated = want.Simulation
+wants key.HasStandIn = want.Flag
 wants key.TimeoutMs = want.Number 1 600000
 wants key.To = want.Path
 wants key.Group = want.Name 32
@@ -66,7 +70,9 @@ wants key.Prefix = want.Digits 19
 wants key.PerCard = want.Number 0 999999999999999
 wants key.StandIn = want.Number 0 999999999999
 wants key.Advices = want.Number 0 256
+wants key.Allow = want.Names 32
 wants key.Journal = want.Path
+wants key.Log = want.Path
 wants key.Sessions = want.Number 1 16
 wants key.Threads = want.Flag
 

@@ -1,9 +1,9 @@
 -- The tables of a document, and what stands in them.
-use Rattle.std.specs.Prelude.{ℕ, ℤ, pos, negsuc, Bool, List, [], ◌∷◌, map, String, Option, Some, None, unwrap_or, option_and_then}
+use Rattle.std.specs.Prelude.{ℕ, ℤ, pos, negsuc, Bool, List, [], ◌∷◌, map, String, Option, Some, None, unwrap_or, option_and_then, option_map}
 use Rattle.std.specs.Borrow.{Bor}
 use Rattle.std.specs.BTreeMap.{BTreeMap}
 use Rattle.std.specs.declared.alloc.Global.{Global}
-use Rattle.toml.specs.Data.{Data, array, table, Items, no_items, item, Members, get_member, as_str, as_bool, as_integer, as_table}
+use Rattle.toml.specs.Data.{Data, string, array, table, Items, no_items, item, Members, get_member, as_str, as_bool, as_integer, as_table}
 use Rattle.toml.specs.View.{table_view}
 use Rattle.toml.specs.declared.value.Value.{Value}
 use Rattle.cli_config.specs.declared.keys.Section.{Section}
@@ -26,6 +26,19 @@ number_at k ms = option_and_then whole (option_and_then as_integer (value_at k m
 
 abbrev pub flag_at : Key → Members → Option Bool
 flag_at k ms = option_and_then as_bool (value_at k ms)
+
+abbrev pub names_in : Items → List (List ℕ)
+names_in no_items = []
+names_in (item (string s) ds) = s ∷ names_in ds
+names_in (item d ds) = names_in ds
+
+abbrev pub names_below : Data → List (List ℕ)
+names_below (array ds) = names_in ds
+names_below d = []
+
+-- the texts of an array, if the key has a value
+abbrev pub names_at : Key → Members → Option (List (List ℕ))
+names_at k ms = option_map names_below (value_at k ms)
 
 abbrev pub table_at : Key → Members → Option Members
 table_at k ms = option_and_then as_table (value_at k ms)

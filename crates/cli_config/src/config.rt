@@ -18,12 +18,19 @@ pub struct Host {
     /// 1 to 26 bytes of `a-z A-Z 0-9 _ - .`, so that `query_NAME` is a participant's name.
     pub name: Text,
     pub wire: Wire,
+    /// Whether a stand-in decides if the host does not answer in time. Otherwise the request is refused with 91,
+    /// issuer inoperative.
+    pub has_stand_in: bool,
 }
 
 // Written out, so that no caller proves again how its parts are dropped.
 impl Drop for Host {
     fn drop(self) {
-        let Host { name: _, wire: _ } = self;
+        let Host {
+            name: _,
+            wire: _,
+            has_stand_in: _,
+        } = self;
     }
 }
 
@@ -102,10 +109,14 @@ pub struct Limits {
 pub struct RunTable {
     /// How many stored advices are sent between two reads of the input at most, 0 to 256.
     pub advices: Option<u64>,
+    /// The names of the rules of a checked set-up that may be broken, in the file's order.
+    pub allow: Option<Sequence<Text>>,
     /// How many sessions there are, 1 to 16.
     pub sessions: Option<u64>,
     /// The path of the journal, not empty.
     pub journal: Option<Text>,
+    /// The path of the log, not empty; `-` is standard error.
+    pub log: Option<Text>,
     /// Whether the sessions run as threads.
     pub threads: Option<bool>,
 }

@@ -59,11 +59,32 @@ fn fits_flag(want: Want, flag: bool) -> bool
     }
 }
 
+fn is_name_in(most: usize, value: &Value) -> bool
+    ensures { result ≡ spec.is_name_in most (view value.now) }
+{
+    match value.as_str() {
+        Some(text) => is_name(text) && text.len() <= most,
+        None => false,
+    }
+}
+
+fn are_names(most: usize, array: &Array) -> bool
+    ensures { result ≡ spec.are_names most (array_view array.now) }
+{
+    for value in array {
+        if !is_name_in(most, value) {
+            return false;
+        }
+    }
+    true
+}
+
 fn fits_array(want: Want, array: &Array) -> bool
     ensures { result ≡ spec.fits_array want (array_view array.now) }
 {
     match want {
         Want::Tables => are_tables(array),
+        Want::Names(most) => are_names(most, array),
         _ => false,
     }
 }

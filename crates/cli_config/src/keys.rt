@@ -40,6 +40,7 @@ pub enum Key {
     Name,
     RetryMs,
     Simulated,
+    HasStandIn,
     TimeoutMs,
     To,
     Group,
@@ -47,7 +48,9 @@ pub enum Key {
     PerCard,
     StandIn,
     Advices,
+    Allow,
     Journal,
+    Log,
     Sessions,
     Threads,
 }
@@ -65,6 +68,8 @@ pub enum Want {
     Digits(usize),
     /// A string that is not empty.
     Path,
+    /// An array of strings, each of 1 to this many bytes of `a-z A-Z 0-9 _ - .`; it may be empty.
+    Names(usize),
     /// `true`, or the string `silent`.
     Simulation,
     /// `true` or `false`.
@@ -112,12 +117,20 @@ impl Section {
                 Key::Name,
                 Key::RetryMs,
                 Key::Simulated,
+                Key::HasStandIn,
                 Key::TimeoutMs,
                 Key::To,
             ],
             Section::Route => &[Key::Group, Key::Prefix],
             Section::Limits => &[Key::PerCard, Key::StandIn],
-            Section::Run => &[Key::Advices, Key::Journal, Key::Sessions, Key::Threads],
+            Section::Run => &[
+                Key::Advices,
+                Key::Allow,
+                Key::Journal,
+                Key::Log,
+                Key::Sessions,
+                Key::Threads,
+            ],
         }
     }
 }
@@ -137,6 +150,7 @@ impl Key {
             Key::Name => "name",
             Key::RetryMs => "retry_ms",
             Key::Simulated => "simulated",
+            Key::HasStandIn => "standin",
             Key::TimeoutMs => "timeout_ms",
             Key::To => "to",
             Key::Group => "group",
@@ -144,7 +158,9 @@ impl Key {
             Key::PerCard => "per_card",
             Key::StandIn => "stand_in",
             Key::Advices => "advices",
+            Key::Allow => "allow",
             Key::Journal => "journal",
+            Key::Log => "log",
             Key::Sessions => "sessions",
             Key::Threads => "threads",
         }
@@ -160,9 +176,10 @@ impl Key {
             Key::Name => Want::Name(26),
             Key::Group => Want::Name(32),
             Key::Prefix => Want::Digits(19),
-            Key::From | Key::To | Key::Journal => Want::Path,
+            Key::From | Key::To | Key::Journal | Key::Log => Want::Path,
             Key::Simulated => Want::Simulation,
-            Key::Threads => Want::Flag,
+            Key::HasStandIn | Key::Threads => Want::Flag,
+            Key::Allow => Want::Names(32),
             Key::TimeoutMs => Want::Number(1, 600_000),
             Key::RetryMs => Want::Number(0, 3_600_000),
             Key::EchoS => Want::Number(0, 86_400),
@@ -210,6 +227,10 @@ impl fmt::Display for Want {
             Want::Name(most) => write!(f, "1 to {most} of a-z A-Z 0-9 _ - ."),
             Want::Digits(most) => write!(f, "1 to {most} digits"),
             Want::Path => f.write_str("a path that is not empty"),
+            Want::Names(most) => write!(
+                f,
+                "an array of strings, each 1 to {most} of a-z A-Z 0-9 _ - ."
+            ),
             Want::Simulation => f.write_str("true or \"silent\""),
             Want::Flag => f.write_str("true or false"),
             Want::Number(least, most) => write!(f, "an integer from {least} to {most}"),

@@ -8,6 +8,7 @@ ghost use Rattle.cli_config.specs.Tables as spec;
 
 use crate::keys::{Key, Section};
 use std::alloc::{AllocError, Global};
+use sw_participant::{Sequence, Text};
 use toml::value::Array;
 use toml::{Table, Value};
 
@@ -51,6 +52,41 @@ pub(crate) fn number_at(table: &Table, key: Key) -> Option<u64>
             None => None,
         },
         None => None,
+    }
+}
+
+fn names_in(alloc: Global, array: &Array) -> Result<Vec<Text>, AllocError>
+    ensures { IfOk result (λ names. names.items ≡ spec.names_in (array_view array.now)) }
+{
+    let mut names = Vec::new(alloc);
+    for value in array {
+        if let Some(text) = value.as_str() {
+            names.push(Text::from_str(alloc, text)?)?;
+        }
+    }
+    Ok(names)
+}
+
+fn names_below(alloc: Global, value: &Value) -> Result<Vec<Text>, AllocError>
+    ensures { IfOk result (λ names. names.items ≡ spec.names_below (view value.now)) }
+{
+    match value.as_array() {
+        Some(array) => names_in(alloc, array),
+        None => Ok(Vec::new(alloc)),
+    }
+}
+
+/// The strings of the array at a key, if there is a value.
+pub(crate) fn names_at(
+    alloc: Global,
+    table: &Table,
+    key: Key,
+) -> Result<Option<Sequence<Text>>, AllocError>
+    ensures { IfOk result (λ names. names ≡ spec.names_at key (table_view table.now)) }
+{
+    match value_at(table, key) {
+        Some(value) => Ok(Some(Sequence::new(names_below(alloc, value)?))),
+        None => Ok(None),
     }
 }
 

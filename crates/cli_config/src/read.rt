@@ -10,7 +10,7 @@ use crate::config::{Config, Host, Limits, Route, RunTable, Wire, WireTimes};
 use crate::error::ConfigError;
 use crate::faults::first_fault;
 use crate::keys::{Key, Section};
-use crate::look::{flag_at, number_at, table_at, tables_of, text_at, value_at};
+use crate::look::{flag_at, names_at, number_at, table_at, tables_of, text_at, value_at};
 use std::alloc::{AllocError, Global};
 use sw_participant::{Sequence, Text};
 use toml::{Table, Value};
@@ -70,7 +70,11 @@ fn host_of(alloc: Global, table: &Table) -> Result<Host, AllocError>
 {
     let name = text_of(alloc, table, Key::Name)?;
     let wire = wire_of(alloc, table)?;
-    Ok(Host { name, wire })
+    Ok(Host {
+        name,
+        wire,
+        has_stand_in: flag_at(table, Key::HasStandIn).unwrap_or(true),
+    })
 }
 
 fn route_of(alloc: Global, table: &Table) -> Result<Route, AllocError>
@@ -144,14 +148,18 @@ fn run_of(alloc: Global, top: &Table) -> Result<RunTable, AllocError>
     match table_at(top, Key::Run) {
         Some(table) => Ok(RunTable {
             advices: number_at(table, Key::Advices),
+            allow: names_at(alloc, table, Key::Allow)?,
             sessions: number_at(table, Key::Sessions),
             journal: text_if(alloc, table, Key::Journal)?,
+            log: text_if(alloc, table, Key::Log)?,
             threads: flag_at(table, Key::Threads),
         }),
         None => Ok(RunTable {
             advices: None,
+            allow: None,
             sessions: None,
             journal: None,
+            log: None,
             threads: None,
         }),
     }

@@ -1,34 +1,16 @@
 -- A masked text depends only on what is not masked.
 -- for: laws::masked_texts_hide
-use Rattle.std.proofs.Common.{◌≡◌, ◌∙◌, ◌<◌, ◌-◌, ◌||◌, ◌==◌, inl, inr, ℕ, Bool, true, false, cond, ltb, List, [], ◌∷◌, ◌++◌, length, take}
-use Rattle.std.proofs.Common.{drop, refl, sym, ap}
-use Rattle.std.specs.Prelude.{codes, replicate}
+use Rattle.std.proofs.Common.{◌≡◌, ◌∙◌, ◌||◌, ◌==◌, ℕ, Bool, true, false, cond, List, [], ◌∷◌, ◌++◌, refl, sym, ap}
+use Rattle.std.specs.Prelude.{codes}
 use Rattle.std.specs.Fmt.{decimal}
 use Rattle.std.specs.List.{flat_map}
-use Rattle.std.proofs.lemmas.Bool.{lt-ltb}
+use Rattle.iso_mask.proofs.Masks.{number_same}
+use Rattle.iso_mask.specs.Masks.{masked_number}
 use Rattle.iso_msg.specs.Table.{form_of}
 use Rattle.iso_msg.specs.Messages.{Fields, PlainMessage}
 use Rattle.cli_decode.specs.declared.masking.Masking.TheVariants.{On}
 use Rattle.cli_decode.specs.Decoded.{MaskedTextsHide, frame_text, line_of, outcome_text, shown_line, view_text}
-use Rattle.cli_decode.specs.Masks.{AgreeFields, AgreeMessages, AgreesAs, AgreesNumber, is_hidden, masked_length, masked_number}
-
-abbrev both_ends : ℕ → List ℕ → List ℕ → List ℕ
-both_ends n first last = cond (ltb n 11) (replicate n 42) (first ++ (replicate (n - 10) 42 ++ last))
-
-few_digits : (n : ℕ) (a b c d : List ℕ) → n < 11 → both_ends n a b ≡ both_ends n c d
-few_digits n a b c d h = rw (lt-ltb n 11 h) refl
-
-number_same : (v w : List ℕ) → AgreesNumber v w → masked_number v ≡ masked_number w
-number_same v w h =
-    elim h.1 [
-      | inl few ↦
-          few_digits (length v) (take 6 v) (drop (length v - 4) v) (take 6 w) (drop (length w - 4) w) few
-          ∙ ap (λ n. both_ends n (take 6 w) (drop (length w - 4) w)) h.0
-      | inr ends ↦
-          ap (λ (l : List ℕ). both_ends (length v) l (drop (length v - 4) v)) ends.0
-          ∙ ap (λ (l : List ℕ). both_ends (length v) (take 6 w) l) ends.1
-          ∙ ap (λ n. both_ends n (take 6 w) (drop (length w - 4) w)) h.0
-    ]
+use Rattle.cli_decode.specs.Masks.{AgreeFields, AgreeMessages, AgreesAs, is_hidden, masked_length}
 
 -- a field's line, by whether it is field 2 and whether it is hidden
 abbrev line_for : Bool → Bool → ℕ → List ℕ → List ℕ

@@ -1,7 +1,7 @@
 -- What `decode --mask` shows of a field with data of a card, a PIN or a key.
-use Rattle.std.specs.Prelude.{◌≡◌, ◌<◌, ◌⊎◌, ℕ, ◌-◌, ◌||◌, ◌==◌, nat_lt, Bool, true, false, List, [], ◌∷◌, ◌++◌, length, take, drop, replicate, codes}
-use Rattle.std.specs.Prelude.{if◌then◌else◌}
+use Rattle.std.specs.Prelude.{◌≡◌, ℕ, ◌||◌, ◌==◌, Bool, true, false, List, [], ◌∷◌, ◌++◌, length, codes, if◌then◌else◌}
 use Rattle.std.specs.Fmt.{decimal}
+use Rattle.iso_mask.specs.Masks.{AgreesNumber, masked_number}
 use Rattle.iso_msg.specs.Messages.{Fields, PlainMessage}
 
 -- tracks 2 and 1, the PIN, data of the chip, and the codes of authentication
@@ -11,12 +11,6 @@ is_hidden n = n == 35 || n == 45 || n == 52 || n == 55 || n == 64 || n == 128
 -- these, and the account number
 abbrev pub is_sensitive : ℕ → Bool
 is_sensitive n = n == 2 || is_hidden n
-
--- the first six digits and the last four, and an asterisk for each of the others; of fewer than eleven none is shown
-abbrev pub masked_number : List ℕ → List ℕ
-masked_number value =
-    if nat_lt (length value) 11 then replicate (length value) 42
-    else take 6 value ++ (replicate (length value - 10) 42 ++ drop (length value - 4) value)
 
 -- how many bytes a value has
 abbrev pub masked_length : List ℕ → List ℕ
@@ -30,12 +24,6 @@ abbrev pub masked_line : ℕ → List ℕ → List ℕ
 masked_line n value = decimal n ++ (codes "* " ++ (masked_value n value ++ codes "\n"))
 
 -- ---- what two messages have alike
-
--- account numbers of one length, of fewer than eleven digits, or with the same first six and the same last four
-abbrev pub AgreesNumber : List ℕ → List ℕ → Type 0
-AgreesNumber v w =
-    (length v ≡ length w)
-    × ((length v < 11) ⊎ ((take 6 v ≡ take 6 w) × (drop (length v - 4) v ≡ drop (length w - 4) w)))
 
 -- values of the account number, of a field that is shown by its length, or of any other field
 abbrev pub AgreesAs : Bool → Bool → List ℕ → List ℕ → Type 0

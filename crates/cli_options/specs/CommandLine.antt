@@ -9,7 +9,8 @@ use Rattle.clap.specs.Words.{App, Row, Rule, Text, app_of, first_of, new_app, ne
 use Rattle.clap.specs.declared.builder.Command.{Command}
 use Rattle.clap.specs.declared.builder.Command.TheViews.{out-Command}
 use Rattle.cli_options.specs.declared.choice.Options.{Options}
-use Rattle.cli_options.specs.declared.choice.Options.TheVariants.{Asm, Decode, Encode, Graph, Journal, List as ListImage, Recover, Run, Step}
+use Rattle.cli_options.specs.declared.choice.Options.TheVariants.{Asm, Check, Decode, Encode, Graph, Journal, List as ListImage, Recover, Run, Step}
+use Rattle.cli_options.specs.declared.choice.CheckOptions.{CheckOptions}
 use Rattle.cli_options.specs.declared.choice.JournalOptions.{JournalOptions}
 use Rattle.cli_options.specs.declared.choice.RecoverOptions.{RecoverOptions}
 use Rattle.cli_options.specs.declared.choice.StepOptions.{StepOptions}
@@ -86,11 +87,15 @@ recover_app = with_rule (with_rule (with_rule (new_app (codes "recover")) (neede
 abbrev pub journal_app : App
 journal_app = with_rule (with_rule (with_rule (new_app (codes "journal")) (word_rule (codes "path"))) (flag_rule (codes "json"))) (flag_rule (codes "clear"))
 
--- `run --flow PATH [--config PATH] [--journal PATH] [--sessions N] [--limit N] [--threads] [--trace[=FORM]] [--stats [N]]`
+-- `check --flow PATH [--config PATH]`
+abbrev pub check_app : App
+check_app = with_rule (with_rule (new_app (codes "check")) (needed_rule (codes "flow"))) (option_rule (codes "config"))
+
+-- `run --flow PATH [--config PATH] [--journal PATH] [--log PATH] [--sessions N] [--limit N] [--threads] [--trace[=FORM]] [--stats [N]]`
 abbrev pub run_app : App
-run_app = with_rule (with_rule (with_rule (with_rule (with_rule
+run_app = with_rule (with_rule (with_rule (with_rule (with_rule (with_rule
     (with_rule (with_rule (with_rule (new_app (codes "run")) (needed_rule (codes "flow"))) (option_rule (codes "config"))) (option_rule (codes "journal")))
-    (option_rule (codes "sessions"))) (option_rule (codes "limit"))) (flag_rule (codes "threads"))) (optional_rule (codes "trace") (codes "text")))
+    (option_rule (codes "log"))) (option_rule (codes "sessions"))) (option_rule (codes "limit"))) (flag_rule (codes "threads"))) (optional_rule (codes "trace") (codes "text")))
     (optional_rule (codes "stats") (codes "end"))
 
 -- the program itself: it has a version, and wants a subcommand
@@ -101,9 +106,9 @@ program_app = record (new_app (codes "cardswitch")) {
 
 -- the program with its subcommands
 abbrev pub switch_app : App
-switch_app = with_subcommand (with_subcommand (with_subcommand
+switch_app = with_subcommand (with_subcommand (with_subcommand (with_subcommand
     (with_subcommand (with_subcommand (with_subcommand (with_subcommand (with_subcommand (with_subcommand program_app step_app.top) asm_app.top)
-    list_app.top) graph_app.top) decode_app.top) encode_app.top) recover_app.top) journal_app.top) run_app.top
+    list_app.top) graph_app.top) decode_app.top) encode_app.top) recover_app.top) journal_app.top) check_app.top) run_app.top
 
 -- the text that a borrow shows
 abbrev pub text_of : Option (Bor Text) → Option Text
@@ -146,6 +151,7 @@ pub record AreRunOptions (rows : List Row) (o : RunOptions) : Type 0 where
   pub flow : Some o.flow.now ≡ first_of (codes "flow") rows
   pub config : text_of o.config ≡ first_of (codes "config") rows
   pub journal : text_of o.journal ≡ first_of (codes "journal") rows
+  pub log : text_of o.log ≡ first_of (codes "log") rows
   pub sessions : number_in (first_of (codes "sessions") rows) ≡ Some o.sessions
   pub limit : number_in (first_of (codes "limit") rows) ≡ Some o.limit
   pub threads : o.threads ≡ is_set (first_of (codes "threads") rows)
@@ -170,6 +176,11 @@ pub record AreJournalOptions (rows : List Row) (o : JournalOptions) : Type 0 whe
   pub json : o.json ≡ is_set (first_of (codes "json") rows)
   pub clear : o.clear ≡ is_set (first_of (codes "clear") rows)
 
+-- the same of `check`
+pub record AreCheckOptions (rows : List Row) (o : CheckOptions) : Type 0 where
+  pub flow : Some o.flow.now ≡ first_of (codes "flow") rows
+  pub config : text_of o.config ≡ first_of (codes "config") rows
+
 -- the options are those of the subcommand `name`, whose own options are in the rows
 abbrev pub AreOptionsAt : Text → List Row → Options → Type 0
 AreOptionsAt name rows (Step o) = (name ≡ codes "step") × AreStepOptions rows o
@@ -181,6 +192,7 @@ AreOptionsAt name rows (Decode mask) = (name ≡ codes "decode") × (mask ≡ is
 AreOptionsAt name rows Encode = name ≡ codes "encode"
 AreOptionsAt name rows (Recover o) = (name ≡ codes "recover") × AreRecoverOptions rows o
 AreOptionsAt name rows (Journal o) = (name ≡ codes "journal") × AreJournalOptions rows o
+AreOptionsAt name rows (Check o) = (name ≡ codes "check") × AreCheckOptions rows o
 AreOptionsAt name rows (Run o) = (name ≡ codes "run") × AreRunOptions rows o
 
 -- the same options, by whether standard input is a terminal

@@ -25,6 +25,8 @@ pub enum Options<'a> {
     Recover(RecoverOptions<'a>),
     /// `journal`: prints what a journal's file holds.
     Journal(JournalOptions<'a>),
+    /// `check`: looks for mistakes in a flow file and a configuration file, and runs nothing.
+    Check(CheckOptions<'a>),
     /// `run`: answers the requests in frames from standard input, by the flow of the flow file at a path.
     Run(RunOptions<'a>),
 }
@@ -85,6 +87,15 @@ pub struct JournalOptions<'a> {
     pub clear: bool,
 }
 
+/// What `check` is given.
+#[derive(Clone, Copy)]
+pub struct CheckOptions<'a> {
+    /// The path of the flow file.
+    pub flow: &'a str,
+    /// The path of the configuration file, if there is one.
+    pub config: Option<&'a str>,
+}
+
 /// What `run` is given.
 #[derive(Clone, Copy)]
 pub struct RunOptions<'a> {
@@ -94,6 +105,8 @@ pub struct RunOptions<'a> {
     pub config: Option<&'a str>,
     /// The path of the journal's file, if it is given.
     pub journal: Option<&'a str>,
+    /// The path of the log's file, if it is given; `-` is standard error.
+    pub log: Option<&'a str>,
     /// How many sessions the engine has, if it is given.
     pub sessions: Option<u64>,
     /// What a card may spend, in minor units of its currency, if it is given.

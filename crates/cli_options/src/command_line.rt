@@ -7,7 +7,8 @@ ghost use Rattle.cli_options.specs.Refusal.{IsAccepted, IsBadForm, IsBadNumber, 
 ghost use Rattle.cli_options.specs.Refusal.{IsRefusalOf, IsRunRefusal};
 
 use crate::choice::{
-    JournalOptions, Options, RecoverOptions, RunOptions, StatsLines, StepOptions, TraceForm,
+    CheckOptions, JournalOptions, Options, RecoverOptions, RunOptions, StatsLines, StepOptions,
+    TraceForm,
 };
 use crate::error::OptionsError;
 use crate::table::switch_command;
@@ -119,6 +120,7 @@ fn run_options<'a>(found: &ArgMatches<'a>) -> Result<RunOptions<'a>, OptionsErro
         flow,
         config: text_at(found, "config"),
         journal: text_at(found, "journal"),
+        log: text_at(found, "log"),
         sessions: number_in("sessions", text_at(found, "sessions"))?,
         limit: number_in("limit", text_at(found, "limit"))?,
         threads: is_set(text_at(found, "threads")),
@@ -164,6 +166,13 @@ fn options_at<'a>(name: &str, found: &ArgMatches<'a>) -> Result<Options<'a>, Opt
                 path,
                 json: is_set(text_at(found, "json")),
                 clear: is_set(text_at(found, "clear")),
+            })),
+            None => Err(OptionsError::NoSubcommand),
+        },
+        "check" => match text_at(found, "flow") {
+            Some(flow) => Ok(Options::Check(CheckOptions {
+                flow,
+                config: text_at(found, "config"),
             })),
             None => Err(OptionsError::NoSubcommand),
         },

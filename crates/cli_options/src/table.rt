@@ -44,7 +44,7 @@ const FLOW: OptionRow<'static> = OptionRow {
     is_required: true,
 };
 
-const COMMANDS: [CommandRow<'static>; 9] = [
+const COMMANDS: [CommandRow<'static>; 10] = [
     CommandRow {
         name: "step",
         about: "Runs a script of transactions from standard input and prints one line for each step",
@@ -151,6 +151,19 @@ const COMMANDS: [CommandRow<'static>; 9] = [
         ],
     },
     CommandRow {
+        name: "check",
+        about: "Looks for mistakes in a flow file and a configuration file, and runs nothing",
+        options: &[
+            FLOW,
+            OptionRow {
+                name: "config",
+                given: Given::Value("PATH"),
+                help: "The configuration file [default: the switch's own hosts and routes]",
+                is_required: false,
+            },
+        ],
+    },
+    CommandRow {
         name: "run",
         about: "Answers the requests in frames from standard input, in frames of responses",
         options: &[
@@ -165,6 +178,12 @@ const COMMANDS: [CommandRow<'static>; 9] = [
                 name: "journal",
                 given: Given::Value("PATH"),
                 help: "The journal's file [default: a journal in memory]",
+                is_required: false,
+            },
+            OptionRow {
+                name: "log",
+                given: Given::Value("PATH"),
+                help: "A file to which a line of JSON is added for each response; - is standard error",
                 is_required: false,
             },
             OptionRow {

@@ -362,3 +362,7 @@ for_these threads one xs rounds is h = subst (λ (b : Bool). RoundsFor b xs roun
 pub some_for : (step : AdviceStep) (threads one : Bool) (input : Option (List ℕ)) (p : Point) (s : PlainAdvisor) (a b : Option (List ℕ)) → threads ≡ one →
     ServesSome step one input p s a b → ServesSome step threads input p s a b
 some_for step threads one input p s a b is h = subst (λ (t : Bool). ServesSome step t input p s a b) (sym is) h
+
+-- before it nothing that is reported was changed
+pub answers_from : (xs : List Pairs) (p q : Point) (a b : Option (List ℕ)) (x y z : Log) → y ≡ x → AnswersAll xs p a y q b z → AnswersAll xs p a x q b z
+answers_from xs p q a b x y z same h = subst (λ (l : Log). AnswersAll xs p a l q b z) same h

@@ -3,6 +3,7 @@ mod Doings
 mod SessionSteps
 mod Transactions
 mod Resting
+mod Recording
 mod Tracing
 mod Rounds
 mod Recoveries
@@ -17,6 +18,7 @@ mod Below
 mod Reporting
 mod Batched
 mod Shown
+mod Sayings
 mod Counting
 mod Advancing
 mod Names

@@ -28,7 +28,8 @@ use Rattle.cli_run.specs.Points.{with_ended, world_at}
 use Rattle.cli_run.specs.Lines.{Line}
 use Rattle.cli_run.specs.Rounds.{Alone, Batched, Completed, Completes, Does, Goes, IsEmptied, IsRetry, MayCut, Offered, Released, Round, Serves, Transacts}
 use Rattle.cli_run.specs.Rounds.{Trimmed, answering}
-use Rattle.cli_run.specs.Traces.{Cuts, DrainsAll, Log, Reports, Tells}
+use Rattle.cli_run.specs.Traces.{Cuts, DrainsAll, IsLive, Log, Reports, Tells}
+use Rattle.tx_engine.specs.World.{World}
 use Rattle.cli_run.proofs.Ended.{is_above}
 use Rattle.cli_run.proofs.Tracing.{passed_then, tells_none, tells_then}
 use Rattle.cli_run.proofs.Resting.{at_rest_recovered, cuts_waits, offered_one}
@@ -315,3 +316,11 @@ none_some P o x is = subst (λ (z : Option _). IfNone z P) (sym is) tt
 
 pub none_none : {T : Type 0} (P : Type 0) (o : Option T) → o ≡ None → P → IfNone o P
 none_none P o is h = subst (λ (z : Option _). IfNone z P) (sym is) h
+
+-- before it nothing that is reported was changed
+pub reports_from : (rounds : List Round) (k : ℕ) (p q : Point) (a b : Option (List ℕ)) (x y z : Log) → y ≡ x → Reports rounds k p a y q b z →
+    Reports rounds k p a x q b z
+reports_from rounds k p q a b x y z same r = subst (λ (l : Log). Reports rounds k p a l q b z) same r
+
+pub live_from : (x y : Log) (w : World) → y ≡ x → IsLive y w → IsLive x w
+live_from x y w same live = subst (λ (l : Log). IsLive l w) same live

@@ -17,7 +17,9 @@ use Rattle.cli_run.specs.Points.{IsAtRest, IsReady, Point, world_at}
 use Rattle.cli_run.specs.Ran.{Begins, Closes, Printed, Ran, ServesAll, all_lines, lines_cut, made_at}
 use Rattle.cli_run.specs.declared.progress.Progress.{Progress}
 use Rattle.cli_run.specs.Numbers.{begun_in, numbers_at}
-use Rattle.cli_run.specs.Shown.{Shows, TellsAll}
+use Rattle.cli_words.specs.declared.Words.{Words}
+use Rattle.cli_words.specs.declared.ready.Recovered.{Recovered}
+use Rattle.cli_run.specs.Shown.{SaysReady, Shows, TellsAll, TellsRun, unfinished_in, unfinished_of}
 use Rattle.cli_run.specs.Traces.{Cuts, DrainsAll, Log, Tells, passed_over}
 use Rattle.cli_run.proofs.Tracing.{lines_before, lines_then}
 use Rattle.cli_run.specs.Rounds.{IsEmptied, Recovers, Round}
@@ -63,16 +65,21 @@ pub advisor_is : (f : Flow) (n : ℕ) (view : JournalView) (j : Seen) (made : Wh
     → advisor ≡ begun_advisor sender most view.next_id
 advisor_is f n view j made first advisor sender most is first_at by = by ∙ ap (begun_advisor sender most) (first_is f n view j made first is first_at)
 
+-- that it was ready came first
 pub ran : (f : Flow) (n : ℕ) (view : JournalView) (j : Seen) (made : Whole) (first : ℕ) (id : Progress) (r : Point) (step : AdviceStep)
-    (advisor : PlainAdvisor) (sender : PlainSender) (most : ℕ) (rounds : List Round) (a b : Option (List ℕ)) (passed : ℕ) (k l : Log)
+    (advisor : PlainAdvisor) (sender : PlainSender) (most : ℕ) (rounds : List Round) (a b : Option (List ℕ)) (passed : ℕ) (h k l : Log)
+    (words : Option Words) (recovered : Recovered)
     → IsMade f n view j made → first ≡ made.core.world.start.view.next_id → id ≡ begun_in made.core.world first →
-    FirstRecovers (record { plant = made; answered = id }) r → advisor ≡ begun_advisor sender most first
-    → ServesTold step rounds r a b passed k l advisor → (ran : Ran f n j step sender most rounds a b) × TellsAll (all_lines ran.serves) passed
-    ran.serves.end k l
+    FirstRecovers (record { plant = made; answered = id }) r → advisor ≡ begun_advisor sender most first → recovered ≡ unfinished_of made
+    → SaysReady words recovered h k → ServesTold step rounds r a b passed k l advisor → (ran : Ran f n j step sender most rounds a b)
+    × TellsRun words (unfinished_in ran.begins.view) (all_lines ran.serves) passed ran.serves.end h l
 unfolding begun
-ran f n view j made first id r step advisor sender most rounds a b passed k l is first_at before recovers by is_told =
+ran f n view j made first id r step advisor sender most rounds a b passed h k l words recovered is first_at before recovers by left ready is_told =
     let (serves, tells) = subst (ServesTold step rounds r a b passed k l) (advisor_is f n view j made first advisor sender most is first_at by) is_told in
-    (record { recovered = r; begins = begun f n view j made first id r is first_at before recovers; serves = serves }, tells)
+    let found : recovered ≡ unfinished_in view = left ∙ ap unfinished_in (made_view f n view j made is) in (
+      record { recovered = r; begins = begun f n view j made first id r is first_at before recovers; serves = serves },
+      record { begun = k; ready = subst (λ (c : Recovered). SaysReady words c h k) found ready; all = tells },
+    )
 
 -- the lines that were left were written, and the numbers last
 pub told_last : (step : AdviceStep) (rounds : List Round) (p : Point) (advisor : PlainAdvisor) (a b : Option (List ℕ)) (n : ℕ) (k l m o : Log) (q : Point)

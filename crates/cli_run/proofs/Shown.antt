@@ -10,39 +10,46 @@ use Rattle.cli_run.specs.Points.{Point}
 use Rattle.cli_run.specs.Rounds.{Round}
 use Rattle.cli_run.specs.declared.standard_error.Form.{Form}
 use Rattle.cli_run.specs.Lines.{Line}
+use Rattle.cli_run.specs.Records.{Recording}
 use Rattle.cli_run.specs.Shown.{Shows, if_shown}
-use Rattle.cli_run.specs.Traces.{Adds, AddsSome, Counted, Log, Reports, Tells}
+use Rattle.cli_run.specs.Traces.{Adds, AddsSome, Counted, IsQuiet, Log, Reports, Tells, Wants}
 use Rattle.sw_context.specs.Pairs.{Pairs}
 use Rattle.cli_run.proofs.Batched.{AnswersAll}
-use Rattle.cli_run.proofs.Tracing.{lines_then, none_wanted, true_not_false}
+use Rattle.cli_run.proofs.Recording.{records_same}
+use Rattle.cli_run.proofs.Tracing.{lines_then, none_wanted, quiet_none, true_not_false}
 
 -- one line
 
-shown_adds : (s : Bool) (n : Numbers) (time : ℕ) (a b : Option (List ℕ)) → Appends a b (if_shown s (stats_line n time)) → Adds s [] 0 a b
-shown_adds true n time a b written = record {
+quiet_counted : (w : Wants) (n : Numbers) (time : ℕ) → true ≡ w.stats → IsQuiet w (Counted n time ∷ [])
+quiet_counted w n time is = record { numbers = λ not. true_not_false w.stats (sym is) not; words = λ not. refl }
+
+shown_adds : (w : Wants) (s : Bool) → s ≡ w.stats → (n : Numbers) (time : ℕ) (a b : Option (List ℕ)) →
+    Appends a b (if_shown s (stats_line n time)) → Adds w [] 0 a b
+shown_adds w true is n time a b written = record {
   pieces = Counted n time ∷ [];
   traced = refl;
   count = refl;
-  quiet = λ not. true_not_false true refl not;
+  quiet = quiet_counted w n time is;
   written = subst (Appends a b) (sym (append-nil (stats_line n time))) written;
 }
-shown_adds false n time a b written = record { pieces = []; traced = refl; count = refl; quiet = λ not. refl; written = written }
+shown_adds w false is n time a b written = record { pieces = []; traced = refl; count = refl; quiet = quiet_none w; written = written }
 
-shown_some : (s : Bool) (n : Numbers) (time : ℕ) (a b : Option (List ℕ)) → AppendsBeginning a b (if_shown s (stats_line n time)) → AddsSome s [] 0 a b
-shown_some true n time a b (first, rest, is, written) = record {
+shown_some : (w : Wants) (s : Bool) → s ≡ w.stats → (n : Numbers) (time : ℕ) (a b : Option (List ℕ)) →
+    AppendsBeginning a b (if_shown s (stats_line n time)) → AddsSome w [] 0 a b
+shown_some w true wanted n time a b (first, rest, is, written) = record {
   pieces = Counted n time ∷ [];
   traced = refl;
   count = refl;
-  quiet = λ not. true_not_false true refl not;
+  quiet = quiet_counted w n time wanted;
   text = first;
   begun = (first, rest, [], is, refl, sym (append-nil first));
   written = written;
 }
-shown_some false n time a b (first, rest, is, written) = record {
+shown_some w false unwanted n time a b (first, rest, is, written) = record {
   pieces = [];
   traced = refl;
   count = refl;
-  quiet = λ not. refl;
+  quiet = quiet_none w;
   text = first;
   begun = nothing first rest is;
   written = written;
@@ -55,12 +62,14 @@ shown_some false n time a b (first, rest, is, written) = record {
 pub shown_tells : (n : Numbers) (a b : Log) → Shows n a b → Tells [] 0 a b
 shown_tells n a b s = record {
   wanted = s.wanted;
-  stats = s.stats;
+  wants = s.wants;
   count = λ small. s.passed ∙ sym (add-zero a.passed);
   before = s.before;
-  adds = λ h. subst (λ (l : List ℕ). Adds a.stats l 0 a.text b.text) (sym (none_wanted a.wanted))
-      (shown_adds a.stats n s.milliseconds a.text b.text (s.adds h));
-  some = subst (λ (l : List ℕ). AddsSome a.stats l 0 a.text b.text) (sym (none_wanted a.wanted)) (shown_some a.stats n s.milliseconds a.text b.text s.some);
+  adds = λ h. subst (λ (l : List ℕ). Adds a.wants l 0 a.text b.text) (sym (none_wanted a.wanted))
+      (shown_adds a.wants a.wants.stats refl n s.milliseconds a.text b.text (s.adds h));
+  some = subst (λ (l : List ℕ). AddsSome a.wants l 0 a.text b.text) (sym (none_wanted a.wanted))
+      (shown_some a.wants a.wants.stats refl n s.milliseconds a.text b.text s.some);
+  records = records_same a.recording b.recording s.recording;
 }
 
 -- after rounds
@@ -78,43 +87,46 @@ batch_shown xs p q a b x y z (rounds, answers, reports) s = (rounds, answers, re
 
 -- what a write tells
 
-pub not_shown : (n : Numbers) (w : Option Form) (s l : Bool) (k : ℕ) (t : Option (List ℕ)) → s ≡ false →
-    Shows n (record { wanted = w; stats = s; passed = k; lost = l; text = t }) (record { wanted = w; stats = s; passed = k; lost = l; text = t })
-not_shown n w s l k t not = record {
+pub not_shown : (n : Numbers) (w : Option Form) (s : Wants) (l : Bool) (k : ℕ) (t : Option (List ℕ)) (r : Recording) → s.stats ≡ false →
+    Shows n (record { wanted = w; wants = s; passed = k; lost = l; text = t; recording = r }) (record { wanted = w; wants = s; passed = k; lost = l; text = t; recording = r })
+not_shown n w s l k t r not = record {
   milliseconds = 0;
   wanted = refl;
-  stats = refl;
+  wants = refl;
   passed = refl;
   before = λ h. h;
   adds = λ h. subst (λ (b : Bool). Appends t t (if_shown b (stats_line n 0))) (sym not) (Appends-nil t);
   some = subst (λ (b : Bool). AppendsBeginning t t (if_shown b (stats_line n 0))) (sym not) (beginning_none t []);
+  recording = refl;
 }
 
-pub shown_whole : (n : Numbers) (time : ℕ) (line : List ℕ) (w : Option Form) (s l : Bool) (k : ℕ) (t u : Option (List ℕ)) → s ≡ true →
+pub shown_whole : (n : Numbers) (time : ℕ) (line : List ℕ) (w : Option Form) (s : Wants) (l : Bool) (k : ℕ) (t u : Option (List ℕ)) (r : Recording) → s.stats ≡ true →
     line ≡ stats_line n time → Appends t u line
-    → Shows n (record { wanted = w; stats = s; passed = k; lost = l; text = t }) (record { wanted = w; stats = s; passed = k; lost = l; text = u })
-shown_whole n time line w s l k t u is same written =
-    let all : Appends t u (if_shown s (stats_line n time)) = subst (λ (b : Bool). Appends t u (if_shown b (stats_line n time))) (sym is)
+    → Shows n (record { wanted = w; wants = s; passed = k; lost = l; text = t; recording = r }) (record { wanted = w; wants = s; passed = k; lost = l; text = u; recording = r })
+shown_whole n time line w s l k t u r is same written =
+    let all : Appends t u (if_shown s.stats (stats_line n time)) = subst (λ (b : Bool). Appends t u (if_shown b (stats_line n time))) (sym is)
     (subst (Appends t u) same written) in
     record {
       milliseconds = time;
       wanted = refl;
-      stats = refl;
+      wants = refl;
       passed = refl;
       before = λ h. h;
       adds = λ h. all;
-      some = beginning_all t u (if_shown s (stats_line n time)) all;
+      some = beginning_all t u (if_shown s.stats (stats_line n time)) all;
+      recording = refl;
     }
 
-pub shown_part : (n : Numbers) (time : ℕ) (line : List ℕ) (w : Option Form) (s l o : Bool) (k : ℕ) (t u : Option (List ℕ)) → s ≡ true → o ≡ true →
-    line ≡ stats_line n time → AppendsBeginning t u line
-    → Shows n (record { wanted = w; stats = s; passed = k; lost = l; text = t }) (record { wanted = w; stats = s; passed = k; lost = o; text = u })
-shown_part n time line w s l o k t u is lost same written = record {
+pub shown_part : (n : Numbers) (time : ℕ) (line : List ℕ) (w : Option Form) (s : Wants) (l o : Bool) (k : ℕ) (t u : Option (List ℕ)) (r : Recording) →
+    s.stats ≡ true → o ≡ true → line ≡ stats_line n time → AppendsBeginning t u line
+    → Shows n (record { wanted = w; wants = s; passed = k; lost = l; text = t; recording = r }) (record { wanted = w; wants = s; passed = k; lost = o; text = u; recording = r })
+shown_part n time line w s l o k t u r is lost same written = record {
   milliseconds = time;
   wanted = refl;
-  stats = refl;
+  wants = refl;
   passed = refl;
   before = λ h. true_not_false o lost h;
   adds = λ h. true_not_false o lost h;
   some = subst (λ (b : Bool). AppendsBeginning t u (if_shown b (stats_line n time))) (sym is) (subst (AppendsBeginning t u) same written);
+  recording = refl;
 }

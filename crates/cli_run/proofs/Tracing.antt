@@ -1,7 +1,7 @@
 -- What is reported, one after the other.
 -- for: standard_error::Told, switch::Switch, stream::Requests, serving::Switch
 use Rattle.std.proofs.Common.{◌≡◌, ◌<◌, ℕ, ◌+◌, Bool, true, false, List, [], ◌∷◌, ◌++◌, length, take, get_or, min, ◌-◌, ◌^◌, Option, Some, None, Result, Ok}
-use Rattle.std.proofs.Common.{Err, refl, sym, ap, subst, arith, ◌∙◌, add-zero, zero-add, append-nil, append_assoc}
+use Rattle.std.proofs.Common.{Err, is_some, refl, sym, ap, subst, arith, ◌∙◌, add-zero, zero-add, append-nil, append_assoc}
 use Rattle.std.specs.Global.{Vec}
 use Rattle.std.specs.Io.KnownBytes.{Appends}
 use Rattle.std.proofs.KnownBytes.{Appends-nil, Appends-trans}
@@ -10,13 +10,15 @@ use Rattle.std.proofs.lemmas.Grind.{flat_map-append}
 use Rattle.std.proofs.lemmas.List.{map-append, take_more}
 use Rattle.iso_msg.specs.Messages.{PlainMessage}
 use Rattle.iso_codec.specs.declared.error.DecodeError.{DecodeError}
-use Rattle.iso_codec.specs.Reads.{read}
+use Rattle.iso_codec.specs.Reads.{read, type_of}
 use Rattle.sw_frame.specs.Feeds.{messages}
 use Rattle.cli_io.specs.Written.{AppendsBeginning}
 use Rattle.cli_run.specs.declared.standard_error.Form.{Form}
 use Rattle.cli_run.specs.Lines.{Line, in_form, written_as}
-use Rattle.cli_run.specs.Traces.{Adds, AddsSome, AreBegun, Counted, IsQuiet, Log, Passed, Piece, Tells, Traced, counted_in, if_passed, if_wanted, passed_in}
-use Rattle.cli_run.specs.Traces.{passed_line, passed_over, piece_text, text_of, traced_in}
+use Rattle.cli_run.specs.Records.{Recording, Records}
+use Rattle.cli_run.specs.Traces.{Adds, AddsSome, AreBegun, Counted, IsQuiet, Log, Passed, Piece, Said, Tells, Traced, Wants}
+use Rattle.cli_run.specs.Traces.{counted_in, if_passed, if_wanted, passed_in, passed_line, passed_over, piece_text, said_in, text_of, traced_in}
+use Rattle.cli_run.proofs.Recording.{records_none, records_then}
 
 text_append : (ps qs : List Piece) → text_of (ps ++ qs) ≡ text_of ps ++ text_of qs
 text_append [] qs = refl
@@ -36,26 +38,53 @@ traced_append [] qs = refl
 traced_append (Traced ls ∷ ps) qs = ap (λ (l : List ℕ). ls ++ l) (traced_append ps qs) ∙ sym (append_assoc ls (traced_in ps) (traced_in qs))
 traced_append (Passed n c ∷ ps) qs = traced_append ps qs
 traced_append (Counted n m ∷ ps) qs = traced_append ps qs
+traced_append (Said ls ∷ ps) qs = traced_append ps qs
 
 passed_append : (ps qs : List Piece) → passed_in (ps ++ qs) ≡ passed_in ps + passed_in qs
 passed_append [] qs = sym (zero-add (passed_in qs))
 passed_append (Traced ls ∷ ps) qs = passed_append ps qs
 passed_append (Passed n c ∷ ps) qs = let ih = passed_append ps qs in omega (arith, ih)
 passed_append (Counted n m ∷ ps) qs = passed_append ps qs
+passed_append (Said ls ∷ ps) qs = passed_append ps qs
 
 counted_append : (ps qs : List Piece) → counted_in (ps ++ qs) ≡ counted_in ps + counted_in qs
 counted_append [] qs = sym (zero-add (counted_in qs))
 counted_append (Traced ls ∷ ps) qs = counted_append ps qs
 counted_append (Passed n c ∷ ps) qs = counted_append ps qs
 counted_append (Counted n m ∷ ps) qs = let ih = counted_append ps qs in omega (arith, ih)
+counted_append (Said ls ∷ ps) qs = counted_append ps qs
 
-quiet_append : (s : Bool) (ps qs : List Piece) → IsQuiet s ps → IsQuiet s qs → IsQuiet s (ps ++ qs)
-quiet_append s ps qs h k = λ not. (let is = counted_append ps qs in let first = h not in let second = k not in omega (arith, is, first, second))
+said_append : (ps qs : List Piece) → said_in (ps ++ qs) ≡ said_in ps + said_in qs
+said_append [] qs = sym (zero-add (said_in qs))
+said_append (Traced ls ∷ ps) qs = said_append ps qs
+said_append (Passed n c ∷ ps) qs = said_append ps qs
+said_append (Counted n m ∷ ps) qs = said_append ps qs
+said_append (Said ls ∷ ps) qs = let ih = said_append ps qs in omega (arith, ih)
 
-adds_none : (w : Bool) (a : Option (List ℕ)) → Adds w [] 0 a a
-adds_none w a = record { pieces = []; traced = refl; count = refl; quiet = λ not. refl; written = Appends-nil a }
+none_both : (k m n : ℕ) → k ≡ m + n → m ≡ 0 → n ≡ 0 → k ≡ 0
+none_both k m n is first second = omega (arith, is, first, second)
 
-adds_then : (w : Bool) (xs ys : List ℕ) (m n : ℕ) (a b c : Option (List ℕ)) → Adds w xs m a b → Adds w ys n b c → Adds w (xs ++ ys) (m + n) a c
+quiet_append : (w : Wants) (ps qs : List Piece) → IsQuiet w ps → IsQuiet w qs → IsQuiet w (ps ++ qs)
+quiet_append w ps qs h k = record {
+  numbers = λ not. none_both (counted_in (ps ++ qs)) (counted_in ps) (counted_in qs) (counted_append ps qs) (h.numbers not) (k.numbers not);
+  words = λ not. none_both (said_in (ps ++ qs)) (said_in ps) (said_in qs) (said_append ps qs) (h.words not) (k.words not);
+}
+
+-- pieces that are always wanted
+
+pub quiet_none : (w : Wants) → IsQuiet w []
+quiet_none w = record { numbers = λ not. refl; words = λ not. refl }
+
+quiet_traced : (w : Wants) (lines : List ℕ) → IsQuiet w (Traced lines ∷ [])
+quiet_traced w lines = record { numbers = λ not. refl; words = λ not. refl }
+
+quiet_passed : (w : Wants) (number : ℕ) (cause : List ℕ) → IsQuiet w (Passed number cause ∷ [])
+quiet_passed w number cause = record { numbers = λ not. refl; words = λ not. refl }
+
+adds_none : (w : Wants) (a : Option (List ℕ)) → Adds w [] 0 a a
+adds_none w a = record { pieces = []; traced = refl; count = refl; quiet = quiet_none w; written = Appends-nil a }
+
+adds_then : (w : Wants) (xs ys : List ℕ) (m n : ℕ) (a b c : Option (List ℕ)) → Adds w xs m a b → Adds w ys n b c → Adds w (xs ++ ys) (m + n) a c
 adds_then w xs ys m n a b c s t = record {
   pieces = s.pieces ++ t.pieces;
   quiet = quiet_append w s.pieces t.pieces s.quiet t.quiet;
@@ -64,7 +93,7 @@ adds_then w xs ys m n a b c s t = record {
   written = subst (Appends a c) (sym (text_append s.pieces t.pieces)) (Appends-trans a b c (text_of s.pieces) (text_of t.pieces) s.written t.written);
 }
 
-adds_some : (w : Bool) (xs : List ℕ) (n : ℕ) (a b : Option (List ℕ)) → Adds w xs n a b → AddsSome w xs n a b
+adds_some : (w : Wants) (xs : List ℕ) (n : ℕ) (a b : Option (List ℕ)) → Adds w xs n a b → AddsSome w xs n a b
 adds_some w xs n a b s = record {
   pieces = s.pieces;
   traced = s.traced;
@@ -76,7 +105,7 @@ adds_some w xs n a b s = record {
   written = s.written;
 }
 
-some_then : (w : Bool) (xs ys : List ℕ) (m n : ℕ) (a b c : Option (List ℕ)) → AddsSome w xs m a b → AddsSome w ys n b c → AddsSome w (xs ++ ys) (m + n) a c
+some_then : (w : Wants) (xs ys : List ℕ) (m n : ℕ) (a b c : Option (List ℕ)) → AddsSome w xs m a b → AddsSome w ys n b c → AddsSome w (xs ++ ys) (m + n) a c
 some_then w xs ys m n a b c s t = record {
   pieces = s.pieces ++ t.pieces;
   quiet = quiet_append w s.pieces t.pieces s.quiet t.quiet;
@@ -88,7 +117,7 @@ some_then w xs ys m n a b c s t = record {
 }
 
 -- a beginning of one piece
-some_of : (w : Bool) (p : Piece) (a b : Option (List ℕ)) → IsQuiet w (p ∷ []) → AppendsBeginning a b (piece_text p) →
+some_of : (w : Wants) (p : Piece) (a b : Option (List ℕ)) → IsQuiet w (p ∷ []) → AppendsBeginning a b (piece_text p) →
     AddsSome w (traced_in (p ∷ [])) (passed_in (p ∷ [])) a b
 some_of w p a b quiet (first, rest, is, written) = record {
   pieces = p ∷ [];
@@ -118,31 +147,33 @@ both_counted p q r m n first second small =
 pub tells_none : (a : Log) → Tells [] 0 a a
 tells_none a = record {
   wanted = refl;
-  stats = refl;
+  wants = refl;
   count = λ h. sym (add-zero a.passed);
   before = λ h. h;
-  adds = λ h. subst (λ (l : List ℕ). Adds a.stats l 0 a.text a.text) (sym (none_wanted a.wanted)) (adds_none a.stats a.text);
-  some = subst (λ (l : List ℕ). AddsSome a.stats l 0 a.text a.text) (sym (none_wanted a.wanted))
-      (adds_some a.stats [] 0 a.text a.text (adds_none a.stats a.text));
+  adds = λ h. subst (λ (l : List ℕ). Adds a.wants l 0 a.text a.text) (sym (none_wanted a.wanted)) (adds_none a.wants a.text);
+  some = subst (λ (l : List ℕ). AddsSome a.wants l 0 a.text a.text) (sym (none_wanted a.wanted))
+      (adds_some a.wants [] 0 a.text a.text (adds_none a.wants a.text));
+  records = records_none a.recording;
 }
 
 pub tells_then : (xs ys : List Line) (m n : ℕ) (a b c : Log) → Tells xs m a b → Tells ys n b c → Tells (xs ++ ys) (m + n) a c
 tells_then xs ys m n a b c s t = record {
   wanted = t.wanted ∙ s.wanted;
-  stats = t.stats ∙ s.stats;
+  wants = t.wants ∙ s.wants;
   count = λ h. both_counted a.passed b.passed c.passed m n s.count t.count h;
   before = λ h. s.before (t.before h);
-  adds = λ h. (let more : Adds b.stats (if_wanted a.wanted ys) n b.text c.text = subst (λ (w : Option Form). Adds b.stats (if_wanted w ys) n b.text c.text)
+  adds = λ h. (let more : Adds b.wants (if_wanted a.wanted ys) n b.text c.text = subst (λ (w : Option Form). Adds b.wants (if_wanted w ys) n b.text c.text)
       s.wanted (t.adds h) in
-      let same : Adds a.stats (if_wanted a.wanted ys) n b.text c.text = subst (λ (w : Bool). Adds w (if_wanted a.wanted ys) n b.text c.text) s.stats more in
-      subst (λ (l : List ℕ). Adds a.stats l (m + n) a.text c.text) (sym (both_wanted a.wanted xs ys))
-      (adds_then a.stats (if_wanted a.wanted xs) (if_wanted a.wanted ys) m n a.text b.text c.text (s.adds (t.before h)) same));
-  some = (let more : AddsSome b.stats (if_wanted a.wanted ys) n b.text c.text =
-      subst (λ (w : Option Form). AddsSome b.stats (if_wanted w ys) n b.text c.text) s.wanted t.some in
-      let same : AddsSome a.stats (if_wanted a.wanted ys) n b.text c.text = subst (λ (w : Bool). AddsSome w (if_wanted a.wanted ys) n b.text c.text) s.stats
+      let same : Adds a.wants (if_wanted a.wanted ys) n b.text c.text = subst (λ (w : Wants). Adds w (if_wanted a.wanted ys) n b.text c.text) s.wants more in
+      subst (λ (l : List ℕ). Adds a.wants l (m + n) a.text c.text) (sym (both_wanted a.wanted xs ys))
+      (adds_then a.wants (if_wanted a.wanted xs) (if_wanted a.wanted ys) m n a.text b.text c.text (s.adds (t.before h)) same));
+  some = (let more : AddsSome b.wants (if_wanted a.wanted ys) n b.text c.text =
+      subst (λ (w : Option Form). AddsSome b.wants (if_wanted w ys) n b.text c.text) s.wanted t.some in
+      let same : AddsSome a.wants (if_wanted a.wanted ys) n b.text c.text = subst (λ (w : Wants). AddsSome w (if_wanted a.wanted ys) n b.text c.text) s.wants
       more in
-      subst (λ (l : List ℕ). AddsSome a.stats l (m + n) a.text c.text) (sym (both_wanted a.wanted xs ys))
-      (some_then a.stats (if_wanted a.wanted xs) (if_wanted a.wanted ys) m n a.text b.text c.text s.some same));
+      subst (λ (l : List ℕ). AddsSome a.wants l (m + n) a.text c.text) (sym (both_wanted a.wanted xs ys))
+      (some_then a.wants (if_wanted a.wanted xs) (if_wanted a.wanted ys) m n a.text b.text c.text s.some same));
+  records = records_then xs ys a.recording b.recording c.recording s.records t.records;
 }
 
 -- messages that are passed over, and then lines
@@ -160,17 +191,18 @@ lines_before xs ys n a b c s t = subst (λ (k : ℕ). Tells (xs ++ ys) k a c) (z
 -- one write
 
 -- all is written
-told_whole : (lines : List Line) (n : ℕ) (w : Option Form) (s l : Bool) (k m : ℕ) (t u : Option (List ℕ)) → (k + n < 2 ^ 64 → m ≡ k + n) →
-    Adds s (if_wanted w lines) n t u
-    → Tells lines n (record { wanted = w; stats = s; passed = k; lost = l; text = t }) (record { wanted = w; stats = s; passed = m; lost = l; text = u })
-told_whole lines n w s l k m t u count all = record {
+told_whole : (lines : List Line) (n : ℕ) (w : Option Form) (s : Wants) (l : Bool) (k m : ℕ) (t u : Option (List ℕ)) (r q : Recording) →
+    (k + n < 2 ^ 64 → m ≡ k + n) → Adds s (if_wanted w lines) n t u → Records lines r q
+    → Tells lines n (record { wanted = w; wants = s; passed = k; lost = l; text = t; recording = r })
+    (record { wanted = w; wants = s; passed = m; lost = l; text = u; recording = q })
+told_whole lines n w s l k m t u r q count all records = record {
   wanted = refl;
-  stats = refl;
+  wants = refl;
   count = count;
   before = λ h. h;
   adds = λ h. all;
-  some =
-      adds_some s (if_wanted w lines) n t u all;
+  some = adds_some s (if_wanted w lines) n t u all;
+  records = records;
 }
 
 none_more : (k : ℕ) → k + 0 < 2 ^ 64 → k ≡ k + 0
@@ -179,67 +211,74 @@ none_more k small = sym (add-zero k)
 one_more : (k m : ℕ) → m ≡ min (k + 1) (2 ^ 64 - 1) → k + 1 < 2 ^ 64 → m ≡ k + 1
 one_more k m is small = is ∙ min-eq_left (omega (arith, small))
 
-pub unwanted : (lines : List Line) (w : Option Form) (s l : Bool) (k : ℕ) (t : Option (List ℕ)) → w ≡ None →
-    Tells lines 0 (record { wanted = w; stats = s; passed = k; lost = l; text = t }) (record { wanted = w; stats = s; passed = k; lost = l; text = t })
-unwanted lines w s l k t not = told_whole lines 0 w s l k k t t (none_more k) (subst (λ (b : Option Form). Adds s (if_wanted b lines) 0 t t) (sym not)
-    (adds_none s t))
+pub unwanted : (lines : List Line) (w : Option Form) (s : Wants) (l : Bool) (k : ℕ) (t : Option (List ℕ)) (q : Recording) → w ≡ None → (r : Recording) →
+    Records lines r q → Tells lines 0 (record { wanted = w; wants = s; passed = k; lost = l; text = t; recording = r })
+    (record { wanted = w; wants = s; passed = k; lost = l; text = t; recording = q })
+unwanted lines w s l k t q not r records =
+    told_whole lines 0 w s l k k t t r q (none_more k) (subst (λ (b : Option Form). Adds s (if_wanted b lines) 0 t t) (sym not) (adds_none s t)) records
 
-pub lines_told : (lines : List Line) (form : Form) (w : Option Form) (s l : Bool) (k : ℕ) (t u : Option (List ℕ)) → w ≡ Some form →
-    Appends t u (written_as form lines) → Tells lines 0 (record { wanted = w; stats = s; passed = k; lost = l; text = t })
-    (record { wanted = w; stats = s; passed = k; lost = l; text = u })
-lines_told lines form w s l k t u is written = told_whole lines 0 w s l k k t u (none_more k)
+pub lines_told : (lines : List Line) (form : Form) (w : Option Form) (s : Wants) (l : Bool) (k : ℕ) (t u : Option (List ℕ)) (q : Recording) → w ≡ Some form →
+    Appends t u (written_as form lines) → (r : Recording) → Records lines r q
+    → Tells lines 0 (record { wanted = w; wants = s; passed = k; lost = l; text = t; recording = r })
+    (record { wanted = w; wants = s; passed = k; lost = l; text = u; recording = q })
+lines_told lines form w s l k t u q is written r records = told_whole lines 0 w s l k k t u r q (none_more k)
     (subst (λ (b : Option Form). Adds s (if_wanted b lines) 0 t u) (sym is) (record {
       pieces = Traced (written_as form lines) ∷ [];
       traced = append-nil (written_as form lines);
       count = refl;
-      quiet = λ not. refl;
+      quiet = quiet_traced s (written_as form lines);
       written = subst (Appends t u) (sym (append-nil (written_as form lines))) written;
-    }))
+    })) records
 
-pub passed_told : (number : ℕ) (cause line : List ℕ) (w : Option Form) (s l : Bool) (k m : ℕ) (t u : Option (List ℕ)) → m ≡ min (k + 1) (2 ^ 64 - 1) →
-    line ≡ passed_line number cause → Appends t u line
-    → Tells [] 1 (record { wanted = w; stats = s; passed = k; lost = l; text = t }) (record { wanted = w; stats = s; passed = m; lost = l; text = u })
-passed_told number cause line w s l k m t u more is written =
-    told_whole [] 1 w s l k m t u (one_more k m more) (subst (λ (x : List ℕ). Adds s x 1 t u) (sym (none_wanted w)) (record {
+pub passed_told : (number : ℕ) (cause line : List ℕ) (w : Option Form) (s : Wants) (l : Bool) (k m : ℕ) (t u : Option (List ℕ)) (r : Recording) →
+    m ≡ min (k + 1) (2 ^ 64 - 1) → line ≡ passed_line number cause → Appends t u line
+    → Tells [] 1 (record { wanted = w; wants = s; passed = k; lost = l; text = t; recording = r })
+    (record { wanted = w; wants = s; passed = m; lost = l; text = u; recording = r })
+passed_told number cause line w s l k m t u r more is written =
+    told_whole [] 1 w s l k m t u r r (one_more k m more) (subst (λ (x : List ℕ). Adds s x 1 t u) (sym (none_wanted w)) (record {
       pieces = Passed number cause ∷ [];
       traced = refl;
       count = refl;
-      quiet = λ not. refl;
+      quiet = quiet_passed s number cause;
       written = subst (Appends t u) (is ∙ sym (append-nil (passed_line number cause))) written;
-    }))
+    })) (records_none r)
 
 -- a write failed
 
 pub true_not_false : {A : Type 0} (b : Bool) → b ≡ true → b ≡ false → A
 true_not_false b is not = absurd (let both : true ≡ false = sym is ∙ not in cc)
 
-told_some : (lines : List Line) (n : ℕ) (w : Option Form) (s l o : Bool) (k m : ℕ) (t u : Option (List ℕ)) → (k + n < 2 ^ 64 → m ≡ k + n) → o ≡ true →
-    AddsSome s (if_wanted w lines) n t u
-    → Tells lines n (record { wanted = w; stats = s; passed = k; lost = l; text = t }) (record { wanted = w; stats = s; passed = m; lost = o; text = u })
-told_some lines n w s l o k m t u count lost some = record {
+told_some : (lines : List Line) (n : ℕ) (w : Option Form) (s : Wants) (l o : Bool) (k m : ℕ) (t u : Option (List ℕ)) (r q : Recording) →
+    (k + n < 2 ^ 64 → m ≡ k + n) → o ≡ true → AddsSome s (if_wanted w lines) n t u → Records lines r q
+    → Tells lines n (record { wanted = w; wants = s; passed = k; lost = l; text = t; recording = r })
+    (record { wanted = w; wants = s; passed = m; lost = o; text = u; recording = q })
+told_some lines n w s l o k m t u r q count lost some records = record {
   wanted = refl;
-  stats = refl;
+  wants = refl;
   count = count;
   before = λ h. true_not_false o lost h;
   adds = λ h. true_not_false o lost h;
   some = some;
+  records = records;
 }
 
-pub lines_lost : (lines : List Line) (form : Form) (w : Option Form) (s l o : Bool) (k : ℕ) (t u : Option (List ℕ)) → w ≡ Some form → o ≡ true →
-    AppendsBeginning t u (written_as form lines)
-    → Tells lines 0 (record { wanted = w; stats = s; passed = k; lost = l; text = t }) (record { wanted = w; stats = s; passed = k; lost = o; text = u })
-lines_lost lines form w s l o k t u is lost written =
+pub lines_lost : (lines : List Line) (form : Form) (w : Option Form) (s : Wants) (l o : Bool) (k : ℕ) (t u : Option (List ℕ)) (q : Recording) → w ≡ Some form →
+    o ≡ true → AppendsBeginning t u (written_as form lines) → (r : Recording) → Records lines r q
+    → Tells lines 0 (record { wanted = w; wants = s; passed = k; lost = l; text = t; recording = r })
+    (record { wanted = w; wants = s; passed = k; lost = o; text = u; recording = q })
+lines_lost lines form w s l o k t u q is lost written r records =
     let text : List ℕ = written_as form lines in
-    let begun : AddsSome s (text ++ []) 0 t u = some_of s (Traced text) t u (λ not. refl) written in
-    told_some lines 0 w s l o k k t u (none_more k) lost (subst (λ (b : Option Form). AddsSome s (if_wanted b lines) 0 t u) (sym is)
-    (subst (λ (x : List ℕ). AddsSome s x 0 t u) (append-nil text) begun))
+    let begun : AddsSome s (text ++ []) 0 t u = some_of s (Traced text) t u (quiet_traced s text) written in
+    told_some lines 0 w s l o k k t u r q (none_more k) lost (subst (λ (b : Option Form). AddsSome s (if_wanted b lines) 0 t u) (sym is)
+    (subst (λ (x : List ℕ). AddsSome s x 0 t u) (append-nil text) begun)) records
 
-pub passed_lost : (number : ℕ) (cause line : List ℕ) (w : Option Form) (s l o : Bool) (k m : ℕ) (t u : Option (List ℕ)) → m ≡ min (k + 1) (2 ^ 64 - 1) →
-    line ≡ passed_line number cause → o ≡ true → AppendsBeginning t u line
-    → Tells [] 1 (record { wanted = w; stats = s; passed = k; lost = l; text = t }) (record { wanted = w; stats = s; passed = m; lost = o; text = u })
-passed_lost number cause line w s l o k m t u more is lost written =
-    let begun : AddsSome s [] 1 t u = some_of s (Passed number cause) t u (λ not. refl) (subst (AppendsBeginning t u) is written) in
-    told_some [] 1 w s l o k m t u (one_more k m more) lost (subst (λ (x : List ℕ). AddsSome s x 1 t u) (sym (none_wanted w)) begun)
+pub passed_lost : (number : ℕ) (cause line : List ℕ) (w : Option Form) (s : Wants) (l o : Bool) (k m : ℕ) (t u : Option (List ℕ)) (r : Recording) →
+    m ≡ min (k + 1) (2 ^ 64 - 1) → line ≡ passed_line number cause → o ≡ true → AppendsBeginning t u line
+    → Tells [] 1 (record { wanted = w; wants = s; passed = k; lost = l; text = t; recording = r })
+    (record { wanted = w; wants = s; passed = m; lost = o; text = u; recording = r })
+passed_lost number cause line w s l o k m t u r more is lost written =
+    let begun : AddsSome s [] 1 t u = some_of s (Passed number cause) t u (quiet_passed s number cause) (subst (AppendsBeginning t u) is written) in
+    told_some [] 1 w s l o k m t u r r (one_more k m more) lost (subst (λ (x : List ℕ). AddsSome s x 1 t u) (sym (none_wanted w)) begun) (records_none r)
 
 -- messages
 
@@ -248,6 +287,14 @@ none_passed r m is = rw is refl
 
 pub one_passed : (r : Result PlainMessage DecodeError) (e : DecodeError) → r ≡ Err e → if_passed r ≡ 1
 one_passed r e is = rw is refl
+
+-- a message with a type is not passed over
+read_told : (r : Result PlainMessage DecodeError) (a : Log) → is_some (type_of r) ≡ true → Tells [] (if_passed r) a a
+read_told (Ok m) a typed = tells_none a
+read_told (Err e) a typed = absurd (let none : true ≡ false = sym typed in cc)
+
+pub typed_told : (bytes : List ℕ) (a : Log) → is_some (type_of (read bytes)) ≡ true → Tells [] (if_passed (read bytes)) a a
+typed_told bytes a typed = read_told (read bytes) a typed
 
 pub passed_over_append : (ms ns : List (List ℕ)) → passed_over (ms ++ ns) ≡ passed_over ms + passed_over ns
 passed_over_append [] ns = sym (zero-add (passed_over ns))

@@ -7,6 +7,7 @@ pub mod Requests
 pub mod Errors
 pub mod Links
 pub mod Lines
+pub mod Records
 pub mod Stored
 pub mod Calls
 pub mod Stopped

@@ -21,6 +21,7 @@ use std::collections::BTreeMap;
 use std::io::Write;
 use std::marker::Model;
 use std::ops::Bound;
+use std::time::Clock;
 use sw_issuers::Sender;
 use sw_participant::{Bytes, NoMemory};
 use sw_parts::Link;
@@ -333,11 +334,11 @@ fn due_advices<S: Alter, L: Link>(
 /// Sends the next stored advices between two reads, at most as many as the advisor may; those that are accepted
 /// are dropped. It begins after the one that was sent last, and with the oldest if none comes after it. Then the
 /// history is cut, if it is long or its lines are wanted.
-pub(crate) fn send_between<S: Alter, L: Link, E: Write>(
+pub(crate) fn send_between<S: Alter, L: Link, E: Write, K: Clock>(
     alloc: Global,
     switch: &mut Switch<S>,
     advisor: &mut Advisor<L>,
-    stderr: &mut StandardError<'_, E>,
+    stderr: &mut StandardError<'_, E, K>,
 ) -> Result<(), ServeError>
     requires ready { IsReady (point_of S.Store switch.old) }
     ensures sends { OnOk result (SendsBetween

@@ -29,11 +29,11 @@ use sw_parts::Link;
 
 impl<S: Alter + Drop> Switch<S> {
     // Gives the responses of a batch, runs what is on the shelf, and writes the lines of the trace.
-    fn finish<O: Write, E: Write>(
+    fn finish<O: Write, E: Write, K: Clock>(
         &mut self,
         alloc: Global,
         out: &mut O,
-        stderr: &mut StandardError<'_, E>,
+        stderr: &mut StandardError<'_, E, K>,
     ) -> Result<(), ServeError>
         requires { RestsGiven (point_of S.Store self.old) }
         ensures finishes { OnOk result (Finishes
@@ -49,12 +49,12 @@ impl<S: Alter + Drop> Switch<S> {
     }
 
     // Answers a request that came alone, in this thread: so it takes no longer than without threads.
-    fn answer_alone<O: Write, E: Write>(
+    fn answer_alone<O: Write, E: Write, K: Clock>(
         &mut self,
         alloc: Global,
         request: Context,
         out: &mut O,
-        stderr: &mut StandardError<'_, E>,
+        stderr: &mut StandardError<'_, E, K>,
     ) -> Result<(), ServeError>
         requires ready { IsReady (point_of S.Store self.old) }
         ensures serves { OnOk result ((rounds : List Round)
@@ -65,19 +65,20 @@ impl<S: Alter + Drop> Switch<S> {
         ensures halts { OnErr result (HaltsToward true (request ∷ [])
             (point_of S.Store self.old) (O.contents out.old) (O.contents out.new)) }
     {
+        stderr.begin();
         self.run_alone(alloc, request)?;
         self.finish(alloc, out, stderr)
     }
 
     // Answers requests that came at once: two or more as one batch, and a single one alone. If it ends with an
     // error, the lines of the history are written all the same, unless a batch was given up.
-    fn answer_batch<T: Threads + Wait + Sync, O: Write, E: Write>(
+    fn answer_batch<T: Threads + Wait + Sync, O: Write, E: Write, K: Clock>(
         self,
         rt: &T,
         alloc: Global,
         requests: Vec<Context>,
         out: &mut O,
-        stderr: &mut StandardError<'_, E>,
+        stderr: &mut StandardError<'_, E, K>,
     ) -> Result<Switch<S>, ServeError>
         requires ready { IsReady (point_of S.Store self) }
         requires few { vec_len requests ≤ 256 }
@@ -93,6 +94,7 @@ impl<S: Alter + Drop> Switch<S> {
             return Ok(self);
         }
         if requests.len() > 1 {
+            stderr.begin();
             let mut switch = self.run_together(rt, alloc, requests)?;
             return match switch.finish(alloc, out, stderr) {
                 Ok(()) => Ok(switch),
@@ -128,11 +130,11 @@ fn add_request(found: &mut Vec<Context>, request: Option<Context>) -> Result<(),
 }
 
 // The contexts of the requests among some messages.
-fn requests_in<E: Write>(
+fn requests_in<E: Write, K: Clock>(
     alloc: Global,
     count: &mut u64,
     list: &[Vec<u8>],
-    stderr: &mut StandardError<'_, E>,
+    stderr: &mut StandardError<'_, E, K>,
 ) -> Result<Vec<Context>, ServeError>
     ensures all { IfOk result (λ found. found.items ≡ requests (messages list.now)) }
     ensures tells { OnOk result (Tells [] (passed_over (messages list.now))
@@ -150,14 +152,14 @@ fn requests_in<E: Write>(
 
 // Answers the requests among some messages, in batches. After each batch the numbers of the run are written, if
 // they are due.
-fn answer_batches<S: Alter + Drop, T: Threads + Wait + Clock + Sync, O: Write, E: Write>(
+fn answer_batches<S: Alter + Drop, T: Threads + Wait + Clock + Sync, O: Write, E: Write, K: Clock>(
     rt: &T,
     alloc: Global,
     switch: Switch<S>,
     count: &mut u64,
     list: &[Vec<u8>],
     out: &mut O,
-    stderr: &mut StandardError<'_, E>,
+    stderr: &mut StandardError<'_, E, K>,
 ) -> Result<Switch<S>, ServeError>
     requires ready { IsReady (point_of S.Store switch) }
     ensures serves { IfOk result (λ after. ReportsFor true (messages list.now)
@@ -190,6 +192,7 @@ impl Requests {
         R: Read,
         O: Write,
         E: Write,
+        K: Clock,
     >(
         &mut self,
         rt: &T,
@@ -198,7 +201,7 @@ impl Requests {
         advisor: &mut Advisor<L>,
         input: &mut R,
         out: &mut O,
-        stderr: &mut StandardError<'_, E>,
+        stderr: &mut StandardError<'_, E, K>,
     ) -> Result<(Switch<S>, StreamEnd), ServeError>
         requires ready { IsReady (point_of S.Store switch) }
         requires fresh { self.old.framer ≡ blank }

@@ -1,6 +1,6 @@
 //! The switch without a configuration: two issuers, alpha and beta.
 
-ghost use Rattle.std.specs.Prelude.{◌≡◌, ◌∷◌, [], IfOk, codes, map};
+ghost use Rattle.std.specs.Prelude.{◌≡◌, ◌∷◌, [], IfOk, codes, map, true};
 ghost use Rattle.cli_run.specs.Links.{link_names, routing, sender_of, sender_with, switch_routes};
 
 use crate::setup::NamedLink;
@@ -42,15 +42,19 @@ pub fn default_queried<L: Link>(
         link_names links.items ≡ codes "alpha" ∷ codes "beta" ∷ []) }
     ensures links { IfOk result (λ links.
         map (λ l. l.link) links.items ≡ alpha ∷ beta ∷ []) }
+    ensures stand_in { IfOk result (λ links.
+        map (λ l. l.has_stand_in) links.items ≡ true ∷ true ∷ []) }
 {
     let mut links = Vec::new(alloc);
     links.push(NamedLink {
         name: Text::from_str(alloc, "alpha")?,
         link: alpha,
+        has_stand_in: true,
     })?;
     links.push(NamedLink {
         name: Text::from_str(alloc, "beta")?,
         link: beta,
+        has_stand_in: true,
     })?;
     Ok(links)
 }

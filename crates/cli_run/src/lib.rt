@@ -3,7 +3,8 @@
 //! [`run`] makes a plant of the switch's participants over a journal. It recovers what the journal has unfinished,
 //! then answers each request as it comes: its response is written and flushed once the last entry of its
 //! transaction is written. After the last request the shelf is released and drained, and the stored advices are
-//! sent to the issuers. If they are wanted, lines with the numbers of the run go to standard error.
+//! sent to the issuers. If they are wanted, lines with the numbers of the run go to standard error, and what the run
+//! reports in words: that it is ready, and what becomes of its hosts.
 //!
 //! The links, the routes and the limits come from the caller ([`Setup`]); [`default_routes`] and the like are
 //! those of the switch without a configuration.
@@ -16,6 +17,8 @@ mod error;
 mod given;
 mod laws;
 mod progress;
+mod record_log;
+mod saying;
 mod serving;
 mod setup;
 mod standard_error;
@@ -27,6 +30,7 @@ mod unsuited;
 pub use defaults::{DEFAULT_STAND_IN, default_advised, default_queried, default_routes};
 pub use error::ServeError;
 pub use laws::runs_keep_the_law;
+pub use record_log::RecordLog;
 pub use serving::run;
 pub use setup::{NamedLink, Setup, SwitchLink};
 pub use standard_error::{Form, StandardError, write_lines};

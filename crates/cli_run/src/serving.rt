@@ -19,7 +19,7 @@ ghost use Rattle.cli_run.specs.Ran.{Closes, Printed, Ran, ServesAll, all_lines, 
 ghost use Rattle.cli_run.specs.Rounds.{Recovers, Round, RoundsFor};
 ghost use Rattle.cli_run.specs.Requests.{ReadTo, requests};
 ghost use Rattle.cli_run.specs.Stopped.{DrainsSome, IsStopped, ServesSome};
-ghost use Rattle.cli_run.specs.Shown.{TellsAll};
+ghost use Rattle.cli_run.specs.Shown.{TellsAll, TellsRun, unfinished_in, unfinished_of};
 ghost use Rattle.cli_run.specs.Traces.{DrainsAll, Tells, log_of, passed_over};
 ghost use Rattle.cli_io.specs.Written.{AppendsBeginning};
 ghost use Rattle.cli_run.specs.declared.standard_error.Form.TheVariants.{Text};
@@ -27,12 +27,14 @@ ghost use Rattle.cli_run.specs.declared.standard_error.Form.TheVariants.{Text};
 use crate::advices::{Advisor, send_advices};
 use crate::error::ServeError;
 use crate::progress::Progress;
+use crate::saying::unfinished_in;
 use crate::setup::{NamedLink, Setup, SwitchLink, query_name, sender_over};
 use crate::standard_error::{StandardError, write_lines};
 use crate::stream::{Requests, StreamEnd};
 use crate::switch::Switch;
 use crate::unsuited::cause_of;
 use cli_io::WriteError;
+use cli_words::Recovered;
 use flow_asm::Code;
 use sqlite::Alter;
 use std::alloc::Global;
@@ -42,6 +44,7 @@ use std::thread::Threads;
 use std::time::Clock;
 use sw_issuers::Sender;
 use sw_participant::{Bystander, NoMemory, Participant, Station, StationError, Unjoined};
+use sw_timed::Timed;
 use sw_parts::{CheckFields, Forward, Limits, Link, QueryIssuer, Respond, Reverse, Route, StandIn};
 use tx_engine::Engine;
 use tx_journal::Journal;
@@ -51,6 +54,13 @@ use tx_plant::{Plant, Turn};
 const MAX_ROUNDS: u64 = u64::MAX;
 
 impl<S: Alter> Switch<S> {
+    // What the journal of a new plant has unfinished.
+    fn unfinished(&self) -> Recovered
+        ensures { result ≡ unfinished_of (point_of S.Store self.now).plant }
+    {
+        unfinished_in(self.engine().opened())
+    }
+
     // Finishes what the journal of a new plant has unfinished.
     fn recover(&mut self, alloc: Global) -> Result<(), ServeError>
         requires made { IsEngine self.old.plant.running.engine }
@@ -68,11 +78,11 @@ impl<S: Alter> Switch<S> {
 
     /// Runs what waits in the queue; when nothing waits there, moves the shelf to the queue. Ends when nothing is
     /// on the shelf either.
-    pub(crate) fn drain<O: Write, E: Write>(
+    pub(crate) fn drain<O: Write, E: Write, K: Clock>(
         &mut self,
         alloc: Global,
         out: &mut O,
-        stderr: &mut StandardError<'_, E>,
+        stderr: &mut StandardError<'_, E, K>,
     ) -> Result<(), ServeError>
         requires rest { IsAtRest (point_of S.Store self.old) }
         ensures drains { OnOk result (DrainsAll
@@ -95,14 +105,14 @@ impl<S: Alter> Switch<S> {
     }
 
     // Answers the requests of an input, runs what is on the shelf, and sends the stored advices.
-    fn serve_to_end<C: Clock, L: Link, R: Read + Drop, O: Write, E: Write>(
+    fn serve_to_end<C: Clock, L: Link, R: Read + Drop, O: Write, E: Write, K: Clock>(
         &mut self,
         rt: &C,
         alloc: Global,
         advisor: &mut Advisor<L>,
         input: R,
         out: &mut O,
-        stderr: &mut StandardError<'_, E>,
+        stderr: &mut StandardError<'_, E, K>,
     ) -> Result<StreamEnd, ServeError>
         requires rest { IsAtRest (point_of S.Store self.old) }
         requires empty { waits self.old.plant.running.engine ≡ [] }
@@ -127,12 +137,12 @@ impl<S: Alter> Switch<S> {
     }
 
     // Empties the queue and the shelf, and sends the stored advices.
-    fn close<L: Link, O: Write, E: Write>(
+    fn close<L: Link, O: Write, E: Write, K: Clock>(
         &mut self,
         alloc: Global,
         advisor: &mut Advisor<L>,
         out: &mut O,
-        stderr: &mut StandardError<'_, E>,
+        stderr: &mut StandardError<'_, E, K>,
     ) -> Result<(), ServeError>
         requires rest { IsAtRest (point_of S.Store self.old) }
         ensures closes { OnOk result (
@@ -159,6 +169,7 @@ impl<S: Alter + Drop> Switch<S> {
         R: Read + Drop,
         O: Write,
         E: Write,
+        K: Clock,
     >(
         self,
         rt: &T,
@@ -166,7 +177,7 @@ impl<S: Alter + Drop> Switch<S> {
         input: R,
         advisor: &mut Advisor<L>,
         out: &mut O,
-        stderr: &mut StandardError<'_, E>,
+        stderr: &mut StandardError<'_, E, K>,
     ) -> Result<StreamEnd, ServeError>
         requires rest { IsAtRest (point_of S.Store self) }
         requires empty { waits self.plant.running.engine ≡ [] }
@@ -249,14 +260,14 @@ impl<S: Alter + Drop, R: Read + Drop, L: Link> Drop for Over<S, R, L> {
 
 impl<S: Alter + Drop, R: Read + Drop, L: Link> Over<S, R, L> {
     // The run over the stations that were made (apart, so that its proof does not carry their making).
-    fn run<T: Threads + Wait + Clock + Sync, O: Write, E: Write>(
+    fn run<T: Threads + Wait + Clock + Sync, O: Write, E: Write, K: Clock>(
         self,
         rt: &T,
         alloc: Global,
         code: &Code,
         stations: Vec<Station>,
         out: &mut O,
-        stderr: &mut StandardError<'_, E>,
+        stderr: &mut StandardError<'_, E, K>,
     ) -> Result<StreamEnd, ServeError>
         ensures ran { IfOk result (λ end. IfSome self.input (λ reader. (frames : List (List ℕ))
             × ReadTo end (R.remaining reader) frames
@@ -264,7 +275,8 @@ impl<S: Alter + Drop, R: Read + Drop, L: Link> Over<S, R, L> {
             × (ran : Ran code.now self.sessions (seen (kept S.Store self.journal))
             (SendsAdvice L.sends L.receives L.starves (Unit {0})) self.sender self.advices rounds
             (O.contents out.old) (O.contents out.new))
-            × TellsAll (all_lines ran.serves) (passed_over frames) ran.serves.end
+            × TellsRun stderr.old.words (unfinished_in ran.begins.view)
+            (all_lines ran.serves) (passed_over frames) ran.serves.end
             (log_of E.contents stderr.old) (log_of E.contents stderr.new))) }
         ensures printed { OnOk result (IfNone self.input (Printed code.now self.sessions
             (seen (kept S.Store self.journal)) (O.contents out.old) (O.contents out.new))) }
@@ -292,11 +304,13 @@ impl<S: Alter + Drop, R: Read + Drop, L: Link> Over<S, R, L> {
         let answered = Progress::begin(alloc, plant.engine(), first);
         let mut switch = Switch { plant, answered };
         let mut advisor = Advisor::new(sender, advices, first);
+        let unfinished = switch.unfinished();
         switch.recover(alloc)?;
         let Some(input) = input else {
             print(alloc, switch.engine(), out)?;
             return Ok(StreamEnd::Whole);
         };
+        stderr.say_ready(alloc, unfinished);
         if threads {
             return switch.serve_together(rt, alloc, input, &mut advisor, out, stderr);
         }
@@ -342,7 +356,8 @@ fn named(
 /// of the trace are written after each batch. Those of a batch that was given up are lost.
 ///
 /// If `stderr` wants the numbers of the run, they are written each time that many more requests are answered (with
-/// threads, after the batch in which this happens), and at the end.
+/// threads, after the batch in which this happens), and at the end. If it wants words, it is written that the run is
+/// ready, before the first read, and after each request, or each batch, what has become new of the hosts.
 ///
 /// A failed write to standard error is not an error of the run: its result is as if all had been written there.
 ///
@@ -352,7 +367,14 @@ fn named(
 /// have (`DoubleStation`).
 ///
 /// The stations are made here; no caller has one of them.
-pub fn run<S: Alter + Drop, T: Threads + Wait + Clock + Sync, R: Read + Drop, O: Write, E: Write>(
+pub fn run<
+    S: Alter + Drop,
+    T: Threads + Wait + Clock + Sync,
+    R: Read + Drop,
+    O: Write,
+    E: Write,
+    K: Clock,
+>(
     rt: &T,
     alloc: Global,
     code: &Code,
@@ -360,7 +382,7 @@ pub fn run<S: Alter + Drop, T: Threads + Wait + Clock + Sync, R: Read + Drop, O:
     setup: Setup<SwitchLink>,
     input: Option<R>,
     out: &mut O,
-    stderr: &mut StandardError<'_, E>,
+    stderr: &mut StandardError<'_, E, K>,
 ) -> Result<StreamEnd, ServeError>
     ensures ran { IfOk result (λ end. IfSome input (λ reader. (frames : List (List ℕ))
         × ReadTo end (R.remaining reader) frames
@@ -370,7 +392,8 @@ pub fn run<S: Alter + Drop, T: Threads + Wait + Clock + Sync, R: Read + Drop, O:
         ⟦<SwitchLink as Link>⟧.starves (Unit {0}))
         (sender_with ⟦<SwitchLink as Link>⟧.state setup.routes setup.advised.items)
         setup.advices rounds (O.contents out.old) (O.contents out.new))
-        × TellsAll (all_lines ran.serves) (passed_over frames) ran.serves.end
+        × TellsRun stderr.old.words (unfinished_in ran.begins.view)
+        (all_lines ran.serves) (passed_over frames) ran.serves.end
         (log_of E.contents stderr.old) (log_of E.contents stderr.new))) }
     ensures printed { OnOk result (IfNone input (Printed code.now setup.sessions
         (seen (kept S.Store journal)) (O.contents out.old) (O.contents out.new))) }
@@ -391,6 +414,7 @@ pub fn run<S: Alter + Drop, T: Threads + Wait + Clock + Sync, R: Read + Drop, O:
         advices,
         sessions,
         threads,
+        timed,
     } = setup;
     let over = Over {
         journal,
@@ -432,8 +456,13 @@ pub fn run<S: Alter + Drop, T: Threads + Wait + Clock + Sync, R: Read + Drop, O:
         return Err(ServeError::OutOfMemory);
     };
     let mut stations = vec![in alloc; check, limits, route, reverse, standin, forward, respond]?;
-    for NamedLink { name, link } in queried {
-        let query = boxed(alloc, QueryIssuer::new(alloc, link))?;
+    for NamedLink {
+        name,
+        link,
+        has_stand_in,
+    } in queried {
+        let query = QueryIssuer::new(alloc, link, has_stand_in);
+        let query = boxed(alloc, Timed::new(query, timed))?;
         let station = query_name(alloc, name.as_str())?;
         match Station::new(alloc, station.as_str(), query) {
             Ok(station) => stations.push(station)?,

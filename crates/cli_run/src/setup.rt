@@ -21,6 +21,8 @@ pub struct NamedLink<L: Link> {
     pub name: Text,
     /// The link.
     pub link: L,
+    /// Whether a stand-in decides about a request that gets no answer. Otherwise the request is refused with 91.
+    pub has_stand_in: bool,
 }
 
 /// What a run has besides its flow and its journal.
@@ -43,6 +45,8 @@ pub struct Setup<L: Link> {
     pub sessions: usize,
     /// Whether the sessions run as threads. If not, session 0 runs each transaction.
     pub threads: bool,
+    /// The clock by which it is noted how long an issuer took; `None` if nobody wants to know.
+    pub timed: Option<HostRuntime>,
 }
 
 /// The name of the participant that asks over the link of this name.

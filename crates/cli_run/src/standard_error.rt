@@ -1,6 +1,6 @@
 //! What a run writes to standard error.
 
-ghost use Rattle.std.specs.Prelude.{◌≡◌, ◌+◌, ◌∷◌, ◌++◌, [], None, IfOk, OnErr, OnOk};
+ghost use Rattle.std.specs.Prelude.{◌≡◌, ◌+◌, ◌∷◌, ◌++◌, [], IfOk, OnErr, OnOk};
 ghost use Rattle.std.specs.Prelude.{option_map, string_bytes};
 ghost use Rattle.std.specs.Io.KnownBytes.{Appends};
 ghost use Rattle.cli_io.specs.Written.{AppendsBeginning};
@@ -8,14 +8,18 @@ ghost use Rattle.tx_trace.specs.Follow.{Follows, count_of, lines_given};
 ghost use Rattle.tx_trace.specs.Lines.{at_number};
 ghost use Rattle.cli_run.specs.Lines.{in_form, line_at, lines_in, written_as};
 ghost use Rattle.cli_run.specs.declared.standard_error.Form.TheVariants.{Text};
-ghost use Rattle.cli_run.specs.Traces.{Tells, log_of, passed_line};
+ghost use Rattle.cli_run.specs.Records.{Recording, Records};
+ghost use Rattle.cli_run.specs.Traces.{IsOver, Tells, is_live, log_of, passed_line};
 
 use crate::error::ServeError;
+use crate::record_log::RecordLog;
 use crate::stats::Stats;
 use cli_io::{WriteError, write_whole};
+use cli_words::Words;
 use iso_codec::DecodeError;
 use std::alloc::{AllocError, Global};
 use std::io::Write;
+use std::time::Clock;
 use tx_engine::Engine;
 use tx_trace::Tracer;
 
@@ -27,10 +31,11 @@ pub enum Form {
     Json,
 }
 
-/// Standard error, to which a run writes a line for each message that is passed over, the trace and the numbers.
+/// Standard error, to which a run writes a line for each message that is passed over, the trace, the numbers, and
+/// what it reports in words.
 /// If a write fails, the run goes on, and its result is as if all had been written.
 #[derive(Drop)]
-pub struct StandardError<'a, E> {
+pub struct StandardError<'a, E, K> {
     pub err: &'a mut E,
     /// In which form the lines of the trace are wanted, if they are.
     pub trace: Option<Form>,
@@ -40,6 +45,10 @@ pub struct StandardError<'a, E> {
     pub stats: Option<Stats>,
     /// How many messages were passed over.
     pub passed: u64,
+    /// The log, which is kept beside it.
+    pub log: RecordLog<'a, E, K>,
+    /// What is reported in words, if anything is.
+    pub words: Option<Words>,
 }
 
 // The line of a message that is passed over.
@@ -49,7 +58,7 @@ fn passed_line(alloc: Global, number: u64, cause: &str) -> Result<String, AllocE
     format!(in alloc; "cardswitch: message {number} is passed over: {cause}\n")
 }
 
-impl<'a, E: Write> StandardError<'a, E> {
+impl<'a, E: Write, K: Clock> StandardError<'a, E, K> {
     /// Writes that a message is passed over. Out of memory is the only error.
     pub(crate) fn pass_over(
         &mut self,
@@ -72,12 +81,35 @@ impl<'a, E: Write> StandardError<'a, E> {
         }
     }
 
-    /// Writes the lines of all entries of the engine's history, if a trace is wanted. Out of memory is the only
-    /// error; after it, no trace is wanted any more, so that no line is written twice.
-    pub(crate) fn trace(&mut self, alloc: Global, engine: &Engine) -> Result<(), ServeError>
-        ensures tells { OnOk result (Tells (lines_in engine.now) 0
-            (log_of E.contents self.old) (log_of E.contents self.new)) }
-        ensures once { OnErr result (self.new.trace ≡ None) }
+    /// Whether lines are written after each transaction.
+    pub(crate) fn is_live(&self) -> bool
+        ensures { result ≡ is_live (log_of E.contents self.now) }
+    {
+        self.trace.is_some() || self.log.wanted
+    }
+
+    /// Notes that transactions are taken now.
+    pub(crate) fn begin(&mut self)
+        ensures { log_of E.contents self.new ≡ log_of E.contents self.old }
+    {
+        self.log.begin();
+    }
+
+    /// From here on neither the trace nor the log is wanted.
+    pub(crate) fn finish(&mut self)
+        ensures { IsOver (log_of E.contents self.new) }
+    {
+        self.trace = None;
+        self.log.wanted = false;
+    }
+
+    // Writes the lines of all entries of the engine's history, if a trace is wanted.
+    fn write_trace(&mut self, alloc: Global, engine: &Engine) -> Result<(), ServeError>
+        ensures { OnOk result ((r : Recording)
+            → Records (lines_in engine.now) r (log_of E.contents self.old).recording
+            → Tells (lines_in engine.now) 0
+            (record (log_of E.contents self.old) { recording = r })
+            (log_of E.contents self.new)) }
     {
         let Some(form) = self.trace else {
             return Ok(());
@@ -88,9 +120,32 @@ impl<'a, E: Write> StandardError<'a, E> {
                 self.lost = true;
                 Ok(())
             }
+            Err(error) => Err(error),
+        }
+    }
+
+    // Writes to the log, and then the trace.
+    fn write_both(&mut self, alloc: Global, engine: &Engine) -> Result<(), ServeError>
+        ensures { OnOk result (Tells (lines_in engine.now) 0
+            (log_of E.contents self.old) (log_of E.contents self.new)) }
+    {
+        self.log.write(alloc, engine)?;
+        self.write_trace(alloc, engine)
+    }
+
+    /// Writes the records of the transactions that end in the engine's history, if the log is wanted, and the lines of
+    /// all its entries, if a trace is wanted. Out of memory is the only error; after it, neither is wanted any more, so
+    /// that no line is written twice.
+    pub(crate) fn trace(&mut self, alloc: Global, engine: &Engine) -> Result<(), ServeError>
+        ensures tells { OnOk result (Tells (lines_in engine.now) 0
+            (log_of E.contents self.old) (log_of E.contents self.new)) }
+        ensures once { OnErr result (IsOver (log_of E.contents self.new)) }
+    {
+        match self.write_both(alloc, engine) {
+            Ok(()) => Ok(()),
             Err(error) => {
                 // The lines that were written are not written again when the run ends.
-                self.trace = None;
+                self.finish();
                 Err(error)
             }
         }

@@ -3,7 +3,7 @@
 ghost use Rattle.std.specs.Prelude.{◌≡◌, []};
 ghost use Rattle.cli_run.specs.Numbers.{given_since, numbers_at};
 ghost use Rattle.cli_run.specs.Points.{point_of};
-ghost use Rattle.cli_run.specs.Shown.{Shows, ShowsSince, every_of, is_due};
+ghost use Rattle.cli_run.specs.Shown.{Shows, ShowsSince, every_of, hosts_of, is_due};
 ghost use Rattle.cli_run.specs.Traces.{Tells, log_of};
 
 use crate::standard_error::StandardError;
@@ -50,7 +50,7 @@ impl Stats {
     }
 }
 
-impl<'a, E: Write> StandardError<'a, E> {
+impl<'a, E: Write, K: Clock> StandardError<'a, E, K> {
     // Whether a line is due once `now` requests are answered, if `before` of them were answered earlier.
     fn is_due(&self, before: u64, now: u64) -> bool
         ensures { result ≡ is_due (every_of self.now.stats) before now }
@@ -69,9 +69,10 @@ impl<'a, E: Write> StandardError<'a, E> {
     // Writes the numbers of a run, if they are wanted. If memory is refused, the line is lost, as when a write
     // fails.
     fn show<C: Clock>(&mut self, rt: &C, alloc: Global, counts: &Counts, stored: u64)
-        ensures { Shows
+        ensures shows { Shows
             (record { tally = counts.now; passed = self.old.passed; stored = stored })
             (log_of E.contents self.old) (log_of E.contents self.new) }
+        ensures words { self.new.words ≡ self.old.words }
     {
         let Some(stats) = self.stats else {
             return;
@@ -104,34 +105,37 @@ impl<S: Alter> Switch<S> {
 
     /// Writes the numbers of the run so far, if they are wanted. If standard error takes nothing, or memory is
     /// refused, the line is lost, and nothing else changes.
-    pub(crate) fn show<C: Clock, E: Write>(
+    pub(crate) fn show<C: Clock, E: Write, K: Clock>(
         &self,
         rt: &C,
         alloc: Global,
-        stderr: &mut StandardError<'_, E>,
+        stderr: &mut StandardError<'_, E, K>,
     )
-        ensures { Shows (numbers_at (point_of S.Store self.now) stderr.old.passed)
+        ensures shows { Shows (numbers_at (point_of S.Store self.now) stderr.old.passed)
             (log_of E.contents stderr.old) (log_of E.contents stderr.new) }
+        ensures words { stderr.new.words ≡ stderr.old.words }
     {
         stderr.show(rt, alloc, &self.answered.counts, self.given_since());
     }
 
-    /// Writes the numbers, if a line has become due since `before` requests were answered.
-    #[tactic(auto, using(crate::proofs::Tracing::tells_none))]
-    pub(crate) fn show_since<C: Clock, E: Write>(
+    /// Writes what has become new of the hosts; then the numbers and the hosts' counts, if they have become due since
+    /// `before` requests were answered.
+    pub(crate) fn show_since<C: Clock, E: Write, K: Clock>(
         &self,
         rt: &C,
         alloc: Global,
         before: u64,
-        stderr: &mut StandardError<'_, E>,
+        stderr: &mut StandardError<'_, E, K>,
     )
         ensures since { ShowsSince (every_of stderr.old.stats) before
-            (numbers_at (point_of S.Store self.now) stderr.old.passed)
+            (numbers_at (point_of S.Store self.now) stderr.old.passed) (hosts_of stderr.old.words)
             (log_of E.contents stderr.old) (log_of E.contents stderr.new) }
         ensures tells { Tells [] 0 (log_of E.contents stderr.old) (log_of E.contents stderr.new) }
     {
+        stderr.say_news();
         if stderr.is_due(before, self.answered.counts.requests()) {
             self.show(rt, alloc, stderr);
+            stderr.say_counts();
         }
     }
 }

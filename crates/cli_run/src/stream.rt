@@ -98,11 +98,11 @@ fn context_of(alloc: Global, number: u64, message: &[u8]) -> Result<Context, Ser
 }
 
 // The context of a request; a message that cannot be read is passed over, and its number is written.
-pub(crate) fn request_in<E: Write>(
+pub(crate) fn request_in<E: Write, K: Clock>(
     alloc: Global,
     number: u64,
     message: &[u8],
-    stderr: &mut StandardError<'_, E>,
+    stderr: &mut StandardError<'_, E, K>,
 ) -> Result<Option<Context>, ServeError>
     ensures request { IfOk result (λ request. option_to_list request
         ≡ map request_of (if_read (read message.now) message.now)) }
@@ -124,14 +124,14 @@ pub(crate) fn request_in<E: Write>(
 }
 
 // Answers a message, if it can be read, and writes the numbers of the run, if they are due.
-fn serve<S: Alter, C: Clock, O: Write, E: Write>(
+fn serve<S: Alter, C: Clock, O: Write, E: Write, K: Clock>(
     rt: &C,
     alloc: Global,
     switch: &mut Switch<S>,
     number: u64,
     message: &[u8],
     out: &mut O,
-    stderr: &mut StandardError<'_, E>,
+    stderr: &mut StandardError<'_, E, K>,
 ) -> Result<(), ServeError>
     requires ready { IsReady (point_of S.Store switch.old) }
     ensures serves { OnOk result (Reports (answering
@@ -153,14 +153,14 @@ fn serve<S: Alter, C: Clock, O: Write, E: Write>(
 }
 
 // Answers messages, one after the other.
-fn serve_messages<S: Alter, C: Clock, O: Write, E: Write>(
+fn serve_messages<S: Alter, C: Clock, O: Write, E: Write, K: Clock>(
     rt: &C,
     alloc: Global,
     switch: &mut Switch<S>,
     count: &mut u64,
     list: &[Vec<u8>],
     out: &mut O,
-    stderr: &mut StandardError<'_, E>,
+    stderr: &mut StandardError<'_, E, K>,
 ) -> Result<(), ServeError>
     requires ready { IsReady (point_of S.Store switch.old) }
     ensures serves { OnOk result (Reports (answering (requests (messages list.now)))
@@ -257,7 +257,7 @@ impl Requests {
 
     // Writes the lines of the trace, reads once, and answers the messages that this completes. Returns how the
     // stream ended, if it did.
-    fn serve_read<S: Alter, C: Clock, R: Read, O: Write, E: Write>(
+    fn serve_read<S: Alter, C: Clock, R: Read, O: Write, E: Write, K: Clock>(
         &mut self,
         rt: &C,
         alloc: Global,
@@ -265,7 +265,7 @@ impl Requests {
         input: &mut R,
         buf: &mut [u8],
         out: &mut O,
-        stderr: &mut StandardError<'_, E>,
+        stderr: &mut StandardError<'_, E, K>,
     ) -> Result<Option<StreamEnd>, ServeError>
         requires ready { IsReady (point_of S.Store switch.old) }
         requires room { 0 < length buf.old }
@@ -290,7 +290,7 @@ impl Requests {
     }
 
     /// Answers all messages of an input, as they come, and sends stored advices between two reads.
-    pub(crate) fn serve_all<S: Alter, C: Clock, L: Link, R: Read, O: Write, E: Write>(
+    pub(crate) fn serve_all<S: Alter, C: Clock, L: Link, R: Read, O: Write, E: Write, K: Clock>(
         &mut self,
         rt: &C,
         alloc: Global,
@@ -298,7 +298,7 @@ impl Requests {
         advisor: &mut Advisor<L>,
         input: &mut R,
         out: &mut O,
-        stderr: &mut StandardError<'_, E>,
+        stderr: &mut StandardError<'_, E, K>,
     ) -> Result<StreamEnd, ServeError>
         requires ready { IsReady (point_of S.Store switch.old) }
         requires fresh { self.old.framer ≡ blank }

@@ -1,7 +1,6 @@
 //! The plant of the switch, one transaction after the other.
 
-ghost use Rattle.std.specs.Prelude.{◌≡◌, ◌≤◌, ◌∷◌, List, ℕ, [], Option, None, IfOk, OnErr, OnOk};
-ghost use Rattle.std.specs.Prelude.{is_some, true};
+ghost use Rattle.std.specs.Prelude.{◌≡◌, ◌≤◌, ◌∷◌, List, ℕ, [], Option, IfOk, OnErr, OnOk, true};
 ghost use Rattle.std.specs.Io.KnownBytes.{Appends};
 ghost use Rattle.sw_context.specs.Pairs.{Pairs};
 ghost use Rattle.sw_frame.specs.Stream.{AreFramed};
@@ -12,18 +11,19 @@ ghost use Rattle.cli_run.specs.Points.{responses, unanswered};
 ghost use Rattle.cli_run.specs.Rounds.{Completed, Does, IsDone, Lone, Together, Transacts};
 ghost use Rattle.cli_run.specs.Rounds.{answering};
 ghost use Rattle.cli_run.specs.Stopped.{GivesSome, Halts};
-ghost use Rattle.cli_run.specs.Traces.{Cuts, IsLive, Reports, log_of};
+ghost use Rattle.cli_run.specs.Traces.{Cuts, IsLive, IsOver, Reports, log_of};
 
 use crate::error::ServeError;
 use crate::given::{count_above, last_above, text_above};
 use crate::progress::Progress;
-use crate::standard_error::{Form, StandardError};
+use crate::standard_error::StandardError;
 use cli_io::write_out;
 use sqlite::Alter;
 use std::alloc::Global;
 use std::io::Write;
 use std::sync::Wait;
 use std::thread::Threads;
+use std::time::Clock;
 use sw_context::Context;
 use tx_engine::Engine;
 use tx_intake::Listed;
@@ -34,13 +34,13 @@ use tx_pool::{Open, Pool};
 /// a long run small, but only a bound: half of what a history may have.
 const MANY_ENTRIES: usize = 8_192;
 
-// From how many entries on a history is cut between two transactions. With the trace it is cut each time, so that
-// all lines of a transaction are written, each once, before the next one is offered.
-fn entries_kept(trace: Option<Form>) -> usize
+// From how many entries on a history is cut between two transactions. With the trace or the log it is cut each time,
+// so that all lines of a transaction are written, each once, before the next one is offered.
+fn entries_kept(live: bool) -> usize
     ensures bound { result ≤ 524288 }
-    ensures live { is_some trace ≡ true → result ≡ 1 }
+    ensures live { live ≡ true → result ≡ 1 }
 {
-    if trace.is_some() { 1 } else { MANY_ENTRIES }
+    if live { 1 } else { MANY_ENTRIES }
 }
 
 /// The most requests of a batch, and the capacity of its intake.
@@ -175,10 +175,10 @@ impl<S: Alter> Switch<S> {
 
     // Cuts a history between two transactions, if it is long or its lines are wanted; these are written first.
     // With the trace, no line is then left to write.
-    fn cut_between<E: Write>(
+    fn cut_between<E: Write, K: Clock>(
         &mut self,
         alloc: Global,
-        stderr: &mut StandardError<'_, E>,
+        stderr: &mut StandardError<'_, E, K>,
     ) -> Result<(), ServeError>
         requires rest { IsAtRest (point_of S.Store self.old) }
         ensures cuts { OnOk result (Cuts
@@ -187,10 +187,10 @@ impl<S: Alter> Switch<S> {
         ensures rest { OnOk result (IsAtRest (point_of S.Store self.new)) }
         ensures queue { OnOk result (waits self.new.plant.running.engine
             ≡ waits self.old.plant.running.engine) }
-        ensures live { OnOk result (IsLive stderr.old.trace self.new.plant.running.engine) }
-        ensures once { OnErr result (stderr.new.trace ≡ None) }
+        ensures live { OnOk result (IsLive (log_of E.contents stderr.old) self.new.plant.running.engine) }
+        ensures once { OnErr result (IsOver (log_of E.contents stderr.new)) }
     {
-        let entries = entries_kept(stderr.trace);
+        let entries = entries_kept(stderr.is_live());
         if self.engine().history().len() < entries {
             return Ok(());
         }
@@ -199,7 +199,7 @@ impl<S: Alter> Switch<S> {
             Ok(_) => Ok(()),
             Err(error) => {
                 // Its lines are written, and none of them is written again when the run ends.
-                stderr.trace = None;
+                stderr.finish();
                 Err(error)
             }
         }
@@ -207,10 +207,10 @@ impl<S: Alter> Switch<S> {
 
     /// Cuts a history that is long or whose lines are wanted; these are written first. So the lines of the trace
     /// are written before the run waits for input.
-    pub(crate) fn cut_traced<E: Write>(
+    pub(crate) fn cut_traced<E: Write, K: Clock>(
         &mut self,
         alloc: Global,
-        stderr: &mut StandardError<'_, E>,
+        stderr: &mut StandardError<'_, E, K>,
     ) -> Result<(), ServeError>
         requires rest { IsAtRest (point_of S.Store self.old) }
         requires empty { waits self.old.plant.running.engine ≡ [] }
@@ -218,17 +218,17 @@ impl<S: Alter> Switch<S> {
             (point_of S.Store self.old) (log_of E.contents stderr.old)
             (point_of S.Store self.new) (log_of E.contents stderr.new)) }
         ensures ready { OnOk result (IsReady (point_of S.Store self.new)) }
-        ensures live { OnOk result (IsLive stderr.old.trace self.new.plant.running.engine) }
+        ensures live { OnOk result (IsLive (log_of E.contents stderr.old) self.new.plant.running.engine) }
     {
         self.cut_between(alloc, stderr)
     }
 
     /// Runs the transaction of the queue's first context to its end, and writes its response; then the lines of
     /// the trace so far, if it is wanted.
-    pub(crate) fn answer_next<O: Write, E: Write>(
+    pub(crate) fn answer_next<O: Write, E: Write, K: Clock>(
         &mut self,
         alloc: Global,
-        stderr: &mut StandardError<'_, E>,
+        stderr: &mut StandardError<'_, E, K>,
         out: &mut O,
     ) -> Result<(), ServeError>
         requires rest { IsAtRest (point_of S.Store self.old) }
@@ -238,8 +238,9 @@ impl<S: Alter> Switch<S> {
         ensures halts { OnErr result (Halts (Completed ∷ [])
             (point_of S.Store self.old) (O.contents out.old) (O.contents out.new)) }
         ensures rest { OnOk result (IsAtRest (point_of S.Store self.new)) }
-        ensures live { OnOk result (IsLive stderr.old.trace self.new.plant.running.engine) }
+        ensures live { OnOk result (IsLive (log_of E.contents stderr.old) self.new.plant.running.engine) }
     {
+        stderr.begin();
         self.serve_next(alloc)?;
         self.give(alloc, out)?;
         self.cut_between(alloc, stderr)
@@ -247,11 +248,11 @@ impl<S: Alter> Switch<S> {
 
     /// Runs the transaction of a request to its end, and writes its response; then the lines of the trace so far,
     /// if it is wanted.
-    pub(crate) fn answer<O: Write, E: Write>(
+    pub(crate) fn answer<O: Write, E: Write, K: Clock>(
         &mut self,
         alloc: Global,
         request: Context,
-        stderr: &mut StandardError<'_, E>,
+        stderr: &mut StandardError<'_, E, K>,
         out: &mut O,
     ) -> Result<(), ServeError>
         requires ready { IsReady (point_of S.Store self.old) }
@@ -261,7 +262,7 @@ impl<S: Alter> Switch<S> {
         ensures halts { OnErr result (Halts (answering (request ∷ []))
             (point_of S.Store self.old) (O.contents out.old) (O.contents out.new)) }
         ensures ready { OnOk result (IsReady (point_of S.Store self.new)) }
-        ensures live { OnOk result (IsLive stderr.old.trace self.new.plant.running.engine) }
+        ensures live { OnOk result (IsLive (log_of E.contents stderr.old) self.new.plant.running.engine) }
     {
         self.act(alloc, Turn::Offer(request))?;
         self.answer_next(alloc, stderr, out)

@@ -1,2 +1,2 @@
 mod Hosts
-mod LinesOfHosts
+mod HostNames

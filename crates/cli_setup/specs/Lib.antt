@@ -1,4 +1,4 @@
 pub mod Errors
-pub mod HostLines
 pub mod Links
 pub mod Plans
+pub mod Words

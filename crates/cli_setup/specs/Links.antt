@@ -3,6 +3,7 @@ use Rattle.std.specs.Prelude.{◌≡◌, ℕ, List, [], ◌∷◌, ◌++◌, map
 use Rattle.sw_issuers.specs.Issuing.{shown_issuer}
 use Rattle.sw_issuers.specs.Sending.{LinkStates, link_states}
 use Rattle.sw_hosts.specs.Issuers.{host_state, state_of}
+use Rattle.sw_parts.specs.Queries.{shown_query}
 use Rattle.cli_config.specs.declared.config.Host.{Host}
 use Rattle.cli_config.specs.declared.config.Wire.{Wire}
 use Rattle.cli_config.specs.declared.config.Wire.TheVariants as wire
@@ -31,15 +32,20 @@ side_state (Reached host) = host_state
 abbrev pub host_link : Host → List ℕ × List ℕ
 host_link h = (h.name, wire_state h.wire)
 
-abbrev pub named_state : {C : Type 0} → NamedLink (IssuerLink C) → List ℕ × List ℕ
-named_state l = (l.name, shown_link l.link)
+-- a host's name, and what contracts see of the query that asks it
+abbrev pub host_query : Host → List ℕ × List ℕ
+host_query h = (h.name, shown_query h.has_stand_in (wire_state h.wire))
 
--- both lists have these links
-pub record AreLinksOf (ls : LinkStates) (links : Links) : Type 0 where
-  pub queried : map named_state links.queried.items ≡ ls
+-- the same of the link that the query asks over
+abbrev pub named_state : {C : Type 0} → NamedLink (IssuerLink C) → List ℕ × List ℕ
+named_state l = (l.name, shown_query l.has_stand_in (shown_link l.link))
+
+-- the two lists have these queries and these links
+pub record AreLinksOf (qs ls : LinkStates) (links : Links) : Type 0 where
+  pub queried : map named_state links.queried.items ≡ qs
   pub advised : link_states shown_link links.advised.items ≡ ls
 
--- a link is added to both lists
-pub record AddsLink (l : List ℕ × List ℕ) (before after : Links) : Type 0 where
-  pub queried : map named_state after.queried.items ≡ map named_state before.queried.items ++ l ∷ []
+-- a link is added to each list
+pub record AddsLink (q l : List ℕ × List ℕ) (before after : Links) : Type 0 where
+  pub queried : map named_state after.queried.items ≡ map named_state before.queried.items ++ q ∷ []
   pub advised : link_states shown_link after.advised.items ≡ link_states shown_link before.advised.items ++ l ∷ []

@@ -1,6 +1,7 @@
 -- What a run is set up with: the options of the command line come first, then the configuration, then the program's own values.
-use Rattle.std.specs.Prelude.{◌≡◌, ◌<◌, ◌≤◌, ⊤, ℕ, Bool, false, ◌||◌, List, [], ◌∷◌, map, Option, None, unwrap_or, codes}
+use Rattle.std.specs.Prelude.{◌≡◌, ◌<◌, ◌≤◌, ⊤, ℕ, Bool, true, false, ◌||◌, List, [], ◌∷◌, map, Option, None, is_some, unwrap_or, codes}
 use Rattle.std.specs.Option.{option_map_or, option_or}
+use Rattle.sw_parts.specs.Queries.{shown_query}
 use Rattle.sw_parts.specs.declared.route.Routing.{Routing}
 use Rattle.sw_issuers.specs.Sending.{LinkStates, link_states}
 use Rattle.cli_config.specs.declared.config.Config.{Config}
@@ -15,7 +16,7 @@ use Rattle.cli_run.specs.Links.{switch_routes}
 use Rattle.cli_run.specs.declared.setup.Setup.{Setup}
 use Rattle.cli_setup.specs.declared.error.SetupError.{SetupError}
 use Rattle.cli_setup.specs.declared.error.SetupError.TheVariants.{BadLimit, OutOfMemory}
-use Rattle.cli_setup.specs.Links.{host_link, named_state, shown_link, wire_state}
+use Rattle.cli_setup.specs.Links.{host_link, host_query, named_state, shown_link, wire_state}
 
 -- a configuration that states nothing
 abbrev pub no_config : Config
@@ -23,7 +24,7 @@ no_config = record {
   hosts = None;
   routes = None;
   limits = record { per_card = None; stand_in = None };
-  run = record { advices = None; sessions = None; journal = None; threads = None };
+  run = record { advices = None; allow = None; sessions = None; journal = None; log = None; threads = None };
 }
 
 -- what a card may spend, 10,000 minor units where nothing states it
@@ -55,6 +56,10 @@ threads_of o c = o.threads || unwrap_or c.run.threads false
 abbrev pub journal_of : RunOptions → Config → Option (List ℕ)
 journal_of o c = option_or (text_of o.journal) c.run.journal
 
+-- the path of the log, if it is wanted
+abbrev pub log_path_of : RunOptions → Config → Option (List ℕ)
+log_path_of o c = option_or (text_of o.log) c.run.log
+
 abbrev pub routing_of : Route → Routing
 routing_of r = record { prefix = r.prefix; group = r.group }
 
@@ -70,7 +75,15 @@ own_links = (codes "alpha", wire_state Simulated) ∷ (codes "beta", wire_state 
 abbrev pub links_of : Config → LinkStates
 links_of c = option_map_or (map host_link) c.hosts own_links
 
--- what contracts see of what a run is set up with: of each link its host's name and its state
+-- the same for the queries: the switch stands in for its own hosts, and for the configuration's as it says
+abbrev pub own_queries : LinkStates
+own_queries =
+    (codes "alpha", shown_query true (wire_state Simulated)) ∷ (codes "beta", shown_query true (wire_state Simulated)) ∷ []
+
+abbrev pub queries_of : Config → LinkStates
+queries_of c = option_map_or (map host_query) c.hosts own_queries
+
+-- what contracts see of what a run is set up with: of each query and link its host's name and its state
 pub record PlainSetup : Type 0 where
   pub book : PlainBook
   pub stand_in : ℕ
@@ -80,6 +93,8 @@ pub record PlainSetup : Type 0 where
   pub advices : ℕ
   pub sessions : ℕ
   pub threads : Bool
+  -- whether it is noted how long an issuer took
+  pub timed : Bool
 
 abbrev pub plain_setup : {C : Type 0} → Setup (IssuerLink C) → PlainSetup
 plain_setup s = record {
@@ -91,6 +106,7 @@ plain_setup s = record {
   advices = s.advices;
   sessions = s.sessions;
   threads = s.threads;
+  timed = is_some s.timed;
 }
 
 -- By options and a configuration: a new book, which may have its limit and has nothing in it; the routes; for each host a link
@@ -101,20 +117,21 @@ setup_of o c = record {
   book = record { limit = limit_of o c; items = [] };
   stand_in = stand_in_of c;
   routes = routes_of c;
-  queried = links_of c;
+  queried = queries_of c;
   advised = links_of c;
   advices = advices_of c;
   sessions = sessions_of o c;
   threads = threads_of o c;
+  timed = is_some (log_path_of o c);
 }
 
 -- a host's name, with a link that nothing is sent on
 abbrev pub unasked : Host → List ℕ × List ℕ
-unasked h = (h.name, wire_state Simulated)
+unasked h = (h.name, shown_query h.has_stand_in (wire_state Simulated))
 
 -- each host under its name, with a new link to a simulated issuer
 abbrev pub unasked_of : Config → LinkStates
-unasked_of c = option_map_or (map unasked) c.hosts own_links
+unasked_of c = option_map_or (map unasked) c.hosts own_queries
 
 -- a recovery: the same participants, which are asked nothing, and one session
 abbrev pub recovery_of : Config → PlainSetup
@@ -127,6 +144,7 @@ recovery_of c = record {
   advices = 0;
   sessions = 1;
   threads = false;
+  timed = false;
 }
 
 -- a run is set up so, which it is only with a limit that a book may have

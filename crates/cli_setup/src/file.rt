@@ -25,8 +25,10 @@ fn no_config() -> Config
         },
         run: RunTable {
             advices: None,
+            allow: None,
             sessions: None,
             journal: None,
+            log: None,
             threads: None,
         },
     }

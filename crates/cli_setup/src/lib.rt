@@ -7,17 +7,19 @@
 //!   own, which open nothing before the first message is sent.
 //! - [`recovery`] makes what a recovery needs: the same participants, over links that nothing is sent on.
 //! - [`simulated`] is what `step --switch` has: the switch's own limits and routes.
-//! - [`HostLines`] writes a line for each host that is reached by streams, with its counts.
+//! - [`routes`] are those of a run.
+//! - [`words_of`] is what a run reports in words: what it is ready with, and its hosts that are reached by streams.
 //! - [`journal_path`] is the path of the journal, if it is in a file.
 #![tactic(auto)]
 
 mod error;
 mod file;
-mod host_lines;
 mod links;
 mod plan;
+mod words;
 
 pub use error::{ConfigFileError, SetupError};
 pub use file::config_at;
-pub use host_lines::HostLines;
-pub use plan::{journal_path, recovery, setup, simulated};
+pub use links::routes;
+pub use plan::{journal_path, log_path, recovery, setup, simulated};
+pub use words::words_of;

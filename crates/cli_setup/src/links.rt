@@ -1,11 +1,14 @@
 //! The routes of a run, and the links to its hosts.
 
-ghost use Rattle.std.specs.Prelude.{◌≡◌, ◌*◌, [], map, IfOk, OnOk};
+ghost use Rattle.std.specs.Prelude.{◌≡◌, ◌*◌, [], map, true, IfOk, OnOk};
 ghost use Rattle.std.specs.Duration.{as_nanos};
 ghost use Rattle.cli_config.specs.declared.config.Wire.TheVariants.{Simulated};
-ghost use Rattle.cli_setup.specs.Links.{AddsLink, AreLinksOf, host_link, named_state, shown_link};
+ghost use Rattle.cli_setup.specs.Links.{AddsLink, AreLinksOf, host_link, host_query, named_state};
+ghost use Rattle.cli_setup.specs.Links.{shown_link};
+ghost use Rattle.sw_parts.specs.Queries.{shown_query};
 ghost use Rattle.cli_setup.specs.Links.{side_state, wire_state};
-ghost use Rattle.cli_setup.specs.Plans.{links_of, own_links, routes_of, routing_of, unasked, unasked_of};
+ghost use Rattle.cli_setup.specs.Plans.{links_of, own_links, own_queries, queries_of, routes_of};
+ghost use Rattle.cli_setup.specs.Plans.{routing_of, unasked, unasked_of};
 
 use cli_config::{Config, Host, Route, Wire, WireTimes};
 use cli_run::{NamedLink, SwitchLink, default_routes};
@@ -28,7 +31,7 @@ fn routing(route: &Route) -> Result<Routing, AllocError>
 }
 
 /// The routes of the configuration, or the switch's own.
-pub(crate) fn routes(alloc: Global, config: &Config) -> Result<Sequence<Routing>, AllocError>
+pub fn routes(alloc: Global, config: &Config) -> Result<Sequence<Routing>, AllocError>
     ensures { IfOk result (λ routes. routes ≡ routes_of config.now) }
 {
     let Some(stated) = &config.routes else {
@@ -114,7 +117,7 @@ pub(crate) struct Links {
 
 impl Links {
     fn new(alloc: Global) -> Links
-        ensures { AreLinksOf [] result }
+        ensures { AreLinksOf [] [] result }
     {
         Links {
             queried: Vec::new(alloc),
@@ -131,11 +134,13 @@ impl Links {
         side: &Side,
     ) -> Result<(), AllocError>
         requires { side_state side.now ≡ wire_state host.now.wire }
-        ensures { OnOk result (AddsLink (host_link host.now) self.old self.new) }
+        ensures { OnOk result
+            (AddsLink (host_query host.now) (host_link host.now) self.old self.new) }
     {
         self.queried.push(NamedLink {
             name: host.name.copy()?,
             link: side.link(alloc, rt)?,
+            has_stand_in: host.has_stand_in,
         })?;
         self.advised.push(GroupLink {
             group: host.name.copy()?,
@@ -146,11 +151,13 @@ impl Links {
 
     // Adds the links to a simulated issuer.
     fn add_simulated(&mut self, alloc: Global, name: &str) -> Result<(), AllocError>
-        ensures { OnOk result (AddsLink (name.now, wire_state Simulated) self.old self.new) }
+        ensures { OnOk result (AddsLink (name.now, shown_query true (wire_state Simulated))
+            (name.now, wire_state Simulated) self.old self.new) }
     {
         self.queried.push(NamedLink {
             name: Text::from_str(alloc, name)?,
             link: simulated(alloc),
+            has_stand_in: true,
         })?;
         self.advised.push(GroupLink {
             group: Text::from_str(alloc, name)?,
@@ -168,7 +175,7 @@ fn simulated(alloc: Global) -> SwitchLink
 
 // The links of the switch's own hosts.
 fn own_links(alloc: Global) -> Result<Links, AllocError>
-    ensures { IfOk result (AreLinksOf own_links) }
+    ensures { IfOk result (AreLinksOf own_queries own_links) }
 {
     let mut links = Links::new(alloc);
     links.add_simulated(alloc, "alpha")?;
@@ -183,7 +190,7 @@ pub(crate) fn links_to_hosts<T: Threads + Wait + Clock + Clone + Drop + Send + '
     rt: &HostRuntime,
     config: &Config,
 ) -> Result<Links, AllocError>
-    ensures { IfOk result (AreLinksOf (links_of config.now)) }
+    ensures { IfOk result (AreLinksOf (queries_of config.now) (links_of config.now)) }
 {
     let Some(hosts) = &config.hosts else {
         return own_links(alloc);
@@ -220,5 +227,6 @@ fn unasked_link(alloc: Global, host: &Host) -> Result<NamedLink<SwitchLink>, All
     Ok(NamedLink {
         name: host.name.copy()?,
         link: simulated(alloc),
+        has_stand_in: host.has_stand_in,
     })
 }

@@ -1,8 +1,8 @@
 //! What a run is set up with.
 
-ghost use Rattle.std.specs.Prelude.{◌≡◌, ◌<◌, ◌≤◌, [], Err, IfErr, IfOk, OnOk};
+ghost use Rattle.std.specs.Prelude.{◌≡◌, ◌<◌, ◌≤◌, [], Err, IfErr, IfOk, OnOk, is_some};
 ghost use Rattle.cli_run.specs.Links.{switch_routes};
-ghost use Rattle.cli_setup.specs.Plans.{IsLimitFault, IsSetUp, advices_of, journal_of, limit_of};
+ghost use Rattle.cli_setup.specs.Plans.{IsLimitFault, IsSetUp, advices_of, journal_of, log_path_of, limit_of};
 ghost use Rattle.cli_setup.specs.Plans.{plain_setup, recovery_of, sessions_of, stand_in_of, threads_of};
 ghost use Rattle.cli_setup.specs.declared.error.SetupError.TheVariants.{BadLimit, OutOfMemory};
 
@@ -40,6 +40,36 @@ pub fn journal_path(
         Some(path) => Ok(Some(path.copy()?)),
         None => Ok(None),
     }
+}
+
+/// The path of the log, if it is wanted; `-` is standard error. Out of memory is the only refusal.
+pub fn log_path(
+    alloc: Global,
+    options: &RunOptions<'_>,
+    config: &Config,
+) -> Result<Option<Text>, AllocError>
+    ensures { IfOk result (λ path. path ≡ log_path_of options.now config.now) }
+{
+    if let Some(path) = options.log {
+        return Ok(Some(Text::from_str(alloc, path)?));
+    }
+    match &config.run.log {
+        Some(path) => Ok(Some(path.copy()?)),
+        None => Ok(None),
+    }
+}
+
+fn is_logged(options: &RunOptions<'_>, config: &Config) -> bool
+    ensures { result ≡ is_some (log_path_of options.now config.now) }
+{
+    options.log.is_some() || config.run.log.is_some()
+}
+
+// The clock of a run that has a log.
+fn clock(rt: &HostRuntime, options: &RunOptions<'_>, config: &Config) -> Option<HostRuntime>
+    ensures { is_some result ≡ is_some (log_path_of options.now config.now) }
+{
+    if is_logged(options, config) { Some(*rt) } else { None }
 }
 
 fn limit(options: &RunOptions<'_>, config: &Config) -> u64
@@ -113,6 +143,7 @@ pub fn setup<T: Threads + Wait + Clock + Clone + Drop + Send + 'static>(
         advices: advices(config) as usize,
         sessions: sessions(options, config) as usize,
         threads: threads(options, config),
+        timed: clock(rt, options, config),
     })
 }
 
@@ -146,5 +177,6 @@ pub fn recovery(alloc: Global, config: &Config) -> Result<Setup<SwitchLink>, Set
         advices: 0,
         sessions: 1,
         threads: false,
+        timed: None,
     })
 }

@@ -10,6 +10,7 @@ pub mod Looks
 pub mod Moments
 pub mod Outgoings
 pub mod Pauses
+pub mod States
 pub mod Times
 pub mod Wanted
 pub mod Watches

@@ -7,11 +7,12 @@ ghost use Rattle.sw_hosts.specs.Looks.{answer_in};
 
 use crate::direction::DirectionState;
 use crate::frame::Frame;
-use crate::host_counts::HostCounts;
+use crate::host_report::HostReport;
 use crate::look::{Look, is_closed};
 use crate::moment::{Moment, Naps};
 use crate::outgoing::Awaited;
 use crate::shared::Shared;
+use crate::state::HostSign;
 use crate::way::Way;
 use std::alloc::AllocError;
 use std::sync::{Arc, Mutex, MutexGuard};
@@ -63,11 +64,11 @@ impl<C: Clock + Drop> HostWay<C> {
         HostWay { clock, shared }
     }
 
-    /// The counts of the host.
-    pub fn host_counts(&self) -> Result<HostCounts, AllocError>
-        ensures { IfOk result (λ c. arc_value c.shared ≡ arc_value self.now.shared) }
+    /// What is reported of the host.
+    pub fn host_report(&self) -> Result<HostReport, AllocError>
+        ensures { IfOk result (λ r. arc_value r.shared ≡ arc_value self.now.shared) }
     {
-        Ok(HostCounts::new(Arc::try_clone(&self.shared)?))
+        Ok(HostReport::new(Arc::try_clone(&self.shared)?))
     }
 
     // Drops what is still in the inbox: nobody waits for it any more.
@@ -101,6 +102,7 @@ impl<C: Clock + Drop> HostWay<C> {
     fn hand_over(&self, frame: Frame) -> bool {
         let (to, from) = (self.shared.to.state(), self.shared.from.state());
         if to != DirectionState::Open || from == DirectionState::Closed {
+            self.shared.state.note(HostSign::Unsent);
             return false;
         }
         let Some(mut outbox) = locked(&self.clock, &self.shared.outbox) else {

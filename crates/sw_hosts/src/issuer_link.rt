@@ -3,7 +3,7 @@
 ghost use Rattle.std.specs.Prelude.{◌≡◌, is_some, IfOk};
 ghost use Rattle.sw_hosts.specs.Issuers.{has_host, state_of, SendsBy, ReceivesBy};
 
-use crate::host_counts::HostCounts;
+use crate::host_report::HostReport;
 use crate::link::HostLink;
 use std::alloc::AllocError;
 use std::time::Clock;
@@ -31,13 +31,13 @@ impl<C: Clock + Drop> Drop for IssuerLink<C> {
 }
 
 impl<C: Clock + Drop> IssuerLink<C> {
-    /// The counts of the issuer's host; `None` if the issuer is simulated.
-    pub fn host_counts(&self) -> Result<Option<HostCounts>, AllocError>
-        ensures { IfOk result (λ counts. is_some counts ≡ has_host self.now) }
+    /// What is reported of the issuer's host; `None` if the issuer is simulated.
+    pub fn host_report(&self) -> Result<Option<HostReport>, AllocError>
+        ensures { IfOk result (λ report. is_some report ≡ has_host self.now) }
     {
         match self {
             IssuerLink::Simulated(_) => Ok(None),
-            IssuerLink::Host(link) => Ok(Some(link.host_counts()?)),
+            IssuerLink::Host(link) => Ok(Some(link.host_report()?)),
         }
     }
 }

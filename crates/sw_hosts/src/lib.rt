@@ -7,7 +7,7 @@ mod direction;
 mod echo;
 mod frame;
 mod host;
-mod host_counts;
+mod host_report;
 mod host_way;
 mod inbox;
 mod issuer_link;
@@ -22,6 +22,8 @@ mod received;
 mod shared;
 mod shared_moment;
 mod shared_pause;
+mod shared_state;
+mod state;
 #[cfg(test)]
 mod tests;
 mod threads;
@@ -32,8 +34,9 @@ mod way;
 
 pub use counts::Counts;
 pub use host::Host;
-pub use host_counts::HostCounts;
+pub use host_report::HostReport;
 pub use issuer_link::IssuerLink;
 pub use link::HostLink;
 pub use opener::{OpenReader, OpenWriter, ReadPath, WritePath};
+pub use state::HostState;
 pub use times::HostTimes;

@@ -4,7 +4,7 @@ ghost use Rattle.std.specs.Prelude.{◌≡◌, [], IfOk, IfSome, OnOk, OnErr};
 ghost use Rattle.std.specs.Arc.{arc_value};
 ghost use Rattle.sw_hosts.specs.Ways.{AnswersTo, KeyedFor};
 
-use crate::host_counts::HostCounts;
+use crate::host_report::HostReport;
 use crate::host_way::HostWay;
 use crate::outgoing::Awaited;
 use crate::way::{receive_over, send_over};
@@ -55,11 +55,11 @@ impl<C: Clock + Drop> HostLink<C> {
         }
     }
 
-    /// The counts of the host.
-    pub fn host_counts(&self) -> Result<HostCounts, AllocError>
-        ensures { IfOk result (λ c. arc_value c.shared ≡ arc_value self.now.way.shared) }
+    /// What is reported of the host.
+    pub fn host_report(&self) -> Result<HostReport, AllocError>
+        ensures { IfOk result (λ r. arc_value r.shared ≡ arc_value self.now.way.shared) }
     {
-        self.way.host_counts()
+        self.way.host_report()
     }
 
     // Sends a message, and notes what is waited for from now on.

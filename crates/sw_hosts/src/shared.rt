@@ -13,6 +13,8 @@ use crate::moment::Moment;
 use crate::outbox::Outbox;
 use crate::pause::{PauseChange, is_paused, pause_by, pause_by_tests, tested_from};
 use crate::shared_pause::SharedPause;
+use crate::shared_state::SharedState;
+use crate::state::HostSign;
 use crate::times::HostTimes;
 use std::alloc::{AllocError, Global};
 use std::sync::atomic::{AtomicU64, Ordering};
@@ -29,6 +31,8 @@ pub struct Shared {
     pub inbox: Mutex<Inbox>,
     pub outbox: Mutex<Outbox>,
     pub counters: Counters,
+    /// What was last seen of the host.
+    pub state: SharedState,
     pause: SharedPause,
     /// How often something was read from the host.
     heard: AtomicU64,
@@ -44,6 +48,7 @@ impl Drop for Shared {
             inbox: _,
             outbox: _,
             counters: _,
+            state: _,
             pause: _,
             heard: _,
         } = self;
@@ -62,6 +67,7 @@ impl Shared {
             inbox: Mutex::new(Inbox::new(alloc)?),
             outbox: Mutex::new(Outbox::new(alloc)?),
             counters: Counters::new(),
+            state: SharedState::new(),
             pause: SharedPause::new(),
             heard: AtomicU64::new(0),
         })
@@ -91,6 +97,9 @@ impl Shared {
 
     /// Notes what a look for an answer showed.
     pub fn note(&self, look: &Look, now: Moment) {
+        if let Some(sign) = HostSign::of_look(look) {
+            self.state.note(sign);
+        }
         self.change_pause(pause_by(look, now, self.heard(), self.times.retry));
     }
 
@@ -98,6 +107,7 @@ impl Shared {
     /// `heard` times.
     pub fn give_up(&self, tests: u64, now: Moment, heard: u64) {
         self.counters.add_unanswered(tests);
+        self.state.note(HostSign::Late);
         self.change_pause(pause_by_tests(now, heard, &self.times));
         self.to.put_off(now);
     }
@@ -111,6 +121,7 @@ impl Shared {
     /// Notes that something was read from the host.
     pub fn hear(&self) {
         self.heard.fetch_add(1, Ordering::SeqCst);
+        self.state.note(HostSign::Read);
     }
 
     /// How often something was read from the host.

@@ -2,6 +2,7 @@
 
 mod hearing;
 mod reaching;
+mod reporting;
 mod stations;
 mod watching;
 mod wires;

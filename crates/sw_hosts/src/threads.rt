@@ -8,6 +8,7 @@ use crate::echo::echo_frame;
 use crate::moment::Moment;
 use crate::opener::{OpenReader, OpenWriter};
 use crate::shared::Shared;
+use crate::state::HostSign;
 use crate::watch::{Duty, Watch};
 use std::alloc::Global;
 use std::io::{self, ErrorKind, Read, Write};
@@ -35,10 +36,13 @@ impl<R: Wait + Clock> HostThread<'_, R> {
         let mut watch = Watch::new();
         for _ in self.rt.forever() {
             self.await_opening();
-            if let Ok(writer) = opener.open() {
-                watch.opened(Moment::now(self.rt));
-                self.shared.to.set(DirectionState::Open);
-                self.write_frames(&mut watch, writer);
+            match opener.open() {
+                Ok(writer) => {
+                    watch.opened(Moment::now(self.rt));
+                    self.shared.to.set(DirectionState::Open);
+                    self.write_frames(&mut watch, writer);
+                }
+                Err(error) => self.shared.state.note(HostSign::of_error(&error)),
             }
             self.shared.to.set(DirectionState::Closed);
             self.shared.drop_frames(self.rt);
@@ -108,7 +112,7 @@ impl<R: Wait + Clock> HostThread<'_, R> {
         let _ = shared.from.order(now);
         match echo_frame(self.alloc, seconds(self.rt), watch.next_stan()) {
             Ok(frame) => {
-                let is_written = write_whole(writer, &frame).is_ok();
+                let is_written = write_noted(shared, writer, &frame);
                 if is_written {
                     shared.counters.add_test();
                 }
@@ -132,17 +136,28 @@ fn seconds(clock: &impl Clock) -> u64 {
     }
 }
 
-// Writes a frame, and counts it as dropped if it was not written whole; whether it was.
-fn write_counted<W: Write>(shared: &Shared, writer: &mut W, bytes: &[u8]) -> bool
+// Writes a frame, and notes that the direction closes if it was not written whole; whether it was.
+fn write_noted<W: Write>(shared: &Shared, writer: &mut W, bytes: &[u8]) -> bool
     ensures { result ≡ true → Appends (W.contents writer.old) (W.contents writer.new) bytes.now }
 {
     match write_whole(writer, bytes) {
         Ok(()) => true,
         Err(_) => {
-            shared.counters.add_dropped(1);
+            shared.state.note(HostSign::Closed);
             false
         }
     }
+}
+
+// Writes a frame, and counts it as dropped if it was not written whole; whether it was.
+fn write_counted<W: Write>(shared: &Shared, writer: &mut W, bytes: &[u8]) -> bool
+    ensures { result ≡ true → Appends (W.contents writer.old) (W.contents writer.new) bytes.now }
+{
+    let is_written = write_noted(shared, writer, bytes);
+    if !is_written {
+        shared.counters.add_dropped(1);
+    }
+    is_written
 }
 
 fn write_whole<W: Write>(writer: &mut W, bytes: &[u8]) -> io::Result<()>
@@ -158,10 +173,15 @@ impl<R: Wait> HostThread<'_, R> {
         let mut opener = opener;
         for _ in self.rt.forever() {
             self.shared.from.await_order(self.rt);
-            if let Ok(reader) = opener.open() {
-                self.shared.from.set(DirectionState::Open);
-                self.read_messages(reader);
-            }
+            let sign = match opener.open() {
+                Ok(reader) => {
+                    self.shared.from.set(DirectionState::Open);
+                    self.read_messages(reader);
+                    HostSign::Closed
+                }
+                Err(error) => HostSign::of_error(&error),
+            };
+            self.shared.state.note(sign);
             self.shared.from.set(DirectionState::Closed);
         }
     }

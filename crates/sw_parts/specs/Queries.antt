@@ -1,6 +1,6 @@
 -- What is said of a link whose answers are not known: each send and each receive meets the link's
 -- own relation.
-use Rattle.std.specs.Prelude.{◌≡◌, ◌⊎◌, ℕ, zero, suc, Bool, false, List, [], Option, Some, None}
+use Rattle.std.specs.Prelude.{◌≡◌, ◌⊎◌, ℕ, zero, suc, Bool, true, false, List, [], ◌∷◌, Option, Some, None}
 use Rattle.std.specs.Prelude.{if◌then◌else◌, codes}
 use Rattle.std.specs.Str.{bytes_eq}
 use Rattle.iso_msg.specs.Messages.{PlainMessage, value_at}
@@ -9,7 +9,7 @@ use Rattle.sw_context.specs.Pairs.{Pairs, find, without}
 use Rattle.sw_mux.specs.Keys.{key}
 use Rattle.sw_messages.specs.declared.class.Class.{Class}
 use Rattle.sw_messages.specs.declared.class.Class.TheVariants.{Authorization}
-use Rattle.sw_messages.specs.declared.response_code.ResponseCode.TheVariants.{SystemMalfunction}
+use Rattle.sw_messages.specs.declared.response_code.ResponseCode.TheVariants.{IssuerInoperative, SystemMalfunction}
 use Rattle.sw_messages.specs.Requests.{request_in, ok_of, class_of, noted, coded, digits_of}
 use Rattle.sw_parts.specs.Quiet.{passes, refuses, leaves_notes}
 
@@ -82,13 +82,18 @@ asking x = noted (noted x (codes "sent") (codes "1")) (codes "late") (codes "1")
 abbrev pub approves : PlainMessage → Bool
 approves m = bytes_eq (or_code (value_at 39 m.fields)) (codes "00")
 
--- an approval leaves notes, and a refusal refuses; no answer leaves the request as it was sent,
--- and so does an answer that memory was refused to note
-abbrev pub Ends : Type 0 → Option PlainMessage → Pairs → ℕ → Pairs → Type 0
-Ends refused None x byte y = (byte ≡ leaves_notes) × (y ≡ x)
-Ends refused (Some m) x byte y =
+-- without an answer the request stays as it was sent, for a stand-in that decides; where none does,
+-- it is refused
+abbrev pub Unanswered : Bool → Pairs → ℕ → Pairs → Type 0
+Unanswered true x byte y = (byte ≡ leaves_notes) × (y ≡ x)
+Unanswered false x byte y = (byte ≡ refuses) × (y ≡ coded IssuerInoperative x)
+
+-- an approval leaves notes, and a refusal refuses; an answer that memory was refused to note is none
+abbrev pub Ends : Bool → Type 0 → Option PlainMessage → Pairs → ℕ → Pairs → Type 0
+Ends has_stand_in refused None x byte y = Unanswered has_stand_in x byte y
+Ends has_stand_in refused (Some m) x byte y =
     ((byte ≡ (if approves m then leaves_notes else refuses)) × (y ≡ answered m x))
-    ⊎ (refused × (byte ≡ leaves_notes) × (y ≡ x))
+    ⊎ (refused × Unanswered has_stand_in x byte y)
 
 abbrev pub bytes_in : Option (List ℕ) → List ℕ
 bytes_in None = []
@@ -99,14 +104,19 @@ bytes_in (Some bytes) = bytes
 abbrev pub LinkStep : Type 1
 LinkStep = List ℕ → Pairs → ℕ → List ℕ → Pairs → Type 0
 
--- over a link, and where memory may be refused to read and note what came
-module _ (sends : Sending) (receives : Receiving) (starves : Starving) (refused : Type 0) where
+-- what contracts see of a query: whether a stand-in decides where no answer comes, and its link
+abbrev pub shown_query : Bool → List ℕ → List ℕ
+shown_query true s = 1 ∷ s
+shown_query false s = 0 ∷ s
+
+-- over a link, and where memory may be refused to read and note what came; with a stand-in, or without
+module _ (sends : Sending) (receives : Receiving) (starves : Starving) (refused : Type 0) (has_stand_in : Bool) where
   -- An authorization with a key is sent once, and an answer with its key is waited for.
   abbrev pub Asks : List ℕ → List ℕ → LinkStep
   Asks bytes k s x byte t y =
       (u : List ℕ) × (r : Option PlainMessage)
       × sends s bytes u × Hears receives starves refused 8 k u r t
-      × Ends refused r (asking x) byte y
+      × Ends has_stand_in refused r (asking x) byte y
 
   abbrev pub AsksByKey : Option (List ℕ) → List ℕ → LinkStep
   AsksByKey None bytes s x byte t y =
@@ -126,3 +136,10 @@ module _ (sends : Sending) (receives : Receiving) (starves : Starving) (refused 
   abbrev pub Queries : LinkStep
   Queries s x byte t y =
       QueriesBy (request_in x) (bytes_in (find (codes "request") x)) s x byte t y
+
+-- the same by what contracts see of it, which tells whether it has a stand-in
+abbrev pub QueriesAs : Sending → Receiving → Starving → Type 0 → LinkStep
+QueriesAs sends receives starves refused o x byte p y =
+    (has_stand_in : Bool) × (s : List ℕ) × (t : List ℕ)
+    × (o ≡ shown_query has_stand_in s) × (p ≡ shown_query has_stand_in t)
+    × Queries sends receives starves refused has_stand_in s x byte t y

@@ -4,7 +4,7 @@ ghost use Rattle.std.specs.Prelude.{◌≡◌, [], ◌∷◌, MatchOption, IfOk,
 ghost use Rattle.iso_msg.specs.Messages.{value_at};
 ghost use Rattle.sw_context.specs.Pairs.{find};
 ghost use Rattle.sw_mux.specs.Waiting.{without};
-ghost use Rattle.sw_parts.specs.Queries.{Hears, Ends, Asks, Queries};
+ghost use Rattle.sw_parts.specs.Queries.{Hears, Ends, Asks, Queries, QueriesAs, Unanswered, shown_query};
 ghost use Rattle.sw_parts.specs.Queries.{answer_in, asking, answered, approves, or_code, bytes_in};
 ghost use Rattle.sw_parts.specs.Quiet.{PassesOver, SelectsNone};
 
@@ -113,23 +113,37 @@ fn approves(answer: &Message) -> bool
     code_of(answer) == b"00".as_slice()
 }
 
-/// The byte and the context after what was heard. The context comes twice: an answer is noted in
-/// one of them, and the other is kept in case memory is refused.
+/// The byte and the context of a request that gets no answer: it stays as it was sent, for a stand-in that decides. If
+/// there is none, it is refused.
+fn unanswered(asked: &Context, has_stand_in: bool) -> Result<(u8, Context), NoMemory>
+    ensures { IfOk result (λ r. Unanswered has_stand_in asked.now r.0 r.1) }
+{
+    let mut next = asked.copy()?;
+    if has_stand_in {
+        return Ok((LEAVES_NOTES, next));
+    }
+    note_code(&mut next, ResponseCode::IssuerInoperative)?;
+    Ok((REFUSES, next))
+}
+
+/// The byte and the context after what was heard. An answer is noted in one context. The other is that of a request that
+/// gets none, in case memory is refused.
 fn conclude<M: Memory>(
     memory: &M,
+    has_stand_in: bool,
     asked: Context,
-    noted: Context,
+    otherwise: (u8, Context),
     heard: Option<Message>,
 ) -> (u8, Context)
-    requires { noted ≡ asked }
-    ensures { Ends M.refused heard asked result.0 result.1 }
+    requires { Unanswered has_stand_in asked otherwise.0 otherwise.1 }
+    ensures { Ends has_stand_in M.refused heard asked result.0 result.1 }
 {
     let Some(answer) = heard else {
-        return (LEAVES_NOTES, asked);
+        return otherwise;
     };
-    let mut noted = noted;
+    let mut noted = asked;
     if answered(memory, &mut noted, &answer).is_err() {
-        return (LEAVES_NOTES, asked);
+        return otherwise;
     }
     if approves(&answer) {
         (LEAVES_NOTES, noted)
@@ -144,6 +158,7 @@ fn ask<M: Memory, L: Link>(
     memory: &M,
     mux: &mut Mux,
     link: &mut L,
+    has_stand_in: bool,
     key: Key,
     deadline: u64,
     bytes: &[u8],
@@ -151,17 +166,17 @@ fn ask<M: Memory, L: Link>(
 ) -> Result<u8, NoMemory>
     requires { mux.old ≡ (key, deadline) ∷ [] }
     ensures asked { IfOk result (λ byte.
-        Asks L.sends L.receives L.starves M.refused bytes.now key.bytes
+        Asks L.sends L.receives L.starves M.refused has_stand_in bytes.now key.bytes
         (L.state link.old) context.old byte (L.state link.new) context.new) }
     ensures waits { without key.bytes mux.new ≡ [] }
     ensures link_kept { OnErr result (L.state link.new ≡ L.state link.old) }
     ensures context_kept { OnErr result (context.new ≡ context.old) }
 {
     let asked = asking(context)?;
-    let noted = asked.copy()?;
+    let otherwise = unanswered(&asked, has_stand_in)?;
     link.send(bytes)?;
     let heard = hear(memory, mux, link, key, deadline);
-    let (byte, next) = conclude(memory, asked, noted, heard);
+    let (byte, next) = conclude(memory, has_stand_in, asked, otherwise, heard);
     *context = next;
     Ok(byte)
 }
@@ -173,11 +188,12 @@ fn query<M: Memory, L: Link>(
     id: u64,
     mux: &mut Mux,
     link: &mut L,
+    has_stand_in: bool,
     context: &mut Context,
 ) -> Result<u8, NoMemory>
     requires { mux.old ≡ [] }
     ensures queried { IfOk result (λ byte.
-        Queries L.sends L.receives L.starves M.refused
+        Queries L.sends L.receives L.starves M.refused has_stand_in
         (L.state link.old) context.old byte (L.state link.new) context.new) }
     ensures idle { mux.new ≡ [] }
     ensures link_kept { OnErr result (L.state link.new ≡ L.state link.old) }
@@ -192,7 +208,7 @@ fn query<M: Memory, L: Link>(
     let bytes = bytes_in(alloc, context)?;
     match mux.request(&request, id) {
         Ok(key) => {
-            let asked = ask(memory, mux, link, key, id, &bytes, context);
+            let asked = ask(memory, mux, link, has_stand_in, key, id, &bytes, context);
             mux.withdraw(&key);
             asked
         }
@@ -221,6 +237,7 @@ pub struct QueryIssuer<L: Link, M: Memory = Heap> {
     memory: M,
     mux: Mux,
     link: L,
+    has_stand_in: bool,
     // between calls nothing waits
     ghost idle: { mux ≡ [] },
 }
@@ -233,29 +250,33 @@ impl<L: Link + Drop, M: Memory + Drop> Drop for QueryIssuer<L, M> {
             memory: _,
             mux: _,
             link: _,
+            has_stand_in: _,
         } = self;
     }
 }
 
 impl<L: Link> QueryIssuer<L, Heap> {
-    /// A participant that asks over this link.
-    pub fn new(alloc: Global, link: L) -> QueryIssuer<L, Heap>
-        ensures { ⟦<QueryIssuer<L, Heap> as Unjoined>⟧.object result ≡ L.state link }
+    /// A participant that asks over this link. If no stand-in decides about a request that gets no answer, it refuses it
+    /// with 91, issuer inoperative.
+    pub fn new(alloc: Global, link: L, has_stand_in: bool) -> QueryIssuer<L, Heap>
+        ensures { ⟦<QueryIssuer<L, Heap> as Unjoined>⟧.object result
+            ≡ shown_query has_stand_in (L.state link) }
     {
         QueryIssuer {
             alloc,
             memory: Heap::new(alloc),
             mux: Mux::new(alloc),
             link,
+            has_stand_in,
         }
     }
 }
 
 impl<L: Link, M: Memory> Unjoined for QueryIssuer<L, M> {
-    ghost object = { λ query. L.state query.link };
+    ghost object = { λ query. shown_query query.has_stand_in (L.state query.link) };
 
     ghost prepares = { λ id o x byte p y.
-        Queries L.sends L.receives L.starves M.refused o x byte p y };
+        QueriesAs L.sends L.receives L.starves M.refused o x byte p y };
 
     ghost prepares_for_abort = { λ id o x byte p y. PassesOver o x byte p y };
 
@@ -268,6 +289,7 @@ impl<L: Link, M: Memory> Unjoined for QueryIssuer<L, M> {
             id,
             &mut self.mux,
             &mut self.link,
+            self.has_stand_in,
             context,
         )
     }

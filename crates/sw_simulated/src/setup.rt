@@ -63,7 +63,7 @@ impl SimulatedSetup {
             "respond" => Simulated::Respond(Bystander::new(Respond::new(alloc))),
             _ if asks_issuer(name) => {
                 let issuer = Issuer::new(alloc, false);
-                Simulated::Query(Bystander::new(QueryIssuer::new(alloc, issuer)))
+                Simulated::Query(Bystander::new(QueryIssuer::new(alloc, issuer, true)))
             }
             _ => return Ok(None),
         };

@@ -3,8 +3,8 @@
 use crate::error::TestError;
 use cli_flows::open_flow;
 use cli_run::{
-    DEFAULT_STAND_IN, ServeError, Setup, StandardError, StreamEnd, SwitchLink, default_advised,
-    default_queried, default_routes, run,
+    DEFAULT_STAND_IN, RecordLog, ServeError, Setup, StandardError, StreamEnd, SwitchLink,
+    default_advised, default_queried, default_routes, run,
 };
 use flow_asm::{Code, assemble};
 use sqlite::{Alter, Connection};
@@ -42,17 +42,25 @@ fn setup(alloc: Global) -> Result<Setup<SwitchLink>, ServeError> {
         advices: 0,
         sessions: 1,
         threads: false,
+        timed: None,
     })
 }
 
-fn serve<S: Alter + Drop, T: Threads + Wait + Clock + Sync, R: Read + Drop, O: Write, E: Write>(
+fn serve<
+    S: Alter + Drop,
+    T: Threads + Wait + Clock + Sync,
+    R: Read + Drop,
+    O: Write,
+    E: Write,
+    K: Clock,
+>(
     threads: &T,
     alloc: Global,
     code: &Code,
     conn: Connection<S>,
     input: R,
     out: &mut O,
-    stderr: &mut StandardError<'_, E>,
+    stderr: &mut StandardError<'_, E, K>,
 ) -> Result<StreamEnd, ServeError> {
     let setup = setup(alloc)?;
     match Journal::open(alloc, conn) {
@@ -67,6 +75,23 @@ fn serve<S: Alter + Drop, T: Threads + Wait + Clock + Sync, R: Read + Drop, O: W
             stderr,
         ),
         Err((cause, _)) => Err(ServeError::from(cause)),
+    }
+}
+
+// A run that writes no lines of its history, numbers, words or records.
+fn quiet<'a, C: Clock, E: Write>(
+    clock: &'a C,
+    err: &'a mut E,
+    unused: &'a mut E,
+) -> StandardError<'a, E, C> {
+    StandardError {
+        err,
+        trace: None,
+        lost: false,
+        stats: None,
+        passed: 0,
+        words: None,
+        log: RecordLog::off(unused, clock),
     }
 }
 
@@ -85,13 +110,9 @@ pub fn run_silent<T: Threads + Wait + Clock + Sync>(
     let Ok(conn) = Connection::open(rt, journal) else {
         return Err(TestError::File);
     };
-    let mut stderr = StandardError {
-        err: &mut rt.stderr(),
-        trace: None,
-        lost: false,
-        stats: None,
-        passed: 0,
-    };
+    let mut unused = rt.stderr();
+    let mut err = rt.stderr();
+    let mut stderr = quiet(threads, &mut err, &mut unused);
     match serve(
         threads,
         alloc,

@@ -1,7 +1,7 @@
 //! Messages that reach nobody.
 
 use crate::tests::wires::{REQUEST, seconds, wire_up};
-use crate::{Host, OpenReader, OpenWriter};
+use crate::{Host, HostState, OpenReader, OpenWriter};
 use std::io::{self, ErrorKind, PipeReader, PipeWriter};
 use std::sync::Arc;
 use std::sync::atomic::{AtomicU64, Ordering};
@@ -59,6 +59,7 @@ fn nobody_is_asked_too_often(rt: HostRuntime) -> Result<(), Fail> {
     link.send(REQUEST)?;
     thread::sleep(&rt, Duration::from_millis(200));
     assert!(rt; asked.load(Ordering::SeqCst) >= 4);
+    assert!(rt; link.host_report()?.state() == HostState::CannotOpen(0));
     Ok(())
 }
 

@@ -18,7 +18,7 @@ const REFUSAL: &[u8] = b"00360110002000000280000000004205TERM0001";
 fn asked_over(alloc: Global, link: IssuerLink) -> Result<Context, Fail> {
     let mut context = Context::new(alloc);
     context.put("request", REQUEST)?;
-    let participant = Box::new(alloc, Bystander::new(QueryIssuer::new(alloc, link)))?;
+    let participant = Box::new(alloc, Bystander::new(QueryIssuer::new(alloc, link, true)))?;
     let mut station = Station::new(alloc, "query", participant)?;
     let call = Call {
         id: 1,

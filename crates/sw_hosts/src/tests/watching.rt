@@ -2,7 +2,7 @@
 
 use crate::direction::DirectionState;
 use crate::tests::wires::{NEXT_REQUEST, REQUEST, Wired, seconds, wire_up};
-use crate::{HostLink, HostTimes};
+use crate::{HostLink, HostState, HostTimes};
 use std::io::{Read, Write};
 use std::test::Fail;
 use std::thread;
@@ -43,6 +43,7 @@ fn an_unanswered_echo_test_closes(rt: HostRuntime) -> Result<(), Fail> {
         counts.tests == 2 && counts.unanswered == 1 && counts.late == 0 && counts.unreadable == 0
     );
     assert!(rt; wired.host.shared.to.state() == DirectionState::Closed);
+    assert!(rt; wired.host.shared.state.get() == HostState::Silent);
     Ok(())
 }
 

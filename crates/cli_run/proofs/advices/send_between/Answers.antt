@@ -1,4 +1,4 @@
-use Rattle.std.proofs.Common.{◌≡◌, ℕ, ◌∙◌, arith, length, map}
+use Rattle.std.proofs.Common.{◌≡◌, ◌∙◌, arith, length, map}
 use Rattle.std.proofs.lemmas.Bool.Decides.{nat_tests}
 use Rattle.std.proofs.lemmas.List.{length-map}
 use Rattle.cli_run.specs.Stored.{plain}

@@ -9,7 +9,8 @@ use Rattle.cli_run.specs.Links.{sender_with}
 use Rattle.cli_run.specs.Ran.{Ran, all_lines}
 use Rattle.cli_run.specs.Requests.{ReadTo, requests}
 use Rattle.cli_run.specs.Rounds.{Round, RoundsFor}
-use Rattle.cli_run.specs.Shown.{TellsAll}
+use Rattle.cli_words.specs.declared.Words.{Words}
+use Rattle.cli_run.specs.Shown.{TellsRun, unfinished_in}
 use Rattle.cli_run.specs.Stopped.{IsStopped}
 use Rattle.cli_run.specs.Traces.{Log, passed_over}
 use Rattle.cli_run.specs.declared.error.ServeError.{ServeError}
@@ -21,23 +22,26 @@ use Rattle.cli_run.proofs.serving.run.Goals as goal
 
 -- what a run promises, of the sender that it was given
 abbrev RanBy : {R : Type 0} → Result StreamEnd ServeError → Option R → (R → Option (List ℕ)) → Bool → Flow → ℕ → Seen → AdviceStep → ℕ → Option (List ℕ) →
-    Option (List ℕ) → Log → Log → PlainSender → Type 0
-RanBy r input remaining threads f n j step most a b k l sender =
+    Option (List ℕ) → Option Words → Log → Log → PlainSender → Type 0
+RanBy r input remaining threads f n j step most a b words k l sender =
     IfOk r (λ end. IfSome input (λ reader. (frames : List (List ℕ)) × ReadTo end (remaining reader) frames × (rounds : List Round)
     × RoundsFor threads (requests frames) rounds
-    × (ran : Ran f n j step sender most rounds a b) × TellsAll (all_lines ran.serves) (passed_over frames) ran.serves.end k l))
+    × (ran : Ran f n j step sender most rounds a b)
+    × TellsRun words (unfinished_in ran.begins.view) (all_lines ran.serves) (passed_over frames) ran.serves.end k l))
 
 of_sender : {R : Type 0} (r : Result StreamEnd ServeError) (input : Option R) (remaining : R → Option (List ℕ)) (threads : Bool) (f : Flow) (n : ℕ)
-    (j : Seen) (step : AdviceStep) (most : ℕ) (a b : Option (List ℕ)) (k l : Log) (s t : PlainSender)
-    → s ≡ t → RanBy r input remaining threads f n j step most a b k l s → RanBy r input remaining threads f n j step most a b k l t
-of_sender r input remaining threads f n j step most a b k l s t is h = subst (RanBy r input remaining threads f n j step most a b k l) is h
+    (j : Seen) (step : AdviceStep) (most : ℕ) (a b : Option (List ℕ)) (words : Option Words) (k l : Log)
+    (s t : PlainSender) → s ≡ t → RanBy r input remaining threads f n j step most a b words k l s
+    → RanBy r input remaining threads f n j step most a b words k l t
+of_sender r input remaining threads f n j step most a b words k l s t is h =
+    subst (RanBy r input remaining threads f n j step most a b words k l) is h
 
 over_same_routes : {X : Type 0} (state : X → List ℕ) (s : PlainSender) (routes others : List Routing) (links : List (GroupLink X)) →
     s ≡ sender_with state routes links → routes ≡ others → s ≡ sender_with state others links
 over_same_routes state s routes others links is same = subst (λ (rs : List Routing). s ≡ sender_with state rs links) same is
 
 pub returns-clause-ran : goal.returns-clause-ran
-returns-clause-ran g c = of_sender c.run.result c.args.input g.R.Read.remaining c.args.setup.threads _ _ _ _ _ _ _ _ _ _ _
+returns-clause-ran g c = of_sender c.run.result c.args.input g.R.Read.remaining c.args.setup.threads _ _ _ _ _ _ _ _ _ _ _ _
     (over_same_routes _ _ _ _ _ c.in_ok-sender_over.ensures c.as_slice.ensures) c.run.ensures.ran
 
 -- and where it ends with an error

@@ -103,7 +103,8 @@ returns-then-threads-clause-ran g c =
     c.begin-answered.ensures ∙ ap (λ (w : World). begun_in w c.opened.result.now.next_id) c.engine-2.ensures in
     if_ok c.serve_together.result (λ end served. some_ok _ c.args.self.input c.in-Some.input c.in-Some.is (let (done, tells) =
     ran c.args.code.now c.args.self.sessions view (seen (kept g.S.Store c.args.self.journal)) made c.opened.result.now.next_id c.begin-answered.result _
-    _ _ _ _ _ _ _ _ _ _ is first begins c.in_ok-recover.ensures.recovers c.new-advisor.ensures (served.4, served.5) in
+    _ _ _ _ _ _ _ _ _ _ _ c.args.stderr.now.words c.unfinished-unfinished.result is first begins c.in_ok-recover.ensures.recovers c.new-advisor.ensures
+    c.unfinished-unfinished.ensures c.say_ready.ensures (served.4, served.5) in
     (served.0, served.1, served.2, for_these c.args.self.threads true (requests served.0) served.2 c.if-threads.true served.3, done, tells)))
     c.serve_together.ensures.serves
 
@@ -136,9 +137,10 @@ returns-clause-ran g c =
     c.begin-answered.ensures ∙ ap (λ (w : World). begun_in w c.opened.result.now.next_id) c.engine-2.ensures in
     through_both c.serve_to_end-served.result c.trace-traced.result c.end_of.result c.end_of.ensures.served c.end_of.ensures.traced
     c.serve_to_end-served.ensures.serves c.trace-traced.ensures.tells (λ end served left. some_ok _ c.args.self.input c.in-Some.input c.in-Some.is
-    (let last = told_last _ _ _ _ _ _ _ _ _ _ _ _ _ served.4 served.5 c.engine-3.ensures served.6 left c.show.ensures in
+    (let last = told_last _ _ _ _ _ _ _ _ _ _ _ _ _ served.4 served.5 c.engine-3.ensures served.6 left c.show.ensures.shows in
     let (done, tells) = ran c.args.code.now c.args.self.sessions view (seen (kept g.S.Store c.args.self.journal)) made c.opened.result.now.next_id
-    c.begin-answered.result _ _ _ _ _ _ _ _ _ _ _ is first begins c.in_ok-recover.ensures.recovers c.new-advisor.ensures last in
+    c.begin-answered.result _ _ _ _ _ _ _ _ _ _ _ _ c.args.stderr.now.words c.unfinished-unfinished.result is first begins
+    c.in_ok-recover.ensures.recovers c.new-advisor.ensures c.unfinished-unfinished.ensures c.say_ready.ensures last in
     (served.0, served.1, served.2, for_these c.args.self.threads false (requests served.0) served.2 c.if-threads.false served.3, done, tells)))
 
 pub returns-in-Err-clause-stopped : goal.returns-in-Err-clause-stopped

@@ -1,6 +1,6 @@
 use Rattle.std.proofs.Common.{[], ◌∷◌, true}
 use Rattle.cli_run.specs.Points.{point_of}
-use Rattle.cli_run.proofs.Batched.{halts_finished, lone_leads, serves_finished}
+use Rattle.cli_run.proofs.Batched.{answers_from, halts_finished, lone_leads, serves_finished}
 use Rattle.cli_run.proofs.Rounds.{on_ok}
 use Rattle.cli_run.proofs.Stops.{on_err, on_err_of, toward_none}
 use Rattle.cli_run.proofs.switch.Switch.answer_alone.Goals as goal
@@ -12,7 +12,7 @@ returns-in_err-run_alone-clause-halts g c = on_err_of c.from_residual.result (to
 pub returns-clause-serves : goal.returns-clause-serves
 returns-clause-serves g c =
     let (own, lone) = c.in_ok-run_alone.ensures.lone in
-    on_ok c.finish.result (λ f. serves_finished _ _ _ _ _ _ _ _ _ (lone_leads c.args.request own _ _ c.requires.ready lone) f) c.finish.ensures.finishes
+    on_ok c.finish.result (λ f. answers_from (c.args.request ∷ []) _ _ _ _ _ _ _ c.begin.ensures (serves_finished _ _ _ _ _ _ _ _ _ (lone_leads c.args.request own _ _ c.requires.ready lone) f)) c.finish.ensures.finishes
 
 pub returns-clause-halts : goal.returns-clause-halts
 returns-clause-halts g c =

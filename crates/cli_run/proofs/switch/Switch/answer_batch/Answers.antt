@@ -1,7 +1,7 @@
 use Rattle.std.proofs.Common.{◌≡◌, ◌≤◌, true, length, arith}
 use Rattle.std.proofs.lemmas.Bool.Decides.{nat_tests}
 use Rattle.cli_run.specs.Points.{point_of}
-use Rattle.cli_run.proofs.Batched.{answers_same, batch_leads, halts_finished, halts_same, no_request, one_request, serves_finished, serves_nothing}
+use Rattle.cli_run.proofs.Batched.{answers_from, answers_same, batch_leads, halts_finished, halts_same, no_request, one_request, serves_finished, serves_nothing}
 use Rattle.cli_run.proofs.Batched.{together_rests}
 use Rattle.cli_run.proofs.Stops.{on_err_of, toward_none}
 use Rattle.cli_run.proofs.switch.Switch.answer_batch.Goals as goal
@@ -24,7 +24,8 @@ pub returns-in-Ok-clause-serves : goal.returns-in-Ok-clause-serves
 returns-in-Ok-clause-serves g c =
     let some : 2 ≤ length c.args.requests.items = grind (arith, nat_tests, c.if-len-gt1.true, c.args.requests.ok.0) in
     let few : length c.args.requests.items ≤ 256 = omega (arith, c.requires.few, c.args.requests.ok.0) in
-    serves_finished _ _ _ _ _ _ _ _ _ (batch_leads c.args.requests.items _ _ some few c.requires.ready c.in_ok-switch.ensures) c.in-Ok.ensures.finishes
+    answers_from c.args.requests.items _ _ _ _ _ _ _ c.begin.ensures
+    (serves_finished _ _ _ _ _ _ _ _ _ (batch_leads c.args.requests.items _ _ some few c.requires.ready c.in_ok-switch.ensures) c.in-Ok.ensures.finishes)
 
 pub returns-in-Err-clause-halts : goal.returns-in-Err-clause-halts
 returns-in-Err-clause-halts g c =

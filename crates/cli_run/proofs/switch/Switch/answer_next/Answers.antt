@@ -1,6 +1,6 @@
 use Rattle.std.proofs.Common.{[], ◌∷◌}
 use Rattle.cli_run.specs.Rounds.{Completed}
-use Rattle.cli_run.proofs.Rounds.{completed, on_both, rest_given}
+use Rattle.cli_run.proofs.Rounds.{completed, live_from, on_both, on_ok, reports_from, rest_given}
 use Rattle.cli_run.proofs.Stops.{halts_given, halts_gives, halts_none, on_err_of}
 use Rattle.cli_run.proofs.switch.Switch.answer_next.Goals as goal
 
@@ -9,11 +9,11 @@ returns g c =
     let (own, transacts) = c.in_ok-serve_next.ensures.transacts in
     let (text, framed, appends) = c.in_ok-give.ensures.gives in
     record {
-      serves = on_both c.cut_between.result (λ cuts rest. completed own text _ _ _ _ _ _ _ _ c.requires.rest transacts framed c.in_ok-give.ensures.answered
-          cuts rest appends) c.cut_between.ensures.cuts c.cut_between.ensures.rest;
+      serves = on_both c.cut_between.result (λ cuts rest. reports_from (Completed ∷ []) 0 _ _ _ _ _ _ _ c.begin.ensures
+          (completed own text _ _ _ _ _ _ _ _ c.requires.rest transacts framed c.in_ok-give.ensures.answered cuts rest appends)) c.cut_between.ensures.cuts c.cut_between.ensures.rest;
       halts = on_err_of c.cut_between.result (halts_given own text _ _ _ _ c.requires.rest transacts framed appends);
       rest = c.cut_between.ensures.rest;
-      live = c.cut_between.ensures.live;
+      live = on_ok c.cut_between.result (λ live. live_from _ _ c.cut_between.new.self.plant.running.engine c.begin.ensures live) c.cut_between.ensures.live;
     }
 
 pub give-requires : goal.give-requires

@@ -1,4 +1,4 @@
-use Rattle.std.proofs.Common.{◌≡◌, [], false, refl, subst}
+use Rattle.std.proofs.Common.{◌≡◌, ◌∙◌, [], false, refl, subst}
 use Rattle.tx_engine.specs.World.{World}
 use Rattle.cli_run.specs.Lines.{lines_in}
 use Rattle.cli_run.specs.Points.{is_long}
@@ -17,7 +17,7 @@ returns-then-history-entries g c =
       queue = refl;
       live = λ wanted. subst (λ (w : World). w.past ≡ []) c.engine.ensures
           (history_none c.engine.result.now c.history.result.now c.entries_kept-entries.result c.history.ensures.entries c.if-history-entries.true
-          (c.entries_kept-entries.ensures.live wanted));
+          (c.entries_kept-entries.ensures.live (c.is_live.ensures ∙ wanted)));
       once = tt;
     }
 

@@ -11,7 +11,7 @@ returns-clause-serves g c =
     let (frames, read, serves) = c.in_ok-served.ensures.serves in
     let (all, end, tells) = all_served _ true frames _ _ _ _ _ _ _ _ _ _ _ _ _ _ c.in_ok-cut_traced.ensures.cuts c.in_ok-cut_traced.ensures.ready serves
     c.in_ok-closed.ensures.closes in
-    let (whole, last) = told_last _ _ _ _ _ _ _ _ _ _ _ _ _ all end c.engine.ensures tells c.in_ok-traced.ensures.tells c.show.ensures in
+    let (whole, last) = told_last _ _ _ _ _ _ _ _ _ _ _ _ _ all end c.engine.ensures tells c.in_ok-traced.ensures.tells c.show.ensures.shows in
     (frames, read, serves.rounds, serves.answers, whole, last)
 
 pub returns-in_err-served-clause-stops : goal.returns-in_err-served-clause-stops

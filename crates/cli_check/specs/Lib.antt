@@ -1,0 +1,2 @@
+pub mod SetUps
+pub mod Refusals

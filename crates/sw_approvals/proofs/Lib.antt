@@ -1,0 +1,5 @@
+mod Notes
+mod Outcomes
+mod Codes
+mod Chains
+mod Checked

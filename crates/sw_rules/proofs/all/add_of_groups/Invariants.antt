@@ -1,0 +1,6 @@
+use Rattle.std.proofs.Common.{◌≡◌, ◌++◌, drop}
+use Rattle.sw_rules.specs.Breaches.{all_at, group_breaches}
+use Rattle.sw_rules.proofs.all.add_of_groups.Given as goal
+
+abbrev pub invariant-loop-number : goal.invariant-loop-number
+invariant-loop-number l = l.found.items ++ all_at (group_breaches l.flow l.set_up) l.number (drop l.number l.flow.groups) ≡ l.fn.found.items ++ all_at (group_breaches l.flow l.set_up) 0 l.flow.groups
