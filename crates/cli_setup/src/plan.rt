@@ -69,7 +69,11 @@ fn is_logged(options: &RunOptions<'_>, config: &Config) -> bool
 fn clock(rt: &HostRuntime, options: &RunOptions<'_>, config: &Config) -> Option<HostRuntime>
     ensures { is_some result ≡ is_some (log_path_of options.now config.now) }
 {
-    if is_logged(options, config) { Some(*rt) } else { None }
+    if is_logged(options, config) {
+        Some(*rt)
+    } else {
+        None
+    }
 }
 
 fn limit(options: &RunOptions<'_>, config: &Config) -> u64

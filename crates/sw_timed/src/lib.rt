@@ -73,7 +73,11 @@ fn note_time(byte: u8, milliseconds: Option<u64>, context: &mut Context)
     };
     if has_asked(byte, context) {
         let mut buffer = Buffer::new();
-        let _ = note(context, MILLISECONDS, buffer.format(milliseconds).as_bytes());
+        let _ = note(
+            context,
+            MILLISECONDS,
+            buffer.format(milliseconds).as_bytes(),
+        );
     }
 }
 
