@@ -71,7 +71,7 @@ pub mark_within : (c : ℕ) (xs ys : List ℕ) → has_byte c (xs ++ c ∷ ys) �
 mark_within c [] ys h = (no_byte_head c c ys h).0 refl
 mark_within c (x ∷ xs) ys h = mark_within c xs ys (no_byte_head c x (xs ++ c ∷ ys) h).1
 
-or_none : (a b : Bool) → (a || b) ≡ false → (a ≡ false) × (b ≡ false)
+pub or_none : (a b : Bool) → (a || b) ≡ false → (a ≡ false) × (b ≡ false)
 or_none true b e = absurd cc
 or_none false b e = (refl, e)
 

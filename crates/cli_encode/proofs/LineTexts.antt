@@ -15,11 +15,8 @@ use Rattle.cli_encode.specs.Lines.{IsNoNumber, IsNotBefore}
 use Rattle.std.proofs.lemmas.Bool.{leb-true}
 use Rattle.iso_msg.proofs.Bools.{and_both, eqb-false_from}
 use Rattle.cli_encode.proofs.Cuts.{cut_once, front_cancels, head_is, mark_within, none_in_both, none_in_parts, tail_is}
-use Rattle.cli_encode.proofs.Numbers.{no_letter, none_in_number, number_once}
+use Rattle.cli_encode.proofs.Numbers.{no_letter, none_in_number, number_once, few}
 use Rattle.cli_encode.proofs.Octets.{hex_once, none_in_hex}
-
-few : (n : ℕ) → n < 256 → n < 2 ^ 64
-few n h = omega (arith, h)
 
 space_free : (n : ℕ) → n < 256 → has_byte 32 (decimal n) ≡ false
 space_free n h = none_in_number 32 n (omega arith) (few n h)
@@ -115,7 +112,7 @@ value_free (Some Binary) v h = none_in_hex v h.1
 value_free (Some (Fixed content exact)) v h = h
 value_free (Some (Variable content length_digits most)) v h = h
 
-digits_free : (ds : List ℕ) → list_all is_digit ds ≡ true → has_byte 10 ds ≡ false
+pub digits_free : (ds : List ℕ) → list_all is_digit ds ≡ true → has_byte 10 ds ≡ false
 digits_free [] h = refl
 digits_free (d ∷ ds) h =
     let p = and_both (is_digit d) (list_all is_digit ds) h in

@@ -25,7 +25,7 @@ read_on n (d ∷ ds) h =
     ap (λ b. cond b (number_after (10 * n + (d - 48)) ds) None) (ap (λ b. b && leb d 57) (le-leb 48 d range.0) ∙ le-leb d 57 range.1)
     ∙ ap (λ k. number_after k ds) same ∙ read_on (n * 10 + digit_value d) ds h.1
 
-few : (n : ℕ) → n < 256 → n < 2 ^ 64
+pub few : (n : ℕ) → n < 256 → n < 2 ^ 64
 few n h = omega (arith, h)
 
 pub number_read : (n : ℕ) → n < 256 → number_of (decimal n) ≡ Some n

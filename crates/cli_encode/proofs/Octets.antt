@@ -17,6 +17,7 @@ use Rattle.iso_codec.specs.declared.error.DecodeError.TheVariants.{Short, BadCon
 use Rattle.iso_codec.specs.Reads.{◌>>=◌, or_fault, part, octets_at}
 use Rattle.iso_codec.proofs.Encoding.{octets_hex, hex_length}
 use Rattle.cli_encode.specs.Lines.{has_byte, has_lower, AreOctetsOf, IsNoValueOf}
+use Rattle.cli_encode.proofs.Cuts.{or_none}
 
 upper_small : (d : ℕ) → d < 16 → leb 97 (upper d) ≡ false
 upper_small d h =
@@ -33,10 +34,6 @@ none_lower (b ∷ v) h =
     rw (upper_small (b / 16) (omega arith), upper_small (b % 16) (omega arith)) (none_lower v p.1)
 
 -- ---- the digits of what was read
-
-or_none : (a b : Bool) → (a || b) ≡ false → (a ≡ false) × (b ≡ false)
-or_none true b e = absurd cc
-or_none false b e = (refl, e)
 
 abbrev Digit : ℕ → ℕ → Type 0
 Digit c d = (d < 16) × (upper d ≡ c)

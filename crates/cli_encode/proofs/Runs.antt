@@ -33,7 +33,7 @@ use Rattle.cli_encode.specs.Refusals.{IsNoText}
 use Rattle.cli_encode.specs.Texts.{messages_text}
 use Rattle.cli_encode.proofs.Numbers.{none_in_number}
 use Rattle.cli_encode.proofs.Cuts.{cut_once, mark_within}
-use Rattle.cli_encode.proofs.LineTexts.{line_once, no_feed}
+use Rattle.cli_encode.proofs.LineTexts.{line_once, no_feed, digits_free}
 use Rattle.cli_encode.proofs.Points.{field_step, heading_step, headed_is, may_follow, type_step}
 
 pub point_is : (p q : Point) → Some p ≡ Some q → p ≡ q
@@ -125,14 +125,6 @@ accepted : (a b : Bool) (n : ℕ) → cond a (cond b None (Some (BadContent n)))
 accepted true true n e = (refl, refl)
 accepted true false n e = absurd cc
 accepted false b n e = absurd cc
-
-digits_free : (ds : List ℕ) → list_all is_digit ds ≡ true → has_byte 10 ds ≡ false
-digits_free [] h = refl
-digits_free (d ∷ ds) h =
-    let p = and_both (is_digit d) (list_all is_digit ds) h in
-    let r = and_both (leb 48 d) (leb d 57) p.0 in
-    let a : 48 ≤ d = leb-true 48 d r.0 in
-    ap (λ b. b || has_byte 10 ds) (eqb-false_from d 10 (λ e. omega (arith, e, a))) ∙ digits_free ds p.1
 
 prints_free : (ds : List ℕ) → list_all is_text ds ≡ true → has_byte 10 ds ≡ false
 prints_free [] h = refl

@@ -3,9 +3,7 @@
 use Rattle.std.proofs.Common.{◌≡◌, ℕ, zero, suc, ◌+◌, List, [], ◌∷◌, ◌++◌, drop, Some, option_map, slice_get, sym, ap, ◌∙◌, append_assoc, add-one}
 use Rattle.std.specs.List.{flat_map}
 use Rattle.sw_context.specs.Pairs.{Pairs}
-
-abbrev Named : Type 0
-Named = List ℕ × List ℕ
+use Rattle.sw_json.proofs.Contexts.{Named}
 
 front_is : (es : Pairs) (i : ℕ) (name value : List ℕ) → Some name ≡ option_map (λ (e : Named). e.0) (slice_get es i) →
     Some value ≡ option_map (λ (e : Named). e.1) (slice_get es i) → drop i es ≡ (name, value) ∷ drop (suc i) es

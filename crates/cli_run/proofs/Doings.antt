@@ -23,6 +23,8 @@ use Rattle.plant_outcome.specs.Lives.{AllDriven, Done, Drive}
 use Rattle.cli_run.specs.declared.progress.Progress.{Progress}
 use Rattle.cli_run.specs.Points.{IsAllWritten, Point}
 use Rattle.cli_run.specs.Rounds.{Acts, Does, IsDone, doing}
+use Rattle.tx_history.proofs.EntryCounts.{entries_length}
+use Rattle.tx_plant.proofs.Outcomes.{same_outcome, unfaulted, stepped_as}
 
 -- calls of `drive` one after the other
 
@@ -49,26 +51,9 @@ acts_once turns outcomes m p q id driven = record { moved = m ++ []; driven = (q
 
 -- after a write of all entries every entry is written
 
-pub entries_length : (f : Flow) (v : Start) (past : List Event) → length (entries f v past) ≡ length past
-entries_length f v [] = refl
-entries_length f v (e ∷ past) = let h = entries_length f v past in
-    omega (arith, h, length-append (entries f v past) (record { number = length past + 1; event = e; change = change f v (e ∷ past) } ∷ []))
-
-same_outcome : {E : Type 0} (x y : Outcome) → ◌≡◌ {A = Result Outcome E} (Ok x) (Ok y) → x ≡ y
-same_outcome x y e = cc
-
-unfaulted : (R : Result Outcome JournalError → Type 0) (o : Outcome) (x : Result Outcome JournalError) → Ok o ≡ journal_fault x → R x → R (Ok o)
-unfaulted R o (Ok y) same holds = rw (same_outcome o y same) holds
-unfaulted R o (Err e) same holds = cc
-
 pub unraised : (R : Result Outcome AllocError → Type 0) (o : Outcome) (x : Result Outcome AllocError) → Ok o ≡ raised x → R x → R (Ok o)
 unraised R o (Ok y) same holds = rw (same_outcome o y same) holds
 unraised R o (Err e) same holds = cc
-
-pub stepped_as : (R : Result Outcome StepFault → Type 0) (o : Outcome) (x : Result Outcome StepFault) → Ok o ≡ step_fault x → R x → R (Ok o)
-stepped_as R o (Ok y) same holds = rw (same_outcome o y same) holds
-stepped_as R o (Err fault.OutOfMemory) same holds = cc
-stepped_as R o (Err (fault.NoStation n)) same holds = cc
 
 record Wrote (w to : World) : Type 0 where
   mark : ℕ

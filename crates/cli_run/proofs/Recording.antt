@@ -24,7 +24,7 @@ use Rattle.tx_trace.specs.Follow.{earlier}
 use Rattle.tx_trace.proofs.Earlier.{earlier_all, earlier_none, nth}
 use Rattle.cli_run.specs.Lines.{Line, line_at, lines_of, record_at}
 use Rattle.cli_run.specs.Records.{AddsRecords, AreBegunLines, AreLines, BeginsRecords, Recording, Records, if_kept, records_in}
-use Rattle.cli_run.proofs.Doings.{entries_length}
+use Rattle.tx_history.proofs.EntryCounts.{entries_length}
 
 -- lines
 

@@ -28,7 +28,8 @@ use Rattle.cli_run.specs.Points.{IsAllWritten, IsAtRest, IsReady, Point, above, 
 use Rattle.cli_run.specs.Lines.{Line, lines_in}
 use Rattle.cli_run.specs.Advices.{one_delivered}
 use Rattle.cli_run.specs.Rounds.{Does, IsDone, IsEmptied, MayCut}
-use Rattle.cli_run.proofs.Doings.{did, entries_length, unraised}
+use Rattle.cli_run.proofs.Doings.{did, unraised}
+use Rattle.tx_history.proofs.EntryCounts.{entries_length}
 
 -- the world is another, and the rest of the plant's core is the same
 pub record Apart (p q : Point) : Type 0 where

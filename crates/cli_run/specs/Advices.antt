@@ -13,6 +13,7 @@ use Rattle.cli_run.specs.Lines.{Line}
 use Rattle.cli_run.specs.Points.{IsAtRest, Point, world_at}
 use Rattle.cli_run.specs.Rounds.{Does, IsEmptied, MayCut}
 use Rattle.cli_run.specs.Traces.{Log, Tells}
+use Rattle.tx_history.specs.Keys.{place_cmp}
 
 -- how an advice is sent: its bytes, whether it is a repeat, the sender before, whether it was accepted, the sender after
 abbrev pub AdviceStep : Type 1
@@ -76,8 +77,6 @@ abbrev pub stored_at : Point → List ((ℕ × ℕ) × List ℕ)
 stored_at p = advices (world_at p).flow (world_at p).start (world_at p).past
 
 -- the order of ids and places
-abbrev pub place_cmp : ℕ × ℕ → ℕ × ℕ → Ordering
-place_cmp a b = ordering_then (nat_cmp a.0 b.0) (nat_cmp a.1 b.1)
 
 -- those that come after this one
 abbrev pub later : ℕ × ℕ → List ((ℕ × ℕ) × List ℕ) → List ((ℕ × ℕ) × List ℕ)

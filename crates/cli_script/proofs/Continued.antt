@@ -8,7 +8,7 @@ use Rattle.std.specs.List.{list_any}
 use Rattle.flow_model.specs.declared.flow.Flow.{Flow}
 use Rattle.cli_lines.proofs.FirstLines.{after_alone, after_ended, after_whole, before_whole, first_ended, first_last, has_ended}
 use Rattle.cli_lines.specs.Feeds.{first_line, has_line_feed, is_line_feed}
-use Rattle.cli_script.proofs.Heads.{fewer, one_more}
+use Rattle.cli_script.proofs.Heads.{fewer, one_more, none_more}
 use Rattle.cli_script.specs.Grammar.{meaning_of}
 use Rattle.cli_script.specs.Heads.{AreSettings, AreWhole, EndsAtLine, IsHead, IsNoSetting, IsPlacedSetting, MayPrecede}
 use Rattle.cli_script.specs.Scripts.{BeginsWith, BeginsWithAction, IsAfter, IsOpened, IsOpenedAs, is_misplaced, line_of, others_of}
@@ -77,10 +77,6 @@ after_continues (s ∷ ss) xs rest more (begins, after) may =
       some_more : (k l : List ℕ) → k ≢ [] → k ++ l ≢ []
       some_more [] l some = absurd (some refl)
       some_more (b ∷ k) l some = λ none. cc
-
-none_more : (p : Setting → Bool) (ss : List Setting) (s : Setting) → list_any p ss ≡ false → p s ≡ false
-    → list_any p (ss ++ s ∷ []) ≡ false
-none_more p ss s none one = rw (list_any-append p ss (s ∷ []), none, one) refl
 
 pub settings_more : (has_file : Bool) (xs bytes : List ℕ) → AreSettings has_file xs → MayPrecede xs (first_line bytes)
     → IsPlacedSetting has_file (first_line bytes) → AreSettings has_file (xs ++ first_line bytes)

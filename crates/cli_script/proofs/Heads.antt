@@ -64,7 +64,7 @@ kept_more ss s old new kept adds = record {
   };
 }
 
-none_more : (p : Setting → Bool) (ss : List Setting) (s : Setting) → list_any p ss ≡ false → p s ≡ false
+pub none_more : (p : Setting → Bool) (ss : List Setting) (s : Setting) → list_any p ss ≡ false → p s ≡ false
     → list_any p (ss ++ s ∷ []) ≡ false
 none_more p ss s none one = rw (list_any-append p ss (s ∷ []), none, one) refl
 

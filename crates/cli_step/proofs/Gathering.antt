@@ -64,7 +64,7 @@ none_gathered has_file (Some script) = record {
 parted : (left line : List ℕ) → line ≡ first_line left → left ≡ line ++ others_of left
 parted left line is = sym (first_parts left) ∙ ap (λ (l : List ℕ). l ++ others_of left) (sym is)
 
-precedes : (xs ys zs : List ℕ) → MayPrecede xs ys → ys ≢ [] → MayPrecede xs zs
+pub precedes : (xs ys zs : List ℕ) → MayPrecede xs ys → ys ≢ [] → MayPrecede xs zs
 precedes xs ys zs (inl none) some = absurd (some none)
 precedes xs ys zs (inr whole) some = inr whole
 

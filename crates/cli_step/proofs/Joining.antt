@@ -19,6 +19,8 @@ use Rattle.tx_trace.specs.Trace.{Text}
 use Rattle.cli_step.specs.Doing.{Point}
 use Rattle.cli_step.specs.Runs.{AreLines, Begun, Grows, IsRun, Played, PlayedOn, Plays, Ran, RanAll, Stopped}
 use Rattle.cli_step.specs.declared.error.StepError.{StepError}
+use Rattle.cli_step.proofs.Gathering.{precedes}
+use Rattle.cli_step.proofs.Adding.{on_err}
 
 abbrev pub Known : Type 0
 Known = Option (List ℕ)
@@ -111,10 +113,6 @@ ran_first (Some bytes) p before most = record {
   ran = ran_none p before;
   few = omega arith;
 }
-
-precedes : (xs ys zs : List ℕ) → MayPrecede xs ys → ys ≢ [] → MayPrecede xs zs
-precedes xs ys zs (inl none) some = absurd (some none)
-precedes xs ys zs (inr whole) some = inr whole
 
 pub ran_on : (a b c : Known) (p w q : Point) (before between after : Known) (line : List ℕ) (here there most : ℕ)
     → RanTo a b p before w between here most → IsNextLine b c (Some line) → line ≢ [] → RanAll line w between q after
@@ -222,10 +220,6 @@ pub kept_grows : (before after : Known) → Keeps before after → Grows before 
 kept_grows None after kept = ([], tt)
 kept_grows (Some xs) None kept = absurd kept
 kept_grows (Some xs) (Some ys) kept = ([], kept ∙ sym (append-nil xs))
-
-pub on_err : {E : Type 0} {First Second : Type 0} (r : Result Unit E) → (First → Second) → OnErr r First → OnErr r Second
-on_err (Ok u) f holds = tt
-on_err (Err e) f holds = f holds
 
 pub nothing_grown : {A E : Type 0} (r : Result A E) (before : Known) → OnErr r (Grows before before)
 nothing_grown (Ok a) before = tt

@@ -24,6 +24,7 @@ use Rattle.tx_plant.specs.declared.turn.Turn.TheVariants as turn
 use Rattle.tx_trace.specs.Follow.{Follows}
 use Rattle.tx_trace.specs.declared.tracer.Tracer.{Tracer}
 use Rattle.cli_step.specs.Doing.{IsAhead, IsWorldAfter, is_fresh}
+use Rattle.tx_plant.proofs.Outcomes.{same_outcome, unfaulted, stepped_as}
 
 -- one turn has one outcome
 pub one_driven : (t : Turn) (os : List Outcome) (m : List Moved) (p q : Whole) → Driven (t ∷ []) os m p q
@@ -62,9 +63,6 @@ rested w to s seat (outcome.Written n) same (inl k) = cc
 rested w to s seat (outcome.Written n) same (inr k) = absurd k.1
 rested w to s seat (outcome.Restarted n) same k = tt
 rested w to s seat (outcome.Cut n) same k = tt
-
-same_outcome : {E : Type 0} (x y : Outcome) → ◌≡◌ {A = Result Outcome E} (Ok x) (Ok y) → x ≡ y
-same_outcome x y e = cc
 
 stood : (p q : Core) (s : ℕ) (m : List Moved) (o : Outcome) → Stood p s m (Ok o) q → IsWorldAfter o p.world q.world
 stood p q s m o k =
@@ -139,16 +137,6 @@ unraised R o p q k = raised_ok k.0 k.1 k.2 where
   raised_ok : (x : Result Outcome AllocError) → Ok o ≡ raised x → R x → R (Ok o)
   raised_ok (Ok y) same holds = rw (same_outcome o y same) holds
   raised_ok (Err e) same holds = cc
-
-stepped_as : (R : Result Outcome StepFault → Type 0) (o : Outcome) (x : Result Outcome StepFault) → Ok o ≡ step_fault x → R x → R (Ok o)
-stepped_as R o (Ok y) same holds = rw (same_outcome o y same) holds
-stepped_as R o (Err fault.OutOfMemory) same holds = cc
-stepped_as R o (Err (fault.NoStation n)) same holds = cc
-
-unfaulted : (R : Result Outcome JournalError → Type 0) (o : Outcome) (x : Result Outcome JournalError)
-    → Ok o ≡ journal_fault x → R x → R (Ok o)
-unfaulted R o (Ok y) same holds = rw (same_outcome o y same) holds
-unfaulted R o (Err e) same holds = cc
 
 event_logged : (t : Turn) (o : Outcome) (m : List Moved) (p q : Whole) → Logged t m p (Ok o) q
     → IsWorldAfter o p.core.world q.core.world

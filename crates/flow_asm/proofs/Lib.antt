@@ -4,6 +4,6 @@ pub mod StepPlaces
 pub mod StepOrder
 pub mod StepCounts
 pub mod EntryKinds
-mod CallSearch
+pub mod CallSearch
 pub mod NumberMap
 mod GroupNames

@@ -13,6 +13,8 @@ use Rattle.flow_model.specs.declared.numbering.Part.{Part}
 use Rattle.flow_model.specs.Places.{add_new, number_in, parts_from}
 use Rattle.flow_asm.specs.Numbering.{known}
 use Rattle.flow_model.proofs.Numbers.{number_cons, number_here, number_kept}
+use Rattle.flow_model.proofs.Parts.{parts_from-append}
+use Rattle.flow_model.proofs.FirstKinds.{absent}
 
 number_within : (parts : List Part) (name : List ℕ) → number_in parts name ≤ length parts
 number_within [] name = omega arith
@@ -45,10 +47,6 @@ known_as parts name n e h = ap (λ (b : Bool). if b then Some (number_in parts n
 
 not_known : (parts : List Part) (name : List ℕ) → length parts ≤ number_in parts name → known parts name ≡ None
 not_known parts name h = ap (λ (b : Bool). if b then Some (number_in parts name) else None) (le-ltb (number_in parts name) (length parts) h)
-
-absent : {A : Type 0} (o : Option A) → is_some o ≡ false → o ≡ None
-absent None h = refl
-absent (Some x) h = absurd (cc)
 
 none_known : (b : Bool) (n : ℕ) → (if b then Some n else None) ≡ None → b ≡ false
 none_known true n h = absurd (cc)
@@ -109,7 +107,3 @@ no_number parts name h = sym (unknown parts name (none_known (nat_lt (number_in 
 
 pub none_yet : (name : List ℕ) → None ≡ known [] name
 none_yet name = sym (not_known [] name (omega arith))
-
-pub parts_from-append : (ps : List Part) (xs ys : List Entry) → parts_from ps (xs ++ ys) ≡ parts_from (parts_from ps xs) ys
-parts_from-append ps [] ys = refl
-parts_from-append ps (x ∷ xs) ys = parts_from-append (add_new ps x) xs ys

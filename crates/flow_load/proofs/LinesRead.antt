@@ -26,6 +26,7 @@ use Rattle.flow_load.specs.Forms.{part_form, group_form, step_of, step_form, is_
 use Rattle.sw_context.proofs.NameLaws.{name-bytes}
 use Rattle.flow_load.proofs.Conjunctions.{first_part, second_part}
 use Rattle.flow_load.proofs.LineSpelling.{own, read_on}
+use Rattle.std.proofs.lemmas.Bool.{or_right}
 
 -- a text without this byte
 abbrev pub lacks : ℕ → Text → Bool
@@ -84,15 +85,11 @@ value_again m (c ∷ cs) r d e le =
     let small : nat_le (10 * m + (c - 48)) 100000 ≡ true = grind (arith, nat_tests) in
     rw (digit, small) (value_again (10 * m + (c - 48)) cs r (second_part (is_within 48 57 c) (all_ascii_digits cs) d) e le)
 
-or_true : (b : Bool) → (b || true) ≡ true
-or_true true = refl
-or_true false = refl
-
 plain_when : (w : Text) → 0 < length w → 48 < get_or w 0 0 → is_plain w ≡ true
 plain_when w long first =
     let some : nat_le 1 (length w) ≡ true = grind (arith, nat_tests) in
     let lead : (get_or w 0 0 == 48) ≡ false = grind (arith, nat_tests) in
-    rw (some, lead) (or_true (length w == 1))
+    rw (some, lead) (or_right (length w == 1) true refl)
 
 number_again : (n : ℕ) → n ≤ 100000 → number (decimal n) ≡ Some n
 number_again zero le = ap number (decimal_digit 0 (omega arith))

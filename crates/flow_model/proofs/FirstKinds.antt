@@ -51,7 +51,7 @@ one_more_group q gs i g start old new lt is a b =
     ∙ ap (or_else start) (sym (first_kind_last q (take i gs) g) ∙ ap (λ x. first_kind q (take i gs ++ x ∷ [])) is
     ∙ ap (first_kind q) (sym (take_more gs i g lt)))
 
-absent : {A : Type 0} (o : Option A) → is_some o ≡ false → o ≡ None
+pub absent : {A : Type 0} (o : Option A) → is_some o ≡ false → o ≡ None
 absent None h = refl
 absent (Some x) h = absurd (cc)
 

@@ -7,15 +7,13 @@ use Rattle.std.proofs.lemmas.List.{take-append-drop, length-take, length-append,
 use Rattle.iso_codec.specs.declared.error.DecodeError.{DecodeError}
 use Rattle.iso_codec.specs.declared.error.DecodeError.TheVariants.{Short}
 use Rattle.iso_codec.specs.Reads.{◌>>=◌, or_fault, part}
+use Rattle.iso_msg.proofs.Bools.{some_is}
 
 abbrev pub done : {A : Type 0} → A → Result A DecodeError
 done x = Ok x
 
 pub ok_is : {A : Type 0} (x y : A) → done x ≡ done y → x ≡ y
 ok_is x y e = cc
-
-pub some_is : {A : Type 0} (x y : A) → Some x ≡ Some y → x ≡ y
-some_is x y e = cc
 
 pub bind_ok : {A B : Type 0} (r : Result A DecodeError) (f : A → Result B DecodeError) (y : B) → (r >>= f) ≡ Ok y → (x : A) × (r ≡ Ok x) × (f x ≡ Ok y)
 bind_ok (Ok x) f y e = (x, refl, e)

@@ -3,3 +3,4 @@ pub mod FieldTable
 mod FieldMaps
 pub mod FieldLists
 mod FieldSearch
+pub mod FieldLengths

@@ -35,6 +35,7 @@ use Rattle.outcome_history.specs.Calls.{call_or}
 use Rattle.outcome_history.proofs.AdvicesByPlace.{put_at_place}
 use Rattle.outcome_history.proofs.StatesAgree.{serves_agree}
 use Rattle.outcome_history.proofs.CallsAgree.{calls_agree}
+use Rattle.tx_outcome.proofs.StationCalls.{call_from}
 
 -- replies that give no advice
 
@@ -68,9 +69,6 @@ quiet_given f v None x l id n h = refl
 quiet_given f v (Some i) x l id n h = quiet_if (i == id) (standing_of f (at f v l id)) x (core.advice f v l id) n h
 
 -- an outcome of which a member was notified: it was due, and not a recover call before it
-
-abbrev call_from : ℕ → ℕ → Act → Call
-call_from id p a = record { id = id; participant = p; act = a }
 
 told_act : (id q : ℕ) (commit again recovering back : Bool) (a : Act) → a ≡ (if commit then act.Commit again else act.Abort again) →
     Some (call_from id q (outcome_act back commit recovering)) ≡ Some (call_from id q a)

@@ -36,6 +36,7 @@ use Rattle.outcome_history.proofs.StandingStates.{untaken}
 use Rattle.outcome_history.proofs.RestoredAgree.{no_reply}
 use Rattle.outcome_history.proofs.CallsAgree.{recovered_id}
 use Rattle.outcome_history.proofs.ProperStates.{proper_state}
+use Rattle.tx_history.proofs.OwnItems.{old_state}
 
 -- numbers of names
 
@@ -139,10 +140,6 @@ old_rows f (Some r) false (x ∷ xs) back all p told =
       restored =
           back;
     }) all (p r refl) (opened_since (numbered f r) (x ∷ xs)) refl (since_told (numbered f r) x xs told)
-
-pub old_state : (f : Flow) (v : Start) (past : List Event) (id : ℕ) (r : Row) → nat_lt id v.view.next_id ≡ true → look id v.view.rows ≡ Some r →
-    state_of f v past id ≡ after_newest f (reopened f r) (own_items f v past id)
-old_state f v past id r lt h = rw (lt, h) refl
 
 rows_if : (f : Flow) (v : Start) (past : List Event) (id : ℕ) → AreNumbered (parts_of f) → StartFits f v → IsLawful f v past → id < next_id v past →
     (b : Bool) → nat_lt id v.view.next_id ≡ b

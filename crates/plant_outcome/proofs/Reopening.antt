@@ -15,7 +15,7 @@ use Rattle.tx_history.specs.Keys.{Rising, look}
 use Rattle.tx_history.specs.History.{Start, number_of, to_tell}
 use Rattle.tx_history.specs.Journal.{journal}
 use Rattle.tx_history.specs.Views.{IsHistory}
-use Rattle.tx_history.proofs.NextStarts.{stopped_fits}
+use Rattle.tx_history.proofs.NextStarts.{stopped_fits, Known}
 use Rattle.tx_history.proofs.RisingKeys.{look_within}
 use Rattle.tx_journal.proofs.HistoryChanges.{earlier}
 use Rattle.tx_engine.specs.declared.error.EngineError.{EngineError}
@@ -27,9 +27,6 @@ use Rattle.tx_plant.specs.Plant.{IsClean, IsEngine, Stops, Whole}
 use Rattle.tx_plant.specs.Steps.{Moved}
 use Rattle.tx_plant.specs.Written.{Written}
 use Rattle.plant_outcome.specs.Seated.{Seated}
-
-abbrev Known : Flow → List ℕ → Type 0
-Known f name = number_of f name < length (parts_of f)
 
 -- where the flow knows all names, none is unknown
 

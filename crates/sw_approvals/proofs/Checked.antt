@@ -18,16 +18,13 @@ use Rattle.sw_rules.specs.declared.set_up.SetUpRoute.{SetUpRoute}
 use Rattle.sw_approvals.specs.Flows.{AreInForce, AreQueries, AreStops, IsMain, IsPart, IsWayThrough}
 use Rattle.sw_approvals.specs.Parts.{Check, Forward, Limits, Part, Query, Respond, Reverse, Route, StandIn}
 use Rattle.sw_approvals.specs.Ways.{Has, IsSoundWay, Stop, is_check, is_stand_in}
+use Rattle.std.proofs.lemmas.Bool.{and_parts}
 
 -- ---- lists
 
 or_cases : (a b : Bool) → (a || b) ≡ true → (a ≡ true) ⊎ (b ≡ true)
 or_cases true b h = inl refl
 or_cases false b h = inr h
-
-and_second : (a b : Bool) → (a && b) ≡ true → b ≡ true
-and_second true b h = h
-and_second false b h = absurd (cc)
 
 or_first : (a b : Bool) → a ≡ true → (a || b) ≡ true
 or_first true b h = refl
@@ -213,14 +210,14 @@ before a t selector b name h = by (or_cases (has t name) (not b && has a name) h
   where
     by : (has t name ≡ true) ⊎ ((not b && has a name) ≡ true) → has (a ++ selector ∷ t) name ≡ true
     by (inl is) = has_right a (selector ∷ t) name (or_second (bytes_eq selector.participant name) (has t name) is)
-    by (inr is) = has_left a (selector ∷ t) name (and_second (not b) (has a name) is)
+    by (inr is) = has_left a (selector ∷ t) name ((and_parts (not b) (has a name) is).1)
 
 after : (d z : List Entry) (b : Bool) (name : List ℕ) → (has d name || (not b && has z name)) ≡ true → has (d ++ z) name ≡ true
 after d z b name h = by (or_cases (has d name) (not b && has z name) h)
   where
     by : (has d name ≡ true) ⊎ ((not b && has z name) ≡ true) → has (d ++ z) name ≡ true
     by (inl is) = has_left d z name is
-    by (inr is) = has_right d z name (and_second (not b) (has z name) is)
+    by (inr is) = has_right d z name ((and_parts (not b) (has z name) is).1)
 
 -- main with the group of a route
 through : (f : Flow) (s : SetUp) (n : ℕ) (r : SetUpRoute) (selector : Entry) (way : List Stop) → IsSetUpChecked f s → AreInForce s → AreQueries s

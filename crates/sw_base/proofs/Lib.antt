@@ -1,2 +1,3 @@
 mod ReadNumbers
 pub mod Unrefused
+pub mod Options

@@ -24,10 +24,6 @@ pub some_from : {X : Type 0} (o : Option X) → (o ≡ None → ⊥) → IsSome 
 some_from None missing = absurd (missing refl)
 some_from (Some x) missing = search rules
 
-pub none_from : {X : Type 0} (o : Option X) → false ≡ is_some o → o ≡ None
-none_from None h = refl
-none_from (Some x) h = absurd cc
-
 pub open_held : (u : Item) → u.state ≡ Open → held_of u ≡ u.amount
 open_held u is = ap (λ s. cond (is_open s) u.amount 0) is
 

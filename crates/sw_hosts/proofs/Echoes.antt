@@ -7,9 +7,8 @@ use Rattle.iso_msg.specs.declared.table.Content.TheVariants.{Numeric}
 use Rattle.iso_msg.specs.Table.{form_of, definition_of, rows}
 use Rattle.iso_msg.specs.Values.{refusal, refusal_by}
 use Rattle.sw_base.specs.Digits.{is_digit}
-use Rattle.sw_mux.proofs.FieldLengths.{form-11}
+use Rattle.iso_msg.proofs.FieldLengths.{form-7, form-11}
 
-form-7 : form_of 7 ≡ Some (Fixed Numeric 10)
 unfolding form_of definition_of rows
 form-7 = refl
 

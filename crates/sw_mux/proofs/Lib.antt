@@ -1,5 +1,4 @@
 mod KeyPlaces
-pub mod FieldLengths
 mod Numbers
 mod Due
 mod Refusing

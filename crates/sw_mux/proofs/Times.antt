@@ -22,6 +22,7 @@ use Rattle.sw_mux.specs.Waiting.{due, is_due}
 use Rattle.sw_mux.specs.Numbered.{Numbered, Rise, pair_cmp, request_at, key_by, number_of, key_eq}
 use Rattle.sw_mux.specs.Times.{Timed, until, by_number}
 use Rattle.sw_mux.proofs.Numbers.{rise_reaches}
+use Rattle.std.proofs.lemmas.Bool.{or_right}
 
 abbrev pub no_key : Option Key
 no_key = None
@@ -295,10 +296,6 @@ both Less b h = absurd cc
 both Equal b h = (refl, h)
 both Greater b h = absurd cc
 
-or_true : (a : Bool) → (a || true) ≡ true
-or_true true = refl
-or_true false = refl
-
 member_from : (tick d q : ℕ) (k : Key) (ts : Timed) → d ≤ tick → q ≤ 18446744073709551615 → lookup (is_at (pair_cmp (d, q))) ts ≡ Some k
     → is_member (eq_by_cmp nat_cmp) (keys_of (map by_number (until tick ts))) q ≡ true
 member_from tick d q k [] early small h = absurd cc
@@ -318,7 +315,7 @@ member_from tick d q k (t ∷ ts) early small h =
         let q_is : q ≡ t.0.1 = one_number q t.0.1 e.1 in
         absurd (true≢false (sym (in_range t.0.0 t.0.1 tick (omega (arith, d_is, early)) (omega (arith, q_is, small))) ∙ inside))
     by false same true inside go h =
-        ap (λ z. is_eq (nat_cmp q t.0.1) || z) (go h) ∙ or_true (is_eq (nat_cmp q t.0.1))
+        ap (λ z. is_eq (nat_cmp q t.0.1) || z) (go h) ∙ or_right (is_eq (nat_cmp q t.0.1)) true refl
     by false same false inside go h = go h
 
 below_next : (q low next : ℕ) (v : Key × ℕ) (es : Numbered) → Rise low es next → request_at q es ≡ Some v → q < next

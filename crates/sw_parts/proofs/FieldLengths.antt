@@ -6,7 +6,7 @@ use Rattle.iso_msg.specs.declared.table.Content.{Content}
 use Rattle.iso_msg.specs.declared.table.Content.TheVariants.{Numeric}
 use Rattle.iso_msg.specs.Table.{form_of, definition_of, rows}
 use Rattle.iso_msg.specs.Values.{refusal, refusal_by}
-use Rattle.sw_mux.proofs.FieldLengths.{exact_length, form-41, form-11}
+use Rattle.iso_msg.proofs.FieldLengths.{exact_length, form-4, form-7, form-11, form-41}
 
 most_by : (content : Content) (length_digits most n : ℕ) (v : List ℕ) → refusal_by (Some (Variable content length_digits most)) n v ≡ None → length v ≤ most
 most_by content length_digits most n v h = by (nat_le (length v) most) refl
@@ -19,11 +19,9 @@ form-2 : form_of 2 ≡ Some (Variable Numeric 2 19)
 unfolding form_of definition_of rows
 form-2 = refl
 
-form-4 : form_of 4 ≡ Some (Fixed Numeric 12)
 unfolding form_of definition_of rows
 form-4 = refl
 
-form-7 : form_of 7 ≡ Some (Fixed Numeric 10)
 unfolding form_of definition_of rows
 form-7 = refl
 

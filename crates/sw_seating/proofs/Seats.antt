@@ -5,7 +5,7 @@ use Rattle.std.proofs.Common.{drop, set, swap, map, Option, None, Some, Result, 
 use Rattle.std.proofs.Common.{IsPermutation}
 use Rattle.std.specs.List.{list_any}
 use Rattle.std.specs.Str.{bytes_eq}
-use Rattle.std.proofs.lemmas.Bool.{cases_Bool, cases_lt}
+use Rattle.std.proofs.lemmas.Bool.{cases_Bool, cases_lt, or_right}
 use Rattle.std.proofs.lemmas.List.{take-append-drop, take_more, take_more_set, drop_more, take-set-le, map-set, get_or-map, get_or-set_same, length-set}
 use Rattle.std.proofs.lemmas.List.{length-map}
 use Rattle.std.proofs.lemmas.List.Edits.{swap_is}
@@ -110,17 +110,13 @@ none_missing names n (q ∷ ps) h (suc k) p low =
 
 -- a loop over the names
 
-or_true : (b : Bool) → (b || true) ≡ true
-or_true true = refl
-or_true false = refl
-
 pub among_here : (names : List (List ℕ)) (k end : ℕ) (name : List ℕ) → k < end → end ≤ length names → bytes_eq (get_or names k []) name ≡ true
     → is_among name (take end names) ≡ true
 among_here names k zero name low fits here = absurd (omega (arith, low))
 among_here [] k (suc end) name low fits here = absurd (omega (arith, fits))
 among_here (n ∷ names) zero (suc end) name low fits here = ap (λ b. b || is_among name (take end names)) here
 among_here (n ∷ names) (suc k) (suc end) name low fits here =
-    ap (λ b. bytes_eq n name || b) (among_here names k end name (omega (arith, low)) (omega (arith, fits)) here) ∙ or_true (bytes_eq n name)
+    ap (λ b. bytes_eq n name || b) (among_here names k end name (omega (arith, low)) (omega (arith, fits)) here) ∙ or_right (bytes_eq n name) true refl
 
 pub among_next : (names : List (List ℕ)) (k : ℕ) (name : List ℕ) → k < length names → is_among name (take k names) ≡ false
     → bytes_eq (get_or names k []) name ≡ false → is_among name (take (k + 1) names) ≡ false

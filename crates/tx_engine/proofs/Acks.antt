@@ -13,10 +13,9 @@ use Rattle.flow_model.specs.declared.flow.Flow.{Flow}
 use Rattle.tx_history.specs.declared.event.Event.TheVariants.{Acked}
 use Rattle.tx_history.specs.declared.event.Change.{Change}
 use Rattle.tx_history.specs.declared.event.Entry.{Entry}
-use Rattle.tx_history.specs.Keys.{same_place, put_by, place_lt}
+use Rattle.tx_history.specs.Keys.{same_place, put_by, place_lt, place_cmp}
 use Rattle.tx_history.specs.History.{Start}
 use Rattle.tx_history.specs.Journal.{advices}
-use Rattle.tx_history.proofs.MapKeys.{place_cmp}
 use Rattle.tx_engine.specs.declared.error.EngineError.{EngineError}
 use Rattle.tx_engine.specs.declared.error.EngineError.TheVariants.{NoAdvice}
 use Rattle.tx_engine.specs.World.{World}

@@ -9,9 +9,9 @@ use Rattle.std.specs.declared.cmp.Ordering.{Ordering}
 use Rattle.std.specs.declared.cmp.Ordering.TheVariants.{Less, Equal, Greater}
 use Rattle.std.specs.BTreeMap.{insert_entry}
 use Rattle.std.proofs.lemmas.List.Elements.{All-head, All-tail}
-use Rattle.tx_history.specs.Keys.{Rising, place_lt}
+use Rattle.tx_history.specs.Keys.{Rising, place_lt, place_cmp}
 use Rattle.tx_history.specs.Views.{PlacesRise}
-use Rattle.tx_history.proofs.MapKeys.{Orders, ids_order, place_cmp, places_order}
+use Rattle.tx_history.proofs.MapKeys.{Orders, ids_order, places_order}
 
 -- what is less by the test comes before in the order
 goes_before : {K : Type 0} (cmp : K → K → Ordering) (lt : K → K → Bool) (o : Orders cmp lt) (a b : K) → lt a b ≡ true → cmp b a ≡ Greater

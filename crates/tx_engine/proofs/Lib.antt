@@ -9,7 +9,7 @@ mod FilledMaps
 mod Closings
 pub mod Turns
 pub mod Gives
-mod Opens
+pub mod Opens
 mod Restores
 mod Unknown
 mod Cuts

@@ -35,7 +35,7 @@ use Rattle.tx_engine.proofs.Turns.{next_is}
 
 -- closing entries leave all but the rows
 
-closes_same : {A : Type 0} (g : List Event → A) → ((id : ℕ) (past : List Event) → g (Closed id ∷ past) ≡ g past) → (ids : List ℕ) (past : List Event) →
+pub closes_same : {A : Type 0} (g : List Event → A) → ((id : ℕ) (past : List Event) → g (Closed id ∷ past) ≡ g past) → (ids : List ℕ) (past : List Event) →
     g (closes_of ids past) ≡ g past
 closes_same g h [] past = refl
 closes_same g h (id ∷ ids) past = closes_same g h ids (Closed id ∷ past) ∙ h id past

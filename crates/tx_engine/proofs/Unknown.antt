@@ -20,6 +20,7 @@ use Rattle.tx_slots.specs.Rows.{AreKnown}
 use Rattle.tx_engine.specs.Opening.{IsOpenRefusal, first_start, unknown_in, unknown_of}
 use Rattle.tx_engine.proofs.Breaks.{none_of}
 use Rattle.tx_engine.proofs.FilledMaps.{get_first}
+use Rattle.tx_history.proofs.NextStarts.{Known}
 
 pub unknown_append : (f : Flow) (id : ℕ) (xs ys : List (List ℕ)) → unknown_in f id (xs ++ ys) ≡ or_else (unknown_in f id xs) (unknown_in f id ys)
 unknown_append f id [] ys = refl
@@ -30,9 +31,6 @@ unknown_append f id (x ∷ xs) ys = by (nat_lt (number_of f x) (length (parts_of
         ≡ or_else (if b then unknown_in f id xs else Some (UnknownParticipant id x)) (unknown_in f id ys)
     by true ih = ih
     by false ih = refl
-
-abbrev Known : Flow → List ℕ → Type 0
-Known f name = number_of f name < length (parts_of f)
 
 names_known : (f : Flow) (id : ℕ) (names : List (List ℕ)) → unknown_in f id names ≡ None → All (Known f) names
 names_known f id [] h = All-nil (Known f)

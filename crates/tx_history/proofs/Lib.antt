@@ -16,3 +16,4 @@ pub mod SessionStates
 pub mod RecoveredSessions
 pub mod MapKeys
 mod Examples
+pub mod EntryCounts

@@ -13,7 +13,7 @@ use Rattle.std.specs.BTreeMap.{insert_entry, is_at}
 use Rattle.std.proofs.lemmas.Cmp.{nat_cmp_total, then_total, on_total}
 use Rattle.std.proofs.lemmas.Map.Lookups.{exact_unsigned}
 use Rattle.std.proofs.lemmas.Map.Keys.{sorted_head, sorted_tail}
-use Rattle.tx_history.specs.Keys.{put_by, place_lt}
+use Rattle.tx_history.specs.Keys.{put_by, place_lt, place_cmp}
 
 -- a test that tells what is less in an order in which equal keys are the same
 pub record Orders {K : Type 0} (cmp : K → K → Ordering) (lt : K → K → Bool) : Type 0 where
@@ -111,9 +111,6 @@ pub ids_order : Orders nat_cmp nat_lt
 ids_order = record { total = nat_cmp_total; exact = exact_unsigned; less = nat_less }
 
 -- places, first by the transaction
-
-abbrev pub place_cmp : ℕ × ℕ → ℕ × ℕ → Ordering
-place_cmp a b = ordering_then (nat_cmp a.0 b.0) (nat_cmp a.1 b.1)
 
 place_exact : (a b : ℕ × ℕ) → place_cmp a b ≡ Equal → a ≡ b
 place_exact a b h = by (nat_cmp a.0 b.0) refl h

@@ -231,6 +231,11 @@ fresh_none f v (Cleared p ∷ past) id o h = fresh_none f v past id o h
 fresh_none f v (LetGo t ∷ past) id o h = fresh_none f v past id o h
 fresh_none f v (Closed k ∷ past) id o h = fresh_none f v past id o h
 
+-- the state of a transaction with a row is what its items leave of the row's
+pub old_state : (f : Flow) (v : Start) (past : List Event) (id : ℕ) (r : Row) → nat_lt id v.view.next_id ≡ true → look id v.view.rows ≡ Some r →
+    state_of f v past id ≡ after_newest f (reopened f r) (own_items f v past id)
+old_state f v past id r lt h = rw (lt, h) refl
+
 -- what is held is served and not over
 held_in : (f : Flow) (v : Start) (past : List Event) (o : Option ℕ) (id : ℕ) → held_of f v past o ≡ Some id →
     (o ≡ Some id) × (is_ended f (state_of f v past id) ≡ false)

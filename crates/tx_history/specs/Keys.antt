@@ -27,6 +27,10 @@ put_at id x xs = put_by nat_lt id x xs
 abbrev pub place_lt : ℕ × ℕ → ℕ × ℕ → Bool
 place_lt a b = nat_lt a.0 b.0 || ((a.0 == b.0) && nat_lt a.1 b.1)
 
+-- and as it compares keys of a map
+abbrev pub place_cmp : ℕ × ℕ → ℕ × ℕ → Ordering
+place_cmp a b = ordering_then (nat_cmp a.0 b.0) (nat_cmp a.1 b.1)
+
 abbrev pub same_place : ℕ × ℕ → ℕ × ℕ → Bool
 same_place a b = (a.0 == b.0) && (a.1 == b.1)
 

@@ -15,13 +15,9 @@ use Rattle.tx_machine.specs.Table.{Upcoming, Prepare, Select}
 use Rattle.tx_machine.specs.Due.{places_of}
 use Rattle.tx_machine.specs.Position.{calls_of, upcoming_at, upcoming_from, rest_of, entries_in, stack_upcoming}
 use Rattle.tx_machine.proofs.StepsAhead.{is_first, stack_upcoming_top}
+use Rattle.flow_asm.proofs.CallSearch.{start_first}
 
 -- the first step of a group, by the table
-start_first : (f : Flow) (g : ℕ) (starts : List GroupStart) (s d : GroupStart) → starts ≡ starts_of f → g < length starts → s ≡ get_or starts g d →
-    (g < length (layout f)) × (s.first ≡ first_step f g)
-start_first f g starts s d e h is =
-    let within : g < length (layout f) = subst (λ n. g < n) (ap length e ∙ length-starts f) h in
-    (within, ap (λ (x : GroupStart). x.first) (is ∙ ap (λ xs. get_or xs g d) e) ∙ first_at f g d within)
 
 pub places_of-append : (xs ys : List Upcoming) → places_of (xs ++ ys) ≡ places_of xs ++ places_of ys
 places_of-append [] ys = refl

@@ -24,6 +24,7 @@ use Rattle.tx_outcome.specs.States.{FullState, Head, own, begin, after, outcome_
 use Rattle.tx_outcome.specs.States.{reopen, PhaseFits, IsOpenedFrom, WhileOpen, WhileTelling, StateFitsIn, StateFits, answers}
 use Rattle.tx_outcome.specs.Plant.{is_idle}
 use Rattle.tx_outcome.proofs.Trails.{count-append}
+use Rattle.tx_machine.proofs.StepBounds.{not_full}
 
 abbrev pub row_by : Phase → TxState → Option ℕ → Row
 row_by ph s o = row_with (record s { phase = ph }) o
@@ -325,9 +326,6 @@ pub cut_more : (s : TxState) (ms : List Upcoming) (full : Bool) → s.rest ≡ m
 cut_more s [] full r h not = absurd (not r)
 cut_more s (m ∷ ms) false r h not = h refl
 cut_more s (m ∷ ms) true r h not = absurd (not refl)
-
-pub not_full : (n : ℕ) → n ≤ 1000 → (n == 1000) ≡ false → n < 1000
-not_full n h e = grind (arith, nat_tests)
 
 pub cut_open : (s : TxState) (ms : List Upcoming) (full : Bool) → table.is_open s.phase ≡ true → table.is_open (table.cut_at s ms full).phase ≡ true
 cut_open s [] full h = h

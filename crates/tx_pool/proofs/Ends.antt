@@ -21,7 +21,6 @@ use Rattle.tx_plant.specs.Steps.{event_of}
 use Rattle.tx_plant.specs.Plant.{IsEngine, late, seen}
 use Rattle.tx_plant.specs.Written.{Carries, IsWritten, Leftovers, Written}
 use Rattle.tx_plant.proofs.Writing.{grows_carry, write_written}
-use Rattle.tx_pool.proofs.Lengths.{entries_length}
 use Rattle.tx_pool.specs.declared.station.MadeCall.{MadeCall}
 use Rattle.tx_pool.specs.RunSteps.{RunStep, Offers, Takes, Replies, Writes, DoesAll, offers_of, written_of}
 use Rattle.tx_pool.specs.Since.{Since}
@@ -34,6 +33,7 @@ use Rattle.tx_pool.specs.Went.{Grown, Offered}
 use Rattle.tx_pool.specs.Wrote.{LeavesLess, LeavesThese, Wrote}
 use Rattle.tx_pool.proofs.Drove.{drove}
 use Rattle.tx_pool.proofs.Writing.{WroteSeen, between, leads_of}
+use Rattle.tx_history.proofs.EntryCounts.{entries_length}
 
 -- the history grows by one event at a time
 

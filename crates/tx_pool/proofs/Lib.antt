@@ -1,4 +1,3 @@
-mod Lengths
 mod Linking
 mod Growth
 mod Keeping

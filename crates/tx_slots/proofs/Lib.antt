@@ -1,2 +1,3 @@
 mod MappedLists
-mod Undone
+pub mod Undone
+pub mod RowCuts

@@ -27,12 +27,12 @@ undone_at {A = A} x xs id v none same ih Greater e = rw (e, e) (ap (λ (l : List
     later true o h = absurd (cc)
     later false o h = h
 
-self_at : (r : Ordering) → r ≡ ordering_reverse r → r ≡ Equal
+pub self_at : (r : Ordering) → r ≡ ordering_reverse r → r ≡ Equal
 self_at Less h = absurd (cc)
 self_at Equal h = refl
 self_at Greater h = absurd (cc)
 
-cmp_self : (id : ℕ) → nat_cmp id id ≡ Equal
+pub cmp_self : (id : ℕ) → nat_cmp id id ≡ Equal
 cmp_self id = self_at (nat_cmp id id) (nat_cmp_total.antisymm id id)
 
 pub undone : {A : Type 0} (xs : List (ℕ × A)) (id : ℕ) (v : A) → look id xs ≡ None → remove_entry (is_at (nat_cmp id)) (insert_entry nat_cmp xs id v) ≡ xs

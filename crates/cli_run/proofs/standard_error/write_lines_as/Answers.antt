@@ -1,10 +1,10 @@
 use Rattle.std.proofs.Common.{◌<◌, ◌≤◌, ◌∙◌, ap, length, arith, ℕ}
 use Rattle.std.specs.Global.{Vec}
-use Rattle.cli_run.proofs.Doings.{entries_length}
 use Rattle.cli_run.proofs.Printing.{all_lines, counted_next, first_lines, more_lines, none_missing, part_line, some_lines}
 use Rattle.cli_io.proofs.Writing.{beginning_all}
 use Rattle.cli_run.specs.Lines.{lines_in, written_as}
 use Rattle.cli_run.proofs.standard_error.write_lines_as.Goals as goal
+use Rattle.tx_history.proofs.EntryCounts.{entries_length}
 
 pub loop-number-init : goal.loop-number-init
 loop-number-init g c =

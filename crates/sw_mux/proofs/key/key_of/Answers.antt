@@ -1,4 +1,4 @@
-use Rattle.sw_mux.proofs.FieldLengths.{exact_length, form-41, form-11}
+use Rattle.iso_msg.proofs.FieldLengths.{exact_length, form-41, form-11}
 use Rattle.sw_mux.proofs.key.key_of.Goals as goal
 
 pub key_by-requires-clause-terminal : goal.key_by-requires-clause-terminal

@@ -1,8 +1,8 @@
 use Rattle.std.proofs.Common.{arith, rules}
 use Rattle.std.proofs.lemmas.Bool.Decides.{nat_tests}
-use Rattle.tx_pool.proofs.Lengths.{entries_length}
 use Rattle.tx_pool.proofs.Ends.{none_waits}
 use Rattle.tx_pool.proofs.comparing.is_settled.Goals as goal
+use Rattle.tx_history.proofs.EntryCounts.{entries_length}
 
 pub returns : goal.returns
 returns c = λ all.

@@ -5,8 +5,8 @@ use Rattle.tx_plant.specs.Plant.{seen}
 use Rattle.tx_plant.specs.Written.{IsWritten}
 use Rattle.tx_pool.specs.Drives.{Drove}
 use Rattle.tx_pool.proofs.Ends.{ended_drove, ended_grown, ended_offered, ended_written, err_with, ok_both}
-use Rattle.tx_pool.proofs.Lengths.{entries_length}
 use Rattle.tx_pool.proofs.running.run_in.Goals as goal
+use Rattle.tx_history.proofs.EntryCounts.{entries_length}
 
 pub conclude-requires-clause-from : goal.conclude-requires-clause-from
 conclude-requires-clause-from g c =

@@ -1,6 +1,6 @@
 use Rattle.std.proofs.Common.{◌∙◌}
-use Rattle.tx_history.specs.Keys.{place_lt}
-use Rattle.tx_history.proofs.MapKeys.{places_order, place_cmp, insert_put_by, remove_put_by}
+use Rattle.tx_history.specs.Keys.{place_lt, place_cmp}
+use Rattle.tx_history.proofs.MapKeys.{places_order, insert_put_by, remove_put_by}
 use Rattle.tx_slots.proofs.maps.put_advice.Goals as goal
 
 pub returns-in-Some-default-None-clause-put : goal.returns-in-Some-default-None-clause-put

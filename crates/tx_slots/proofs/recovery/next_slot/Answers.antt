@@ -13,11 +13,7 @@ use Rattle.tx_slots.specs.Slots.{is_holding, slot_of}
 use Rattle.tx_slots.specs.Rows.{IsSlotOfRow, next_row}
 use Rattle.tx_slots.proofs.recovery.next_slot.Goals.{then-id-next+in_ok-reopened+else-is_holding, else-id-next}
 use Rattle.tx_slots.proofs.recovery.next_slot.Goals as goal
-
-at_row : (rows : List (ℕ × Row)) (i : ℕ) (r : ℕ × Row) → i < length rows → r ≡ get_or rows i r → drop i rows ≡ r ∷ drop (i + 1) rows
-at_row rows i r within is =
-    let one : suc i ≡ i + 1 = omega arith in
-    drop-cons rows i r within ∙ (ap (λ (y : ℕ × Row). y ∷ drop (suc i) rows) (sym is) ∙ ap (λ (n : ℕ). r ∷ drop n rows) one)
+use Rattle.tx_slots.proofs.RowCuts.{at_row}
 
 passed : (f : Flow) (rows : List (ℕ × Row)) (id : ℕ) (r : ℕ × Row) → (nat_lt id r.0 && not (is_ended f (reopened f r.1))) ≡ false →
     next_row f (r ∷ rows) id ≡ next_row f rows id

@@ -13,11 +13,7 @@ use Rattle.tx_history.specs.History.{is_ended, is_over, reopened}
 use Rattle.tx_trace.specs.Follow.{next_recovered}
 use Rattle.tx_trace.proofs.tracer.next_recovered.Goals.{then-over-id+in_ok-machine+else-not-is_over, else-over-id}
 use Rattle.tx_trace.proofs.tracer.next_recovered.Goals as goal
-
-at_row : (rows : List (ℕ × Row)) (i : ℕ) (r : ℕ × Row) → i < length rows → r ≡ get_or rows i r → drop i rows ≡ r ∷ drop (i + 1) rows
-at_row rows i r within is =
-    let one : suc i ≡ i + 1 = omega arith in
-    drop-cons rows i r within ∙ (ap (λ (y : ℕ × Row). y ∷ drop (suc i) rows) (sym is) ∙ ap (λ (n : ℕ). r ∷ drop n rows) one)
+use Rattle.tx_slots.proofs.RowCuts.{at_row}
 
 found : (f : Flow) (rows : List (ℕ × Row)) (over : ℕ) (r : ℕ × Row) → nat_lt over r.0 ≡ true → is_ended f (reopened f r.1) ≡ false →
     next_recovered f (r ∷ rows) over ≡ Some r.0

@@ -5,8 +5,9 @@ use Rattle.sw_book.specs.declared.item.Item.{Item}
 use Rattle.sw_book.specs.declared.item.State.TheVariants.{Open}
 use Rattle.sw_book.specs.Items.{Items, item_at, key_eq, card_eq, totals_in}
 use Rattle.sw_book.specs.Kept.{IsBook}
-use Rattle.sw_book.proofs.Books.{keeps_new, none_from}
+use Rattle.sw_book.proofs.Books.{keeps_new}
 use Rattle.sw_book.proofs.book.Book.reserve.Goals as goal
+use Rattle.sw_base.proofs.Options.{none_from}
 
 pub invariant_of-self-2 : goal.invariant_of-self-2
 invariant_of-self-2 c =

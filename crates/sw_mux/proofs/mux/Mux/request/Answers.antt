@@ -10,10 +10,7 @@ use Rattle.sw_mux.proofs.Numbers.{put_last, rise_last, own_last, number_last, va
 use Rattle.sw_mux.proofs.Refusing.{free, taken}
 use Rattle.sw_mux.proofs.Times.{timed_put, timed_back, none_at}
 use Rattle.sw_mux.proofs.mux.Mux.request.Goals as goal
-
-none_from : {X : Type 0} (o : Option X) → false ≡ is_some o → o ≡ None
-none_from None h = refl
-none_from (Some x) h = absurd cc
+use Rattle.sw_base.proofs.Options.{none_from}
 
 nothing : (es : Numbered) → values_of es ≡ [] → es ≡ []
 nothing [] h = refl

@@ -1,6 +1,6 @@
 use Rattle.std.proofs.Common.{◌∙◌}
-use Rattle.tx_history.specs.Keys.{place_lt}
-use Rattle.tx_history.proofs.MapKeys.{place_cmp, places_order, remove_put_by}
+use Rattle.tx_history.specs.Keys.{place_lt, place_cmp}
+use Rattle.tx_history.proofs.MapKeys.{places_order, remove_put_by}
 use Rattle.tx_engine.proofs.engine.acks.remove_advice.Goals as goal
 
 pub returns : goal.returns

@@ -1,5 +1,4 @@
 -- How many entries a history has.
--- for: comparing::is_settled, ending, running
 use Rattle.std.proofs.Common.{◌≡◌, ◌+◌, List, [], ◌∷◌, length, refl, arith, length-append}
 use Rattle.flow_model.specs.declared.flow.Flow.{Flow}
 use Rattle.tx_history.specs.declared.event.Event.{Event}
