@@ -13,7 +13,7 @@ use Rattle.sw_context.specs.Pairs.{Pairs, AreEntries, IsContext, find}
 use Rattle.sw_context.specs.Spelling.{IsReading, IsSpelled, bytes_of, entry_bytes, value_bytes}
 use Rattle.sw_json.specs.Contexts.{Front, are_entries, context_at, entries_at, entry_at, is_spelling, pairs_at, value_at}
 
-pub abbrev Named : Type 0
+abbrev pub Named : Type 0
 Named = List ℕ × List ℕ
 
 -- ---- reading what was spelled

@@ -86,7 +86,7 @@ known_name f p h = by (slice_get (parts_of f) p) refl h
     by None e i = absurd (not_named i)
     by (Some x) e i = rw e (number_there (parts_of f) p x e)
 
-pub abbrev Known : Flow → List ℕ → Type 0
+abbrev pub Known : Flow → List ℕ → Type 0
 Known f name = number_of f name < length (parts_of f)
 
 known_names : (f : Flow) (ps : List ℕ) → All (λ p. IsNamed (name_of f p)) ps → All (Known f) (map (name_of f) ps)
