@@ -17,7 +17,6 @@ use Rattle.iso_msg.proofs.FieldLists.{taken_below}
 use Rattle.iso_msg.specs.declared.error.MessageError.TheVariants.{BadContent, BadLength}
 use Rattle.iso_msg.specs.declared.table.Content.{Content}
 use Rattle.iso_msg.specs.declared.table.Content.TheVariants.{Numeric, Printable}
-use Rattle.sw_base.specs.Digits.{is_digit}
 use Rattle.iso_msg.specs.declared.table.Form.{Form}
 use Rattle.iso_msg.specs.declared.table.Form.TheVariants.{Fixed, Variable, Binary}
 use Rattle.iso_msg.specs.Table.{form_of}

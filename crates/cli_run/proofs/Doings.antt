@@ -2,29 +2,24 @@
 -- for: switch::Switch, serving::Switch, advices::send_advices
 use Rattle.std.proofs.Common.{◌≡◌, ◌≤◌, ℕ, ◌+◌, List, [], ◌∷◌, ◌++◌, length, Option, Some, None, Result, Ok, Err, refl, sym, ap, subst, arith, ◌∙◌}
 use Rattle.std.proofs.Common.{append_assoc}
-use Rattle.std.proofs.lemmas.List.{length-append, length-drop}
+use Rattle.std.proofs.lemmas.List.{length-drop}
 use Rattle.std.specs.Option.{option_to_list}
 use Rattle.std.specs.declared.alloc.AllocError.{AllocError}
-use Rattle.flow_model.specs.declared.flow.Flow.{Flow}
-use Rattle.tx_history.specs.declared.event.Event.{Event}
-use Rattle.tx_history.specs.History.{Start}
-use Rattle.tx_history.specs.Journal.{change, entries}
+use Rattle.tx_history.specs.Journal.{entries}
 use Rattle.tx_engine.specs.World.{World}
-use Rattle.tx_journal.specs.declared.error.JournalError.{JournalError}
 use Rattle.tx_plant.specs.declared.turn.Outcome.{Outcome}
 use Rattle.tx_plant.specs.declared.turn.Outcome.TheVariants as outcome
 use Rattle.tx_plant.specs.declared.turn.StepFault.{StepFault}
-use Rattle.tx_plant.specs.declared.turn.StepFault.TheVariants as fault
 use Rattle.tx_plant.specs.declared.turn.Turn.{Turn}
 use Rattle.tx_plant.specs.declared.turn.Turn.TheVariants as turn
 use Rattle.tx_plant.specs.Steps.{Moved}
-use Rattle.tx_plant.specs.Plant.{Driven, GoesOn, Seen, Turned, Whole, Writes, journal_fault, raised, step_fault}
+use Rattle.tx_plant.specs.Plant.{Driven, GoesOn, Seen, Turned, Whole, Writes, raised}
 use Rattle.plant_outcome.specs.Lives.{AllDriven, Done, Drive}
 use Rattle.cli_run.specs.declared.progress.Progress.{Progress}
 use Rattle.cli_run.specs.Points.{IsAllWritten, Point}
 use Rattle.cli_run.specs.Rounds.{Acts, Does, IsDone, doing}
 use Rattle.tx_history.proofs.EntryCounts.{entries_length}
-use Rattle.tx_plant.proofs.Outcomes.{same_outcome, unfaulted, stepped_as}
+use Rattle.tx_plant.proofs.Outcomes.{same_outcome, unfaulted}
 
 -- calls of `drive` one after the other
 

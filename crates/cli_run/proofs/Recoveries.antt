@@ -43,9 +43,10 @@ use Rattle.plant_outcome.specs.Seated.{Seated, seat_id}
 use Rattle.cli_run.specs.declared.progress.Progress.{Progress}
 use Rattle.cli_run.specs.Points.{above}
 use Rattle.cli_run.specs.Rounds.{Acts, Recovers}
-use Rattle.cli_run.proofs.Doings.{Marked, acts_once, acts_then, marked, stepped_as}
+use Rattle.cli_run.proofs.Doings.{Marked, acts_once, acts_then, marked}
 use Rattle.cli_run.proofs.Ended.{not_above}
 use Rattle.cli_run.proofs.SessionSteps.{Adds, Enters, gives_by, steps_of}
+use Rattle.tx_plant.proofs.Outcomes.{stepped_as}
 
 -- what the laws of plants say of a turn's seats
 abbrev pub TurnsSeat : Type 0

@@ -34,8 +34,9 @@ use Rattle.plant_outcome.specs.Lives.{Drive}
 use Rattle.plant_outcome.specs.Seated.{Seated, seat_id}
 use Rattle.cli_run.specs.Points.{IsAllWritten, IsAtRest, Point, ended_at, next_at, with_ended, world_at}
 use Rattle.cli_run.specs.Rounds.{Acts, Does, IsDone, Transacts, doing}
-use Rattle.cli_run.proofs.Doings.{acts_then, did, stepped_as, unraised}
+use Rattle.cli_run.proofs.Doings.{acts_then, did, unraised}
 use Rattle.cli_run.proofs.SessionSteps.{Enters, none_due, none_held, other_seats, same_world, steps_of}
+use Rattle.tx_plant.proofs.Outcomes.{stepped_as}
 
 -- the contexts that ended
 

@@ -1,17 +1,16 @@
 -- Lines that others follow: what is said of the first ones holds of all.
 -- (for the crates above, which read a script line by line)
 use Rattle.std.proofs.Common.{◌≡◌, ◌≢◌, ◌∙◌, ◌⊎◌, ◌||◌, ◌+◌, ◌≤◌, ◌<◌, ◌^◌, ◌++◌, ◌∷◌, [], ℕ, Bool, true, false, List, length, Option}
-use Rattle.std.proofs.Common.{None, Some, Ok, inl, inr}
+use Rattle.std.proofs.Common.{None, inl, inr}
 use Rattle.std.proofs.Common.{is_some, refl, sym, ap, arith, length-append, append-nil, subst}
-use Rattle.std.proofs.lemmas.List.Folds.{list_any-append}
 use Rattle.std.specs.List.{list_any}
 use Rattle.flow_model.specs.declared.flow.Flow.{Flow}
 use Rattle.cli_lines.proofs.FirstLines.{after_alone, after_ended, after_whole, before_whole, first_ended, first_last, has_ended}
-use Rattle.cli_lines.specs.Feeds.{first_line, has_line_feed, is_line_feed}
+use Rattle.cli_lines.specs.Feeds.{first_line, has_line_feed}
 use Rattle.cli_script.proofs.Heads.{fewer, one_more, none_more}
 use Rattle.cli_script.specs.Grammar.{meaning_of}
 use Rattle.cli_script.specs.Heads.{AreSettings, AreWhole, EndsAtLine, IsHead, IsNoSetting, IsPlacedSetting, MayPrecede}
-use Rattle.cli_script.specs.Scripts.{BeginsWith, BeginsWithAction, IsAfter, IsOpened, IsOpenedAs, is_misplaced, line_of, others_of}
+use Rattle.cli_script.specs.Scripts.{IsAfter, IsOpened, IsOpenedAs, is_misplaced, line_of, others_of}
 use Rattle.cli_script.specs.declared.line.ScriptLine.TheVariants as line
 use Rattle.cli_script.specs.declared.line.Setting.{Setting}
 use Rattle.cli_script.specs.declared.script.Script.{Script}

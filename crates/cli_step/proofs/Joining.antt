@@ -20,7 +20,6 @@ use Rattle.cli_step.specs.Doing.{Point}
 use Rattle.cli_step.specs.Runs.{AreLines, Begun, Grows, IsRun, Played, PlayedOn, Plays, Ran, RanAll, Stopped}
 use Rattle.cli_step.specs.declared.error.StepError.{StepError}
 use Rattle.cli_step.proofs.Gathering.{precedes}
-use Rattle.cli_step.proofs.Adding.{on_err}
 
 abbrev pub Known : Type 0
 Known = Option (List ℕ)

@@ -7,18 +7,16 @@ use Rattle.std.proofs.Common.{inl, inr}
 use Rattle.tx_history.specs.declared.event.Event.{Event}
 use Rattle.tx_history.specs.declared.event.Event.TheVariants as event
 use Rattle.tx_engine.specs.World.{World, happened}
-use Rattle.tx_journal.specs.declared.error.JournalError.{JournalError}
 use Rattle.tx_plant.specs.Core.{Core, Stepped, Stood, seat_of}
 use Rattle.tx_engine.specs.Calls.{next_of, next_refusal}
 use Rattle.tx_engine.specs.declared.error.EngineError.{EngineError}
-use Rattle.tx_plant.specs.Plant.{Driven, Logged, Raises, Seen, Stops, Turned, Whole, Writes, journal_fault, raised, step_fault}
+use Rattle.tx_plant.specs.Plant.{Driven, Logged, Raises, Seen, Stops, Turned, Whole, Writes, raised}
 use Rattle.tx_plant.specs.Steps.{Moved, Serves, Waits, event_of}
 use Rattle.tx_plant.specs.Turns.{Cuts, IsLogged, Logs, Takes, event_for, refusal_for}
 use Rattle.tx_plant.specs.declared.seat.Seat.{Seat}
 use Rattle.tx_plant.specs.declared.turn.Outcome.{Outcome}
 use Rattle.tx_plant.specs.declared.turn.Outcome.TheVariants as outcome
 use Rattle.tx_plant.specs.declared.turn.StepFault.{StepFault}
-use Rattle.tx_plant.specs.declared.turn.StepFault.TheVariants as fault
 use Rattle.tx_plant.specs.declared.turn.Turn.{Turn}
 use Rattle.tx_plant.specs.declared.turn.Turn.TheVariants as turn
 use Rattle.tx_trace.specs.Follow.{Follows}

@@ -1,7 +1,7 @@
 -- The map of numbers, with one more participant.
 -- for: numbering::number_of, numbering::number_entry, numbering::number_groups
 use Rattle.std.specs.Str.{bytes_eq}
-use Rattle.std.proofs.Common.{◌≡◌, ℕ, suc, ◌+◌, ◌<◌, ◌≤◌, Bool, true, false, ⊎_elim, List, [], ◌∷◌, ◌++◌, length, Option, Some, None, is_some, refl, sym, ap}
+use Rattle.std.proofs.Common.{◌≡◌, ℕ, suc, ◌+◌, ◌<◌, ◌≤◌, Bool, true, false, ⊎_elim, List, [], ◌∷◌, ◌++◌, length, Some, None, is_some, refl, sym, ap}
 use Rattle.std.proofs.Common.{◌∙◌, cond, subst, arith, if◌then◌else◌}
 use Rattle.std.specs.Prelude.{nat_lt}
 use Rattle.std.proofs.lemmas.Bool.{cases_Bool, le-ltb, ltb-false}
@@ -10,10 +10,9 @@ use Rattle.std.proofs.lemmas.List.{length_push}
 use Rattle.std.proofs.lemmas.Slice.Eq.{bytes_eq-Decides}
 use Rattle.flow_model.specs.declared.flow.Entry.{Entry}
 use Rattle.flow_model.specs.declared.numbering.Part.{Part}
-use Rattle.flow_model.specs.Places.{add_new, number_in, parts_from}
+use Rattle.flow_model.specs.Places.{add_new, number_in}
 use Rattle.flow_asm.specs.Numbering.{known}
 use Rattle.flow_model.proofs.Numbers.{number_cons, number_here, number_kept}
-use Rattle.flow_model.proofs.Parts.{parts_from-append}
 use Rattle.flow_model.proofs.FirstKinds.{absent}
 
 number_within : (parts : List Part) (name : List ℕ) → number_in parts name ≤ length parts

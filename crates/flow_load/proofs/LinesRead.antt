@@ -1,6 +1,6 @@
 -- Lines that are spelled out are read back.
 -- for: reader::load
-use Rattle.std.specs.Prelude.{◌==◌, not, ◌||◌}
+use Rattle.std.specs.Prelude.{◌==◌, not}
 use Rattle.std.specs.Fmt.{decimal}
 use Rattle.std.specs.Str.{all_ascii_digits}
 use Rattle.std.specs.List.{list_all}

@@ -7,7 +7,6 @@ use Rattle.std.proofs.lemmas.List.{take-append-drop, length-take, length-append,
 use Rattle.iso_codec.specs.declared.error.DecodeError.{DecodeError}
 use Rattle.iso_codec.specs.declared.error.DecodeError.TheVariants.{Short}
 use Rattle.iso_codec.specs.Reads.{◌>>=◌, or_fault, part}
-use Rattle.iso_msg.proofs.Bools.{some_is}
 
 abbrev pub done : {A : Type 0} → A → Result A DecodeError
 done x = Ok x

@@ -5,7 +5,6 @@ use Rattle.std.specs.Prelude.{if◌then◌else◌, ◌==◌, ◌&&◌, nat_lt, n
 use Rattle.std.proofs.lemmas.Bool.Decides.{nat_tests}
 use Rattle.sw_participant.specs.declared.call.Act.{Act}
 use Rattle.sw_participant.specs.declared.call.Act.TheVariants as act
-use Rattle.sw_participant.specs.declared.call.Call.{Call}
 use Rattle.flow_model.specs.declared.flow.Flow.{Flow}
 use Rattle.tx_machine.specs.declared.values.Due.TheVariants as due
 use Rattle.tx_machine.specs.declared.values.Phase.{Phase}

@@ -9,9 +9,6 @@ use Rattle.iso_msg.specs.Values.{refusal, refusal_by}
 use Rattle.sw_base.specs.Digits.{is_digit}
 use Rattle.iso_msg.proofs.FieldLengths.{form-7, form-11}
 
-unfolding form_of definition_of rows
-form-7 = refl
-
 form-70 : form_of 70 ≡ Some (Fixed Numeric 3)
 unfolding form_of definition_of rows
 form-70 = refl

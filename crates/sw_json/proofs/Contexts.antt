@@ -1,7 +1,7 @@
 -- The context that bytes spell, as it is read.
 -- for: notes::note_in
-use Rattle.std.proofs.Common.{◌≡◌, ℕ, zero, suc, ◌+◌, ◌*◌, ◌/◌, ◌%◌, ◌<◌, ◌≤◌, ◌&&◌, Bool, true, false, cond, List, [], ◌∷◌, ◌++◌, length, take, drop, Option}
-use Rattle.std.proofs.Common.{Some, None, Result, Ok, Err, option_map, slice_get, refl, sym, ap, subst, ◌∙◌, append_assoc, append-nil, add-one, arith}
+use Rattle.std.proofs.Common.{◌≡◌, ℕ, ◌+◌, ◌*◌, ◌/◌, ◌%◌, ◌&&◌, Bool, true, false, cond, List, [], ◌∷◌, ◌++◌, length, take, drop, Option}
+use Rattle.std.proofs.Common.{Some, None, refl, sym, ap, ◌∙◌, append_assoc, arith}
 use Rattle.std.specs.Prelude.{is_none, nat_le, nat_lt}
 use Rattle.std.specs.List.{flat_map}
 use Rattle.std.specs.Str.{bytes_eq}
@@ -10,7 +10,7 @@ use Rattle.std.proofs.lemmas.List.{take_at, drop_at}
 use Rattle.std.proofs.lemmas.Slice.Eq.{bytes_eq-Decides}
 use Rattle.sw_context.specs.Names.{is_name}
 use Rattle.sw_context.specs.Pairs.{Pairs, AreEntries, IsContext, find}
-use Rattle.sw_context.specs.Spelling.{IsReading, IsSpelled, bytes_of, entry_bytes, value_bytes}
+use Rattle.sw_context.specs.Spelling.{IsSpelled, bytes_of, entry_bytes, value_bytes}
 use Rattle.sw_json.specs.Contexts.{Front, are_entries, context_at, entries_at, entry_at, is_spelling, pairs_at, value_at}
 
 abbrev pub Named : Type 0

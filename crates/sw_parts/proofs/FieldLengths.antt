@@ -19,12 +19,6 @@ form-2 : form_of 2 ≡ Some (Variable Numeric 2 19)
 unfolding form_of definition_of rows
 form-2 = refl
 
-unfolding form_of definition_of rows
-form-4 = refl
-
-unfolding form_of definition_of rows
-form-7 = refl
-
 form-90 : form_of 90 ≡ Some (Fixed Numeric 42)
 unfolding form_of definition_of rows
 form-90 = refl

@@ -1,12 +1,11 @@
 -- The station of a participant that has one is found after those that are seated, and goes to its index.
 -- for: seating::has_name, seating::test_doubles, seating::find_from, seating::seat_one, seating::seat
 use Rattle.std.proofs.Common.{◌≡◌, ℕ, suc, zero, ◌+◌, ◌<◌, ◌≤◌, Bool, true, false, ◌||◌, not, ◌⊎◌, inl, inr, ⊎_elim, List, [], ◌∷◌, ◌++◌, length, get_or, take}
-use Rattle.std.proofs.Common.{drop, set, swap, map, Option, None, Some, Result, Ok, Err, refl, sym, ap, ◌∙◌, subst, arith, if◌then◌else◌, true≢false}
-use Rattle.std.proofs.Common.{IsPermutation}
+use Rattle.std.proofs.Common.{drop, set, swap, map, Option, None, Some, Result, Ok, refl, sym, ap, ◌∙◌, arith, true≢false}
 use Rattle.std.specs.List.{list_any}
 use Rattle.std.specs.Str.{bytes_eq}
 use Rattle.std.proofs.lemmas.Bool.{cases_Bool, cases_lt, or_right}
-use Rattle.std.proofs.lemmas.List.{take-append-drop, take_more, take_more_set, drop_more, take-set-le, map-set, get_or-map, get_or-set_same, length-set}
+use Rattle.std.proofs.lemmas.List.{take-append-drop, take_more, take_more_set, drop_more, take-set-le, map-set, get_or-map, length-set}
 use Rattle.std.proofs.lemmas.List.{length-map}
 use Rattle.std.proofs.lemmas.List.Edits.{swap_is}
 use Rattle.std.proofs.lemmas.List.Folds.{list_any-append, list_any_more}

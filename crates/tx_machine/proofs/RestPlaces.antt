@@ -7,9 +7,9 @@ use Rattle.flow_model.specs.declared.flow.Flow.{Flow}
 use Rattle.flow_asm.specs.declared.code.GroupStart.{GroupStart}
 use Rattle.flow_asm.specs.declared.code.Step.{Step}
 use Rattle.flow_asm.specs.declared.code.Step.TheVariants.{Call, Pick, Return}
-use Rattle.flow_asm.specs.Steps.{first_step, Stage, AtCall, AtPick, AtReturn, layout, stages, starts_of, steps_of}
+use Rattle.flow_asm.specs.Steps.{Stage, AtCall, AtPick, AtReturn, layout, stages, starts_of, steps_of}
 use Rattle.flow_asm.specs.Places.{group_at, place_at, place_of}
-use Rattle.flow_asm.proofs.Stages.{call_shown, first_at, front, group_past, length-starts, length-steps, pick_shown, read_step, return_shown}
+use Rattle.flow_asm.proofs.Stages.{call_shown, front, group_past, length-starts, length-steps, pick_shown, read_step, return_shown}
 use Rattle.tx_machine.specs.declared.walk.StackFrame.{StackFrame}
 use Rattle.tx_machine.specs.Table.{Upcoming, Prepare, Select}
 use Rattle.tx_machine.specs.Due.{places_of}

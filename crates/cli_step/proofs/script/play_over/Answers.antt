@@ -1,5 +1,5 @@
-use Rattle.cli_step.proofs.Adding.{on_ok}
-use Rattle.cli_step.proofs.Joining.{grows_then, if_some, nothing_grown, on_err, ran_grows, ran_whole}
+use Rattle.cli_step.proofs.Adding.{on_ok, on_err}
+use Rattle.cli_step.proofs.Joining.{grows_then, if_some, nothing_grown, ran_grows, ran_whole}
 use Rattle.cli_lines.specs.Lines.{to_come}
 use Rattle.cli_step.proofs.script.play_over.Goals as goal
 

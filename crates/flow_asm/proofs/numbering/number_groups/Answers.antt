@@ -3,8 +3,8 @@ use Rattle.std.specs.List.{flat_map}
 use Rattle.std.proofs.lemmas.List.{drop_more}
 use Rattle.flow_model.specs.declared.flow.Group.{Group}
 use Rattle.flow_model.specs.Places.{parts_from}
-use Rattle.flow_asm.proofs.NumberMap.{parts_from-append}
 use Rattle.flow_asm.proofs.numbering.number_groups.Goals as goal
+use Rattle.flow_model.proofs.Parts.{parts_from-append}
 
 pub loop-group-preserved : goal.loop-group-preserved
 loop-group-preserved c =

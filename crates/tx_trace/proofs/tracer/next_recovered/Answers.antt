@@ -1,5 +1,5 @@
 -- The rows, one by one: a search through the states of a reopened transaction takes seconds.
-use Rattle.std.proofs.Common.{◌≡◌, ◌∙◌, ℕ, suc, ◌+◌, ◌<◌, ◌≤◌, Bool, true, false, List, ◌∷◌, drop, get_or, length, Some, refl, sym, ap, arith, drop-cons}
+use Rattle.std.proofs.Common.{◌≡◌, ◌∙◌, ℕ, ◌+◌, ◌≤◌, Bool, true, false, List, ◌∷◌, drop, Some, refl, sym, ap, arith}
 use Rattle.std.proofs.Common.{drop_of_length-le}
 use Rattle.std.specs.Prelude.{nat_lt}
 use Rattle.std.proofs.lemmas.Bool.Decides.{nat_tests}
