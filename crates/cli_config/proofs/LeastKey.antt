@@ -13,7 +13,8 @@ use Rattle.std.proofs.lemmas.Cmp.{nat_list_cmp_total}
 use Rattle.std.proofs.lemmas.Option.{none-some, same_Some}
 use Rattle.toml.specs.View.{members_view}
 use Rattle.toml.proofs.Views.{Entry}
-use Rattle.cli_config.specs.Faults.{least_key, lesser}
+use Rattle.cli_config.specs.Faults.{least_key}
+use Rattle.flow_toml.specs.Faults.{lesser}
 
 -- not before, by the bytes
 abbrev IsFrom : List ℕ → List ℕ → Type 0

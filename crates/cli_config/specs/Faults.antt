@@ -4,8 +4,6 @@ use Rattle.std.specs.Prelude.{option_and_then, codes, if◌then◌else◌}
 use Rattle.std.specs.Char.{is_ascii_digit}
 use Rattle.std.specs.List.{list_all, list_any}
 use Rattle.std.specs.Str.{bytes_eq}
-use Rattle.std.specs.Ordering.{is_lt, nat_cmp}
-use Rattle.std.specs.Cmp.Lexicographic.{slice_cmp}
 use Rattle.sw_base.specs.Refusals.{first_at, first_of, or_else, refused_if}
 use Rattle.sw_context.specs.Names.{is_name}
 use Rattle.toml.specs.Data.{Data, string, integer, float, boolean, datetime, array, table, Items, no_items, item, Members, no_members, member}
@@ -23,6 +21,7 @@ use Rattle.cli_config.specs.declared.keys.Want.{Want}
 use Rattle.cli_config.specs.declared.keys.Want.TheVariants as want
 use Rattle.cli_config.specs.Keys.{excluded, is_required, keys_of, sections, spelling, wants}
 use Rattle.cli_config.specs.Tables.{tables_of, text_at, value_at}
+use Rattle.flow_toml.specs.Faults.{lesser}
 
 -- Which values may stand where a thing is wanted: which texts, integers, flags and arrays.
 abbrev pub fits_text : Want → List ℕ → Bool
@@ -79,11 +78,6 @@ found_of (table ms) = found.Table
 
 abbrev pub is_known : Section → List ℕ → Bool
 is_known p name = list_any (λ k. bytes_eq (spelling k) name) (keys_of p)
-
--- the lesser of two keys, by their bytes
-abbrev pub lesser : List ℕ → Option (List ℕ) → List ℕ
-lesser name None = name
-lesser name (Some other) = if is_lt (slice_cmp nat_cmp other name) then other else name
 
 -- the least of the keys that pass a test
 abbrev pub least_key : (List ℕ → Bool) → Members → Option (List ℕ)

@@ -9,6 +9,7 @@ use Rattle.toml.specs.declared.value.Value.{Value}
 use Rattle.cli_config.specs.declared.keys.Section.{Section}
 use Rattle.cli_config.specs.declared.keys.Key.{Key}
 use Rattle.cli_config.specs.Keys.{key_of, spelling}
+pub use Rattle.flow_toml.specs.FlowFile.{tables_in}
 
 abbrev pub value_at : Key → Members → Option Data
 value_at k ms = get_member (spelling k) ms
@@ -42,11 +43,6 @@ names_at k ms = option_map names_below (value_at k ms)
 
 abbrev pub table_at : Key → Members → Option Members
 table_at k ms = option_and_then as_table (value_at k ms)
-
-abbrev pub tables_in : Items → List Members
-tables_in no_items = []
-tables_in (item (table ms) ds) = ms ∷ tables_in ds
-tables_in (item d ds) = tables_in ds
 
 -- the tables of an array, or a table by itself
 abbrev pub tables_below : Data → List Members

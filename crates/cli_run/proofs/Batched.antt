@@ -7,8 +7,6 @@ use Rattle.std.specs.Prelude.{option_to_list, ◌&&◌}
 use Rattle.std.proofs.lemmas.List.{length-append, map-append}
 use Rattle.std.specs.Io.KnownBytes.{Appends}
 use Rattle.std.specs.Ordering.{is_lt, nat_cmp}
-use Rattle.std.proofs.lemmas.Bool.{cases_lt}
-use Rattle.std.proofs.Math.ListN.{get_or-eq_default}
 use Rattle.std.proofs.lemmas.Map.Keys.{ge_from_not_lt}
 use Rattle.sw_context.specs.Pairs.{Pairs}
 use Rattle.sw_context.specs.Spelling.{bytes_of}
@@ -24,14 +22,10 @@ use Rattle.iso_codec.specs.Reads.{read}
 use Rattle.tx_history.specs.declared.event.Event.{Event}
 use Rattle.tx_history.specs.declared.event.Event.TheVariants as event
 use Rattle.tx_history.specs.History.{takes}
-use Rattle.tx_engine.specs.Calls.{held_id}
-use Rattle.tx_engine.specs.Cuts.{is_in_use}
-use Rattle.tx_plant.specs.Core.{Core}
 use Rattle.tx_plant.specs.declared.turn.Turn.TheVariants as turn
-use Rattle.plant_outcome.specs.Lives.{Done}
-use Rattle.plant_outcome.specs.Seated.{Seated, seat_id}
-use Rattle.plant_outcome.proofs.Cutting.{free_session}
-use Rattle.plant_outcome.proofs.SeatedTurns.{all_seated}
+use Rattle.tx_seats.specs.Drives.{Done}
+use Rattle.tx_seats.specs.Seated.{Seated}
+use Rattle.tx_seats.proofs.SeatedTurns.{all_seated}
 use Rattle.cli_run.specs.declared.progress.Progress.{Progress}
 use Rattle.cli_run.specs.Advices.{AdviceStep, PlainAdvisor}
 use Rattle.cli_run.specs.Points.{IsAtRest, IsReady, Point, RestsGiven, above, all_answered, ended_at, last_id, next_at, responses, unanswered, world_at}
@@ -49,16 +43,11 @@ use Rattle.cli_run.proofs.Reporting.{for_then}
 use Rattle.cli_run.proofs.Readings.{requests_append, requests_next}
 use Rattle.cli_run.proofs.Stops.{halts_then, nothing_next, of_batches_append, offered_append, retries_are_of_batches, retries_offer_none, toward_before}
 use Rattle.cli_run.proofs.Stops.{toward_then}
+use Rattle.tx_seats.proofs.SeatedCuts.{no_holder}
 
 together_seated : (xs : List Pairs) (p q : Point) → Seated p.plant.core → Together xs p q → Seated q.plant.core
 together_seated xs p q seated t = all_seated (Done t.turns t.outcomes ∷ []) t.acts.moved p.plant q.plant seated t.acts.driven
 
-no_holder : (p : Core) (s : ℕ) → Seated p → is_in_use p.world ≡ false → held_id p.world s ≡ None
-no_holder p s h free = elim (cases_lt s p.world.sessions) [
-  | inl low ↦ free_session p.world s free low
-  | inr high ↦ (let places = h.places in
-      let far : length p.seats ≤ s = omega arith in
-      sym (h.seats s) ∙ ap seat_id (get_or-eq_default p.seats None far))
 ]
 
 -- ids

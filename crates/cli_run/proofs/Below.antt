@@ -25,8 +25,8 @@ use Rattle.tx_plant.specs.Plant.{Driven, Logged, Stops, Turned, Whole}
 use Rattle.tx_plant.specs.Steps.{Moved, event_of}
 use Rattle.tx_plant.specs.Turns.{Takes, Taken}
 use Rattle.tx_plant.proofs.Driving.{cut_still, logged_still, writes_next}
-use Rattle.plant_outcome.specs.Seated.{Seated, seat_id}
-use Rattle.plant_outcome.proofs.SeatedTurns.{turned_seated}
+use Rattle.tx_seats.specs.Seated.{Seated, seat_id}
+use Rattle.tx_seats.proofs.SeatedTurns.{turned_seated}
 use Rattle.cli_run.proofs.Recoveries.{AreBelow, below_insert}
 use Rattle.cli_run.proofs.SessionSteps.{Adds, Enters, gives_by, stepping_of}
 

@@ -1,7 +1,6 @@
 -- Turns with the writes of their entries, one after the other.
 -- for: switch::Switch, serving::Switch, advices::send_advices
 use Rattle.std.proofs.Common.{◌≡◌, ◌≤◌, ℕ, ◌+◌, List, [], ◌∷◌, ◌++◌, length, Option, Some, None, Result, Ok, Err, refl, sym, ap, subst, arith, ◌∙◌}
-use Rattle.std.proofs.Common.{append_assoc}
 use Rattle.std.proofs.lemmas.List.{length-drop}
 use Rattle.std.specs.Option.{option_to_list}
 use Rattle.std.specs.declared.alloc.AllocError.{AllocError}
@@ -9,25 +8,19 @@ use Rattle.tx_history.specs.Journal.{entries}
 use Rattle.tx_engine.specs.World.{World}
 use Rattle.tx_plant.specs.declared.turn.Outcome.{Outcome}
 use Rattle.tx_plant.specs.declared.turn.Outcome.TheVariants as outcome
-use Rattle.tx_plant.specs.declared.turn.StepFault.{StepFault}
 use Rattle.tx_plant.specs.declared.turn.Turn.{Turn}
 use Rattle.tx_plant.specs.declared.turn.Turn.TheVariants as turn
 use Rattle.tx_plant.specs.Steps.{Moved}
 use Rattle.tx_plant.specs.Plant.{Driven, GoesOn, Seen, Turned, Whole, Writes, raised}
-use Rattle.plant_outcome.specs.Lives.{AllDriven, Done, Drive}
+use Rattle.tx_seats.specs.Drives.{AllDriven, Done, Drive}
 use Rattle.cli_run.specs.declared.progress.Progress.{Progress}
 use Rattle.cli_run.specs.Points.{IsAllWritten, Point}
 use Rattle.cli_run.specs.Rounds.{Acts, Does, IsDone, doing}
 use Rattle.tx_history.proofs.EntryCounts.{entries_length}
 use Rattle.tx_plant.proofs.Outcomes.{same_outcome, unfaulted}
+use Rattle.tx_seats.proofs.Drives.{all_driven_append}
 
 -- calls of `drive` one after the other
-
-pub all_driven_append : (ds es : List Drive) (m n : List Moved) (p q r : Whole) → AllDriven ds m p q → AllDriven es n q r → AllDriven (ds ++ es) (m ++ n) p r
-all_driven_append [] es m n p q r (none, same) h =
-    subst (λ (l : List Moved). AllDriven es (l ++ n) p r) (sym none) (subst (λ (z : Whole). AllDriven es n z r) same h)
-all_driven_append (d ∷ ds) es m n p q r (w, first, later, driven, more, all) h =
-    (w, first, later ++ n, driven, all_driven_append ds es later n w q r more h, ap (λ (l : List Moved). l ++ n) all ∙ append_assoc first later n)
 
 pub acts_none : (p : Point) → Acts [] p p
 acts_none p = record { moved = []; driven = (refl, refl); answered = refl }

@@ -8,7 +8,7 @@ use Rattle.flow_model.specs.declared.flow.Flow.{Flow}
 use Rattle.sw_issuers.specs.Sending.{PlainSender}
 use Rattle.tx_history.specs.declared.journal.JournalView.{JournalView}
 use Rattle.tx_plant.specs.Plant.{Seen, Whole}
-use Rattle.plant_outcome.specs.Lives.{IsMade}
+use Rattle.tx_seats.specs.Drives.{IsMade}
 use Rattle.cli_run.specs.declared.stream.StreamEnd.{StreamEnd}
 use Rattle.cli_run.specs.Advices.{AdviceStep, PlainAdvisor, begun_advisor}
 use Rattle.cli_run.specs.declared.standard_error.Form.TheVariants.{Text}

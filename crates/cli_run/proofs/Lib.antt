@@ -9,7 +9,6 @@ mod Rounds
 mod Recoveries
 mod Sendings
 mod Printing
-mod Paths
 mod Runs
 mod Readings
 mod Stops

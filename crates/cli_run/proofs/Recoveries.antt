@@ -38,8 +38,8 @@ use Rattle.tx_plant.specs.Core.{Core, Stepped, newcomer, seat_of}
 use Rattle.tx_plant.specs.Plant.{Driven, GoesOn, Seen, Turned, Whole}
 use Rattle.tx_plant.specs.Recovery.{IsHeld, IsRecovered, IsRecovery}
 use Rattle.tx_plant.specs.Steps.{Moved, event_of}
-use Rattle.plant_outcome.specs.Lives.{Done, IsMade}
-use Rattle.plant_outcome.specs.Seated.{Seated, seat_id}
+use Rattle.tx_seats.specs.Drives.{Done, IsMade}
+use Rattle.tx_seats.specs.Seated.{Seated, seat_id}
 use Rattle.cli_run.specs.declared.progress.Progress.{Progress}
 use Rattle.cli_run.specs.Points.{above}
 use Rattle.cli_run.specs.Rounds.{Acts, Recovers}

@@ -22,7 +22,7 @@ use Rattle.tx_plant.specs.declared.turn.Outcome.TheVariants as outcome
 use Rattle.tx_plant.specs.declared.turn.Turn.TheVariants as turn
 use Rattle.tx_plant.specs.Core.{Core, seat_of}
 use Rattle.tx_plant.specs.Turns.{Cuts, Logs}
-use Rattle.plant_outcome.specs.Seated.{Seated, seat_id}
+use Rattle.tx_seats.specs.Seated.{Seated, seat_id}
 use Rattle.cli_run.specs.declared.progress.Progress.{Progress}
 use Rattle.cli_run.specs.Points.{IsAllWritten, IsAtRest, IsReady, Point, above, ended_at, is_long, next_at, world_at}
 use Rattle.cli_run.specs.Lines.{Line, lines_in}

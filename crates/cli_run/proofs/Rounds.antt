@@ -20,7 +20,7 @@ use Rattle.tx_plant.specs.Core.{Core, without_ended}
 use Rattle.tx_plant.specs.Plant.{Seen}
 use Rattle.tx_plant.specs.declared.turn.Outcome.{Outcome}
 use Rattle.tx_plant.specs.declared.turn.Turn.TheVariants as turn
-use Rattle.plant_outcome.specs.Seated.{Seated}
+use Rattle.tx_seats.specs.Seated.{Seated}
 use Rattle.sw_stats.specs.Tallies.{Tally, tallied}
 use Rattle.cli_run.specs.declared.progress.Progress.{Progress}
 use Rattle.cli_run.specs.Points.{IsAtRest, IsReady, Point, RestsGiven, above, all_answered, ended_at, last_id, next_at, response_of, responses, unanswered}

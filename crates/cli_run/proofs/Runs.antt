@@ -9,7 +9,7 @@ use Rattle.cli_run.specs.Legs.{AdvancesFor, lines_of, stage}
 use Rattle.tx_history.specs.declared.journal.JournalView.{JournalView}
 use Rattle.tx_engine.specs.World.{World}
 use Rattle.tx_plant.specs.Plant.{Seen, Whole}
-use Rattle.plant_outcome.specs.Lives.{IsMade}
+use Rattle.tx_seats.specs.Drives.{IsMade}
 use Rattle.cli_run.specs.Advices.{AdviceStep, PlainAdvisor, SendsAll, begun_advisor, stored_at}
 use Rattle.cli_run.specs.declared.standard_error.Form.TheVariants.{Text}
 use Rattle.cli_run.specs.Lines.{lines_in, written_as}

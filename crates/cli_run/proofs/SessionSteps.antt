@@ -28,7 +28,7 @@ use Rattle.tx_plant.specs.declared.turn.StepFault.{StepFault}
 use Rattle.tx_plant.specs.Steps.{Asked, Moved, Rests, Serves, Waits, event_of}
 use Rattle.tx_plant.specs.Core.{Core, ReseatsBy, Served, Stepped, fate_after, fate_by, left, newcomer, seat_of}
 use Rattle.tx_plant.proofs.SeatFates.{leaves_by}
-use Rattle.plant_outcome.proofs.SeatReplies.{set_there}
+use Rattle.tx_seats.proofs.SeatSets.{set_there}
 
 -- where a reply of a session leads the engine, if one was recorded
 abbrev pub Enters : ℕ → World → World → Type 0

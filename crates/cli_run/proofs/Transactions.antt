@@ -30,8 +30,8 @@ use Rattle.tx_plant.specs.Core.{Core, Stepped, ended_by, fate_by, new_seat, seat
 use Rattle.tx_plant.specs.Plant.{IsEngine}
 use Rattle.tx_plant.specs.Steps.{Moved, event_of}
 use Rattle.tx_plant.specs.Turns.{Taken, Takes}
-use Rattle.plant_outcome.specs.Lives.{Drive}
-use Rattle.plant_outcome.specs.Seated.{Seated, seat_id}
+use Rattle.tx_seats.specs.Drives.{Drive}
+use Rattle.tx_seats.specs.Seated.{Seated, seat_id}
 use Rattle.cli_run.specs.Points.{IsAllWritten, IsAtRest, Point, ended_at, next_at, with_ended, world_at}
 use Rattle.cli_run.specs.Rounds.{Acts, Does, IsDone, Transacts, doing}
 use Rattle.cli_run.proofs.Doings.{acts_then, did, unraised}

@@ -9,7 +9,6 @@ pub mod Links
 pub mod Lines
 pub mod Records
 pub mod Stored
-pub mod Calls
 pub mod Stopped
 pub mod Traces
 pub mod Numbers

@@ -13,7 +13,7 @@ use Rattle.tx_journal.specs.Kept.{JournalState, kept}
 use Rattle.tx_plant.specs.declared.seat.Seats.{Seats}
 use Rattle.tx_plant.specs.Core.{without_ended}
 use Rattle.tx_plant.specs.Plant.{Whole, seen, whole}
-use Rattle.plant_outcome.specs.Seated.{Seated}
+use Rattle.tx_seats.specs.Seated.{Seated}
 use Rattle.sw_stats.specs.Tallies.{tallied}
 use Rattle.cli_run.specs.declared.progress.Progress.{Progress}
 use Rattle.cli_run.specs.declared.switch.Switch.{Switch}

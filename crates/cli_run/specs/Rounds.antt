@@ -14,7 +14,7 @@ use Rattle.tx_plant.specs.declared.turn.Turn.{Turn}
 use Rattle.tx_plant.specs.declared.turn.Turn.TheVariants as turn
 use Rattle.tx_plant.specs.Recovery.{IsRecovery}
 use Rattle.tx_plant.specs.Steps.{Moved}
-use Rattle.plant_outcome.specs.Lives.{AllDriven, Done, Drive}
+use Rattle.tx_seats.specs.Drives.{AllDriven, Done, Drive}
 use Rattle.tx_pool.specs.Receipts.{offered_of, run_entries}
 use Rattle.tx_pool.specs.Settled.{IsSettled}
 use Rattle.tx_pool.specs.Went.{Grown}

@@ -15,7 +15,6 @@ mod batches;
 mod defaults;
 mod error;
 mod given;
-mod laws;
 mod progress;
 mod record_log;
 mod saying;
@@ -29,7 +28,6 @@ mod unsuited;
 
 pub use defaults::{DEFAULT_STAND_IN, default_advised, default_queried, default_routes};
 pub use error::ServeError;
-pub use laws::runs_keep_the_law;
 pub use record_log::RecordLog;
 pub use serving::run;
 pub use setup::{NamedLink, Setup, SwitchLink};

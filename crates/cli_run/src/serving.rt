@@ -11,7 +11,7 @@ ghost use Rattle.sw_participant.specs.Stations.{calls_of, name_of};
 ghost use Rattle.tx_history.specs.declared.journal.JournalView.{JournalView};
 ghost use Rattle.tx_journal.specs.Kept.{kept};
 ghost use Rattle.tx_plant.specs.Plant.{IsEngine, Seen, seen};
-ghost use Rattle.plant_outcome.specs.Lives.{IsMade};
+ghost use Rattle.tx_seats.specs.Drives.{IsMade};
 ghost use Rattle.cli_run.specs.Links.{sender_with};
 ghost use Rattle.cli_run.specs.Lines.{lines_in, written_as};
 ghost use Rattle.cli_run.specs.Points.{IsAtRest, point_of};

@@ -5,7 +5,7 @@ ghost use Rattle.std.specs.Io.KnownBytes.{Appends};
 ghost use Rattle.sw_context.specs.Pairs.{Pairs};
 ghost use Rattle.sw_frame.specs.Stream.{AreFramed};
 ghost use Rattle.tx_engine.specs.Calls.{waits};
-ghost use Rattle.plant_outcome.specs.Seated.{Seated};
+ghost use Rattle.tx_seats.specs.Seated.{Seated};
 ghost use Rattle.cli_run.specs.Points.{IsAtRest, IsReady, RestsGiven, all_answered, point_of};
 ghost use Rattle.cli_run.specs.Points.{responses, unanswered};
 ghost use Rattle.cli_run.specs.Rounds.{Completed, Does, IsDone, Lone, Together, Transacts};

@@ -9,7 +9,6 @@ mod fault;
 mod feeding;
 mod gate;
 mod keeper;
-mod laws;
 mod locked;
 mod moving;
 mod pool;
@@ -24,7 +23,6 @@ mod threads;
 
 pub use fault::Fault;
 pub use gate::{Gate, Open};
-pub use laws::runs_are_drives;
 pub use pool::Pool;
 pub use refusal::{Early, Late, PoolError};
 pub use report::Report;

@@ -6,7 +6,7 @@ use Rattle.tx_history.specs.declared.journal.JournalView.{JournalView}
 use Rattle.tx_engine.specs.World.{World}
 use Rattle.tx_journal.specs.Kept.{kept}
 use Rattle.tx_plant.specs.Plant.{Whole, seen, whole}
-use Rattle.plant_outcome.specs.Lives.{IsMade}
+use Rattle.tx_seats.specs.Drives.{IsMade}
 use Rattle.cli_run.specs.declared.standard_error.Form.TheVariants.{Text}
 use Rattle.cli_run.specs.Lines.{lines_in, written_as}
 use Rattle.cli_run.specs.Numbers.{begun_in}

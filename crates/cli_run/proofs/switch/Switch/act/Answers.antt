@@ -1,7 +1,7 @@
 use Rattle.std.proofs.Common.{[], ◌∷◌, ◌∙◌, sym}
 use Rattle.tx_journal.specs.Kept.{kept}
 use Rattle.tx_plant.specs.Plant.{seen, whole}
-use Rattle.plant_outcome.proofs.SeatedTurns.{all_seated}
+use Rattle.tx_seats.proofs.SeatedTurns.{all_seated}
 use Rattle.cli_run.specs.Rounds.{doing}
 use Rattle.cli_run.proofs.Doings.{does_turn, first_out}
 use Rattle.cli_run.proofs.Rounds.{if_ok, on_if}

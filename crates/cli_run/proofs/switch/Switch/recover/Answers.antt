@@ -1,5 +1,5 @@
-use Rattle.plant_outcome.proofs.SeatedStops.{made_seated}
-use Rattle.plant_outcome.proofs.SeatedTurns.{turned_seated}
+use Rattle.tx_seats.proofs.SeatedStops.{made_seated}
+use Rattle.tx_seats.proofs.SeatedTurns.{turned_seated}
 use Rattle.cli_run.proofs.Recoveries.{recovers}
 use Rattle.cli_run.proofs.switch.Switch.recover.Goals as goal
 
