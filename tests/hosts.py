@@ -852,8 +852,14 @@ def furnished(program, room):
 def by_hand(program, room):
     """The commands of `docs/HOSTS.md` for one host at its pipes. The other host is not there, and is stood in for."""
     block = "\n".join(block_of("HOSTS.md", "mkfifo "))
-    ran = subprocess.run(["sh", "-c", block], cwd=room, env=furnished(program, room), timeout=SECONDS, check=False)
-    wanted("the status", ran.returncode, 0)
+    process = subprocess.Popen(["sh", "-c", block], cwd=room, env=furnished(program, room), start_new_session=True)
+    try:
+        wanted("the status", process.wait(SECONDS), 0)
+    finally:
+        # (its host waits for a pipe to be opened for ever, if there is no program)
+        with contextlib.suppress(ProcessLookupError):
+            os.killpg(process.pid, signal.SIGKILL)
+        process.wait()
     with open(os.path.join(room, "responses.frames"), "rb") as file:
         came = messages.frames(file.read())
     with open(os.path.join(EXAMPLES, "responses.frames"), "rb") as file:
@@ -880,7 +886,8 @@ def behind_a_socket(program, room):
         for connection in range(2):
             wanted(f"the responses of connection {connection}", served(port, requests), responses)
     finally:
-        os.killpg(serving.pid, signal.SIGKILL)
+        with contextlib.suppress(ProcessLookupError):
+            os.killpg(serving.pid, signal.SIGKILL)
         serving.wait()
 
 
@@ -959,6 +966,8 @@ def main():
     cases = [case for case in CASES if given.word in case.__name__]
     if not cases:
         parser.error(f"no case has {given.word!r} in its name")
+    if not os.path.isfile(given.program):
+        sys.exit(f"there is no program {given.program}: ./test builds it, or name one by --program")
     began, passed, failed = time.monotonic(), 0, 0
     signal.signal(signal.SIGALRM, overdue)
     for case in cases:

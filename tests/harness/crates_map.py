@@ -3,8 +3,8 @@
 
     tests/harness/crates_map.py
 
-An edge that others imply is left out. `wrong` says if the page has another picture, or if its table of crates has another
-order than crates.txt.
+An edge that others imply is left out. `wrong` says if the page has another picture, if its table of crates has another order
+than crates.txt, or if a program depends on a crate of the outcome law.
 """
 
 import os
@@ -57,12 +57,26 @@ def mermaid(text):
     yield from (f"  {name} --> {it}" for name, it in edges_of(below))
 
 
+def over_the_law(top, text):
+    """A program, and a crate of the outcome law that it depends on, or None."""
+    parts, below = parts_of(text)
+    laws = set(dict(parts)["The outcome law"])
+    for name in below:
+        found = all_below(below, name) & laws
+        if found and os.path.isfile(os.path.join(top, "crates", name, "src", "main.rt")):
+            return name, min(found)
+    return None
+
+
 def wrong(top):
-    """How docs/ARCHITECTURE.md differs from crates.txt, or None."""
+    """How docs/ARCHITECTURE.md differs from crates.txt, or what crates.txt has that it may not have, or None."""
     with open(os.path.join(top, "crates.txt"), encoding="utf-8") as it:
         text = it.read()
     with open(os.path.join(top, "docs", "ARCHITECTURE.md"), encoding="utf-8") as it:
         page = it.read()
+    found = over_the_law(top, text)
+    if found:
+        return "of crates.txt, the program {} depends on {}, a crate of the outcome law".format(*found)
     picture = "\n".join(mermaid(text))
     if f"```mermaid\n{picture}\n```" not in page:
         return "its picture is not the one that tests/harness/crates_map.py prints"

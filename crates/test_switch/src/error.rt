@@ -1,7 +1,6 @@
 //! Why the program ends early.
 
 use cli_io::{ReadError, WriteError};
-use cli_run::ServeError;
 use cli_script::ScriptError;
 use cli_step::StepError;
 use std::alloc::{AllocError, AllocFailed};
@@ -13,25 +12,18 @@ use tx_plant::PlantError;
 /// Why the program ends early. Disks that are cut are not an error.
 #[derive(Drop, Error)]
 pub enum TestError {
-    #[error("expected: silent FLOW JOURNAL, stopped power|kill [twice], stopped refusal, again, opened PATH, \
-         or turned power|kill|refusal")]
+    #[error("expected: stopped power|kill [twice], stopped refusal, again, opened PATH, or turned power|kill|refusal")]
     Words,
-    #[error("the flow was refused")]
-    Flow,
     #[error("the journal's file was not opened")]
     File,
     #[error("a statement of the input was refused")]
     Sql,
-    #[error("the run was refused")]
-    Run,
     #[error("{0}")]
     Read(#[from] ReadError),
     #[error("{0}")]
     Script(#[from] ScriptError),
     #[error("{0}")]
     Step(#[from] StepError),
-    #[error("{0}")]
-    Serve(#[from] ServeError),
     #[error("{0}")]
     Plant(#[from] PlantError),
     #[error("{0}")]

@@ -4,15 +4,16 @@ ghost use Rattle.tx_plant.specs.Plant.{IsEngine};
 
 use crate::error::TestError;
 use crate::lines::write_view;
-use cli_run::write_lines;
+use cli_io::write_whole;
 use cli_script::Actions;
 use cli_step::{StepError, run_actions};
 use sqlite::Alter;
 use std::alloc::Global;
 use std::io::Write;
+use tx_engine::Engine;
 use tx_journal::JournalError;
 use tx_plant::{Plant, PlantError, Turn};
-use tx_trace::Tracer;
+use tx_trace::{Tracer, line};
 
 // Whether the store of the journal has refused. Any other cause is an error.
 fn is_store(cause: JournalError) -> Result<bool, TestError> {
@@ -48,6 +49,17 @@ pub fn play<S: Alter, W: Write>(
 ) -> Result<bool, TestError> {
     let mut tracer = Tracer::new(alloc, plant.engine());
     is_script_cut(run_actions(alloc, plant, &mut tracer, actions, out))
+}
+
+// Writes the lines of the history. (It is short here.)
+fn write_lines<W: Write>(alloc: Global, engine: &Engine, out: &mut W) -> Result<(), TestError> {
+    for before in 0..engine.history().len() {
+        if let Some(text) = line(alloc, engine, before + 1)? {
+            write_whole(out, text.as_bytes())?;
+            write_whole(out, b"\n")?;
+        }
+    }
+    Ok(())
 }
 
 /// Writes what the journal had, finishes what it has unfinished, and writes the lines, and what it has then.

@@ -1,8 +1,5 @@
 //! The switch under faults that no subcommand can cause, for tests. Without words it does nothing.
 //!
-//! `test_switch silent FLOW JOURNAL` answers the requests of its input as `cardswitch run --flow FLOW --journal
-//! JOURNAL` does, but its issuer alpha is silent.
-//!
 //! `test_switch stopped power|kill|refusal < SCRIPT` runs the script of `cardswitch step` again and again over
 //! a journal in memory, cut at the first call of its disks, at the second and so on, up to a run that is
 //! not cut. After each run a new plant opens the journal again and recovers what it has unfinished;
@@ -33,7 +30,6 @@ mod lines;
 mod lives;
 mod openings;
 mod runs;
-mod silent;
 
 use again::run_again;
 use cli_io::{Input, read_input};
@@ -41,13 +37,9 @@ use disks::Cut;
 use error::TestError;
 use openings::{open_each, open_file};
 use runs::run_each;
-use silent::run_silent;
 use std::io::Write;
 use std::process::ExitCode;
 use std::str;
-use std::sync::Wait;
-use std::thread::Threads;
-use std::time::Clock;
 
 fn cut_of(word: &str) -> Result<Cut, TestError> {
     match word {
@@ -83,16 +75,9 @@ fn run_turned(rt: &HostRuntime, cut: Cut) -> Result<(), TestError> {
     open_each(alloc, sql, cut, &mut rt.stdout())
 }
 
-fn run_words<T: Threads + Wait + Clock + Sync>(
-    threads: &T,
-    rt: &HostRuntime,
-    words: &[String],
-) -> Result<(), TestError> {
+fn run_words(rt: &HostRuntime, words: &[String]) -> Result<(), TestError> {
     match words {
         [_] => Ok(()),
-        [_, test, flow, journal] if test.as_str() == "silent" => {
-            run_silent(threads, rt, flow.as_str(), journal.as_str())
-        }
         [_, test, cut] if test.as_str() == "stopped" => {
             run_stopped(rt, cut_of(cut.as_str())?, false)
         }
@@ -114,7 +99,7 @@ fn main(rt: HostRuntime) -> ExitCode {
     let Ok(words) = words else {
         return ExitCode::from(4);
     };
-    match run_words(&rt, &rt, words.as_slice()) {
+    match run_words(&rt, words.as_slice()) {
         Ok(()) => ExitCode::from(0),
         Err(error) => {
             let _written = writeln!(rt.stderr(), "test_switch: {error}");

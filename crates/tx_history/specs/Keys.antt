@@ -1,5 +1,7 @@
 -- Lists of values under rising keys.
 use Rattle.std.specs.Prelude.{ℕ, ◌+◌, ◌<◌, ◌≤◌, Bool, ◌==◌, ◌&&◌, ◌||◌, suc, zero, List, [], ◌∷◌, ◌++◌, filter, Option, Some, None, nat_lt, if◌then◌else◌}
+use Rattle.std.specs.Ordering.{nat_cmp, ordering_then}
+use Rattle.std.specs.declared.cmp.Ordering.{Ordering}
 
 -- a value under its key, or nothing
 abbrev pub keyed : {K A : Type 0} → K → Option A → List (K × A)
