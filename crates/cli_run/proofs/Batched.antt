@@ -14,7 +14,7 @@ use Rattle.sw_participant.specs.Chains.{Rule}
 use Rattle.tx_intake.specs.Listings.{Listing, given_of, listing}
 use Rattle.tx_plant.specs.Plant.{Whole}
 use Rattle.tx_pool.specs.Drives.{Drove}
-use Rattle.tx_pool.specs.Settled.{IsSettled}
+use Rattle.tx_locked.specs.Settled.{IsSettled}
 use Rattle.tx_pool.specs.Went.{Grown, Offered}
 use Rattle.sw_frame.specs.Feeds.{messages}
 use Rattle.sw_frame.specs.Stream.{AreFramed}

@@ -12,8 +12,8 @@ use Rattle.tx_engine.specs.declared.error.EngineError.{EngineError}
 use Rattle.tx_engine.specs.declared.error.EngineError.TheVariants as engine
 use Rattle.tx_plant.specs.declared.turn.PlantError.{PlantError}
 use Rattle.tx_plant.specs.declared.turn.PlantError.TheVariants as plant
-use Rattle.tx_pool.specs.declared.fault.Fault.{Fault}
-use Rattle.tx_pool.specs.declared.fault.Fault.TheVariants as fault
+use Rattle.tx_locked.specs.declared.fault.Fault.{Fault}
+use Rattle.tx_locked.specs.declared.fault.Fault.TheVariants as fault
 use Rattle.tx_pool.specs.declared.refusal.Early.{Early}
 use Rattle.tx_pool.specs.declared.refusal.Early.TheVariants as early
 use Rattle.tx_pool.specs.declared.refusal.PoolError.{PoolError}

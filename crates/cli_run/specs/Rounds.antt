@@ -15,8 +15,8 @@ use Rattle.tx_plant.specs.declared.turn.Turn.TheVariants as turn
 use Rattle.tx_plant.specs.Recovery.{IsRecovery}
 use Rattle.tx_plant.specs.Steps.{Moved}
 use Rattle.tx_seats.specs.Drives.{AllDriven, Done, Drive}
-use Rattle.tx_pool.specs.Receipts.{offered_of, run_entries}
-use Rattle.tx_pool.specs.Settled.{IsSettled}
+use Rattle.tx_locked.specs.Receipts.{offered_of, run_entries}
+use Rattle.tx_locked.specs.Settled.{IsSettled}
 use Rattle.tx_pool.specs.Went.{Grown}
 use Rattle.cli_run.specs.Lines.{Line, lines_in}
 use Rattle.cli_run.specs.Points.{IsAllWritten, IsAtRest, IsIdle, IsReady, Point, all_answered, ended_at, is_long, next_at, response_of, responses, unanswered}

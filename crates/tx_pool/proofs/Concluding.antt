@@ -7,13 +7,13 @@ use Rattle.tx_history.specs.declared.event.Entry.{Entry}
 use Rattle.tx_engine.specs.World.{World}
 use Rattle.tx_plant.specs.Core.{Core}
 use Rattle.tx_plant.specs.Plant.{IsEngine}
-use Rattle.tx_pool.specs.declared.station.MadeCall.{MadeCall}
-use Rattle.tx_pool.specs.AllStations.{AllBack, AreCalls}
+use Rattle.tx_locked.specs.declared.station.MadeCall.{MadeCall}
+use Rattle.tx_locked.specs.AllStations.{AllBack, AreCalls}
 use Rattle.tx_pool.specs.Ended.{Ended, IsSettledSince}
 use Rattle.tx_pool.specs.Feeding.{HasFed}
-use Rattle.tx_pool.specs.Receipts.{AllOwn, all_of, count_done, count_shelved, run_entries}
+use Rattle.tx_locked.specs.Receipts.{AllOwn, all_of, count_done, count_shelved, run_entries}
 use Rattle.tx_pool.specs.Went.{Agrees, Reports}
-use Rattle.tx_pool.proofs.Stations.{linked_by}
+use Rattle.tx_locked.proofs.Stations.{linked_by}
 
 pub concluded : {S L V : Type 0} (rule : ℕ → Rule) (os : List (List ℕ)) (cs : List ℕ) (ns : List (List ℕ)) (object : S → List ℕ) (count : S → ℕ) (name : S →
     List ℕ) (calls : L → List MadeCall) (items : V → List ℕ) (start now : Core) (given after : List Pairs) (ended : Bool) (mark from : ℕ)

@@ -27,11 +27,11 @@ use Rattle.tx_plant.proofs.Driving.{Turns, took, turn_take, turn_step, turn_writ
 use Rattle.tx_plant.proofs.Entering.{entered_stepped}
 use Rattle.tx_plant.proofs.Looping.{driven_more, drives_none}
 use Rattle.tx_plant.proofs.Stepping.{led_served}
-use Rattle.tx_pool.specs.declared.station.MadeCall.{MadeCall}
-use Rattle.tx_pool.specs.AllStations.{AllLinked}
-use Rattle.tx_pool.specs.RunSteps.{RunStep, Offers, Takes, Replies, Writes, DoesAll, Marks, calls_of}
+use Rattle.tx_locked.specs.declared.station.MadeCall.{MadeCall}
+use Rattle.tx_locked.specs.AllStations.{AllLinked}
+use Rattle.tx_locked.specs.RunSteps.{RunStep, Offers, Takes, Replies, Writes, DoesAll, Marks, calls_of}
 use Rattle.tx_pool.specs.Drives.{Drove}
-use Rattle.tx_pool.proofs.Calls.{last_call}
+use Rattle.tx_locked.proofs.Calls.{last_call}
 
 -- the journal, write by write
 

@@ -15,20 +15,19 @@ use Rattle.tx_history.specs.declared.event.Entry.{Entry}
 use Rattle.tx_history.specs.Journal.{change}
 use Rattle.tx_journal.specs.Kept.{IsCleanJournal, JournalState}
 use Rattle.tx_engine.specs.World.{World, happened}
-use Rattle.tx_engine.specs.Calls.{waits}
 use Rattle.tx_plant.specs.Core.{Core}
 use Rattle.tx_plant.specs.Steps.{event_of}
 use Rattle.tx_plant.specs.Plant.{IsEngine, late, seen}
 use Rattle.tx_plant.specs.Written.{Carries, IsWritten, Leftovers, Written}
 use Rattle.tx_plant.proofs.Writing.{grows_carry, write_written}
-use Rattle.tx_pool.specs.declared.station.MadeCall.{MadeCall}
-use Rattle.tx_pool.specs.RunSteps.{RunStep, Offers, Takes, Replies, Writes, DoesAll, offers_of, written_of}
-use Rattle.tx_pool.specs.Since.{Since}
-use Rattle.tx_pool.specs.AllStations.{AllLinked}
+use Rattle.tx_locked.specs.declared.station.MadeCall.{MadeCall}
+use Rattle.tx_locked.specs.RunSteps.{RunStep, Offers, Takes, Replies, Writes, DoesAll, offers_of, written_of}
+use Rattle.tx_locked.specs.Since.{Since}
+use Rattle.tx_locked.specs.AllStations.{AllLinked}
 use Rattle.tx_pool.specs.Drives.{Drove}
 use Rattle.tx_pool.specs.Ended.{Ended}
 use Rattle.tx_pool.specs.Feeding.{HasFed}
-use Rattle.tx_pool.specs.Receipts.{all_of, offered_by, offered_of, run_entries}
+use Rattle.tx_locked.specs.Receipts.{all_of, offered_by, offered_of, run_entries}
 use Rattle.tx_pool.specs.Went.{Grown, Offered}
 use Rattle.tx_pool.specs.Wrote.{LeavesLess, LeavesThese, Wrote}
 use Rattle.tx_pool.proofs.Drove.{drove}
@@ -251,12 +250,6 @@ since_entries p q got total made s =
 
 pub since_sessions : (p q : Core) (got : List (List ℕ)) (total : ℕ) (made : List MadeCall) → Since p q got total made → q.world.sessions ≡ p.world.sessions
 since_sessions p q got total made s = (grown s.steps p q s.does).sessions
-
-pub none_waits : (w : World) → length (waits w) ≡ 0 → waits w ≡ []
-none_waits w h = none (waits w) h where
-  none : {A : Type 0} (xs : List A) → length xs ≡ 0 → xs ≡ []
-  none [] h = refl
-  none (x ∷ xs) h = absurd (omega (arith, h))
 
 -- of what a run answers
 

@@ -1,11 +1,7 @@
-mod Linking
-mod Growth
 mod Keeping
-mod Calls
 mod Drove
 mod Writing
 mod Ends
-mod Stations
 mod Concluding
 mod Starts
 mod Handed

@@ -2,7 +2,7 @@
 -- for: running::run_parts
 use Rattle.std.proofs.Common.{◌≡◌, zero, suc, ℕ, List, [], ◌∷◌, map, sym, ap, subst}
 use Rattle.sw_participant.specs.Chains.{Rule, rule_at}
-use Rattle.tx_pool.specs.AllStations.{AreReady}
+use Rattle.tx_locked.specs.AllStations.{AreReady}
 
 -- stations are ready for a run by their own rules, from their own objects and counts
 pub ready_own : {S : Type 0} (own : S → Rule) (object : S → List ℕ) (count : S → ℕ) (name : S → List ℕ) (ss : List S) →

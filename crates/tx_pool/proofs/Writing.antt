@@ -14,8 +14,8 @@ use Rattle.tx_engine.specs.World.{World, happened}
 use Rattle.tx_plant.specs.Core.{Core}
 use Rattle.tx_plant.specs.Steps.{event_of}
 use Rattle.tx_plant.specs.Plant.{IsClean, Seen}
-use Rattle.tx_pool.specs.RunSteps.{RunStep, Offers, Takes, Replies, Writes, DoesAll, Marks, written_of}
-use Rattle.tx_pool.specs.Receipts.{all_of}
+use Rattle.tx_locked.specs.RunSteps.{RunStep, Offers, Takes, Replies, Writes, DoesAll, Marks, written_of}
+use Rattle.tx_locked.specs.Receipts.{all_of}
 use Rattle.tx_pool.proofs.Keeping.{made_more, not_empty}
 use Rattle.tx_pool.proofs.Drove.{Leads, WritesTo}
 

@@ -5,12 +5,12 @@ use Rattle.sw_participant.specs.Chains.{Rule}
 use Rattle.tx_history.specs.declared.event.Entry.{Entry}
 use Rattle.tx_plant.specs.Core.{Core}
 use Rattle.tx_plant.specs.Plant.{IsEngine}
-use Rattle.tx_pool.specs.declared.station.MadeCall.{MadeCall}
-use Rattle.tx_pool.specs.AllStations.{AllLinked}
+use Rattle.tx_locked.specs.declared.station.MadeCall.{MadeCall}
+use Rattle.tx_locked.specs.AllStations.{AllLinked}
 use Rattle.tx_pool.specs.Feeding.{HasFed}
-use Rattle.tx_pool.specs.Receipts.{all_of}
-use Rattle.tx_pool.specs.Settled.{IsSettled}
-use Rattle.tx_pool.specs.Since.{Since}
+use Rattle.tx_locked.specs.Receipts.{all_of}
+use Rattle.tx_locked.specs.Settled.{IsSettled}
+use Rattle.tx_locked.specs.Since.{Since}
 
 -- The core went on from its start, and offered what was got; the calls of the stations, which lead from these objects and counts
 -- to those, are the ones whose replies are its entries; all its entries are written, and these are the copies that were written.

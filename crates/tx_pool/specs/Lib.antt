@@ -1,12 +1,5 @@
-pub mod Nothing
-pub mod Linked
-pub mod RunSteps
-pub mod Since
 pub mod Wrote
-pub mod AllStations
 pub mod Drives
-pub mod Settled
-pub mod Receipts
 pub mod Feeding
 pub mod Went
 pub mod Ended

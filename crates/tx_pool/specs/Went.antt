@@ -5,10 +5,10 @@ use Rattle.sw_context.specs.Spelling.{bytes_of}
 use Rattle.tx_history.specs.declared.event.Event.{Event}
 use Rattle.tx_history.specs.declared.event.Entry.{Entry}
 use Rattle.tx_engine.specs.World.{World}
-use Rattle.tx_pool.specs.declared.station.MadeCall.{MadeCall}
-use Rattle.tx_pool.specs.AllStations.{AreCalls}
-use Rattle.tx_pool.specs.Receipts.{AllOwn, all_of, count_done, count_shelved, offered_of, run_entries}
-use Rattle.tx_pool.specs.Settled.{IsSettled}
+use Rattle.tx_locked.specs.declared.station.MadeCall.{MadeCall}
+use Rattle.tx_locked.specs.AllStations.{AreCalls}
+use Rattle.tx_locked.specs.Receipts.{AllOwn, all_of, count_done, count_shelved, offered_of, run_entries}
+use Rattle.tx_locked.specs.Settled.{IsSettled}
 
 -- the history is the one that it was, and more: of the same flow and sessions, from the same start
 pub record Grown (start w : World) : Type 0 where

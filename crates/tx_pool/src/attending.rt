@@ -1,15 +1,13 @@
 //! What the thread of a session does.
 
-use crate::fault::Fault;
 use crate::gate::Gate;
-use crate::run::Run;
-use crate::session::{Plan, Session};
 use crate::shared::Shared;
 use std::alloc::Global;
 use std::sync::Wait;
 use std::thread::{self, Threads};
 use sw_context::Context;
 use sw_participant::{Call, Caller, NoMemory};
+use tx_locked::{Fault, Plan, Run, Session};
 
 /// Runs one session until it leaves. Each time that it takes the engine's lock, or is woken with it, it
 /// makes at most one event.

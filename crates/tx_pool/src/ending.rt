@@ -3,25 +3,17 @@
 ghost use Rattle.std.specs.Prelude.{◌≡◌, ◌≤◌, ◌+◌, ℕ, List, [], true, drop, length, map, IfErr, IfOk};
 ghost use Rattle.std.specs.Prelude.{vec_len, vec_capacity};
 ghost use Rattle.tx_plant.specs.Core.{core};
-ghost use Rattle.tx_pool.specs.AllStations.{AllBack};
+ghost use Rattle.tx_locked.specs.AllStations.{AllBack};
 ghost use Rattle.tx_plant.specs.Plant.{IsEngine};
 ghost use Rattle.tx_pool.specs.Ended.{Ended, IsSettledSince};
 ghost use Rattle.tx_pool.specs.Feeding.{HasFed};
-ghost use Rattle.tx_pool.specs.Receipts.{all_of, count_done, count_shelved};
+ghost use Rattle.tx_locked.specs.Receipts.{all_of, count_done, count_shelved};
 ghost use Rattle.tx_pool.specs.Went.{Agrees, Reports};
 
-use crate::comparing::{
-    are_all_own, are_calls, are_same, both, count_finished, count_on_shelf, is_settled,
-};
-use crate::fault::Fault;
 use crate::feeding::Fed;
 use crate::keeper::Kept;
-use crate::locked::{Left, Locked, RunIntake};
 use crate::moving::{Back, close_sessions};
 use crate::report::Report;
-use crate::run::Run;
-use crate::session::Session;
-use crate::station::{MadeCall, StationParts};
 use crate::threads::Worked;
 use sqlite::Alter;
 use std::sync::ledger::Share;
@@ -30,6 +22,10 @@ use tx_engine::Engine;
 use tx_history::Entry;
 use tx_intake::Source;
 use tx_journal::Journal;
+use tx_locked::{
+    Fault, Left, Locked, MadeCall, Run, RunIntake, Session, StationParts, are_all_own, are_calls,
+    are_same, both, count_finished, count_on_shelf, is_settled,
+};
 use tx_plant::Running;
 
 /// What is left of a run that ended well.

@@ -4,14 +4,13 @@ ghost use Rattle.std.specs.Prelude.{◌≡◌, ◌++◌, ◌∷◌, [], List, tr
 ghost use Rattle.sw_context.specs.Pairs.{Pairs};
 ghost use Rattle.tx_pool.specs.Feeding.{FeedsOne, IsFed};
 
-use crate::fault::Fault;
-use crate::run::Run;
 use crate::shared::Shared;
 use std::marker::{Model, PhantomData};
 use std::sync::Wait;
 use sw_participant::{Caller, NoMemory};
 use tx_engine::Offer;
 use tx_intake::{Putter, Source};
+use tx_locked::{Fault, Run};
 
 /// A source with the putter of the run's intake, and whether all that it has was given and put.
 /// Contracts see only the latter.

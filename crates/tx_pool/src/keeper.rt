@@ -5,8 +5,6 @@ ghost use Rattle.journal_tables.specs.Small.{IsEntrySmall};
 ghost use Rattle.tx_journal.specs.Kept.{kept};
 ghost use Rattle.tx_pool.specs.Wrote.{Wrote};
 
-use crate::fault::Fault;
-use crate::run::Run;
 use crate::shared::Shared;
 use sqlite::Alter;
 use std::alloc::Global;
@@ -14,6 +12,7 @@ use std::sync::Wait;
 use sw_participant::Caller;
 use tx_history::Entry;
 use tx_journal::{Journal, JournalError};
+use tx_locked::{Fault, Run};
 
 /// A journal with copies of the entries that were written to it, and whether each write was done.
 #[derive(Drop)]

@@ -3,16 +3,13 @@
 ghost use Rattle.std.specs.Prelude.{◌≡◌, ◌≤◌, ◌+◌, true, [], IfOk, length, get_or, vec_len, vec_capacity};
 ghost use Rattle.std.specs.List.{sum_by};
 ghost use Rattle.sw_participant.specs.Callers.{Within};
-ghost use Rattle.tx_pool.specs.AllStations.{AllBack, AreReady, IsReady};
+ghost use Rattle.tx_locked.specs.AllStations.{AllBack, AreReady, IsReady};
 
-use crate::comparing::both;
-use crate::run::Run;
-use crate::session::Session;
-use crate::station::{MadeCall, StationLog, StationParts};
 use std::alloc::{AllocError, Global};
 use std::sync::Mutex;
 use std::sync::ledger::Share;
 use sw_participant::Caller;
+use tx_locked::{MadeCall, Run, Session, StationLog, StationParts, both};
 
 // A station under its lock.
 fn lock_station<K: Run, C: Caller>(

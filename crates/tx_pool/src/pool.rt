@@ -8,7 +8,7 @@ ghost use Rattle.tx_plant.specs.Plant.{IsEngine, whole_of};
 ghost use Rattle.tx_plant.specs.Written.{IsWritten};
 ghost use Rattle.tx_pool.specs.Drives.{Drove};
 ghost use Rattle.tx_pool.specs.Early.{IsRefused, early_refusal};
-ghost use Rattle.tx_pool.specs.Settled.{IsSettled};
+ghost use Rattle.tx_locked.specs.Settled.{IsSettled};
 ghost use Rattle.tx_pool.specs.Went.{Grown, Offered, Reports};
 
 use crate::ending::{Lost, Ran};
@@ -16,7 +16,6 @@ use crate::gate::Gate;
 use crate::refusal::{Early, Late, PoolError};
 use crate::report::Report;
 use crate::running::{Work, run_parts};
-use crate::station::StationParts;
 use sqlite::Alter;
 use std::alloc::Global;
 use std::sync::Wait;
@@ -24,6 +23,7 @@ use std::thread::Threads;
 use sw_participant::{Participant, Station};
 use tx_engine::Engine;
 use tx_intake::{Getter, Intake, IntakeError, Putter, Source};
+use tx_locked::StationParts;
 use tx_plant::Plant;
 
 type Boxed = Box<dyn Participant + Send>;

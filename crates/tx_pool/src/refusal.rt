@@ -1,10 +1,10 @@
 //! Why a pool did not begin a run, or gave it up.
 
-use crate::fault::Fault;
 use sqlite::Alter;
 use sw_participant::Station;
 use thiserror::Error;
 use tx_journal::Journal;
+use tx_locked::Fault;
 use tx_plant::Plant;
 
 /// Why a run did not begin.

@@ -7,20 +7,15 @@ ghost use Rattle.tx_journal.specs.Kept.{kept};
 ghost use Rattle.tx_plant.specs.Core.{core};
 ghost use Rattle.tx_plant.specs.Plant.{seen};
 ghost use Rattle.tx_plant.specs.Written.{IsWritten};
-ghost use Rattle.tx_pool.specs.AllStations.{AreReady};
+ghost use Rattle.tx_locked.specs.AllStations.{AreReady};
 ghost use Rattle.tx_pool.specs.Drives.{Drove};
 ghost use Rattle.tx_pool.specs.Went.{Grown, Offered, Reports};
-ghost use Rattle.tx_pool.specs.Settled.{IsSettled};
+ghost use Rattle.tx_locked.specs.Settled.{IsSettled};
 
 use crate::ending::{Lost, Ran, Remains, conclude};
-use crate::fault::Fault;
 use crate::gate::Gate;
-use crate::locked::{Locked, RunIntake};
 use crate::moving::{lock_stations, open_sessions, unlock_stations};
-use crate::run::Run;
-use crate::session::Session;
 use crate::shared::Shared;
-use crate::station::{MadeCall, StationLog, StationParts};
 use crate::threads::work;
 use sqlite::Alter;
 use std::alloc::{AllocError, Global};
@@ -32,6 +27,7 @@ use std::thread::Threads;
 use sw_participant::Caller;
 use tx_intake::{Getter, Intake, Putter, Source};
 use tx_journal::Journal;
+use tx_locked::{Fault, Locked, MadeCall, Run, RunIntake, Session, StationLog, StationParts};
 use tx_plant::Running;
 
 /// Empty lists with the room that a run needs on its way in and back, and its sessions. All this

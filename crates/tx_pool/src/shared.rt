@@ -1,13 +1,10 @@
 //! What all threads of a run share.
 
-use crate::fault::Fault;
-use crate::locked::{Locked, RunIntake};
-use crate::run::Run;
-use crate::station::StationLog;
 use std::sync::atomic::{AtomicU64, Ordering};
 use std::sync::{Condvar, Mutex, MutexGuard, Wait};
 use std::time::Duration;
 use sw_participant::Caller;
+use tx_locked::{Fault, Locked, Run, RunIntake, StationLog};
 
 /// The longest time that the keeper waits for calls, in milliseconds.
 const GATHERING: u64 = 1;

@@ -6,12 +6,9 @@ ghost use Rattle.tx_journal.specs.Kept.{kept};
 ghost use Rattle.tx_pool.specs.Wrote.{Wrote};
 
 use crate::attending::attend_all;
-use crate::fault::Fault;
 use crate::feeding::{Fed, feed};
 use crate::gate::Gate;
 use crate::keeper::{Kept, keep};
-use crate::run::Run;
-use crate::session::Session;
 use crate::shared::Shared;
 use sqlite::Alter;
 use std::alloc::Global;
@@ -20,6 +17,7 @@ use std::thread::{self, Threads};
 use sw_participant::Caller;
 use tx_intake::{Putter, Source};
 use tx_journal::Journal;
+use tx_locked::{Fault, Run, Session};
 
 /// What comes back from the threads. The source or the sessions are missing if their thread could
 /// not be started, and the sessions also if memory was refused.

@@ -1,7 +1,7 @@
 use Rattle.std.proofs.Common.{rules, ◌≡◌, ◌∙◌, length, map, refl, ap}
 use Rattle.tx_plant.specs.Core.{core}
 use Rattle.tx_pool.proofs.Concluding.{concluded, reported}
-use Rattle.tx_pool.proofs.Stations.{names_back}
+use Rattle.tx_locked.proofs.Stations.{names_back}
 use Rattle.tx_pool.proofs.ending.conclude.Goals as goal
 
 pub returns-clause-ended : goal.returns-clause-ended

@@ -1,5 +1,5 @@
 use Rattle.std.proofs.Common.{rules, ◌≡◌, [], ◌∷◌, ◌++◌, length}
-use Rattle.tx_pool.proofs.Stations.{ready_last, ready_less}
+use Rattle.tx_locked.proofs.Stations.{ready_last, ready_less}
 use Rattle.tx_pool.proofs.moving.lock_stations.Goals as goal
 
 pub lock_station-requires : goal.lock_station-requires

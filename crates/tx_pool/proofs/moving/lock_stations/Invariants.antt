@@ -1,5 +1,5 @@
 use Rattle.std.proofs.Common.{◌≡◌, ◌+◌, ◌≤◌, vec_len, vec_capacity}
-use Rattle.tx_pool.specs.AllStations.{AreReady}
+use Rattle.tx_locked.specs.AllStations.{AreReady}
 use Rattle.tx_pool.proofs.moving.lock_stations.Given as goal
 
 abbrev pub invariant-loop-station : goal.invariant-loop-station

@@ -1,7 +1,7 @@
 use Rattle.std.proofs.Common.{rules, ◌≡◌, [], length, get_or, subst, arith}
 use Rattle.std.proofs.lemmas.Bool.Decides.{nat_tests}
-use Rattle.tx_pool.specs.AllStations.{IsBack}
-use Rattle.tx_pool.proofs.Stations.{both_push}
+use Rattle.tx_locked.specs.AllStations.{IsBack}
+use Rattle.tx_locked.proofs.Stations.{both_push}
 use Rattle.tx_pool.proofs.moving.unlock_stations.Goals as goal
 
 pub loop-lock-preserved : goal.loop-lock-preserved

@@ -1,6 +1,6 @@
 use Rattle.std.proofs.Common.{◌≡◌, ◌+◌, ◌≤◌, ℕ, vec_len, vec_capacity, true, Some, [], get_or}
 use Rattle.std.specs.Prelude.{slice_get}
-use Rattle.tx_pool.specs.AllStations.{IsBack}
+use Rattle.tx_locked.specs.AllStations.{IsBack}
 use Rattle.tx_pool.proofs.moving.unlock_stations.Given as goal
 
 abbrev pub invariant-loop-lock : goal.invariant-loop-lock

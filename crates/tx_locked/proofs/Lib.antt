@@ -1,0 +1,5 @@
+pub mod Calls
+mod Linking
+mod Growth
+pub mod Stations
+mod EmptyQueues
