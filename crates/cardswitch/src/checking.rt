@@ -13,8 +13,8 @@ use cli_options::choice::CheckOptions;
 use flow_model::Flow;
 use std::alloc::Global;
 
-/// Refuses the flow and the configuration of a run that has a configuration file, if they have mistakes. A run without one
-/// takes any flow.
+/// Refuses the flow and the configuration of a run that has a configuration file, if they have mistakes. A run
+/// without one takes any flow.
 pub fn check_run(
     alloc: Global,
     flow_path: &str,

@@ -1,8 +1,8 @@
 //! Why a run of the program ends early, and with which exit status.
 ghost use Rattle.std.specs.Prelude.{◌≡◌};
-ghost use Rattle.cardswitch.specs.Errors.{error_of_check, error_of_encode, error_of_flows, error_of_read, error_of_serve};
-ghost use Rattle.cardswitch.specs.Errors.{error_of_step};
-ghost use Rattle.cardswitch.specs.Errors.{error_of_setup, error_of_stream, error_of_write};
+ghost use Rattle.cardswitch.specs.Errors.{error_of_check, error_of_encode, error_of_flows, error_of_read};
+ghost use Rattle.cardswitch.specs.Errors.{error_of_serve, error_of_setup, error_of_step, error_of_stream};
+ghost use Rattle.cardswitch.specs.Errors.{error_of_write};
 ghost use Rattle.cardswitch.specs.Errors.{error_at, run_status};
 ghost use Rattle.cardswitch.specs.declared.error.RunError.TheVariants.{OutOfMemory};
 

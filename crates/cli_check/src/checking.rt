@@ -76,8 +76,8 @@ fn check_places(
     }))
 }
 
-/// Refuses a flow and a configuration that have mistakes which the configuration does not allow, with all of them; before
-/// them, a name in `allow` that no rule has. The paths are those of the files, for the text.
+/// Refuses a flow and a configuration that have mistakes which the configuration does not allow, with all of them;
+/// before them, a name in `allow` that no rule has. The paths are those of the files, for the text.
 pub fn check_set_up(
     alloc: Global,
     flow_path: &str,

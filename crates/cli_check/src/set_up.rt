@@ -76,8 +76,8 @@ fn allowed(alloc: Global, config: &Config) -> Result<Sequence<Text>, AllocError>
     Ok(Sequence::new(names))
 }
 
-/// What the rules read of a configuration: its hosts and routes, or the switch's own, and the rules that it allows to be
-/// broken.
+/// What the rules read of a configuration: its hosts and routes, or the switch's own, and the rules that it allows to
+/// be broken.
 pub fn set_up_of(alloc: Global, config: &Config) -> Result<SetUp, AllocError>
     ensures { IfOk result (λ s. s ≡ spec.set_up_of config.now) }
 {

@@ -1,5 +1,6 @@
-//! What the threads of a pool have under their locks, as values: the engine with its ledger of receipts, the stations with
-//! the calls that they made, and what is compared once all threads have ended. Nothing here starts a thread or takes a lock.
+//! What the threads of a pool have under their locks, as values: the engine with its ledger of receipts, the stations
+//! with the calls that they made, and what is compared once all threads have ended. Nothing here starts a thread or
+//! takes a lock.
 #![tactic(auto)]
 
 mod comparing;
