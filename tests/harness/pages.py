@@ -6,7 +6,7 @@ commands and files of a page are typed in their order, in one folder that begins
 that is not built yet). A line of two dots represents lines that the page leaves out, and two dots at the end of a line represent its rest.
 
 Other blocks are run too, or compared with what they show, each by its form (`FORMS`), and a block that nothing here knows fails. So does a
-page with a sentence that is too long or a link to no file, and docs/extend/ARCHITECTURE.md if it shows other crates than crates.txt.
+page with a sentence that is too long, with a symptom that nothing prints (NIGHT.md), or with a link to no file, and docs/extend/ARCHITECTURE.md if it shows other crates than crates.txt.
 """
 
 import glob
@@ -237,6 +237,25 @@ def wrong_links(path, text, top):
             yield f"no page {named}"
 
 
+def symptoms_of(text):
+    """What the first cells of a page's rows quote of the program's lines."""
+    return [it for row in re.findall(r"^\| (`.*?) \|", text, re.MULTILINE) for it in re.findall(r"`(cardswitch: .*?)`", row)]
+
+
+def unseen(text, top):
+    """The symptoms of NIGHT.md that no case and no other page has, and whose words no error of a crate has."""
+    seen = ""
+    for pattern in ("tests/*/*.cases", "tests/hosts.py", "docs/*/*.md", "crates/c*/src/*.rt"):
+        for path in glob.glob(os.path.join(glob.escape(top), pattern)):
+            if not path.endswith("NIGHT.md"):
+                with open(path, encoding="utf-8") as file:
+                    seen += file.read()
+    for symptom in symptoms_of(text):
+        line = symptom.removeprefix("cardswitch: ")
+        if line not in seen and f'"{line.split(": ", 1)[-1]}"' not in seen:
+            yield f"nothing prints {symptom}"
+
+
 def judged(name, fault):
     """A case that fails if there is a fault."""
     return Case(name, "true", fault=fault or None)
@@ -263,6 +282,8 @@ def cases_of(top):
         yield judged(f"{name}: its links", "\n".join(wrong_links(path, text, top)))
         yield from filter(None, cases_of_page(name, text, examples | hosts if name in CLONE_PAGES else examples))
         yield from code_cases(name, text, top)
+        if name == "docs/operate/NIGHT.md":
+            yield judged(f"{name}: its symptoms", "\n".join(unseen(text, top)))
         if name == "docs/use/SWITCH.md":
             yield picture_case(name, text, examples)
     yield judged("docs/extend/ARCHITECTURE.md: its crates are those of crates.txt", crates_map.wrong(top))
