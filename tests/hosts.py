@@ -3,7 +3,7 @@
 
     tests/hosts.py [WORD] [--program PATH]
 
-Each case is a row of `docs/HOSTS.md`: what the host does, and what the switch then answers, stores and sends. The hosts are played frame
+Each case is a row of `docs/operate/HOSTS.md`: what the host does, and what the switch then answers, stores and sends. The hosts are played frame
 by frame (`harness/hosts.py`). One case runs `examples/hosts/host.py`, and one `examples/hosts/try.sh`, in which socat carries the frames
 over connections on the loopback, if it is installed. Two cases run commands exactly as the pages have them. WORD picks the cases whose
 name has these letters. The last line has the counts; the status is 1 if something is wrong.
@@ -834,7 +834,7 @@ def bad_length_over_a_connection(program, room):
 
 
 def block_of(page, begin):
-    """The block of a page whose first line begins like this, as lines."""
+    """The block of a page of docs/ whose first line begins like this, as lines."""
     with open(os.path.join(os.path.dirname(EXAMPLES), "docs", page), encoding="utf-8") as file:
         blocks = [block for _, block in pages.blocks_of(file.read())]
     return next(block for block in blocks if block[0].startswith(begin))
@@ -850,8 +850,8 @@ def furnished(program, room):
 
 
 def by_hand(program, room):
-    """The commands of `docs/HOSTS.md` for one host at its pipes. The other host is not there, and is stood in for."""
-    block = "\n".join(block_of("HOSTS.md", "mkfifo "))
+    """The commands of `docs/operate/HOSTS.md` for one host at its pipes. The other host is not there, and is stood in for."""
+    block = "\n".join(block_of("operate/HOSTS.md", "mkfifo "))
     process = subprocess.Popen(["sh", "-c", block], cwd=room, env=furnished(program, room), start_new_session=True)
     try:
         wanted("the status", process.wait(SECONDS), 0)
@@ -869,13 +869,13 @@ def by_hand(program, room):
 
 
 def behind_a_socket(program, room):
-    """The command of `docs/OPERATING.md` that serves connections, on a free port of the loopback."""
+    """The command of `docs/operate/OPERATING.md` that serves connections, on a free port of the loopback."""
     if shutil.which("socat") is None:
         print("skipped: no socat listens")
         return
     with socket.create_server(("127.0.0.1", 0)) as probe:
         port = probe.getsockname()[1]
-    (line,) = block_of("OPERATING.md", "socat -t 30 TCP-LISTEN:")
+    (line,) = block_of("operate/OPERATING.md", "socat -t 30 TCP-LISTEN:")
     command = line.replace(":8583,", f":{port},bind=127.0.0.1,")
     serving = subprocess.Popen(["sh", "-c", command], cwd=room, env=furnished(program, room), start_new_session=True)
     try:

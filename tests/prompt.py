@@ -8,7 +8,7 @@ seconds, and nothing more. A line that the model refuses has to end the run with
 
 With `--prompt` each line is asked for by a prompt, a line that the model refuses is reported and changes nothing, and the run goes on.
 The lines `help`, `list` and `info`, empty ones, comments, further spaces and refused lines come among the others, and `quit` may end it.
-The sessions that docs/DEBUGGER.md shows are typed on a pseudo-terminal, and what is on the screen has to be what the page shows.
+The sessions that docs/use/DEBUGGER.md shows are typed on a pseudo-terminal, and what is on the screen has to be what the page shows.
 """
 
 import argparse
@@ -28,7 +28,7 @@ from model import flows, generate, script  # noqa: E402
 
 TOP = os.path.dirname(os.path.dirname(os.path.abspath(__file__)))
 BUILT = os.path.join(TOP, "crates", "cardswitch", "out", "cardswitch")
-PAGE = os.path.join(TOP, "docs", "DEBUGGER.md")
+PAGE = os.path.join(TOP, "docs", "use", "DEBUGGER.md")
 
 # How many seconds an answer may take, and how long nothing more may come after it.
 SECONDS, QUIET = 20, 0.002

@@ -1,5 +1,5 @@
 #!/usr/bin/env python3
-"""Prints the picture of docs/ARCHITECTURE.md: which crate depends on which, as Mermaid, from crates.txt.
+"""Prints the picture of docs/extend/ARCHITECTURE.md: which crate depends on which, as Mermaid, from crates.txt.
 
     tests/harness/crates_map.py
 
@@ -69,10 +69,10 @@ def over_the_law(top, text):
 
 
 def wrong(top):
-    """How docs/ARCHITECTURE.md differs from crates.txt, or what crates.txt has that it may not have, or None."""
+    """How docs/extend/ARCHITECTURE.md differs from crates.txt, or what crates.txt has that it may not have, or None."""
     with open(os.path.join(top, "crates.txt"), encoding="utf-8") as it:
         text = it.read()
-    with open(os.path.join(top, "docs", "ARCHITECTURE.md"), encoding="utf-8") as it:
+    with open(os.path.join(top, "docs", "extend", "ARCHITECTURE.md"), encoding="utf-8") as it:
         page = it.read()
     found = over_the_law(top, text)
     if found:

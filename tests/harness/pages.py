@@ -1,12 +1,12 @@
-"""Runs the examples of README.md and docs/*.md, so that a page with a wrong example fails.
+"""Runs the examples of README.md and of the pages below docs/, so that a page with a wrong example fails.
 
 An indented block that begins with `$ ` is an example: after each `$ ` line comes what the command prints on both
-streams, as on a terminal. A block right after a line that ends in a name in backquotes and a colon is that file, for
-the examples of the page below it. A line of two dots represents lines that the page leaves out, and two dots at the end
-of a line represent its rest.
+streams, as on a terminal. A block right after a line that ends in a name in backquotes and a colon is that file. All
+commands and files of a page are typed in their order, in one folder that begins with the files of examples/ (`CLONE_PAGES`: in a clone
+that is not built yet). A line of two dots represents lines that the page leaves out, and two dots at the end of a line represent its rest.
 
 Other blocks are run too, or compared with what they show, each by its form (`FORMS`), and a block that nothing here knows fails. So does a
-page with a sentence that is too long, and docs/ARCHITECTURE.md if it shows other crates than crates.txt.
+page with a sentence that is too long, with a symptom that nothing prints (NIGHT.md), or with a link to no file, and docs/extend/ARCHITECTURE.md if it shows other crates than crates.txt.
 """
 
 import glob
@@ -18,6 +18,11 @@ from harness.case import Case, Exactly, difference
 from model import config
 
 NAMED = re.compile(r"`([A-Za-z0-9_.-]+)`:$")
+# A link to a file, and a page that is named by its path from the top.
+LINK, PAGE = re.compile(r"\]\(([^)#:]+)[^)]*\)"), re.compile(r"`(docs/[\w/-]+\.md)`")
+# What comes before the output of each command of a page, and the function that prints it and keeps `$?`.
+MARK = b"\x01\n"
+MARKS = "exec 2>&1\nmark() { set -- $?; printf '\\001\\n'; return $1; }\n"
 FENCED = re.compile(r"^```.*?^```$", re.DOTALL | re.MULTILINE)
 
 
@@ -27,12 +32,33 @@ class Page:
     def __init__(self, lines):
         self.lines = lines
 
-    def wrong(self, name, came):
+    def wrong(self, _name, came):
         came = came.decode("utf-8", "backslashreplace").rstrip("\n")
         pattern = "\n".join(pattern_of(line) for line in self.lines)
         if re.fullmatch(pattern, came):
             return None
         return difference("what the page shows", "\n".join(self.lines).encode(), came.encode())
+
+
+class PageCase(Case):
+    """The commands of a page; what is wrong is shown without the others."""
+
+    def wrong(self, came):
+        return came if isinstance(came, str) else self.stdout.wrong("", came.stdout)
+
+
+class Typed:
+    """Both streams of all commands of a page, each after its mark."""
+
+    def __init__(self, commands):
+        self.commands = commands
+
+    def wrong(self, _name, came):
+        pieces = came.split(MARK)[1:]
+        if len(pieces) != len(self.commands):
+            return f"{len(pieces)} of {len(self.commands)} commands were run"
+        found = [(command, Page(lines).wrong("", piece)) for (command, lines), piece in zip(self.commands, pieces, strict=True)]
+        return "\n".join(f"$ {command}\n{wrong}" for command, wrong in found if wrong) or None
 
 
 def pattern_of(line):
@@ -72,9 +98,19 @@ def commands_of(block):
     return commands
 
 
+# The pages whose first command is typed at the top of a clone.
+CLONE_PAGES = ("docs/use/FIRST-HOUR.md",)
 # What README builds, with the built program in its place.
 BUILD = 'mkdir out && printf \'#!/bin/sh\\nln -sf "%s" out/cardswitch\\n\' "$(command -v cardswitch)" > build && chmod +x build'
 LAID_OUT = f"mkdir examples && cp switch.toml requests.frames examples && {BUILD}"
+
+
+# A clone that is not built yet.
+CLONE = (
+    "mkdir -p out examples/hosts && mv switch.toml requests.* responses.frames examples && mv *.py *.sh config.toml examples/hosts\n"
+    "printf '#!/bin/sh\\necho \"build: building out/cardswitch without proof, with checks at run time; this takes some minutes\"\\n"
+    'ln -sf "%s" out/cardswitch && echo "build: built out/cardswitch in 0 seconds"\\n\' "$(command -v cardswitch)" > build && chmod +x build\n'
+)
 
 
 def built_case(name, block, _page, examples):
@@ -163,23 +199,23 @@ def code_cases(name, text, top):
 
 
 def cases_of_page(name, text, examples):
-    files, unused = dict(examples), set()
-    for before, block in blocks_of(text):
+    script, typed, unused = MARKS + (CLONE if name in CLONE_PAGES else ""), [], set()
+    for number, (before, block) in enumerate(blocks_of(text)):
         named = NAMED.search(before)
         if block[0].startswith("$ "):
             commands = commands_of(block)
             unused = {it for it in unused if not any(it in command for command, _ in commands)}
-            for number, (command, wanted) in enumerate(commands):
-                # What came before in the block is run again, so that files and $? are there.
-                earlier = "".join(f"{{ {line}; }} > /dev/null 2>&1\n" for line, _ in commands[:number])
-                case = Case(f"{name}: {command}", f"exec 2>&1\n{earlier}{command}\ntrue")
-                case.files, case.stdout = dict(files), Page(wanted)
-                yield case
+            script += "".join(f"mark\n{command}\n" for command, _ in commands)
+            typed += commands
         elif named:
-            files[named[1]] = "".join(f"{line}\n" for line in block).encode()
+            script += "\n".join([f"cat > {named[1]} <<'END {number}'", *block, f"END {number}", ""])
             unused.add(named[1])
         else:
             yield other_case(name, block, text, examples)
+    if typed:
+        case = PageCase(f"{name}: its examples, typed in order", f"{script}true", files=dict(examples))
+        case.stdout = Typed(typed)
+        yield case
     yield from (judged(f"{name}: {it}", "no example uses this file") for it in sorted(unused))
 
 
@@ -191,25 +227,63 @@ def picture_case(name, text, examples):
     return case
 
 
+def wrong_links(path, text, top):
+    """The links of a page to files that are not there, and the pages in backquotes that are not."""
+    for link in LINK.findall(text):
+        if not os.path.exists(os.path.join(os.path.dirname(path), link)):
+            yield f"no file at the link {link}"
+    for named in PAGE.findall(text):
+        if not os.path.exists(os.path.join(top, named)):
+            yield f"no page {named}"
+
+
+def symptoms_of(text):
+    """What the first cells of a page's rows quote of the program's lines."""
+    return [it for row in re.findall(r"^\| (`.*?) \|", text, re.MULTILINE) for it in re.findall(r"`(cardswitch: .*?)`", row)]
+
+
+def unseen(text, top):
+    """The symptoms of NIGHT.md that no case and no other page has, and whose words no error of a crate has."""
+    seen = ""
+    for pattern in ("tests/*/*.cases", "tests/hosts.py", "docs/*/*.md", "crates/c*/src/*.rt"):
+        for path in glob.glob(os.path.join(glob.escape(top), pattern)):
+            if not path.endswith("NIGHT.md"):
+                with open(path, encoding="utf-8") as file:
+                    seen += file.read()
+    for symptom in symptoms_of(text):
+        line = symptom.removeprefix("cardswitch: ")
+        if line not in seen and f'"{line.split(": ", 1)[-1]}"' not in seen:
+            yield f"nothing prints {symptom}"
+
+
 def judged(name, fault):
     """A case that fails if there is a fault."""
     return Case(name, "true", fault=fault or None)
 
 
+def files_in(*folders):
+    """The files in a folder, by their names."""
+    found = {}
+    for path in filter(os.path.isfile, glob.glob(os.path.join(glob.escape(os.path.join(*folders)), "*"))):
+        with open(path, "rb") as file:
+            found[os.path.basename(path)] = file.read()
+    return found
+
+
 def cases_of(top):
     """The examples of all pages, run in a folder with the files of examples/, and what else is wanted of a page."""
-    examples = {}
-    for path in filter(os.path.isfile, glob.glob(os.path.join(glob.escape(top), "examples", "*"))):
-        with open(path, "rb") as file:
-            examples[os.path.basename(path)] = file.read()
-    pages = sorted(glob.glob(os.path.join(glob.escape(top), "docs", "*.md")))
+    examples, hosts = files_in(top, "examples"), files_in(top, "examples", "hosts")
+    pages = sorted(glob.glob(os.path.join(glob.escape(top), "docs", "**", "*.md"), recursive=True))
     for path in [os.path.join(top, "README.md"), *pages]:
         with open(path, encoding="utf-8") as file:
             text = file.read()
         name = os.path.relpath(path, top)
         yield judged(f"{name}: no sentence is too long", "\n".join(prose.too_long(text)))
-        yield from filter(None, cases_of_page(name, text, examples))
+        yield judged(f"{name}: its links", "\n".join(wrong_links(path, text, top)))
+        yield from filter(None, cases_of_page(name, text, examples | hosts if name in CLONE_PAGES else examples))
         yield from code_cases(name, text, top)
-        if name == "docs/SWITCH.md":
+        if name == "docs/operate/NIGHT.md":
+            yield judged(f"{name}: its symptoms", "\n".join(unseen(text, top)))
+        if name == "docs/use/SWITCH.md":
             yield picture_case(name, text, examples)
-    yield judged("docs/ARCHITECTURE.md: its crates are those of crates.txt", crates_map.wrong(top))
+    yield judged("docs/extend/ARCHITECTURE.md: its crates are those of crates.txt", crates_map.wrong(top))

@@ -1,4 +1,4 @@
-"""Finds sentences that are too long in README.md and docs/*.md: over 40 words, not counting code. A cell of a table is a paragraph."""
+"""Finds sentences that are too long in README.md and the pages of docs/: over 40 words, not counting code. A cell of a table is a paragraph."""
 
 import re
 

@@ -1,4 +1,4 @@
-"""Configuration files: what one states, or its first fault, as FORMATS.md has them ("Configuration files")."""
+"""Configuration files: what one states, or its first fault, as docs/use/FORMATS.md has them ("Configuration files")."""
 
 import datetime
 import re

@@ -1,4 +1,4 @@
-"""A journal's tables in both layouts, their first row at fault, and the view that they hold. docs/FORMATS.md has them."""
+"""A journal's tables in both layouts, their first row at fault, and the view that they hold. docs/use/FORMATS.md has them."""
 
 import contextlib
 import copy

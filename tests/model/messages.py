@@ -1,4 +1,4 @@
-"""Messages of ISO 8583:1987 in the ASCII profile, their frames, and what `decode` prints. FORMATS.md has them."""
+"""Messages of ISO 8583:1987 in the ASCII profile, their frames, and what `decode` prints. docs/use/FORMATS.md has them."""
 
 import re
 

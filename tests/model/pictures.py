@@ -1,4 +1,4 @@
-"""Pictures of flows, as docs/FORMATS.md has them."""
+"""Pictures of flows, as docs/use/FORMATS.md has them."""
 
 MARKS = {(False, False): "", (True, False): " (abort-aware)", (False, True): " (recovering)"}
 MARKS[True, True] = " (abort-aware, recovering)"

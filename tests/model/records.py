@@ -1,4 +1,4 @@
-"""The log of `run`: the record of each transaction, as a line of JSON without its times. docs/FORMATS.md, "The log", has it."""
+"""The log of `run`: the record of each transaction, as a line of JSON without its times. docs/use/FORMATS.md, "The log", has it."""
 
 import re
 

@@ -1,4 +1,4 @@
-"""The rules of a set-up, as docs/SWITCH.md has them: the lines that `check` prints."""
+"""The rules of a set-up, as docs/use/SWITCH.md has them: the lines that `check` prints."""
 
 OWN = ["check", "limits", "route", "reverse", "standin", "forward", "respond"]
 OWN_HOSTS = {"alpha": True, "beta": True}
@@ -57,7 +57,7 @@ class SetUp:
         self.main = next(group for group in flow.groups if group.name == "main")
 
     def ready(self, sessions=1):
-        """The line that a run of this set-up writes when it is ready, with a journal in memory (docs/HOSTS.md)."""
+        """The line that a run of this set-up writes when it is ready, with a journal in memory (docs/operate/HOSTS.md)."""
         hosts = "".join(f" {name}" for name in self.hosts)
         return f"cardswitch: ready: flow flow.toml, hosts{hosts}, journal in memory, sessions {sessions}\n"
 

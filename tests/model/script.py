@@ -1,4 +1,4 @@
-"""The lines of a script of `step`, over the engine. FORMATS.md has them."""
+"""The lines of a script of `step`, over the engine. docs/use/FORMATS.md has them."""
 
 import re
 from collections import defaultdict, deque
@@ -298,7 +298,7 @@ def readable(text):
 
 
 class Prompt(Script):
-    """A session at a prompt. DEBUGGER.md has its lines."""
+    """A session at a prompt. docs/use/DEBUGGER.md has its lines."""
 
     TEXT = "cardswitch> "
 

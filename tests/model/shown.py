@@ -1,4 +1,4 @@
-"""What `journal` prints of a journal's tables, as text and as lines of JSON. docs/FORMATS.md, "The text of a journal", has it."""
+"""What `journal` prints of a journal's tables, as text and as lines of JSON. docs/use/FORMATS.md, "The text of a journal", has it."""
 
 import json
 

@@ -1,4 +1,4 @@
-"""The participants of the switch, and what `run` answers. docs/SWITCH.md has them, docs/OPERATING.md has the run."""
+"""The participants of the switch, and what `run` answers. docs/use/SWITCH.md has them, docs/operate/OPERATING.md has the run."""
 
 import functools
 

@@ -1,4 +1,4 @@
-"""`run --threads`, whose trace the model follows. docs/OPERATING.md and docs/TRACE.md have both.
+"""`run --threads`, whose trace the model follows. docs/operate/OPERATING.md and docs/use/TRACE.md have both.
 
 A line of the trace tells who moves: the next request is offered, a session takes it, the holder of a transaction makes its
 due call. The model's switch makes the same move, and says what the line has to be: the call's answer by the model's

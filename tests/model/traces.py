@@ -1,4 +1,4 @@
-"""The lines of the trace as JSON. docs/TRACE.md, "The same as JSON", has it.
+"""The lines of the trace as JSON. docs/use/TRACE.md, "The same as JSON", has it.
 
 An object is made from the line of text and the response code that a context notes: all other facts are in the text.
 """

@@ -1,4 +1,4 @@
-//! A participant that stamps contexts: the example of docs/PARTICIPANTS.md.
+//! A participant that stamps contexts: the example of docs/extend/PARTICIPANTS.md.
 
 ghost use Rattle.std.specs.Prelude.{◌≡◌, ◌≢◌, ◌⊎◌, None, codes};
 ghost use Rattle.sw_context.specs.Pairs.{refusal, with_value, without};
