@@ -6,7 +6,7 @@ use std::alloc::{AllocError, Global};
 use tx_history::Entry;
 
 /// A copy of each entry.
-pub fn copies(alloc: Global, entries: &[Entry]) -> Result<Vec<Entry>, AllocError>
+pub(crate) fn copies(alloc: Global, entries: &[Entry]) -> Result<Vec<Entry>, AllocError>
     ensures { IfOk result (λ copies. copies.items ≡ entries.now) }
 {
     let mut copies = Vec::with_capacity(alloc, entries.len())?;

@@ -14,7 +14,6 @@ mod station;
 pub use comparing::{
     are_all_own, are_calls, are_same, both, count_finished, count_on_shelf, is_settled,
 };
-pub use copies::copies;
 pub use fault::Fault;
 pub use locked::{Left, Locked, RunIntake};
 pub use run::Run;
