@@ -16,10 +16,11 @@ use std::alloc::{AllocError, Global};
 use std::sync::Wait;
 use std::thread::Threads;
 use std::time::{Clock, Duration};
-use sw_hosts::{HostTimes, IssuerLink, ReadPath, WritePath};
+use sw_hosts::{IssuerLink, ReadPath, WritePath};
 use sw_issuers::{GroupLink, Issuer};
 use sw_participant::{Sequence, Text};
 use sw_parts::Routing;
+use sw_wire::HostTimes;
 
 fn routing(route: &Route) -> Result<Routing, AllocError>
     ensures { IfOk result (λ r. r ≡ routing_of route.now) }

@@ -6,9 +6,9 @@ use Rattle.std.proofs.Math.Seq.{map-set_same}
 use Rattle.std.proofs.lemmas.List.{length-set, map-append, map_more, take_more_set, with_items_is}
 use Rattle.std.specs.Vec.{with_items}
 use Rattle.std.specs.Global.{Vec}
-use Rattle.sw_hosts.specs.HostLine.{host_line}
-use Rattle.sw_hosts.specs.declared.counts.Counts.{Counts}
-use Rattle.sw_hosts.specs.declared.state.HostState.{HostState}
+use Rattle.sw_wire.specs.HostLine.{host_line}
+use Rattle.sw_wire.specs.declared.counts.Counts.{Counts}
+use Rattle.sw_wire.specs.declared.state.HostState.{HostState}
 use Rattle.cli_words.specs.Hosts.{AreHostLines, AreNews, IsNewsOf, Reports, line_of}
 use Rattle.cli_words.specs.declared.hosts.NamedHost.{NamedHost}
 

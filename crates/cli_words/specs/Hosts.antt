@@ -1,10 +1,10 @@
 -- What is reported of hosts.
 use Rattle.std.specs.Prelude.{◌≡◌, ◌≢◌, ◌⊎◌, ℕ, List, [], ◌∷◌, ◌++◌, map, flat_map}
-use Rattle.sw_hosts.specs.HostLine.{host_line}
-use Rattle.sw_hosts.specs.States.{IsStateLine}
-use Rattle.sw_hosts.specs.declared.counts.Counts.{Counts}
-use Rattle.sw_hosts.specs.declared.state.HostState.{HostState}
-use Rattle.sw_hosts.specs.declared.times.HostTimes.{HostTimes}
+use Rattle.sw_wire.specs.HostLine.{host_line}
+use Rattle.sw_wire.specs.States.{IsStateLine}
+use Rattle.sw_wire.specs.declared.counts.Counts.{Counts}
+use Rattle.sw_wire.specs.declared.state.HostState.{HostState}
+use Rattle.sw_wire.specs.declared.times.HostTimes.{HostTimes}
 use Rattle.cli_words.specs.declared.hosts.Hosts.{Hosts}
 
 -- their names, in their order

@@ -1,12 +1,13 @@
 //! What is reported of the hosts of a run that are reached by streams.
 
 ghost use Rattle.std.specs.Prelude.{◌≡◌, ◌∷◌, ◌++◌, [], IfOk, OnOk, string_bytes};
-ghost use Rattle.sw_hosts.specs.declared.state.HostState.TheVariants.{Reached};
+ghost use Rattle.sw_wire.specs.declared.state.HostState.TheVariants.{Reached};
 ghost use Rattle.cli_words.specs.Hosts.{AreHostLines, AreNews, Reports, names_in, states_in};
 
 use std::alloc::{AllocError, Global};
-use sw_hosts::{HostReport, HostState};
+use sw_hosts::HostReport;
 use sw_participant::Text;
+use sw_wire::HostState;
 
 /// A host that is reached by streams.
 struct NamedHost {

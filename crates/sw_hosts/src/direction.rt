@@ -1,82 +1,10 @@
 //! The two directions of a host.
 
-ghost use Rattle.std.specs.Prelude.{◌≡◌, ◌<◌};
-ghost use Rattle.sw_hosts.specs.declared.direction.DirectionState.{DirectionState};
-ghost use Rattle.sw_hosts.specs.Directions.{is_due, is_ordered, opened_from, word_of};
-
-use crate::moment::Moment;
 use crate::shared_moment::SharedMoment;
 use std::sync::Wait;
 use std::sync::atomic::{AtomicU64, Ordering};
 use std::time::Duration;
-
-/// How soon after an order to open a direction the next one may come, in microseconds.
-const BETWEEN_ORDERS: u64 = 1_000_000;
-
-/// Whether a direction of a host is open.
-#[derive(Clone, Copy, PartialEq, Eq)]
-pub enum DirectionState {
-    /// It is not open, and nobody tries to open it.
-    Closed,
-    /// Its thread was ordered to open it, and has not done so yet.
-    Opening,
-    /// Its thread reads from it, or writes to it.
-    Open,
-}
-
-impl DirectionState {
-    fn word(self) -> u64
-        ensures { result ≡ word_of self }
-    {
-        match self {
-            DirectionState::Closed => 0,
-            DirectionState::Opening => 1,
-            DirectionState::Open => 2,
-        }
-    }
-
-    fn of_word(word: u64) -> DirectionState
-        ensures known { (state : DirectionState) → word ≡ word_of state → result ≡ state }
-        ensures unknown { 2 < word → result ≡ DirectionState.Closed }
-    {
-        match word {
-            1 => DirectionState::Opening,
-            2 => DirectionState::Open,
-            _ => DirectionState::Closed,
-        }
-    }
-}
-
-/// Whether a direction that was last ordered to be opened at `last` may be ordered again.
-fn is_due(last: Option<Moment>, now: Moment) -> bool
-    ensures { result ≡ is_due last now.micros }
-{
-    match last {
-        Some(last) => BETWEEN_ORDERS <= now.micros.saturating_sub(last.micros),
-        None => true,
-    }
-}
-
-/// Whether an order opens a direction: one that is closed, and may be ordered again.
-fn is_ordered(state: DirectionState, last: Option<Moment>, now: Moment) -> bool
-    ensures { result ≡ is_ordered state last now.micros }
-{
-    state == DirectionState::Closed && is_due(last, now)
-}
-
-/// The moment from which a closed direction that was last ordered at `last` is ordered without a message: while
-/// the host is tested, and a second after that order.
-fn opened_from(tested_from: Option<Moment>, last: Option<Moment>) -> Option<Moment>
-    ensures { result ≡ opened_from tested_from last }
-{
-    let from = tested_from?;
-    let Some(last) = last else {
-        return Some(from);
-    };
-    Some(from.or_later(Moment {
-        micros: last.micros.saturating_add(BETWEEN_ORDERS),
-    }))
-}
+use sw_wire::{DirectionState, Moment, is_ordered, opened_from};
 
 /// One direction of a host. Links order it to be opened; one thread opens it, uses it and closes it. An order, and
 /// whatever else the thread has to look at, rings its bell: the thread reads the bell before it looks, and sleeps

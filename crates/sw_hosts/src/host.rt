@@ -3,17 +3,16 @@
 ghost use Rattle.std.specs.Prelude.{◌≡◌, IfOk};
 ghost use Rattle.std.specs.Arc.{arc_value};
 
-use crate::counts::Counts;
 use crate::host_way::HostWay;
 use crate::link::HostLink;
 use crate::opener::{OpenReader, OpenWriter};
 use crate::shared::Shared;
 use crate::threads::HostThread;
-use crate::times::HostTimes;
 use std::alloc::{AllocError, Global};
 use std::sync::{Arc, Wait};
 use std::thread::{self, Threads};
 use std::time::Clock;
+use sw_wire::{Counts, HostTimes};
 
 /// An issuer's host, which is reached over a direction to it and one from it.
 ///

@@ -3,11 +3,9 @@
 ghost use Rattle.std.specs.Prelude.{◌≡◌};
 ghost use Rattle.std.specs.Arc.{arc_value};
 
-use crate::counts::Counts;
 use crate::shared::Shared;
-use crate::state::HostState;
-use crate::times::HostTimes;
 use std::sync::Arc;
+use sw_wire::{Counts, HostState, HostTimes};
 
 /// The counts and the state of a host, to be reported while its links are in use.
 pub struct HostReport {

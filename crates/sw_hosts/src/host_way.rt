@@ -2,22 +2,16 @@
 
 ghost use Rattle.std.specs.Prelude.{◌≡◌, ⊤, IfOk, IfSome, Some};
 ghost use Rattle.std.specs.Arc.{arc_value};
-ghost use Rattle.sw_hosts.specs.Keyed.{key_in};
-ghost use Rattle.sw_hosts.specs.Looks.{answer_in};
+ghost use Rattle.sw_wire.specs.Keyed.{key_in};
+ghost use Rattle.sw_wire.specs.Looks.{answer_in};
 
-use crate::direction::DirectionState;
-use crate::frame::Frame;
 use crate::host_report::HostReport;
-use crate::look::{Look, is_closed};
-use crate::moment::{Moment, Naps};
-use crate::outgoing::Awaited;
 use crate::shared::Shared;
-use crate::state::HostSign;
-use crate::way::Way;
 use std::alloc::AllocError;
 use std::sync::{Arc, Mutex, MutexGuard};
 use std::time::{Clock, Duration};
 use sw_mux::Key;
+use sw_wire::{Awaited, DirectionState, Frame, HostSign, Look, Moment, Naps, Way, is_closed};
 
 /// How long a message that has a direction opened waits for it, in milliseconds.
 const OPENING: u64 = 100;

@@ -2,16 +2,15 @@
 
 ghost use Rattle.std.specs.Prelude.{◌≡◌, [], IfOk, IfSome, OnOk, OnErr};
 ghost use Rattle.std.specs.Arc.{arc_value};
-ghost use Rattle.sw_hosts.specs.Ways.{AnswersTo, KeyedFor};
+ghost use Rattle.sw_wire.specs.Ways.{AnswersTo, KeyedFor};
 
 use crate::host_report::HostReport;
 use crate::host_way::HostWay;
-use crate::outgoing::Awaited;
-use crate::way::{receive_over, send_over};
 use std::alloc::{AllocError, Global};
 use std::time::Clock;
 use sw_participant::NoMemory;
 use sw_parts::Link;
+use sw_wire::{Awaited, receive_over, send_over};
 
 /// A link to a host.
 ///

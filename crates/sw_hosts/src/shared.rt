@@ -1,24 +1,19 @@
 //! What the threads of a host and its links share.
 
 ghost use Rattle.std.specs.Prelude.{◌≡◌, IfOk, IfSome, IsTrue};
-ghost use Rattle.sw_hosts.specs.Wanted.{is_timely};
+ghost use Rattle.sw_wire.specs.Wanted.{is_timely};
 
-use crate::came::{Came, came_in};
-use crate::counts::Counters;
+use crate::counters::Counters;
 use crate::direction::Direction;
-use crate::frame::Frame;
-use crate::inbox::Inbox;
-use crate::look::Look;
-use crate::moment::Moment;
-use crate::outbox::Outbox;
-use crate::pause::{PauseChange, is_paused, pause_by, pause_by_tests, tested_from};
 use crate::shared_pause::SharedPause;
 use crate::shared_state::SharedState;
-use crate::state::HostSign;
-use crate::times::HostTimes;
 use std::alloc::{AllocError, Global};
 use std::sync::atomic::{AtomicU64, Ordering};
 use std::sync::{Mutex, Wait};
+use sw_wire::{
+    Came, Frame, HostSign, HostTimes, Inbox, Look, Moment, Outbox, PauseChange, came_in, is_paused,
+    pause_by, pause_by_tests, tested_from,
+};
 
 /// What the threads of a host and its links share. A lock is held for a few steps only, and never
 /// while something is read, written or opened.

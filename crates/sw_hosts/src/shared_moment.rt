@@ -1,10 +1,10 @@
 //! A moment that threads share.
 
 ghost use Rattle.std.specs.Prelude.{◌≡◌};
-ghost use Rattle.sw_hosts.specs.Moments.{moment_in, word_for};
+ghost use Rattle.sw_hosts.specs.SharedMoments.{moment_in, word_for};
 
-use crate::moment::Moment;
 use std::sync::atomic::{AtomicU64, Ordering};
+use sw_wire::Moment;
 
 fn word_for(moment: Option<Moment>) -> u64
     ensures { result ≡ word_for moment }

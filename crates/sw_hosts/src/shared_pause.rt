@@ -1,8 +1,8 @@
 //! The pause of a host, which its threads and links share.
 
-use crate::pause::Pause;
 use crate::shared_moment::SharedMoment;
 use std::sync::atomic::{AtomicU64, Ordering};
+use sw_wire::Pause;
 
 /// A pause, or none. No contract says what another thread has put there.
 ///

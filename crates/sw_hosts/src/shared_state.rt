@@ -1,7 +1,7 @@
 //! The state of a host, which its threads and links share.
 
-use crate::state::{HostSign, HostState};
 use std::sync::atomic::{AtomicU64, Ordering};
+use sw_wire::{HostSign, HostState};
 
 /// More tries than a word needs that few threads change.
 const MAX_TRIES: u64 = u64::MAX;

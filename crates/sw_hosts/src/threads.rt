@@ -3,18 +3,14 @@
 ghost use Rattle.std.specs.Prelude.{◌≡◌, OnOk, true};
 ghost use Rattle.std.specs.Io.KnownBytes.{Appends};
 
-use crate::direction::DirectionState;
-use crate::echo::echo_frame;
-use crate::moment::Moment;
 use crate::opener::{OpenReader, OpenWriter};
 use crate::shared::Shared;
-use crate::state::HostSign;
-use crate::watch::{Duty, Watch};
 use std::alloc::Global;
 use std::io::{self, ErrorKind, Read, Write};
 use std::sync::Wait;
 use std::time::Clock;
 use sw_frame::Framer;
+use sw_wire::{DirectionState, Duty, HostSign, Moment, Watch, echo_frame};
 
 /// How many bytes one read takes at most.
 const PIECE: usize = 4_096;

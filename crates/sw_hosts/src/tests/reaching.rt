@@ -1,7 +1,7 @@
 //! Messages that reach nobody.
 
 use crate::tests::wires::{REQUEST, seconds, wire_up};
-use crate::{Host, HostState, OpenReader, OpenWriter};
+use crate::{Host, OpenReader, OpenWriter};
 use std::io::{self, ErrorKind, PipeReader, PipeWriter};
 use std::sync::Arc;
 use std::sync::atomic::{AtomicU64, Ordering};
@@ -9,6 +9,7 @@ use std::test::Fail;
 use std::thread;
 use std::time::{Duration, Instant};
 use sw_parts::Link;
+use sw_wire::HostState;
 
 /// Opens nothing, and counts how often it was asked to.
 #[derive(Drop)]

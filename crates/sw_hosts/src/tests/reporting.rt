@@ -1,7 +1,7 @@
 //! What is reported of a host.
 
 use crate::tests::wires::{REQUEST, RESPONSE, Wired, seconds, wire_up};
-use crate::{Host, HostReport, HostState, HostTimes, OpenWriter, ReadPath, WritePath};
+use crate::{Host, HostReport, OpenWriter, ReadPath, WritePath};
 use std::alloc::Global;
 use std::io::{self, ErrorKind, PipeWriter, pipe};
 use std::os::fd::AsRawFd;
@@ -9,6 +9,7 @@ use std::test::Fail;
 use std::thread;
 use std::time::Duration;
 use sw_parts::Link;
+use sw_wire::{HostState, HostTimes};
 
 // Whether the host is in this state within ten seconds.
 fn comes_to(rt: HostRuntime, report: &HostReport, state: HostState) -> bool {

@@ -1,13 +1,13 @@
 //! Hosts that do not answer.
 
-use crate::direction::DirectionState;
+use crate::HostLink;
 use crate::tests::wires::{NEXT_REQUEST, REQUEST, Wired, seconds, wire_up};
-use crate::{HostLink, HostState, HostTimes};
 use std::io::{Read, Write};
 use std::test::Fail;
 use std::thread;
 use std::time::{Duration, Instant};
 use sw_parts::Link;
+use sw_wire::{DirectionState, HostState, HostTimes};
 
 // The answer to an echo test (fields 11 and 39).
 const ECHO_ANSWER: &[u8] = b"00280810002000000200000000000100";

@@ -1,9 +1,7 @@
 //! A host whose two directions are pipes, with the other ends of these, and the messages.
 
-use crate::direction::DirectionState;
-use crate::moment::Moment;
 use crate::shared::Shared;
-use crate::{Host, HostTimes, ReadPath, WritePath};
+use crate::{Host, ReadPath, WritePath};
 use std::alloc::{AllocError, Global};
 use std::io::{PipeReader, PipeWriter, Read, Write, pipe};
 use std::os::fd::AsRawFd;
@@ -11,6 +9,7 @@ use std::sync::Wait;
 use std::test::Fail;
 use std::thread::{self, Threads};
 use std::time::{Clock, Duration};
+use sw_wire::{DirectionState, HostTimes, Moment};
 
 /// A request with STAN 42 (fields 11 and 41), and its response.
 pub const REQUEST: &[u8] = b"01000020000000800000000042TERM0001";

@@ -1,5 +1,5 @@
 use Rattle.std.proofs.Common.{◌∙◌, ap, string_bytes}
-use Rattle.sw_hosts.specs.HostLine.{host_line}
+use Rattle.sw_wire.specs.HostLine.{host_line}
 use Rattle.cli_words.proofs.LinesOfHosts.{next_line}
 use Rattle.cli_words.proofs.hosts.Hosts.counts.Goals as goal
 

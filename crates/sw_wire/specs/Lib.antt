@@ -1,0 +1,16 @@
+pub mod Boxes
+pub mod Comings
+pub mod Directions
+pub mod Echoes
+pub mod Framing
+pub mod HostLine
+pub mod Keyed
+pub mod Looks
+pub mod Moments
+pub mod Outgoings
+pub mod Pauses
+pub mod States
+pub mod Times
+pub mod Wanted
+pub mod Watches
+pub mod Ways

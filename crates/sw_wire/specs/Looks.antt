@@ -1,0 +1,26 @@
+-- What a look for an answer shows.
+use Rattle.std.specs.Prelude.{ℕ, Bool, true, false, Option, Some, None, if◌then◌else◌}
+use Rattle.std.specs.Global.{Vec}
+use Rattle.sw_wire.specs.declared.direction.DirectionState.{DirectionState}
+use Rattle.sw_wire.specs.declared.direction.DirectionState.TheVariants as direction
+use Rattle.sw_wire.specs.declared.look.Look.{Look}
+use Rattle.sw_wire.specs.declared.look.Look.TheVariants.{Answer, Closed, Open}
+
+-- one of the directions is closed
+abbrev pub is_closed : DirectionState → DirectionState → Bool
+is_closed direction.Closed from = true
+is_closed to direction.Closed = true
+is_closed to from = false
+
+-- an answer counts, also where a direction is closed
+abbrev pub look_of : Bool → Option (Vec ℕ) → Look
+look_of closed (Some answer) = Answer answer
+look_of closed None = if closed then Closed else Open
+
+abbrev pub is_open : Look → Bool
+is_open Open = true
+is_open look = false
+
+abbrev pub answer_in : Look → Option (Vec ℕ)
+answer_in (Answer answer) = Some answer
+answer_in look = None
