@@ -48,8 +48,6 @@ use Rattle.tx_seats.proofs.SeatedCuts.{no_holder}
 together_seated : (xs : List Pairs) (p q : Point) → Seated p.plant.core → Together xs p q → Seated q.plant.core
 together_seated xs p q seated t = all_seated (Done t.turns t.outcomes ∷ []) t.acts.moved p.plant q.plant seated t.acts.driven
 
-]
-
 -- ids
 
 takes_more : (new past : List Event) → takes past ≤ takes (new ++ past)
