@@ -31,7 +31,7 @@ as_last form ls l =
     flat_map-append (λ (x : Line). in_form form x ++ 10 ∷ []) ls (l ∷ [])
     ∙ ap (λ (t : List ℕ). written_as form ls ++ t) (append-nil (in_form form l ++ 10 ∷ []))
 
-same_line : (x y : List ℕ) → ◌≡◌ {A = Option (List ℕ)} (Some x) (Some y) → x ≡ y
+pub same_line : (x y : List ℕ) → ◌≡◌ {A = Option (List ℕ)} (Some x) (Some y) → x ≡ y
 same_line x y e = cc
 
 -- one more line
