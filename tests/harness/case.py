@@ -102,6 +102,8 @@ class Case:
     status: int = 0
     # Why the case itself is invalid, such as that nothing is expected of it.
     fault: str = None
+    # How often it is run at most, until nothing is wrong.
+    tries: int = 1
     # For a random case: how to make the case of another input, and the parts that the input may lack, if they are not its lines.
     remake: object = None
     parts: list = None
@@ -183,9 +185,16 @@ class Program:
         shutil.rmtree(self.room, ignore_errors=True)
 
     def run(self, case):
-        """What comes of a case: a Came, or a text that says why there is none."""
+        """What comes of a case, the last time that it is run: a Came, or a text that says why there is none."""
         if case.fault:
             return case.fault
+        came = self.run_once(case)
+        for _ in range(1, case.tries):
+            if case.wrong(came):
+                came = self.run_once(case)
+        return came
+
+    def run_once(self, case):
         # (a command that only runs the program writes no file)
         is_plain = all(c.isalnum() or c in " _-./=" for c in case.command)
         words = case.command.split(" ") if is_plain else ["sh", "-c", case.command]

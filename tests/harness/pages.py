@@ -215,6 +215,8 @@ def cases_of_page(name, text, examples):
     if typed:
         case = PageCase(f"{name}: its examples, typed in order", f"{script}true", files=dict(examples))
         case.stdout = Typed(typed)
+        # (the page asks a host, whose pipes the switch awaits for 100 ms alone: too short at times, on a busy machine)
+        case.tries = 3 if name in CLONE_PAGES else 1
         yield case
     yield from (judged(f"{name}: {it}", "no example uses this file") for it in sorted(unused))
 
