@@ -1,5 +1,5 @@
 -- The line of the log for a transaction: its record, with its times, as an object of JSON.
-use Rattle.std.specs.Prelude.{ℕ, List, [], ◌++◌, Option, Some, None, codes}
+use Rattle.std.specs.Prelude.{ℕ, List, [], ◌∷◌, ◌++◌, Option, Some, None, codes}
 use Rattle.sw_json.specs.Json as json
 use Rattle.sw_record.specs.declared.record.Record.{Record}
 use Rattle.sw_log.specs.declared.line.Times.{Times}
@@ -37,7 +37,15 @@ answer_members r =
     text_if (codes "code") r.code ++ (text_if (codes "decided") r.decided ++ (text_if (codes "group") r.group ++ (host_members r
     ++ json.number (codes "retries") r.retries)))
 
-unfoldable pub record_line : Record → Times → Line
-record_line r t =
+-- the record as an object
+unfoldable pub record_object : Record → Times → Line
+record_object r t =
     json.opening (codes "id") r.id ++ (time_member t.time ++ (request_members r ++ (answer_members r ++ (number_if (codes "ms") t.milliseconds
-    ++ codes "}\n"))))
+    ++ codes "}"))))
+
+abbrev pub record_line : Record → Times → Line
+record_line r t = record_object r t ++ 10 ∷ []
+
+-- what is known of a transaction when it is taken: what the request says, and how often it was tried before
+unfoldable pub taken_object : Record → Line
+taken_object r = json.opening (codes "id") r.id ++ (request_members r ++ (json.number (codes "retries") r.retries ++ codes "}"))

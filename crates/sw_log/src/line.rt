@@ -1,6 +1,6 @@
 //! The line of a record.
 
-ghost use Rattle.std.specs.Prelude.{◌≡◌, ◌++◌, IfOk, OnOk};
+ghost use Rattle.std.specs.Prelude.{◌≡◌, ◌∷◌, ◌++◌, [], IfOk, OnOk};
 ghost use Rattle.sw_log.specs.Line as spec;
 
 use std::alloc::{AllocError, Global};
@@ -92,11 +92,11 @@ fn push_answer(text: &mut Vec<u8>, record: &Record) -> Result<(), AllocError>
     push_number_member(text, "retries", record.retries)
 }
 
-/// The line of a record, with its line feed: an object of JSON in ASCII, whose members come in a fixed order, and in
-/// which those of parts that the record lacks are left out. Out of memory is the only refusal.
-#[tactic(auto, unfolding(crate::specs::Line::record_line))]
-pub fn record_line(alloc: Global, record: &Record, times: Times) -> Result<Vec<u8>, AllocError>
-    ensures { IfOk result (λ line. line.items ≡ spec.record_line «record».now times) }
+/// A record as an object of JSON in ASCII, whose members come in a fixed order, and in which those of parts that the
+/// record lacks are left out. Out of memory is the only refusal.
+#[tactic(auto, unfolding(crate::specs::Line::record_object))]
+pub fn record_object(alloc: Global, record: &Record, times: Times) -> Result<Vec<u8>, AllocError>
+    ensures { IfOk result (λ object. object.items ≡ spec.record_object «record».now times) }
 {
     let mut text = Vec::new(alloc);
     push_opening(&mut text, "id", record.id)?;
@@ -104,6 +104,29 @@ pub fn record_line(alloc: Global, record: &Record, times: Times) -> Result<Vec<u
     push_request(&mut text, record)?;
     push_answer(&mut text, record)?;
     push_number_if(&mut text, "ms", times.milliseconds)?;
-    text.extend_from_slice(b"}\n")?;
+    text.extend_from_slice(b"}")?;
+    Ok(text)
+}
+
+/// The line of a record: its object, with a line feed. Out of memory is the only refusal.
+pub fn record_line(alloc: Global, record: &Record, times: Times) -> Result<Vec<u8>, AllocError>
+    ensures { IfOk result (λ line. line.items ≡ spec.record_line «record».now times) }
+{
+    let mut line = record_object(alloc, record, times)?;
+    line.push(b'\n')?;
+    Ok(line)
+}
+
+/// The same of a transaction that is taken: its request, and how often it was tried before. Out of memory is the only
+/// refusal.
+#[tactic(auto, unfolding(crate::specs::Line::taken_object))]
+pub fn taken_object(alloc: Global, record: &Record) -> Result<Vec<u8>, AllocError>
+    ensures { IfOk result (λ object. object.items ≡ spec.taken_object «record».now) }
+{
+    let mut text = Vec::new(alloc);
+    push_opening(&mut text, "id", record.id)?;
+    push_request(&mut text, record)?;
+    push_number_member(&mut text, "retries", record.retries)?;
+    text.extend_from_slice(b"}")?;
     Ok(text)
 }

@@ -7,9 +7,11 @@ use Rattle.sw_base.specs.Digits.{number_of}
 use Rattle.sw_context.specs.Pairs.{Pairs, find}
 use Rattle.sw_messages.specs.Requests.{message_of}
 use Rattle.tx_history.specs.declared.event.Entry.{Entry}
+use Rattle.tx_history.specs.declared.event.Event.{Event}
+use Rattle.tx_history.specs.declared.event.Event.TheVariants.{Taken}
 use Rattle.tx_history.specs.declared.journal.Row.{Row}
 use Rattle.tx_history.specs.declared.journal.Waiting.{Waiting}
-use Rattle.sw_record.specs.Courses.{course, with_entry}
+use Rattle.sw_record.specs.Courses.{course, no_course, pairs_in, with_entry}
 use Rattle.sw_record.specs.declared.record.Record.{Record}
 use Rattle.sw_record.specs.declared.course.Course.{Course}
 
@@ -81,3 +83,15 @@ recorded id retries t = option_map (λ tries. record_of id retries tries t) t.tr
 abbrev pub record_after : ℕ → List Entry → Entry → Option Record
 record_after retries before entry =
     option_and_then (λ id. recorded id retries (with_entry id entry (course id before))) (ended_id entry)
+
+-- what is known of a transaction when it is taken: the context that its row has then
+abbrev pub course_of_row : Row → Course
+course_of_row row = record no_course { context = pairs_in row.context }
+
+abbrev pub taken_by : ℕ → Event → Option (ℕ × Option Row) → Option Record
+taken_by retries (Taken s) (Some (id, Some row)) = Some (record_of id retries row.tries (course_of_row row))
+taken_by retries _ _ = None
+
+-- the record of the transaction that an entry takes, as far as it is known then
+abbrev pub record_taken : ℕ → Entry → Option Record
+record_taken retries entry = taken_by retries entry.event entry.change.row

@@ -2,8 +2,9 @@
 
 ghost use Rattle.std.specs.Prelude.{◌≡◌, IfOk};
 ghost use Rattle.sw_record.specs.Records.{ended_id, host_of, is_stand_in, milliseconds_in, record_after};
-ghost use Rattle.sw_record.specs.Records.{record_of};
+ghost use Rattle.sw_record.specs.Records.{course_of_row, record_of, record_taken};
 
+use crate::context::context_in;
 use crate::course::{Course, copy_of};
 use crate::fields::{amount_in, card_in, field_in, message_at, type_in};
 use std::alloc::{AllocError, Global};
@@ -11,7 +12,7 @@ use sw_context::Context;
 use sw_messages::{REQUEST, RESPONSE, STAND_IN, amount_of};
 use sw_participant::{Bytes, Text};
 use sw_timed::MILLISECONDS;
-use tx_history::Entry;
+use tx_history::{Entry, Event, Row};
 
 /// The record of a transaction: fields of its request and of its response (numbers are those of ISO 8583:1987), and
 /// how it came to that response. A part that the transaction lacks is `None`.
@@ -161,5 +162,30 @@ pub fn record_after(
     match course.tries {
         Some(tries) => Ok(Some(record_of(alloc, id, retries, tries, &course)?)),
         None => Ok(None),
+    }
+}
+
+// What is known of a transaction when it is taken: the context that its row has then.
+fn course_of_row(alloc: Global, row: &Row) -> Result<Course, AllocError>
+    ensures { IfOk result (λ course. course ≡ course_of_row row.now) }
+{
+    let mut course = Course::new(alloc);
+    course.context = context_in(alloc, row.context.as_slice())?;
+    Ok(course)
+}
+
+/// The record of the transaction that an entry takes, as far as it is known then: of the response and of how it came
+/// to that nothing is. `None` if the entry takes none, or one that has ended with that. `retries` is how often the
+/// flow tries a transaction again. Out of memory is the only refusal.
+pub fn record_taken(alloc: Global, retries: u8, entry: &Entry) -> Result<Option<Record>, AllocError>
+    ensures { IfOk result (λ found. found ≡ record_taken retries entry.now) }
+{
+    match (&entry.event, &entry.change.row) {
+        (Event::Taken { .. }, Some((id, Some(row)))) => {
+            let course = course_of_row(alloc, row)?;
+            let record = record_of(alloc, *id, retries, row.tries, &course)?;
+            Ok(Some(record))
+        }
+        _ => Ok(None),
     }
 }
