@@ -36,16 +36,19 @@ def answered(switch, message):
     return number, context, decided, group, host
 
 
-def line(switch, message):
-    """The line of a request, whose transaction is run to its end."""
+def record(switch, message):
+    """The record of a request, whose transaction is run to its end."""
     number, context, decided, group, host = answered(switch, message)
     mti, fields = messages.decode(message)
     response = messages.decode(context["response"])[1] if "response" in context else {}
     made = {"id": number, "type": string(mti), "stan": fields.get(11), "terminal": fields.get(41)}
     made |= {"card": masked(fields[2]) if 2 in fields else None, "amount": int(fields[4]) if 4 in fields else None}
     made |= {"currency": fields.get(49), "code": response.get(39), "decided": decided, "group": group, "host": host}
-    made |= {"stand_in": "true" if "standin" in context else "false", "retries": 0}
-    return "{" + ",".join(f'"{name}":{shown(value)}' for name, value in made.items() if value is not None) + "}"
+    return made | {"stand_in": "true" if "standin" in context else "false", "retries": 0}
+
+
+def line(made):
+    return "{" + ",".join(f'"{name}":{shown(value)}' for name, value in made.items() if value is not None) + "}\n"
 
 
 def shown(value):
@@ -55,6 +58,13 @@ def shown(value):
     return str(value) if isinstance(value, int) or value in ("true", "false") or value.startswith('"') else string(value.encode())
 
 
+# What is known of a transaction when it is taken.
+TAKEN = ("id", "type", "stan", "terminal", "card", "amount", "currency", "retries")
+
+
 def lines(switch, made):
-    """The lines of these messages, answered one after the other; those that cannot be read have none."""
-    return "".join(f"{line(switch, it)}\n" for it in made if messages.is_message(it)).encode()
+    """The lines of these messages, answered one after the other, and what the trace as JSON says of each when it is taken. Those that cannot be read
+    have none."""
+    found = [record(switch, it) for it in made if messages.is_message(it)]
+    taken = ({name: it[name] for name in TAKEN} for it in found)
+    return "".join(map(line, found)).encode(), "".join(map(line, taken)).encode()

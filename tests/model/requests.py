@@ -248,14 +248,20 @@ def served(name, flow, limit, made, is_file, form=None, every=None):
 UNTIMED = 's/,"time":"[0-9]{4}-[0-9]{2}-[0-9]{2}T[0-9]{2}:[0-9]{2}:[0-9]{2}[.][0-9]{3}Z"//; s/,"host_ms":[0-9]+,/,/; s/,"ms":[0-9]+}$/}/'
 
 
+# The records in a trace as JSON: of the transactions that are taken, and of those that end.
+TAKEN = r's/^\{"event":"take",.*,"record":(.*)\}$/\1/p'
+ENDED = r's/^.*,"next":\{"call":"done"\},"record":(.*)\}$/\1/p'
+
+
 def recorded(name, flow, limit, made):
-    """The case of a run with a log, whose lines are then shown without their times."""
-    command = f"cardswitch run --flow flow.toml --limit {limit} --log log && sed -E '{UNTIMED}' log"
+    """The case of a run with a log, whose lines are then shown without their times, and then the records in its trace."""
+    command = f"cardswitch run --flow flow.toml --limit {limit} --log log --trace=json 2> trace && grep -v '^{{' trace >&2"
+    command += f" && sed -E '{UNTIMED}' log && sed -nE '{TAKEN}' trace && sed -nE '{ENDED}' trace | sed -E '{UNTIMED}'"
     switch = Switch(flow, limit)
-    wanted = records.lines(switch, made)
+    wanted, taken = records.lines(switch, made)
     case = Case(name, command, b"".join(map(messages.framed, made)))
     case.files = {"flow.toml": flow_file(flow)}
-    case.stdout = Exactly(switch.responses() + wanted)
+    case.stdout = Exactly(switch.responses() + wanted + taken + wanted)
     case.stderr = Ready(Told(passed(made)))
     return case
 

@@ -1,6 +1,6 @@
 -- What `run` and `recover` have done, and why they end early. What a file holds no clause can say; the flow of a flow
 -- file is one that is checked.
-use Rattle.std.specs.Prelude.{◌≡◌, ◌≢◌, ◌<◌, ◌≤◌, ⊤, ℕ, Bool, List, Option, None, Some, Result, Ok, Err, IfOk}
+use Rattle.std.specs.Prelude.{◌≡◌, ◌≢◌, ◌<◌, ◌≤◌, ⊤, ℕ, Bool, true, false, List, Option, None, Some, Result, Ok, Err, IfOk}
 use Rattle.std.specs.Borrow.{Bor}
 use Rattle.sqlite_trees.specs.declared.store.Store.{Ghosts}
 use Rattle.flow_model.specs.declared.flow.Flow.{Flow}
@@ -45,10 +45,11 @@ abbrev pub IsConfigAt : Option (Bor (List ℕ)) → Config → Type 0
 IsConfigAt None c = c ≡ no_config
 IsConfigAt (Some path) c = ⊤
 
--- the form of the trace's lines that the options name
-abbrev pub form_of : TraceForm → Form
-form_of option.Text = form.Text
-form_of option.Json = form.Json
+-- the form of the trace's lines that the options name; with a log those as JSON have its records
+abbrev pub form_of : Bool → TraceForm → Form
+form_of logged option.Text = form.Text
+form_of false option.Json = form.Json
+form_of true option.Json = form.JsonWithRecords
 
 -- the lines of numbers that the options want: of those that are wanted, after how many requests there is one more
 abbrev pub wanted : StatsLines → Option (Option ℕ)

@@ -92,13 +92,19 @@ fn code_at(alloc: Global, rt: &HostRuntime, path: &str) -> Result<Code, RunError
     Ok(assemble(alloc, &flow)?)
 }
 
-// The form of the trace's lines, by that of the options.
-fn form_of(form: TraceForm) -> Form
-    ensures { result ≡ form_of form }
+// The form of the trace's lines, by that of the options, and by whether there is a log.
+fn form_of(form: TraceForm, logged: bool) -> Form
+    ensures { result ≡ form_of logged form }
 {
     match form {
         TraceForm::Text => Form::Text,
-        TraceForm::Json => Form::Json,
+        TraceForm::Json => {
+            if logged {
+                Form::JsonWithRecords
+            } else {
+                Form::Json
+            }
+        }
     }
 }
 
@@ -142,7 +148,7 @@ fn stderr_by<'a, C: Clock, E>(
     log: &'a mut E,
     logged: bool,
 ) -> StandardError<'a, E, C>
-    ensures trace { result.trace ≡ option_map form_of options.now.trace }
+    ensures trace { result.trace ≡ option_map (form_of logged) options.now.trace }
     ensures stats { option_map (λ s. s.every) result.stats ≡ wanted options.now.stats }
     ensures none_lost { result.lost ≡ false }
     ensures none_passed { result.passed ≡ 0 }
@@ -153,7 +159,7 @@ fn stderr_by<'a, C: Clock, E>(
     StandardError {
         err,
         trace: match options.trace {
-            Some(form) => Some(form_of(form)),
+            Some(form) => Some(form_of(form, logged)),
             None => None,
         },
         lost: false,

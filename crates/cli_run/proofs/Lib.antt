@@ -9,6 +9,7 @@ mod Rounds
 mod Recoveries
 mod Sendings
 mod Printing
+mod WithRecords
 mod Runs
 mod Readings
 mod Stops

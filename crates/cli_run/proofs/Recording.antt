@@ -22,7 +22,7 @@ use Rattle.tx_history.specs.History.{Start}
 use Rattle.tx_history.specs.Journal.{change, entries}
 use Rattle.tx_trace.specs.Follow.{earlier}
 use Rattle.tx_trace.proofs.Earlier.{earlier_all, earlier_none, nth}
-use Rattle.cli_run.specs.Lines.{Line, line_at, lines_of, record_at}
+use Rattle.cli_run.specs.Lines.{Line, line_at, lines_of, no_times, record_at}
 use Rattle.cli_run.specs.Records.{AddsRecords, AreBegunLines, AreLines, BeginsRecords, Recording, Records, if_kept, records_in}
 use Rattle.tx_history.proofs.EntryCounts.{entries_length}
 
@@ -42,9 +42,6 @@ whole_begun : (rs : List Record) (text : List ℕ) → AreLines rs text → AreB
 whole_begun [] text none = none
 whole_begun (r ∷ rs) text (times, more, all, is) =
     (times, record_line r times, [], more, sym (append-nil (record_line r times)), whole_begun rs more all, is)
-
-no_times : Times
-no_times = record { time = None; milliseconds = None }
 
 none_begun : (rs : List Record) → AreBegunLines rs []
 none_begun [] = refl
@@ -175,7 +172,7 @@ records_part lines w l o t u is lost begun = record {
 abbrev pub first_records : Flow → Start → List Event → ℕ → List Record
 first_records f v past n = records_in (lines_of f v (earlier n past))
 
-earlier_entries : (f : Flow) (v : Start) (past : List Event) (n : ℕ) → n ≤ length past → entries f v (earlier n past) ≡ take n (entries f v past)
+pub earlier_entries : (f : Flow) (v : Start) (past : List Event) (n : ℕ) → n ≤ length past → entries f v (earlier n past) ≡ take n (entries f v past)
 earlier_entries f v [] n le = let none : n ≡ 0 = omega arith in rw none refl
 earlier_entries f v (e ∷ past) n le = by_test (nat_lt n (length past + 1)) refl (earlier_entries f v past n) where
   by_test : (b : Bool) → nat_lt n (length past + 1) ≡ b → (n ≤ length past → entries f v (earlier n past) ≡ take n (entries f v past))
@@ -189,7 +186,7 @@ earlier_entries f v (e ∷ past) n le = by_test (nat_lt n (length past + 1)) ref
       let len : length (entries f v (e ∷ past)) ≤ n = subst (λ (k : ℕ). k ≤ n) (sym (entries_length f v (e ∷ past))) ge in
       sym (take_all n (entries f v (e ∷ past)) len)
 
-some_entry : (x y : Entry) → ◌≡◌ {A = Option Entry} (Some x) (Some y) → x ≡ y
+pub some_entry : (x y : Entry) → ◌≡◌ {A = Option Entry} (Some x) (Some y) → x ≡ y
 some_entry x y e = cc
 
 pub records_next : (f : Flow) (v : Start) (past : List Event) (n : ℕ) (entry : Entry) → n < length past →
@@ -227,11 +224,11 @@ pub records_first : (f : Flow) (v : Start) (past : List Event) (a : Option (List
 records_first f v past a = subst (λ (p : List Event). AddsRecords (records_in (lines_of f v p)) a a) (sym (earlier_none past)) (added_none a)
 
 -- an entry of these, which are those of the history
-at_entry : (f : Flow) (v : Start) (past : List Event) (es : List Entry) (n : ℕ) (entry : Entry) → es ≡ entries f v past → n < length es →
+pub at_entry : (f : Flow) (v : Start) (past : List Event) (es : List Entry) (n : ℕ) (entry : Entry) → es ≡ entries f v past → n < length es →
     entry ≡ get_or es n entry → slice_get (entries f v past) n ≡ Some entry
 at_entry f v past es n entry is lt at = ap (λ (l : List Entry). slice_get l n) (sym is) ∙ slice_get_read es (length es) n entry refl lt at
 
-within : (f : Flow) (v : Start) (past : List Event) (es : List Entry) (n : ℕ) → es ≡ entries f v past → n < length es → n < length past
+pub within : (f : Flow) (v : Start) (past : List Event) (es : List Entry) (n : ℕ) → es ≡ entries f v past → n < length es → n < length past
 within f v past es n is lt = subst (λ (k : ℕ). n < k) (ap length is ∙ entries_length f v past) lt
 
 after_first : (f : Flow) (v : Start) (past : List Event) (es : List Entry) (r n : ℕ) (entry : Entry) → es ≡ entries f v past → r ≡ f.retries →

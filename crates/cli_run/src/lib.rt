@@ -25,6 +25,7 @@ mod stats;
 mod stream;
 mod switch;
 mod unsuited;
+mod with_records;
 
 pub use defaults::{DEFAULT_STAND_IN, default_advised, default_queried, default_routes};
 pub use error::ServeError;

@@ -1,7 +1,7 @@
 //! What a run writes to standard error.
 
-ghost use Rattle.std.specs.Prelude.{◌≡◌, ◌+◌, ◌∷◌, ◌++◌, [], IfOk, OnErr, OnOk};
-ghost use Rattle.std.specs.Prelude.{option_map, string_bytes};
+ghost use Rattle.std.specs.Prelude.{◌≡◌, ◌<◌, ◌+◌, ◌∷◌, ◌++◌, [], IfOk, OnErr, OnOk};
+ghost use Rattle.std.specs.Prelude.{length, option_map, string_bytes};
 ghost use Rattle.std.specs.Io.KnownBytes.{Appends};
 ghost use Rattle.cli_io.specs.Written.{AppendsBeginning};
 ghost use Rattle.tx_trace.specs.Follow.{Follows, count_of, lines_given};
@@ -14,6 +14,7 @@ ghost use Rattle.cli_run.specs.Traces.{IsOver, Tells, is_live, log_of, passed_li
 use crate::error::ServeError;
 use crate::record_log::RecordLog;
 use crate::stats::Stats;
+use crate::with_records::next_with_record;
 use cli_io::{WriteError, write_whole};
 use cli_words::Words;
 use iso_codec::DecodeError;
@@ -29,6 +30,8 @@ pub enum Form {
     Text,
     /// Each line is a JSON object.
     Json,
+    /// The same; the object of an entry that takes or ends a transaction has the record of that.
+    JsonWithRecords,
 }
 
 /// Standard error, to which a run writes a line for each message that is passed over, the trace, the numbers, and
@@ -162,18 +165,22 @@ fn write_line<W: Write>(out: &mut W, line: &[u8]) -> Result<(), WriteError>
     write_whole(out, b"\n")
 }
 
-// The next line in this form, or none once the tracer has gone through all entries.
+// The next line in this form, that of the entry at this index.
 fn next_line(
     alloc: Global,
     engine: &Engine,
     tracer: &mut Tracer,
     form: Form,
+    number: usize,
 ) -> Result<Option<Vec<u8>>, AllocError>
-    requires { Follows engine.now tracer.old }
+    requires follows { Follows engine.now tracer.old }
+    requires number { count_of tracer.old ≡ number }
+    requires within { number < length engine.now.past }
     ensures line { IfOk result (λ line. option_map (λ l. l.items) line
         ≡ at_number (λ past e. in_form form (line_at engine.now.flow engine.now.start past e))
         engine.now.past (count_of tracer.old + 1)) }
-    ensures on { count_of tracer.new ≡ count_of tracer.old + lines_given result }
+    ensures on { OnOk result (count_of tracer.new
+        ≡ count_of tracer.old + lines_given result) }
     ensures follows { Follows engine.now tracer.new }
 {
     match form {
@@ -182,6 +189,7 @@ fn next_line(
             None => Ok(None),
         },
         Form::Json => tracer.next_json(alloc, engine),
+        Form::JsonWithRecords => next_with_record(alloc, engine, tracer, number),
     }
 }
 
@@ -201,7 +209,7 @@ fn write_lines_as<W: Write>(
     let mut tracer = Tracer::new(alloc, engine);
     let count = engine.history().len();
     for number in 0..count {
-        let Some(line) = next_line(alloc, engine, &mut tracer, form)? else {
+        let Some(line) = next_line(alloc, engine, &mut tracer, form, number)? else {
             return Ok(());
         };
         write_line(out, line.as_slice())?;
