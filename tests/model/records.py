@@ -63,8 +63,9 @@ TAKEN = ("id", "type", "stan", "terminal", "card", "amount", "currency", "retrie
 
 
 def lines(switch, made):
-    """The lines of these messages, answered one after the other, and what the trace as JSON says of each when it is taken. Those that cannot be read
-    have none."""
+    """The lines of these messages, answered one after the other, and what the trace says of each when it is taken.
+
+    Those that cannot be read have none."""
     found = [record(switch, it) for it in made if messages.is_message(it)]
     taken = ({name: it[name] for name in TAKEN} for it in found)
     return "".join(map(line, found)).encode(), "".join(map(line, taken)).encode()

@@ -58,10 +58,8 @@ line_there form f v past n lt none = let next = nth f v past n lt in let line = 
 abbrev gives : {X : Type 0} → Option X → Result (Option X) AllocError
 gives o = Ok o
 
-pub counted_next : {X : Type 0} (r : Result (Option X) AllocError) (o : Option X) (x : X) (a b n : ℕ) → r ≡ Ok o → o ≡ Some x → a ≡ b + lines_given r → b ≡ n →
-    a ≡ n + 1
-counted_next r o x a b n ok is at same =
-    at ∙ (ap (λ z. b + lines_given z) (ok ∙ ap (λ z. gives z) is) ∙ ap (λ (k : ℕ). k + 1) same)
+pub counted_next : {X : Type 0} (o : Option X) (x : X) (a b n : ℕ) → o ≡ Some x → a ≡ b + lines_given (gives o) → b ≡ n → a ≡ n + 1
+counted_next o x a b n is at same = at ∙ (ap (λ z. b + lines_given (gives z)) is ∙ ap (λ (k : ℕ). k + 1) same)
 
 pub first_lines : (form : Form) (f : Flow) (v : Start) (past : List Event) (a : Option (List ℕ)) → Appends a a (all_as form f v (earlier 0 past))
 first_lines form f v past a = subst (Appends a a) (sym (lines_none form f v past)) (Appends-nil a)

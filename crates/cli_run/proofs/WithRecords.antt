@@ -1,12 +1,13 @@
 -- The line of an entry with the record of the transaction that it takes or ends.
 -- for: with_records::next_with_record
-use Rattle.std.proofs.Common.{◌≡◌, ◌<◌, ℕ, ◌+◌, List, length, take, get_or, Option, Some, None, sym, ap, arith, ◌∙◌}
+use Rattle.std.proofs.Common.{◌≡◌, ◌<◌, ℕ, ◌+◌, List, length, take, get_or, Option, Some, None, sym, ap, subst, arith, ◌∙◌}
 use Rattle.flow_model.specs.declared.flow.Flow.{Flow}
 use Rattle.sw_record.specs.Records.{record_after, record_taken}
 use Rattle.tx_history.specs.declared.event.Entry.{Entry}
 use Rattle.tx_history.specs.declared.event.Event.{Event}
 use Rattle.tx_history.specs.History.{Start}
-use Rattle.tx_history.specs.Journal.{change, entries}
+use Rattle.tx_history.specs.Journal.{entries}
+use Rattle.tx_history.proofs.EntryCounts.{entries_length}
 use Rattle.tx_trace.specs.Follow.{earlier}
 use Rattle.tx_trace.specs.Lines.{at_number, json_text}
 use Rattle.tx_trace.proofs.Earlier.{nth}
@@ -40,3 +41,12 @@ line_with_record f v past es r n entry line is same lt at json =
 -- each entry has a line
 pub json_there : (f : Flow) (v : Start) (past : List Event) (n : ℕ) → n < length past → None ≡ at_number (json_text f v) past (n + 1) → ⊥
 json_there f v past n lt none = let next = nth f v past n lt in let line = next.line (json_text f v) in cc
+
+pub reaches : (f : Flow) (v : Start) (past : List Event) (es : List Entry) (n : ℕ) → es ≡ entries f v past → n < length past → n < length es
+reaches f v past es n is lt = subst (λ (k : ℕ). n < k) (sym (ap length is ∙ entries_length f v past)) lt
+
+-- none where the tracer finds none, which does not come about
+pub none_left : (f : Flow) (v : Start) (past : List Event) (n k : ℕ) (o : Option (List ℕ)) → n < length past → k ≡ n → o ≡ None →
+    o ≡ at_number (json_text f v) past (k + 1) → ⊥
+none_left f v past n k o lt at none is =
+    json_there f v past n lt (sym none ∙ (is ∙ ap (λ (i : ℕ). at_number (json_text f v) past (i + 1)) at))

@@ -27,7 +27,7 @@ record_at f v past e = record_after f.retries (entries f v past) (entry_at f v p
 unfoldable pub taken_at : Flow → Start → List Event → Event → Option Record
 taken_at f v past e = record_taken f.retries (entry_at f v past e)
 
--- the line of an entry, as text and as an object of JSON, and the record of the transaction that ends with it, or that it takes
+-- the line of an entry, as text and as an object of JSON, and the record of the transaction that it ends, or takes
 pub record Line : Type 0 where
   pub text : List ℕ
   pub json : List ℕ

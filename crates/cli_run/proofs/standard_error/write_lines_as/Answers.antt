@@ -31,8 +31,8 @@ loop-number-preserved g c =
     let lt : c.loop-number.number < length w.past = omega (arith, all, c.loop-number-test.true) in
     record {
       follows = c.in_ok-line.ensures.follows;
-      counted = counted_next c.next_line.result c.in_ok-line.field-0 c.in-Some.line _ _ c.loop-number.number c.in_ok-line.was c.in-Some.is
-          c.next_line.ensures.on c.loop-number.invariant.counted;
+      counted = counted_next c.in_ok-line.field-0 c.in-Some.line _ _ c.loop-number.number c.in-Some.is
+          c.in_ok-line.ensures.on c.loop-number.invariant.counted;
       all = all;
       written = more_lines (λ (l : Vec ℕ). l.items) c.args.form w.flow w.start w.past c.loop-number.number _ c.in_ok-line.field-0 c.in-Some.line
           c.as_slice.result.now _ _ _ lt c.loop-number.invariant.counted c.in-Some.is c.in_ok-line.ensures.line c.as_slice.ensures.value
