@@ -42,7 +42,7 @@ def answers(form, made):
     switch = Switch(requests.whole_flow(), LIMIT)
     for message in made:
         if form is LOG:
-            told = f"{records.line(switch, message)}\n".encode()
+            told = records.line(records.record(switch, message)).encode()
         else:
             told = text_of(form, switch.answer(message))
         _, context = max(switch.engine.ended.items())
