@@ -7,19 +7,19 @@ use Rattle.sqlite.specs.Steps.{over_memory}
 use Rattle.flow_model.specs.Check.{IsChecked}
 use Rattle.flow_model.specs.declared.flow.Flow.{Flow}
 use Rattle.sw_hosts.specs.declared.issuer_link.IssuerLink.{IssuerLink}
-use Rattle.tx_journal.specs.Kept.{Kept, kept}
+use Rattle.journal_store.specs.Kept.{Kept, kept}
 use Rattle.tx_plant.specs.Plant.{Seen, seen}
 use Rattle.cli_config.specs.declared.config.Config.{Config}
 use Rattle.cli_flows.specs.declared.error.FlowsError.{FlowsError}
 use Rattle.cli_options.specs.CommandLine.{text_of}
 use Rattle.cli_options.specs.declared.choice.RecoverOptions.{RecoverOptions}
 use Rattle.cli_options.specs.declared.choice.RunOptions.{RunOptions}
-use Rattle.cli_run.specs.Ran.{Printed}
-use Rattle.cli_run.specs.declared.error.ServeError.{ServeError}
-use Rattle.cli_run.specs.declared.error.ServeError.TheVariants as serve
-use Rattle.cli_run.specs.declared.setup.Setup.{Setup}
-use Rattle.cli_setup.specs.declared.error.ConfigFileError.{ConfigFileError}
-use Rattle.cli_setup.specs.Plans.{IsSetUp, journal_of, limit_of, log_path_of, no_config, plain_setup}
+use Rattle.run_switch.specs.Ran.{Printed}
+use Rattle.run_switch.specs.declared.error.ServeError.{ServeError}
+use Rattle.run_switch.specs.declared.error.ServeError.TheVariants as serve
+use Rattle.run_switch.specs.declared.setup.Setup.{Setup}
+use Rattle.run_setup.specs.declared.error.ConfigFileError.{ConfigFileError}
+use Rattle.run_setup.specs.Plans.{IsSetUp, journal_of, limit_of, log_path_of, no_config, plain_setup}
 use Rattle.cardswitch.specs.Errors.{error_at}
 use Rattle.cardswitch.specs.Journals.{IsFound, IsNewJournal, IsOfFile}
 use Rattle.cardswitch.specs.Runs.{Answered, AnsweredBy, IfTaken, IsConfigAt, IsConfigFault, IsFileFault, IsFlowFault, IsLogFault, IsOpenFault, IsRecoverFault, IsRunFault}

@@ -10,9 +10,9 @@ use Rattle.sqlite.specs.Held.{Held, IsNew, state}
 use Rattle.sqlite.specs.State.{HasCleanDisk, IsLive, Opens}
 use Rattle.sqlite.specs.Steps.{IsEmpty, over_memory}
 use Rattle.sqlite.proofs.Callers.{memory_is_clean}
-use Rattle.tx_journal.specs.Kept.{IsCleanJournal, Kept, kept}
-use Rattle.tx_journal.specs.Opened.{blank_view}
-use Rattle.tx_journal.specs.Making.{no_schema}
+use Rattle.journal_store.specs.Kept.{IsCleanJournal, Kept, kept}
+use Rattle.journal_store.specs.Opened.{blank_view}
+use Rattle.journal_store.specs.Making.{no_schema}
 use Rattle.cardswitch.specs.Journals.{IsNewJournal, IsOfFile, IsOpenedOf}
 
 -- a connection that was opened is of no path that is refused

@@ -4,18 +4,18 @@ use Rattle.std.proofs.Common.{◌≡◌, ℕ, Bool, List, Option, Some, None, Ok
 use Rattle.flow_model.specs.declared.flow.Flow.{Flow}
 use Rattle.sw_issuers.specs.Sending.{PlainSender}
 use Rattle.tx_plant.specs.Plant.{Seen}
-use Rattle.cli_run.specs.Errors.{result_of}
-use Rattle.cli_run.specs.Ran.{Ran, all_lines}
-use Rattle.cli_words.specs.declared.Words.{Words}
-use Rattle.cli_run.specs.Shown.{TellsRun, unfinished_in}
-use Rattle.cli_run.specs.Traces.{Log, passed_over}
-use Rattle.cli_run.specs.Requests.{ReadTo, requests}
-use Rattle.cli_run.specs.Rounds.{Round, RoundsFor}
-use Rattle.cli_run.specs.declared.stream.StreamEnd.{StreamEnd}
-use Rattle.cli_run.specs.declared.stream.StreamEnd.TheVariants.{Whole, BadLength, Truncated, Unread}
+use Rattle.run_switch.specs.Errors.{result_of}
+use Rattle.run_switch.specs.Ran.{Ran, all_lines}
+use Rattle.run_reports.specs.declared.Words.{Words}
+use Rattle.run_switch.specs.Shown.{TellsRun, unfinished_in}
+use Rattle.run_switch.specs.Traces.{Log, passed_over}
+use Rattle.run_switch.specs.Requests.{ReadTo, requests}
+use Rattle.run_switch.specs.Rounds.{Round, RoundsFor}
+use Rattle.run_switch.specs.declared.stream.StreamEnd.{StreamEnd}
+use Rattle.run_switch.specs.declared.stream.StreamEnd.TheVariants.{Whole, BadLength, Truncated, Unread}
 use Rattle.cardswitch.specs.Runs.{Served, link_step}
 
--- what a run has read, done and written, as `cli_run` has it
+-- what a run has read, done and written, as `run_switch` has it
 abbrev RanTo : Bool → Flow → ℕ → Seen → PlainSender → ℕ → Option (List ℕ) → Option (List ℕ) → Option (List ℕ) → Option Words → Log → Log →
     StreamEnd → Type 0
 RanTo threads f n j sender most unread before after words k l end =

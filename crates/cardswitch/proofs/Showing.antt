@@ -9,11 +9,11 @@ use Rattle.cli_io.specs.declared.error.WriteError.{WriteError}
 use Rattle.cli_io.specs.declared.error.WriteError.TheVariants as write
 use Rattle.cli_options.specs.declared.choice.JournalOptions.{JournalOptions}
 use Rattle.journal_rows.specs.declared.error.BadRow.{BadRow}
-use Rattle.journal_copy.specs.declared.found.Found.{Found}
+use Rattle.journal_copy.specs.declared.found.FoundJournal.{FoundJournal}
 use Rattle.journal_copy.specs.declared.rest.Rest.{Rest}
 use Rattle.tx_history.specs.declared.journal.JournalView.{JournalView}
-use Rattle.tx_journal.specs.declared.error.JournalError.{JournalError}
-use Rattle.tx_journal.specs.declared.error.JournalError.TheVariants as journal
+use Rattle.journal_store.specs.declared.error.JournalError.{JournalError}
+use Rattle.journal_store.specs.declared.error.JournalError.TheVariants as journal
 use Rattle.cardswitch.specs.Errors.{error_of_write}
 use Rattle.cardswitch.specs.Looking.{IsFoundFault, IsLookFault, IsLooked, IsRowFault, IsRowReported, IsSight}
 use Rattle.cardswitch.specs.Looking.{error_of_row, seen_text, shown_text, style_by}
@@ -55,7 +55,7 @@ unwritten o before after s write.OutOfMemory sight beginning = inr (s, sight, be
 unwritten o before after s (write.Failed f) sight beginning = (s, sight, beginning)
 
 -- all was written, of a journal without a row at fault
-pub whole : (o : JournalOptions) (before after : Option (List ℕ)) (s : Sight) (found : Found) → s ≡ Whole found → IsSight s
+pub whole : (o : JournalOptions) (before after : Option (List ℕ)) (s : Sight) (found : FoundJournal) → s ≡ Whole found → IsSight s
     → Appends before after (seen_text o s) → IsLooked o before after
 whole o before after s found is sight written =
     let copied : IsSight (Whole found) = subst (λ (s : Sight). IsSight s) is sight in

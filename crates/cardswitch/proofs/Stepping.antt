@@ -4,7 +4,7 @@ use Rattle.std.proofs.Common.{◌≡◌, ℕ, Bool, true, false, [], List, Optio
 use Rattle.flow_model.specs.Check.{IsChecked}
 use Rattle.flow_model.specs.declared.flow.Flow.{Flow}
 use Rattle.std.proofs.KnownBytes.{Appends-nil}
-use Rattle.cli_run.specs.Links.{switch_routes}
+use Rattle.run_switch.specs.Links.{switch_routes}
 use Rattle.cli_step.specs.declared.cast.Cast.TheVariants.{Switch}
 use Rattle.cli_step.specs.Prompts.{IsFaultOf, IsPrompted, SomeIsMade}
 use Rattle.cli_step.specs.Runs.{Grows, IsRun}

@@ -5,13 +5,13 @@ use Rattle.cli_io.specs.Written.{AppendsBeginning}
 use Rattle.flow_model.specs.Check.{IsChecked}
 use Rattle.flow_model.specs.declared.flow.Flow.{Flow}
 use Rattle.cli_graph.specs.Picture.{picture_of}
-use Rattle.cli_graph.specs.declared.form.Form.{Form}
-use Rattle.cli_graph.specs.declared.form.Form.TheVariants.{Mermaid, Dot}
+use Rattle.cli_graph.specs.declared.form.GraphForm.{GraphForm}
+use Rattle.cli_graph.specs.declared.form.GraphForm.TheVariants.{Mermaid, Dot}
 use Rattle.cardswitch.specs.declared.error.RunError.{RunError}
 use Rattle.cardswitch.specs.declared.error.RunError.TheVariants as error
 
 -- the language of the picture, by whether `--dot` was given
-abbrev pub form_of : Bool → Form
+abbrev pub form_of : Bool → GraphForm
 form_of false = Mermaid
 form_of true = Dot
 

@@ -12,16 +12,16 @@ use Rattle.cli_io.specs.declared.error.ReadError.{ReadError}
 use Rattle.cli_io.specs.declared.error.ReadError.TheVariants as read
 use Rattle.cli_io.specs.declared.error.WriteError.{WriteError}
 use Rattle.cli_io.specs.declared.error.WriteError.TheVariants as write
-use Rattle.cli_setup.specs.declared.error.SetupError.{SetupError}
-use Rattle.cli_setup.specs.declared.error.SetupError.TheVariants as setup
+use Rattle.run_setup.specs.declared.error.SetupError.{SetupError}
+use Rattle.run_setup.specs.declared.error.SetupError.TheVariants as setup
 use Rattle.cli_step.specs.declared.error.StepError.{StepError}
 use Rattle.cli_step.specs.declared.error.StepError.TheVariants as step
 use Rattle.cardswitch.specs.declared.error.JournalFault.TheVariants as fault
 use Rattle.cardswitch.specs.declared.error.RunError.{RunError}
 use Rattle.cardswitch.specs.declared.error.RunError.TheVariants.{BadLimit, Engine, Input, Journal, JournalFile, OutOfMemory}
 use Rattle.cardswitch.specs.declared.error.RunError.TheVariants.{Read, Serve, SetUp, Step, Text, Write}
-use Rattle.cli_run.specs.declared.error.ServeError.{ServeError}
-use Rattle.cli_run.specs.declared.error.ServeError.TheVariants as serve
+use Rattle.run_switch.specs.declared.error.ServeError.{ServeError}
+use Rattle.run_switch.specs.declared.error.ServeError.TheVariants as serve
 
 -- 4 where memory ran out, 3 where a journal refused, 1 for a refused input, a failed read and a failed write
 abbrev pub run_status : RunError → ℕ

@@ -6,8 +6,8 @@ use Rattle.sqlite_trees.specs.View.{doubt}
 use Rattle.sqlite.specs.Held.{Held, IsNew, state}
 use Rattle.sqlite.specs.State.{HasCleanDisk, IsLive, Opens}
 use Rattle.sqlite.specs.Steps.{over_memory}
-use Rattle.tx_journal.specs.Kept.{IsCleanJournal, Kept, OpensAs, kept}
-use Rattle.tx_journal.specs.Opened.{HasView, KeepsView, blank_view}
+use Rattle.journal_store.specs.Kept.{IsCleanJournal, Kept, OpensAs, kept}
+use Rattle.journal_store.specs.Opened.{HasView, KeepsView, blank_view}
 use Rattle.tx_plant.specs.Plant.{Seen, seen}
 
 module _ {S : Type 0} (g : Ghosts S) where

@@ -2,8 +2,8 @@
 use Rattle.std.specs.Prelude.{◌≡◌, ◌⊎◌, ⊤, ℕ, Bool, true, false, List, [], Option, Some, None}
 use Rattle.std.specs.Io.KnownBytes.{Appends}
 use Rattle.tx_history.specs.declared.journal.JournalView.{JournalView}
-use Rattle.tx_journal.specs.declared.error.JournalError.{JournalError}
-use Rattle.tx_journal.specs.declared.error.JournalError.TheVariants as journal
+use Rattle.journal_store.specs.declared.error.JournalError.{JournalError}
+use Rattle.journal_store.specs.declared.error.JournalError.TheVariants as journal
 use Rattle.journal_rows.specs.declared.error.BadRow.{BadRow}
 use Rattle.journal_copy.specs.Copied.{HoldsFault, HoldsJournal, image_of}
 use Rattle.journal_copy.specs.Rest.{IsSomeRest}
@@ -11,8 +11,8 @@ use Rattle.journal_copy.specs.declared.rest.Rest.{Rest}
 use Rattle.cli_io.specs.Written.{AppendsBeginning}
 use Rattle.cli_decode.specs.declared.masking.Masking.{Masking}
 use Rattle.cli_decode.specs.declared.masking.Masking.TheVariants.{Off, On}
-use Rattle.cli_journal.specs.declared.form.Form.{Form}
-use Rattle.cli_journal.specs.declared.form.Form.TheVariants.{Json, Text}
+use Rattle.cli_journal.specs.declared.form.JournalForm.{JournalForm}
+use Rattle.cli_journal.specs.declared.form.JournalForm.TheVariants.{Json, Text}
 use Rattle.cli_journal.specs.declared.form.Style.{Style}
 use Rattle.cli_journal.specs.Shown.{journal_in}
 use Rattle.cli_options.specs.declared.choice.JournalOptions.{JournalOptions}
@@ -27,7 +27,7 @@ masking_by true = Off
 masking_by false = On
 
 -- lines of JSON with `--json`, otherwise of text
-abbrev pub form_by : Bool → Form
+abbrev pub form_by : Bool → JournalForm
 form_by true = Json
 form_by false = Text
 

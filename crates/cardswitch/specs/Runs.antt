@@ -16,16 +16,16 @@ use Rattle.cli_options.specs.declared.choice.TraceForm.{TraceForm}
 use Rattle.cli_options.specs.declared.choice.TraceForm.TheVariants as option
 use Rattle.cli_options.specs.declared.choice.StatsLines.{StatsLines}
 use Rattle.cli_options.specs.declared.choice.StatsLines.TheVariants.{AtEnd, Every, Off}
-use Rattle.cli_run.specs.Advices.{AdviceStep}
-use Rattle.cli_run.specs.Ran.{Printed, Ran}
-use Rattle.cli_run.specs.Requests.{ReadTo, requests}
-use Rattle.cli_run.specs.Rounds.{Round, RoundsFor}
-use Rattle.cli_run.specs.declared.standard_error.Form.{Form}
-use Rattle.cli_run.specs.declared.standard_error.Form.TheVariants as form
-use Rattle.cli_run.specs.declared.stream.StreamEnd.TheVariants.{Whole}
-use Rattle.cli_run.specs.declared.error.ServeError.{ServeError}
-use Rattle.cli_run.specs.declared.error.ServeError.TheVariants as serve
-use Rattle.cli_setup.specs.Plans.{PlainSetup, journal_of, limit_of, log_path_of, no_config, setup_of}
+use Rattle.run_switch.specs.Advices.{AdviceStep}
+use Rattle.run_switch.specs.Ran.{Printed, Ran}
+use Rattle.run_switch.specs.Requests.{ReadTo, requests}
+use Rattle.run_switch.specs.Rounds.{Round, RoundsFor}
+use Rattle.run_switch.specs.declared.reporter.TraceForm.{TraceForm}
+use Rattle.run_switch.specs.declared.reporter.TraceForm.TheVariants as form
+use Rattle.run_switch.specs.declared.stream.StreamEnd.TheVariants.{Whole}
+use Rattle.run_switch.specs.declared.error.ServeError.{ServeError}
+use Rattle.run_switch.specs.declared.error.ServeError.TheVariants as serve
+use Rattle.run_setup.specs.Plans.{PlainSetup, journal_of, limit_of, log_path_of, no_config, setup_of}
 use Rattle.cardswitch.specs.Errors.{error_at}
 use Rattle.cardswitch.specs.Journals.{IsFound, IsFoundAt}
 use Rattle.cardswitch.specs.SetUps.{IsMistake, TakesSetUp}
@@ -46,7 +46,7 @@ IsConfigAt None c = c ≡ no_config
 IsConfigAt (Some path) c = ⊤
 
 -- the form of the trace's lines that the options name; with a log those as JSON have its records
-abbrev pub form_of : Bool → TraceForm → Form
+abbrev pub form_of : Bool → TraceForm → TraceForm
 form_of logged option.Text = form.Text
 form_of false option.Json = form.Json
 form_of true option.Json = form.JsonWithRecords

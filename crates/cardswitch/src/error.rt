@@ -11,15 +11,15 @@ use cli_decode::StreamError;
 use cli_encode::{EncodeError, TextError};
 use cli_flows::FlowsError;
 use cli_io::{ReadError, WriteError};
-use cli_run::ServeError;
-use cli_setup::{ConfigFileError, SetupError};
 use cli_step::StepError;
+use journal_store::JournalError;
+use run_setup::{ConfigFileError, SetupError};
+use run_switch::ServeError;
 use std::alloc::{AllocError, AllocFailed};
 use std::{fmt, io};
 use sw_participant::Text;
 use thiserror::Error;
 use tx_engine::EngineError;
-use tx_journal::JournalError;
 
 /// Why a file is not taken as a journal. The text does not name the file.
 #[derive(Drop, Error)]

@@ -6,7 +6,8 @@ ghost use Rattle.cardswitch.specs.Runs.{IsOpenFault, IsServeFault};
 
 use crate::error::{JournalFault, RunError};
 use crate::journal_file::{is_foreign, lay};
-use cli_run::ServeError;
+use journal_store::{Cause, Journal, JournalError};
+use run_switch::ServeError;
 use sqlite::{Alter, Connection, Error, ErrorCode, MemStore};
 use sqlite_std_file::File;
 use sqlite_store::FileStore;
@@ -15,7 +16,6 @@ use std::alloc::Global;
 use std::fs;
 use std::io::{self, ErrorKind};
 use sw_participant::Text;
-use tx_journal::{Cause, Journal, JournalError};
 
 // Why a database is not opened as a journal.
 fn unopened(error: JournalError) -> JournalFault {

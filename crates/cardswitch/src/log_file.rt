@@ -13,7 +13,7 @@ use sw_participant::Text;
 #[derive(Drop)]
 pub enum Sink {
     /// Standard error.
-    StandardError(Stderr),
+    Reporter(Stderr),
     /// A file, at its end.
     File(File),
     /// What is written is not kept.
@@ -23,7 +23,7 @@ pub enum Sink {
 impl Write for Sink {
     fn write(&mut self, buf: &[u8]) -> io::Result<usize> {
         match self {
-            Sink::StandardError(writer) => writer.write(buf),
+            Sink::Reporter(writer) => writer.write(buf),
             Sink::File(file) => file.write(buf),
             Sink::Nowhere => Ok(buf.len()),
         }
@@ -31,7 +31,7 @@ impl Write for Sink {
 
     fn flush(&mut self) -> io::Result<()> {
         match self {
-            Sink::StandardError(writer) => writer.flush(),
+            Sink::Reporter(writer) => writer.flush(),
             Sink::File(file) => file.flush(),
             Sink::Nowhere => Ok(()),
         }
@@ -53,7 +53,7 @@ pub fn open_log(alloc: Global, rt: &HostRuntime, path: &str) -> Result<Sink, Run
     ensures { IfErr result (IsLogFault path.now) }
 {
     if path == "-" {
-        return Ok(Sink::StandardError(rt.stderr()));
+        return Ok(Sink::Reporter(rt.stderr()));
     }
     let mut options = OpenOptions::new();
     options.append(true);

@@ -12,16 +12,16 @@ use crate::error::{JournalFault, RunError};
 use crate::journals::refusal;
 use cli_decode::Masking;
 use cli_io::WriteError;
-use cli_journal::{Form, Style, show};
+use cli_journal::{JournalForm, Style, show};
 use cli_options::choice::JournalOptions;
-use journal_copy::{CopyError, Found, LookError, Rest, copy_files, look};
+use journal_copy::{CopyError, FoundJournal, LookError, Rest, copy_files, look};
 use journal_rows::BadRow;
+use journal_store::JournalError;
 use std::alloc::Global;
 use std::fs::Files;
 use std::io::Write;
 use sw_participant::Text;
 use tx_history::JournalView;
-use tx_journal::JournalError;
 
 fn masking_by(clear: bool) -> Masking
     ensures { result ≡ masking_by clear }
@@ -29,10 +29,14 @@ fn masking_by(clear: bool) -> Masking
     if clear { Masking::Off } else { Masking::On }
 }
 
-fn form_by(json: bool) -> Form
+fn form_by(json: bool) -> JournalForm
     ensures { result ≡ form_by json }
 {
-    if json { Form::Json } else { Form::Text }
+    if json {
+        JournalForm::Json
+    } else {
+        JournalForm::Text
+    }
 }
 
 fn style_by(options: &JournalOptions<'_>) -> Style
@@ -60,7 +64,7 @@ fn uncopied(alloc: Global, path: &str, error: CopyError) -> RunError
 /// rows.
 #[derive(Drop)]
 enum Sight {
-    Whole(Found),
+    Whole(FoundJournal),
     Beside { bad: BadRow, rest: Rest },
 }
 

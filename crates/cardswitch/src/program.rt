@@ -19,7 +19,7 @@ use crate::requests::{answer_requests, recover};
 use crate::steps::step;
 use cli_decode::{Masking, decode_stream};
 use cli_encode::encode_stream;
-use cli_graph::{Form, draw};
+use cli_graph::{GraphForm, draw};
 use cli_io::{Input, WriteError, write_out};
 use cli_options::OptionsError;
 use cli_options::choice::Options;
@@ -91,10 +91,14 @@ fn list<R: Read + Drop, O: Write>(alloc: Global, input: R, out: &mut O) -> Resul
     Ok(cli_flows::list(alloc, input, out)?)
 }
 
-fn form_of(dot: bool) -> Form
+fn form_of(dot: bool) -> GraphForm
     ensures { result ≡ form_of dot }
 {
-    if dot { Form::Dot } else { Form::Mermaid }
+    if dot {
+        GraphForm::Dot
+    } else {
+        GraphForm::Mermaid
+    }
 }
 
 // Writes the picture of the flow in the flow file at a path; after an error, a beginning of it.

@@ -4,11 +4,11 @@ ghost use Rattle.std.specs.Prelude.{◌≡◌, ◌<◌, ◌||◌, IfErr, IfNone,
 ghost use Rattle.std.specs.Prelude.{is_some, option_map};
 ghost use Rattle.flow_model.specs.Check.{IsChecked};
 ghost use Rattle.flow_model.specs.declared.flow.Flow.{Flow};
-ghost use Rattle.tx_journal.specs.Kept.{kept};
+ghost use Rattle.journal_store.specs.Kept.{kept};
 ghost use Rattle.tx_plant.specs.Plant.{seen};
-ghost use Rattle.cli_run.specs.Ran.{Printed};
-ghost use Rattle.cli_setup.specs.Plans.{limit_of, plain_setup};
-ghost use Rattle.cli_setup.specs.Words.{IsWordsOf};
+ghost use Rattle.run_switch.specs.Ran.{Printed};
+ghost use Rattle.run_setup.specs.Plans.{limit_of, plain_setup};
+ghost use Rattle.run_setup.specs.Words.{IsWordsOf};
 ghost use Rattle.cardswitch.specs.Checking.{IsRunMistake};
 ghost use Rattle.cardswitch.specs.SetUps.{TakesSetUp};
 ghost use Rattle.cardswitch.specs.Runs.{Answered, AnsweredBy, IfTaken};
@@ -23,11 +23,12 @@ use crate::journals::{open_existing, open_file, open_in_memory};
 use crate::log_file::{Sink, open_log};
 use cli_config::Config;
 use cli_options::choice::{RecoverOptions, RunOptions, StatsLines, TraceForm};
-use cli_run::{Form, RecordLog, Setup, StandardError, Stats, SwitchLink, run};
-use cli_setup::{journal_path, log_path, recovery, setup, words_of};
-use cli_words::Words;
 use flow_asm::{Code, assemble};
 use flow_model::Flow;
+use journal_store::Journal;
+use run_reports::Words;
+use run_setup::{journal_path, log_path, recovery, setup, words_of};
+use run_switch::{RecordLog, Reporter, Setup, Stats, SwitchLink, TraceForm, run};
 use sqlite::Alter;
 use sqlite_std_file::File;
 use sqlite_store::FileStore;
@@ -38,7 +39,6 @@ use std::sync::Wait;
 use std::thread::Threads;
 use std::time::Clock;
 use sw_participant::Text;
-use tx_journal::Journal;
 
 // Runs over a journal. Then it is reported what has become new of the hosts, and their counts, if they are wanted.
 fn serve<
@@ -56,7 +56,7 @@ fn serve<
     journal: Journal<S>,
     input: Option<R>,
     out: &mut O,
-    stderr: &mut StandardError<'_, E, K>,
+    stderr: &mut Reporter<'_, E, K>,
 ) -> Result<(), RunError>
     ensures served { OnOk result (IfSome input
         (λ reader. Served setup.threads code.now setup.sessions
@@ -93,16 +93,16 @@ fn code_at(alloc: Global, rt: &HostRuntime, path: &str) -> Result<Code, RunError
 }
 
 // The form of the trace's lines, by that of the options, and by whether there is a log.
-fn form_of(form: TraceForm, logged: bool) -> Form
+fn form_of(form: TraceForm, logged: bool) -> TraceForm
     ensures { result ≡ form_of logged form }
 {
     match form {
-        TraceForm::Text => Form::Text,
+        TraceForm::Text => TraceForm::Text,
         TraceForm::Json => {
             if logged {
-                Form::JsonWithRecords
+                TraceForm::JsonWithRecords
             } else {
-                Form::Json
+                TraceForm::Json
             }
         }
     }
@@ -147,7 +147,7 @@ fn stderr_by<'a, C: Clock, E>(
     err: &'a mut E,
     log: &'a mut E,
     logged: bool,
-) -> StandardError<'a, E, C>
+) -> Reporter<'a, E, C>
     ensures trace { result.trace ≡ option_map (form_of logged) options.now.trace }
     ensures stats { option_map (λ s. s.every) result.stats ≡ wanted options.now.stats }
     ensures none_lost { result.lost ≡ false }
@@ -156,7 +156,7 @@ fn stderr_by<'a, C: Clock, E>(
     ensures log { result.log.wanted ≡ logged }
     ensures none_lost_of_log { result.log.lost ≡ false }
 {
-    StandardError {
+    Reporter {
         err,
         trace: match options.trace {
             Some(form) => Some(form_of(form, logged)),
@@ -181,8 +181,8 @@ fn silent<'a, C: Clock, E: Write>(
     rt: &'a C,
     err: &'a mut E,
     unused: &'a mut E,
-) -> StandardError<'a, E, C> {
-    StandardError {
+) -> Reporter<'a, E, C> {
+    Reporter {
         err,
         trace: None,
         lost: false,
@@ -257,7 +257,7 @@ fn answer_by<
     let path = journal_path(alloc, options, &config)?;
     let log_path = log_path(alloc, options, &config)?;
     let mut log = log_at(alloc, rt, &log_path)?;
-    let mut err = Sink::StandardError(rt.stderr());
+    let mut err = Sink::Reporter(rt.stderr());
     let logged = log_path.is_some();
     let words = words_for(alloc, options, logged, &path, &setup)?;
     let input = Some(input);

@@ -13,9 +13,9 @@ use crate::flow_file::flow_at;
 use cli_io::Input;
 use cli_lines::Lines;
 use cli_options::choice::StepOptions;
-use cli_setup::simulated;
 use cli_step::{Cast, run_lines, run_prompted};
 use flow_model::Flow;
+use run_setup::simulated;
 use std::alloc::Global;
 use std::io::{Read, Write};
 

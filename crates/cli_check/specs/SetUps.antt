@@ -7,8 +7,8 @@ use Rattle.sw_rules.specs.declared.set_up.SetUpHost.{SetUpHost}
 use Rattle.sw_rules.specs.declared.set_up.SetUpRoute.{SetUpRoute}
 use Rattle.cli_config.specs.declared.config.Config.{Config}
 use Rattle.cli_config.specs.declared.config.Host.{Host}
-use Rattle.cli_run.specs.Links.{query_name}
-use Rattle.cli_setup.specs.Plans.{routes_of}
+use Rattle.run_switch.specs.Links.{query_name}
+use Rattle.run_setup.specs.Plans.{routes_of}
 
 abbrev pub host_named : List ℕ → Bool → SetUpHost
 host_named name stand_in = record { query = query_name name; stand_in = stand_in }

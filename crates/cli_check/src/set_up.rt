@@ -2,10 +2,10 @@
 
 ghost use Rattle.std.specs.Prelude.{◌≡◌, IfOk, map};
 ghost use Rattle.cli_check.specs.SetUps as spec;
-ghost use Rattle.cli_setup.specs.Plans.{routes_of};
+ghost use Rattle.run_setup.specs.Plans.{routes_of};
 
 use cli_config::{Config, Host};
-use cli_setup::routes;
+use run_setup::routes;
 use std::alloc::{AllocError, Global};
 use sw_participant::{Sequence, Text};
 use sw_parts::Routing;

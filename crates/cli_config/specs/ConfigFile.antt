@@ -102,11 +102,11 @@ unfoldable pub reading : List ℕ → Option (Result config.Config TableError)
 reading text = option_map states (parse_document text)
 
 -- what a function over a document answers is what that states, unless memory ran out
-abbrev pub Gives : Result config.Config ConfigError → Result config.Config TableError → Type 0
-Gives (Ok c) reads = reads ≡ Ok c
-Gives (Err OutOfMemory) reads = ⊤
-Gives (Err (Toml t)) reads = ⊥
-Gives (Err (Table e)) reads = reads ≡ Err e
+abbrev pub GivesConfig : Result config.Config ConfigError → Result config.Config TableError → Type 0
+GivesConfig (Ok c) reads = reads ≡ Ok c
+GivesConfig (Err OutOfMemory) reads = ⊤
+GivesConfig (Err (Toml t)) reads = ⊥
+GivesConfig (Err (Table e)) reads = reads ≡ Err e
 
 -- the text is a configuration file of the configuration
 abbrev pub IsConfigFile : config.Config → List ℕ → Type 0

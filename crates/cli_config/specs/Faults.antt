@@ -10,8 +10,8 @@ use Rattle.toml.specs.Data.{Data, string, integer, float, boolean, datetime, arr
 use Rattle.toml.specs.Text.{are_tables}
 use Rattle.cli_config.specs.declared.error.TableError.{TableError}
 use Rattle.cli_config.specs.declared.error.TableError.TheVariants.{Unknown, Missing, BadValue, Excludes, Double}
-use Rattle.cli_config.specs.declared.error.Found.{Found}
-use Rattle.cli_config.specs.declared.error.Found.TheVariants as found
+use Rattle.cli_config.specs.declared.error.FoundValue.{FoundValue}
+use Rattle.cli_config.specs.declared.error.FoundValue.TheVariants as found
 use Rattle.cli_config.specs.declared.keys.Section.{Section}
 use Rattle.cli_config.specs.declared.keys.Section.TheVariants as section
 use Rattle.cli_config.specs.declared.keys.TablePath.{TablePath}
@@ -67,7 +67,7 @@ fits w (table ms) = fits_table w
 fits w d = false
 
 -- what a message shows of a value
-abbrev pub found_of : Data → Found
+abbrev pub found_of : Data → FoundValue
 found_of (string s) = found.Text s
 found_of (integer z) = found.Integer z
 found_of (float x) = found.Float

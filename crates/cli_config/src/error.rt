@@ -32,7 +32,7 @@ pub enum TableError {
     Missing(Key, TablePath),
     /// The key has a value that it may not have; of several such keys the least.
     #[error("{}: key {} has a bad value: expected {}; found {}", .1, .0, .0.wants(), .2)]
-    BadValue(Key, TablePath, Found),
+    BadValue(Key, TablePath, FoundValue),
     /// The first key excludes the second, and both are there; of several such keys the least.
     #[error("{}: key {} excludes {}: expected one of them", .2, .0, .1)]
     Excludes(Key, Key, TablePath),
@@ -43,7 +43,7 @@ pub enum TableError {
 
 /// What was found at a key: a string, an integer or a boolean itself, or the kind of any other value.
 #[derive(Drop)]
-pub enum Found {
+pub enum FoundValue {
     Text(Text),
     Integer(i64),
     Flag(bool),
@@ -77,16 +77,16 @@ fn or_excluded(key: Key) -> Instead {
     Instead { key }
 }
 
-impl fmt::Display for Found {
+impl fmt::Display for FoundValue {
     fn fmt<W: fmt::Write>(&self, f: &mut fmt::Formatter<W>) -> fmt::Result {
         match self {
-            Found::Text(text) => write!(f, "{}", quoted(text)),
-            Found::Integer(number) => write!(f, "{number}"),
-            Found::Flag(flag) => write!(f, "{flag}"),
-            Found::Float => f.write_str("a float"),
-            Found::Date => f.write_str("a date or a time"),
-            Found::Array => f.write_str("an array"),
-            Found::Table => f.write_str("a table"),
+            FoundValue::Text(text) => write!(f, "{}", quoted(text)),
+            FoundValue::Integer(number) => write!(f, "{number}"),
+            FoundValue::Flag(flag) => write!(f, "{flag}"),
+            FoundValue::Float => f.write_str("a float"),
+            FoundValue::Date => f.write_str("a date or a time"),
+            FoundValue::Array => f.write_str("an array"),
+            FoundValue::Table => f.write_str("a table"),
         }
     }
 }

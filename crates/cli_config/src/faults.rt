@@ -10,7 +10,7 @@ ghost use Rattle.cli_config.specs.Keys as keys;
 ghost use Rattle.cli_config.specs.Tables.{views};
 ghost use Rattle.cli_config.specs.Faults as spec;
 
-use crate::error::{Found, TableError};
+use crate::error::{FoundValue, TableError};
 use crate::keys::{Key, Section, TablePath, Want};
 use crate::look::{tables_of, text_at, value_at};
 use flow_toml::are_tables;
@@ -102,17 +102,17 @@ fn fits(want: Want, value: &Value) -> bool
     }
 }
 
-fn found(alloc: Global, value: &Value) -> Result<Found, AllocError>
+fn found(alloc: Global, value: &Value) -> Result<FoundValue, AllocError>
     ensures { IfOk result (λ f. f ≡ spec.found_of (view value.now)) }
 {
     match value {
-        Value::String(text) => Ok(Found::Text(Text::from_str(alloc, text.as_str())?)),
-        Value::Integer(number) => Ok(Found::Integer(*number)),
-        Value::Float(_) => Ok(Found::Float),
-        Value::Boolean(flag) => Ok(Found::Flag(*flag)),
-        Value::Datetime(_) => Ok(Found::Date),
-        Value::Array(_) => Ok(Found::Array),
-        Value::Table(_) => Ok(Found::Table),
+        Value::String(text) => Ok(FoundValue::Text(Text::from_str(alloc, text.as_str())?)),
+        Value::Integer(number) => Ok(FoundValue::Integer(*number)),
+        Value::Float(_) => Ok(FoundValue::Float),
+        Value::Boolean(flag) => Ok(FoundValue::Flag(*flag)),
+        Value::Datetime(_) => Ok(FoundValue::Date),
+        Value::Array(_) => Ok(FoundValue::Array),
+        Value::Table(_) => Ok(FoundValue::Table),
     }
 }
 

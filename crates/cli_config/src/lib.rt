@@ -42,6 +42,6 @@ mod look;
 mod read;
 
 pub use config::{Config, Host, Limits, Route, RunTable, Wire, WireTimes};
-pub use error::{ConfigError, Found, TableError};
+pub use error::{ConfigError, FoundValue, TableError};
 pub use keys::{Key, Section, TablePath, Want};
 pub use read::read_config;

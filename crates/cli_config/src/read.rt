@@ -180,7 +180,7 @@ fn config_of(alloc: Global, top: &Table) -> Result<Config, AllocError>
 }
 
 fn read_document(alloc: Global, top: &Table) -> Result<Config, ConfigError>
-    ensures states { spec.Gives result (spec.states (table_view top.now)) }
+    ensures states { spec.GivesConfig result (spec.states (table_view top.now)) }
     ensures checked { IfOk result (λ c. IsChecked c) }
 {
     match first_fault(alloc, top)? {

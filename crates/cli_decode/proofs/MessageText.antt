@@ -6,13 +6,13 @@ use Rattle.std.proofs.Common.{append-nil, append_assoc}
 use Rattle.std.specs.Prelude.{codes}
 use Rattle.std.specs.Fmt.{decimal}
 use Rattle.std.specs.List.{flat_map}
-use Rattle.iso_msg.specs.declared.table.Form.{Form}
+use Rattle.iso_msg.specs.declared.table.FieldForm.{FieldForm}
 use Rattle.iso_msg.specs.Table.{form_of}
 use Rattle.iso_msg.specs.Values.{has_content}
 use Rattle.iso_msg.specs.Messages.{Fields, PlainMessage}
 use Rattle.iso_codec.specs.declared.error.DecodeError.{DecodeError}
 use Rattle.iso_codec.specs.declared.error.DecodeError.TheVariants.{BadContent, Trailing}
-use Rattle.iso_codec.specs.Reads.{◌>>=◌, Gives, text_at, content_is, field_at, fields_at, front_at, read}
+use Rattle.iso_codec.specs.Reads.{◌>>=◌, GivesMessage, text_at, content_is, field_at, fields_at, front_at, read}
 use Rattle.iso_codec.proofs.FrontReads.{Front, ended, then_fields, front_read}
 use Rattle.cli_decode.specs.Decoded.{line_by, shown_line, view_text}
 use Rattle.cli_decode.specs.Printing.{paragraph_of, with_field, with_fields, with_message}
@@ -22,25 +22,25 @@ module _ (k : Masking) where
   abbrev Part : Type 0
   Part = List ℕ × List ℕ
 
-  abbrev lined : Option Form → List ℕ → ℕ → Part → Result Part DecodeError
+  abbrev lined : Option FieldForm → List ℕ → ℕ → Part → Result Part DecodeError
   lined form text n value = Ok (text ++ line_by k form n value.0, value.1)
 
   abbrev fine : Result (Unit {0}) DecodeError
   fine = Ok tt
 
-  checked : (b : Bool) (form : Form) (text : List ℕ) (n : ℕ) (value : Part) → (cond b fine (Err (BadContent n)) >>= λ ok. lined (Some form) text n value)
+  checked : (b : Bool) (form : FieldForm) (text : List ℕ) (n : ℕ) (value : Part) → (cond b fine (Err (BadContent n)) >>= λ ok. lined (Some form) text n value)
       ≡ (cond b (Ok value) (Err (BadContent n)) >>= lined (Some form) text n)
   checked true form text n value = refl
   checked false form text n value = refl
 
-  field_by : (form : Form) (text : List ℕ) (n : ℕ) (r : Result Part DecodeError) →
+  field_by : (form : FieldForm) (text : List ℕ) (n : ℕ) (r : Result Part DecodeError) →
       (r >>= λ value. content_is form n value.0 >>= λ ok. lined (Some form) text n value)
       ≡ ((r >>= λ value. cond (has_content form value.0) (Ok value) (Err (BadContent n))) >>= lined (Some form) text n)
   field_by form text n (Ok value) = checked (has_content form value.0) form text n value
   field_by form text n (Err e) = refl
 
   -- one field
-  with_field_is : (o : Option Form) (text : List ℕ) (n : ℕ) (bytes : List ℕ) → with_field k o text n bytes ≡ (field_at o n bytes >>= lined o text n)
+  with_field_is : (o : Option FieldForm) (text : List ℕ) (n : ℕ) (bytes : List ℕ) → with_field k o text n bytes ≡ (field_at o n bytes >>= lined o text n)
   with_field_is None text n bytes = refl
   with_field_is (Some form) text n bytes = field_by form text n (text_at form n bytes)
 
@@ -116,7 +116,7 @@ module _ (k : Masking) where
   text_is n (Err e) = refl
 
   pub paragraph_by : (text new bytes : List ℕ) (n : ℕ) (r : Result (Unit {0}) DecodeError) → text ≡ opening n →
-      Gives (λ x. new) r (with_message k text bytes) → Gives (λ x. new) r (paragraph_of k n bytes)
+      GivesMessage (λ x. new) r (with_message k text bytes) → GivesMessage (λ x. new) r (paragraph_of k n bytes)
   paragraph_by text new bytes n r is g =
-      subst (λ (s : Result (List ℕ) DecodeError). Gives (λ x. new) r s)
+      subst (λ (s : Result (List ℕ) DecodeError). GivesMessage (λ x. new) r s)
       (ap (λ (t : List ℕ). with_message k t bytes) is ∙ with_message_is (opening n) bytes ∙ text_is n (read bytes)) g

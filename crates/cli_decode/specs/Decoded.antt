@@ -3,8 +3,8 @@ use Rattle.std.specs.Prelude.{◌≡◌, ℕ, ◌+◌, ◌||◌, not, Bool, true
 use Rattle.std.specs.Prelude.{if◌then◌else◌, ◌==◌}
 use Rattle.std.specs.Fmt.{decimal}
 use Rattle.std.specs.List.{flat_map, list_any}
-use Rattle.iso_msg.specs.declared.table.Form.{Form}
-use Rattle.iso_msg.specs.declared.table.Form.TheVariants.{Binary}
+use Rattle.iso_msg.specs.declared.table.FieldForm.{FieldForm}
+use Rattle.iso_msg.specs.declared.table.FieldForm.TheVariants.{Binary}
 use Rattle.iso_msg.specs.Table.{form_of}
 use Rattle.iso_msg.specs.Messages.{PlainMessage}
 use Rattle.iso_codec.specs.declared.error.DecodeError.{DecodeError}
@@ -18,12 +18,12 @@ use Rattle.cli_decode.specs.declared.masking.Masking.TheVariants.{Off, On}
 use Rattle.cli_decode.specs.Masks.{AgreeMessages, is_sensitive, masked_line}
 
 -- a binary value is shown as upper case hexadecimal digits, every other as it is
-abbrev pub shown : Option Form → List ℕ → List ℕ
+abbrev pub shown : Option FieldForm → List ℕ → List ℕ
 shown (Some Binary) value = flat_map hex value
 shown _ value = value
 
 -- `F VALUE`
-abbrev pub line_of : Option Form → ℕ → List ℕ → List ℕ
+abbrev pub line_of : Option FieldForm → ℕ → List ℕ → List ℕ
 line_of form n value = decimal n ++ (codes " " ++ (shown form value ++ codes "\n"))
 
 abbrev pub field_line : ℕ × List ℕ → List ℕ
@@ -35,7 +35,7 @@ message_text n m =
     codes "message " ++ (decimal n ++ (codes "\nmti " ++ (m.mti ++ (codes "\n" ++ flat_map field_line m.fields))))
 
 -- the same, with sensitive fields masked where that is asked for
-abbrev pub line_by : Masking → Option Form → ℕ → List ℕ → List ℕ
+abbrev pub line_by : Masking → Option FieldForm → ℕ → List ℕ → List ℕ
 line_by Off form n value = line_of form n value
 line_by On form n value = if is_sensitive n then masked_line n value else line_of form n value
 

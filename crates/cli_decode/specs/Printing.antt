@@ -1,6 +1,6 @@
 -- What is printed of a message while it is read, field by field, for the contracts of the steps.
 use Rattle.std.specs.Prelude.{ℕ, ◌==◌, List, [], ◌∷◌, ◌++◌, length, Option, Some, None, Result, Ok, Err, codes, if◌then◌else◌}
-use Rattle.iso_msg.specs.declared.table.Form.{Form}
+use Rattle.iso_msg.specs.declared.table.FieldForm.{FieldForm}
 use Rattle.iso_msg.specs.Table.{form_of}
 use Rattle.iso_codec.specs.declared.error.DecodeError.{DecodeError}
 use Rattle.iso_codec.specs.declared.error.DecodeError.TheVariants.{FieldNotInProfile, Trailing}
@@ -9,14 +9,14 @@ use Rattle.cli_decode.specs.Decoded.{line_by, view_text}
 use Rattle.cli_decode.specs.declared.masking.Masking.{Masking}
 
 -- a text with the line of a value that the field takes, and the bytes after it
-abbrev pub with_value : Masking → Form → List ℕ → ℕ → List ℕ × List ℕ → Result (List ℕ × List ℕ) DecodeError
+abbrev pub with_value : Masking → FieldForm → List ℕ → ℕ → List ℕ × List ℕ → Result (List ℕ × List ℕ) DecodeError
 with_value k form text n value = content_is form n value.0 >>= λ ok. Ok (text ++ line_by k (Some form) n value.0, value.1)
 
 -- a text with the line of the field at the front, and the bytes after that field
-abbrev pub with_form : Masking → Form → List ℕ → ℕ → List ℕ → Result (List ℕ × List ℕ) DecodeError
+abbrev pub with_form : Masking → FieldForm → List ℕ → ℕ → List ℕ → Result (List ℕ × List ℕ) DecodeError
 with_form k form text n bytes = text_at form n bytes >>= with_value k form text n
 
-abbrev pub with_field : Masking → Option Form → List ℕ → ℕ → List ℕ → Result (List ℕ × List ℕ) DecodeError
+abbrev pub with_field : Masking → Option FieldForm → List ℕ → ℕ → List ℕ → Result (List ℕ × List ℕ) DecodeError
 with_field k None text n bytes = Err (FieldNotInProfile n)
 with_field k (Some form) text n bytes = with_form k form text n bytes
 

@@ -3,7 +3,7 @@
 ghost use Rattle.std.specs.Prelude.{◌≡◌, ◌++◌, Some, codes, OnOk, IfOk, Ok, Err};
 ghost use Rattle.std.specs.Fmt.{decimal};
 ghost use Rattle.iso_msg.specs.Table.{IsForm, form_of};
-ghost use Rattle.iso_codec.specs.Reads.{Gives};
+ghost use Rattle.iso_codec.specs.Reads.{GivesMessage};
 ghost use Rattle.cli_decode.specs.Decoded.{fault_name as name_of, frame_text, is_refused};
 ghost use Rattle.cli_decode.specs.Decoded.{line_by, line_of, refused_text, shown};
 ghost use Rattle.cli_decode.specs.Printing.{paragraph_of, with_field, with_fields};
@@ -14,7 +14,7 @@ use crate::masking::{Masking, is_sensitive};
 use iso_codec::{
     DecodeError, Numbers, check_content, push_hex, read_binary, read_front, read_variable, split,
 };
-use iso_msg::{Form, form_at};
+use iso_msg::{FieldForm, form_at};
 use itoa::Buffer;
 use std::alloc::AllocError;
 
@@ -26,16 +26,21 @@ pub fn push_number(text: &mut Vec<u8>, number: u64) -> Result<(), AllocError>
     text.extend_from_slice(buffer.format(number).as_bytes())
 }
 
-fn push_value(text: &mut Vec<u8>, form: Form, value: &[u8]) -> Result<(), AllocError>
+fn push_value(text: &mut Vec<u8>, form: FieldForm, value: &[u8]) -> Result<(), AllocError>
     ensures { OnOk result (text.new.items ≡ text.old.items ++ shown (Some form) value.now) }
 {
     match form {
-        Form::Binary => push_hex(text, value),
+        FieldForm::Binary => push_hex(text, value),
         _ => text.extend_from_slice(value),
     }
 }
 
-fn push_plain(text: &mut Vec<u8>, form: Form, number: u8, value: &[u8]) -> Result<(), AllocError>
+fn push_plain(
+    text: &mut Vec<u8>,
+    form: FieldForm,
+    number: u8,
+    value: &[u8],
+) -> Result<(), AllocError>
     ensures { OnOk result (text.new.items
         ≡ text.old.items ++ line_of (Some form) number value.now) }
 {
@@ -49,7 +54,7 @@ fn push_plain(text: &mut Vec<u8>, form: Form, number: u8, value: &[u8]) -> Resul
 fn push_line(
     text: &mut Vec<u8>,
     masking: Masking,
-    form: Form,
+    form: FieldForm,
     number: u8,
     value: &[u8],
 ) -> Result<(), AllocError>
@@ -66,12 +71,12 @@ fn push_line(
 fn push_checked<'a>(
     text: &mut Vec<u8>,
     masking: Masking,
-    form: Form,
+    form: FieldForm,
     number: u8,
     value: &[u8],
     rest: &'a [u8],
 ) -> Result<&'a [u8], DecodeError>
-    ensures { Gives (λ rest. (text.new.items, rest.now)) result
+    ensures { GivesMessage (λ rest. (text.new.items, rest.now)) result
         (with_value masking form text.old.items number (value.now, rest.now)) }
 {
     check_content(form, number, value)?;
@@ -83,20 +88,20 @@ fn push_checked<'a>(
 fn push_form<'a>(
     text: &mut Vec<u8>,
     masking: Masking,
-    form: Form,
+    form: FieldForm,
     number: u8,
     bytes: &'a [u8],
 ) -> Result<&'a [u8], DecodeError>
     requires { IsForm form }
-    ensures { Gives (λ rest. (text.new.items, rest.now)) result
+    ensures { GivesMessage (λ rest. (text.new.items, rest.now)) result
         (with_form masking form text.old.items number bytes.now) }
 {
     match form {
-        Form::Fixed { length, .. } => {
+        FieldForm::Fixed { length, .. } => {
             let (value, rest) = split(bytes, length as usize)?;
             push_checked(text, masking, form, number, value, rest)
         }
-        Form::Variable {
+        FieldForm::Variable {
             length_digits,
             max_length,
             ..
@@ -104,7 +109,7 @@ fn push_form<'a>(
             let (value, rest) = read_variable(length_digits, max_length, number, bytes)?;
             push_checked(text, masking, form, number, value, rest)
         }
-        Form::Binary => {
+        FieldForm::Binary => {
             let (value, rest) = read_binary(number, bytes)?;
             push_checked(text, masking, form, number, &value, rest)
         }
@@ -118,7 +123,7 @@ fn push_field<'a>(
     number: u8,
     bytes: &'a [u8],
 ) -> Result<&'a [u8], DecodeError>
-    ensures { Gives (λ rest. (text.new.items, rest.now)) result
+    ensures { GivesMessage (λ rest. (text.new.items, rest.now)) result
         (with_field masking (form_of number) text.old.items number bytes.now) }
 {
     match form_at(number) {
@@ -134,7 +139,7 @@ fn push_fields<'a>(
     numbers: &[u8],
     bytes: &'a [u8],
 ) -> Result<&'a [u8], DecodeError>
-    ensures { Gives (λ rest. (text.new.items, rest.now)) result
+    ensures { GivesMessage (λ rest. (text.new.items, rest.now)) result
         (with_fields masking text.old.items numbers.now bytes.now) }
 {
     let mut rest = bytes;
@@ -147,7 +152,7 @@ fn push_fields<'a>(
 // Adds the type and the fields of the message that the bytes spell.
 #[tactic(auto, unfolding(crate::specs::Printing::with_message))]
 fn push_message(text: &mut Vec<u8>, masking: Masking, bytes: &[u8]) -> Result<(), DecodeError>
-    ensures { Gives (λ _. text.new.items) result (with_message masking text.old.items bytes.now) }
+    ensures { GivesMessage (λ _. text.new.items) result (with_message masking text.old.items bytes.now) }
 {
     let mut numbers = Numbers::new();
     let (digits, rest) = read_front(bytes, &mut numbers)?;
@@ -193,7 +198,7 @@ fn write_paragraph(
     number: u64,
     bytes: &[u8],
 ) -> Result<(), DecodeError>
-    ensures { Gives (λ _. paragraph.new.items) result (paragraph_of masking number bytes.now) }
+    ensures { GivesMessage (λ _. paragraph.new.items) result (paragraph_of masking number bytes.now) }
 {
     paragraph.clear();
     paragraph.extend_from_slice(b"message ")?;

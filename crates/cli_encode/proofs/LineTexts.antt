@@ -4,8 +4,8 @@ use Rattle.std.proofs.Common.{◌≡◌, ◌∙◌, ◌<◌, ℕ, true, false, L
 use Rattle.std.specs.Prelude.{codes}
 use Rattle.std.specs.Fmt.{decimal}
 use Rattle.std.specs.List.{list_all}
-use Rattle.iso_msg.specs.declared.table.Form.{Form}
-use Rattle.iso_msg.specs.declared.table.Form.TheVariants.{Fixed, Variable, Binary}
+use Rattle.iso_msg.specs.declared.table.FieldForm.{FieldForm}
+use Rattle.iso_msg.specs.declared.table.FieldForm.TheVariants.{Fixed, Variable, Binary}
 use Rattle.iso_msg.specs.Table.{form_of}
 use Rattle.iso_msg.specs.Messages.{IsMti}
 use Rattle.sw_base.specs.Digits.{is_digit}
@@ -48,7 +48,7 @@ module _ (line word text : List ℕ) (whole : word ++ 32 ∷ text ≡ line) (cle
 
 -- ---- a value that is not a binary one
 
-pub plain_value : (form : Option Form) (text : List ℕ) → (form ≡ Some Binary → ⊥) → has_byte 10 text ≡ false → (shown form text ≡ text) × IsOnLine form text
+pub plain_value : (form : Option FieldForm) (text : List ℕ) → (form ≡ Some Binary → ⊥) → has_byte 10 text ≡ false → (shown form text ≡ text) × IsOnLine form text
 plain_value None text other none = (refl, none)
 plain_value (Some Binary) text other none = absurd (other refl)
 plain_value (Some (Fixed content exact)) text other none = (refl, none)
@@ -79,7 +79,7 @@ says_heading line word whole none = (whole, (none_in_parts 10 (codes "message ")
 
 -- ---- a line says one thing
 
-value_once : (form : Option Form) (v w : List ℕ) → IsOnLine form v → IsOnLine form w → shown form v ≡ shown form w → v ≡ w
+value_once : (form : Option FieldForm) (v w : List ℕ) → IsOnLine form v → IsOnLine form w → shown form v ≡ shown form w → v ≡ w
 value_once None v w h k e = e
 value_once (Some Binary) v w h k e = hex_once v w h.1 k.1 e
 value_once (Some (Fixed content exact)) v w h k e = e
@@ -106,7 +106,7 @@ line_once (Field n v) (Field k w) h i e =
 
 -- ---- a line has no line feed
 
-value_free : (form : Option Form) (v : List ℕ) → IsOnLine form v → has_byte 10 (shown form v) ≡ false
+value_free : (form : Option FieldForm) (v : List ℕ) → IsOnLine form v → has_byte 10 (shown form v) ≡ false
 value_free None v h = h
 value_free (Some Binary) v h = none_in_hex v h.1
 value_free (Some (Fixed content exact)) v h = h

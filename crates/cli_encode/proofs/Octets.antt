@@ -11,7 +11,7 @@ use Rattle.iso_codec.specs.Spelling.{upper, hex}
 use Rattle.std.proofs.Math.ListN.{drop_of_length-le}
 use Rattle.std.proofs.lemmas.List.{take_all}
 use Rattle.iso_msg.proofs.Bools.{eqb-false_from}
-use Rattle.iso_msg.specs.declared.table.Form.TheVariants.{Binary}
+use Rattle.iso_msg.specs.declared.table.FieldForm.TheVariants.{Binary}
 use Rattle.iso_codec.specs.declared.error.DecodeError.{DecodeError}
 use Rattle.iso_codec.specs.declared.error.DecodeError.TheVariants.{Short, BadContent}
 use Rattle.iso_codec.specs.Reads.{◌>>=◌, or_fault, part, octets_at}

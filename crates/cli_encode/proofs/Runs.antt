@@ -17,8 +17,8 @@ use Rattle.iso_msg.proofs.FieldLists.{taken_below}
 use Rattle.iso_msg.specs.declared.error.MessageError.TheVariants.{BadContent, BadLength}
 use Rattle.iso_msg.specs.declared.table.Content.{Content}
 use Rattle.iso_msg.specs.declared.table.Content.TheVariants.{Numeric, Printable}
-use Rattle.iso_msg.specs.declared.table.Form.{Form}
-use Rattle.iso_msg.specs.declared.table.Form.TheVariants.{Fixed, Variable, Binary}
+use Rattle.iso_msg.specs.declared.table.FieldForm.{FieldForm}
+use Rattle.iso_msg.specs.declared.table.FieldForm.TheVariants.{Fixed, Variable, Binary}
 use Rattle.iso_msg.specs.Table.{form_of}
 use Rattle.iso_msg.specs.Values.{refusal_by, is_text, is_byte, takes}
 use Rattle.iso_msg.specs.Messages.{Fields, PlainMessage, AreFields, IsMessage}
@@ -137,7 +137,7 @@ content_free : (content : Content) (v : List ℕ) → takes content v ≡ true �
 content_free Numeric v h = digits_free v h
 content_free Printable v h = prints_free v h
 
-on_line : (form : Option Form) (n : ℕ) (v : List ℕ) → refusal_by form n v ≡ None → IsOnLine form v
+on_line : (form : Option FieldForm) (n : ℕ) (v : List ℕ) → refusal_by form n v ≡ None → IsOnLine form v
 on_line None n v e = absurd cc
 on_line (Some Binary) n v e = let p = accepted (length v == 8) (list_all is_byte v) n e in (eqb-true (length v) 8 p.0, p.1)
 on_line (Some (Fixed content exact)) n v e = content_free content v (accepted (length v == exact) (takes content v) n e).1

@@ -3,8 +3,8 @@ use Rattle.std.specs.Prelude.{◌≡◌, ◌<◌, ◌==◌, ℕ, Bool, true, fal
 use Rattle.std.specs.Fmt.{decimal}
 use Rattle.std.specs.List.{flat_map, list_all, list_any}
 use Rattle.std.specs.Borrow.{Bor}
-use Rattle.iso_msg.specs.declared.table.Form.{Form}
-use Rattle.iso_msg.specs.declared.table.Form.TheVariants.{Binary}
+use Rattle.iso_msg.specs.declared.table.FieldForm.{FieldForm}
+use Rattle.iso_msg.specs.declared.table.FieldForm.TheVariants.{Binary}
 use Rattle.iso_msg.specs.Table.{form_of}
 use Rattle.iso_msg.specs.Values.{is_byte}
 use Rattle.iso_msg.specs.Messages.{PlainMessage, IsMti}
@@ -25,7 +25,7 @@ abbrev pub has_byte : ℕ → List ℕ → Bool
 has_byte c bytes = list_any (λ b. b == c) bytes
 
 -- a binary value has eight bytes, and any other no line feed
-abbrev pub IsOnLine : Option Form → List ℕ → Type 0
+abbrev pub IsOnLine : Option FieldForm → List ℕ → Type 0
 IsOnLine (Some Binary) value = (length value ≡ 8) × (list_all is_byte value ≡ true)
 IsOnLine form value = has_byte 10 value ≡ false
 
@@ -75,10 +75,10 @@ abbrev pub SaysNoField : List ℕ → Type 0
 SaysNoField bytes = (n : ℕ) (value : List ℕ) → IsLine (Field n value) → line_bytes (Field n value) ≡ bytes → ⊥
 
 -- the same of a field's value
-abbrev pub IsValueOf : Option Form → List ℕ → Value → Type 0
+abbrev pub IsValueOf : Option FieldForm → List ℕ → Value → Type 0
 IsValueOf form text v = (shown form (value_of v) ≡ text) × IsOnLine form (value_of v)
 
-abbrev pub IsNoValueOf : Option Form → List ℕ → Type 0
+abbrev pub IsNoValueOf : Option FieldForm → List ℕ → Type 0
 IsNoValueOf form text = (value : List ℕ) → IsOnLine form value → shown form value ≡ text → ⊥
 
 -- a digit in lower case

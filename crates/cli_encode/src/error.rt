@@ -5,7 +5,7 @@ ghost use Rattle.cli_encode.specs.Errors.{error_of_read, error_of_write};
 ghost use Rattle.cli_encode.specs.declared.error.EncodeError.TheVariants.{OutOfMemory, Text};
 
 use cli_io::{Quoted, ReadError, WriteError};
-use iso_msg::{ExpectedValue, FieldLabel, Form, form_at};
+use iso_msg::{ExpectedValue, FieldForm, FieldLabel, form_at};
 use std::alloc::AllocError;
 use std::fmt;
 use thiserror::Error;
@@ -59,7 +59,7 @@ struct ExpectedText(u8);
 impl fmt::Display for ExpectedText {
     fn fmt<W: fmt::Write>(&self, f: &mut fmt::Formatter<W>) -> fmt::Result {
         match form_at(self.0) {
-            Some(Form::Binary) => f.write_str("16 hexadecimal digits in upper case"),
+            Some(FieldForm::Binary) => f.write_str("16 hexadecimal digits in upper case"),
             _ => write!(f, "{}", ExpectedValue(self.0)),
         }
     }

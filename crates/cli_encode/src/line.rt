@@ -6,7 +6,7 @@ ghost use Rattle.cli_encode.specs.Lines as spec;
 
 use crate::cut::{after, cut_at};
 use iso_codec::read_binary;
-use iso_msg::{Form, Mti, form_at};
+use iso_msg::{FieldForm, Mti, form_at};
 use itoa::Buffer;
 use sw_base::decimal;
 
@@ -70,7 +70,7 @@ fn has_lower(text: &[u8]) -> bool
 
 // The bytes of sixteen hexadecimal digits in upper case.
 fn read_octets(number: u8, text: &[u8]) -> Option<[u8; 8]>
-    ensures { MatchOption result (spec.IsNoValueOf (Some Form.Binary) text.now)
+    ensures { MatchOption result (spec.IsNoValueOf (Some FieldForm.Binary) text.now)
         (spec.AreOctetsOf text.now) }
 {
     if text.len() != 16 {
@@ -94,7 +94,7 @@ fn read_value(number: u8, text: &[u8]) -> Option<Value<'_>>
         (spec.IsValueOf (form_of number) text.entry.now) }
 {
     match form_at(number) {
-        Some(Form::Binary) => Some(Value::Octets(read_octets(number, text)?)),
+        Some(FieldForm::Binary) => Some(Value::Octets(read_octets(number, text)?)),
         _ => Some(Value::Text(text)),
     }
 }

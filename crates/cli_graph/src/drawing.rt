@@ -5,7 +5,7 @@ ghost use Rattle.std.specs.Io.KnownBytes.{Appends};
 ghost use Rattle.cli_io.specs.Written.{AppendsBeginning};
 ghost use Rattle.cli_graph.specs.Picture as spec;
 
-use crate::form::Form;
+use crate::form::GraphForm;
 use crate::nodes::GroupBoxes;
 use crate::paths::AllPaths;
 use cli_io::{WriteError, write_out};
@@ -16,7 +16,7 @@ use std::io::Write;
 
 #[derive(Drop)]
 struct PictureText<'a> {
-    form: Form,
+    form: GraphForm,
     flow: &'a Flow,
 }
 
@@ -34,15 +34,15 @@ impl fmt::Display for PictureText<'_> {
             groups,
         };
         match self.form {
-            Form::Mermaid => write!(f, "flowchart TD\n{boxes}{paths}"),
-            Form::Dot => write!(f, "digraph flow {{\n{boxes}{paths}}}\n"),
+            GraphForm::Mermaid => write!(f, "flowchart TD\n{boxes}{paths}"),
+            GraphForm::Dot => write!(f, "digraph flow {{\n{boxes}{paths}}}\n"),
         }
     }
 }
 
 /// The text of a flow's picture. A checked flow's names need no quoting; any other names are written as they are.
 /// The only refusal is out of memory.
-pub fn picture(alloc: Global, form: Form, flow: &Flow) -> Result<Vec<u8>, AllocError>
+pub fn picture(alloc: Global, form: GraphForm, flow: &Flow) -> Result<Vec<u8>, AllocError>
     ensures { IfOk result (λ text. text.items ≡ spec.picture_of form flow.now) }
 {
     let picture = PictureText { form, flow };
@@ -51,7 +51,12 @@ pub fn picture(alloc: Global, form: Form, flow: &Flow) -> Result<Vec<u8>, AllocE
 }
 
 /// Writes a flow's picture to an output. After an error, what was written is a beginning of it.
-pub fn draw<W: Write>(alloc: Global, form: Form, flow: &Flow, out: &mut W) -> Result<(), WriteError>
+pub fn draw<W: Write>(
+    alloc: Global,
+    form: GraphForm,
+    flow: &Flow,
+    out: &mut W,
+) -> Result<(), WriteError>
     ensures written { OnOk result (Appends (W.contents out.old) (W.contents out.new)
         (spec.picture_of form flow.now)) }
     ensures beginning { AppendsBeginning (W.contents out.old) (W.contents out.new)

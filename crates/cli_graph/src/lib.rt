@@ -16,4 +16,4 @@ mod nodes;
 mod paths;
 
 pub use drawing::{draw, picture};
-pub use form::Form;
+pub use form::GraphForm;

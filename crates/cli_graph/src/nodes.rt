@@ -3,7 +3,7 @@
 ghost use Rattle.std.specs.Prelude.{◌≡◌, Some};
 ghost use Rattle.cli_graph.specs.Picture as spec;
 
-use crate::form::Form;
+use crate::form::GraphForm;
 use flow_model::{Entry, Group};
 use std::fmt;
 use sw_participant::Kind;
@@ -21,30 +21,30 @@ fn marks(kind: Kind) -> &'static str
 }
 
 // What comes before and after a node's label. A selector is a hexagon, any other participant a rectangle.
-fn node_open(form: Form, selector: bool) -> &'static str
+fn node_open(form: GraphForm, selector: bool) -> &'static str
     ensures { result.now ≡ spec.node_open form selector }
 {
     match (form, selector) {
-        (Form::Mermaid, false) => "[\"",
-        (Form::Mermaid, true) => "{{\"",
-        (Form::Dot, _) => " [label=\"",
+        (GraphForm::Mermaid, false) => "[\"",
+        (GraphForm::Mermaid, true) => "{{\"",
+        (GraphForm::Dot, _) => " [label=\"",
     }
 }
 
-fn node_close(form: Form, selector: bool) -> &'static str
+fn node_close(form: GraphForm, selector: bool) -> &'static str
     ensures { result.now ≡ spec.node_close form selector }
 {
     match (form, selector) {
-        (Form::Mermaid, false) => "\"]",
-        (Form::Mermaid, true) => "\"}}",
-        (Form::Dot, false) => "\", shape=box];",
-        (Form::Dot, true) => "\", shape=hexagon];",
+        (GraphForm::Mermaid, false) => "\"]",
+        (GraphForm::Mermaid, true) => "\"}}",
+        (GraphForm::Dot, false) => "\", shape=box];",
+        (GraphForm::Dot, true) => "\", shape=hexagon];",
     }
 }
 
 #[derive(Drop)]
 struct EntryNode<'a> {
-    form: Form,
+    form: GraphForm,
     group: usize,
     index: usize,
     entry: &'a Entry,
@@ -65,7 +65,7 @@ impl fmt::Display for EntryNode<'_> {
 
 #[derive(Drop)]
 struct EntryNodes<'a> {
-    form: Form,
+    form: GraphForm,
     group: usize,
     entries: &'a [Entry],
 }
@@ -88,37 +88,37 @@ impl fmt::Display for EntryNodes<'_> {
 }
 
 // What comes before a box's number, before its label and after its label.
-fn box_open(form: Form) -> &'static str
+fn box_open(form: GraphForm) -> &'static str
     ensures { result.now ≡ spec.box_open form }
 {
     match form {
-        Form::Mermaid => "group",
-        Form::Dot => "cluster",
+        GraphForm::Mermaid => "group",
+        GraphForm::Dot => "cluster",
     }
 }
 
-fn label_open(form: Form) -> &'static str
+fn label_open(form: GraphForm) -> &'static str
     ensures { result.now ≡ spec.label_open form }
 {
     match form {
-        Form::Mermaid => " [\"",
-        Form::Dot => " {\n    label=\"",
+        GraphForm::Mermaid => " [\"",
+        GraphForm::Dot => " {\n    label=\"",
     }
 }
 
-fn label_close(form: Form) -> &'static str
+fn label_close(form: GraphForm) -> &'static str
     ensures { result.now ≡ spec.label_close form }
 {
     match form {
-        Form::Mermaid => "\"]",
-        Form::Dot => "\";",
+        GraphForm::Mermaid => "\"]",
+        GraphForm::Dot => "\";",
     }
 }
 
 // The first lines of a group's box.
 #[derive(Drop)]
 struct BoxLabel<'a> {
-    form: Form,
+    form: GraphForm,
     number: usize,
     name: &'a str,
 }
@@ -135,28 +135,28 @@ impl fmt::Display for BoxLabel<'_> {
 }
 
 // What comes before and after the label of a group's head.
-fn head_open(form: Form) -> &'static str
+fn head_open(form: GraphForm) -> &'static str
     ensures { result.now ≡ spec.head_open form }
 {
     match form {
-        Form::Mermaid => "([\"",
-        Form::Dot => " [label=\"",
+        GraphForm::Mermaid => "([\"",
+        GraphForm::Dot => " [label=\"",
     }
 }
 
-fn head_close(form: Form) -> &'static str
+fn head_close(form: GraphForm) -> &'static str
     ensures { result.now ≡ spec.head_close form }
 {
     match form {
-        Form::Mermaid => "\"])",
-        Form::Dot => "\", shape=oval];",
+        GraphForm::Mermaid => "\"])",
+        GraphForm::Dot => "\", shape=oval];",
     }
 }
 
 // The node of a group's head.
 #[derive(Drop)]
 struct GroupHead<'a> {
-    form: Form,
+    form: GraphForm,
     number: usize,
     name: &'a str,
 }
@@ -173,7 +173,7 @@ impl fmt::Display for GroupHead<'_> {
 
 #[derive(Drop)]
 struct GroupBox<'a> {
-    form: Form,
+    form: GraphForm,
     number: usize,
     group: &'a Group,
 }
@@ -192,8 +192,8 @@ impl fmt::Display for GroupBox<'_> {
             entries: self.group.entries.as_slice(),
         };
         match form {
-            Form::Mermaid => write!(f, "{label}{head}{entries}  end\n"),
-            Form::Dot => write!(f, "{label}{head}{entries}  }}\n"),
+            GraphForm::Mermaid => write!(f, "{label}{head}{entries}  end\n"),
+            GraphForm::Dot => write!(f, "{label}{head}{entries}  }}\n"),
         }
     }
 }
@@ -201,7 +201,7 @@ impl fmt::Display for GroupBox<'_> {
 /// The boxes of all groups.
 #[derive(Drop)]
 pub(crate) struct GroupBoxes<'a> {
-    pub(crate) form: Form,
+    pub(crate) form: GraphForm,
     pub(crate) groups: &'a [Group],
 }
 

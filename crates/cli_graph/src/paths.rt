@@ -3,7 +3,7 @@
 ghost use Rattle.std.specs.Prelude.{◌≡◌, Some};
 ghost use Rattle.cli_graph.specs.Picture as spec;
 
-use crate::form::Form;
+use crate::form::GraphForm;
 use flow_model::{Entry, Group};
 use std::fmt;
 use sw_participant::Kind;
@@ -24,7 +24,7 @@ fn has_called(entries: &[Entry]) -> bool
 // An arrow to an entry, from the one before it.
 #[derive(Drop)]
 struct PlainStep {
-    form: Form,
+    form: GraphForm,
     group: usize,
     index: usize,
 }
@@ -35,15 +35,15 @@ impl fmt::Display for PlainStep {
     fn fmt<W: fmt::Write>(&self, f: &mut fmt::Formatter<W>) -> fmt::Result {
         let (group, index) = (self.group, self.index);
         match self.form {
-            Form::Mermaid => write!(f, " --> e{group}_{index}"),
-            Form::Dot => write!(f, " -> e{group}_{index}"),
+            GraphForm::Mermaid => write!(f, " --> e{group}_{index}"),
+            GraphForm::Dot => write!(f, " -> e{group}_{index}"),
         }
     }
 }
 
 #[derive(Drop)]
 struct PlainSteps<'a> {
-    form: Form,
+    form: GraphForm,
     group: usize,
     entries: &'a [Entry],
 }
@@ -67,7 +67,7 @@ impl fmt::Display for PlainSteps<'_> {
 // An arrow to an entry that is called while a transaction aborts; nothing for any other entry.
 #[derive(Drop)]
 struct AbortStep {
-    form: Form,
+    form: GraphForm,
     group: usize,
     index: usize,
     kind: Kind,
@@ -80,15 +80,15 @@ impl fmt::Display for AbortStep {
         let (group, index) = (self.group, self.index);
         match (self.form, is_called(self.kind)) {
             (_, false) => write!(f, ""),
-            (Form::Mermaid, true) => write!(f, " -. abort .-> e{group}_{index}"),
-            (Form::Dot, true) => write!(f, " -> e{group}_{index}"),
+            (GraphForm::Mermaid, true) => write!(f, " -. abort .-> e{group}_{index}"),
+            (GraphForm::Dot, true) => write!(f, " -> e{group}_{index}"),
         }
     }
 }
 
 #[derive(Drop)]
 struct AbortSteps<'a> {
-    form: Form,
+    form: GraphForm,
     group: usize,
     entries: &'a [Entry],
 }
@@ -113,7 +113,7 @@ impl fmt::Display for AbortSteps<'_> {
 // One of the groups to which a selector leads.
 #[derive(Drop)]
 struct Target {
-    form: Form,
+    form: GraphForm,
     number: usize,
 }
 
@@ -124,15 +124,15 @@ impl fmt::Display for Target {
         let number = self.number;
         match (self.form, number) {
             (_, 0) => write!(f, "g{number}"),
-            (Form::Mermaid, _) => write!(f, " & g{number}"),
-            (Form::Dot, _) => write!(f, " g{number}"),
+            (GraphForm::Mermaid, _) => write!(f, " & g{number}"),
+            (GraphForm::Dot, _) => write!(f, " g{number}"),
         }
     }
 }
 
 #[derive(Drop)]
 struct Targets<'a> {
-    form: Form,
+    form: GraphForm,
     groups: &'a [Group],
 }
 
@@ -151,28 +151,28 @@ impl fmt::Display for Targets<'_> {
     }
 }
 
-fn bold_arrow(form: Form) -> &'static str
+fn bold_arrow(form: GraphForm) -> &'static str
     ensures { result.now ≡ spec.bold_arrow form }
 {
     match form {
-        Form::Mermaid => " == selects ==> ",
-        Form::Dot => " -> {",
+        GraphForm::Mermaid => " == selects ==> ",
+        GraphForm::Dot => " -> {",
     }
 }
 
-fn bold_end(form: Form) -> &'static str
+fn bold_end(form: GraphForm) -> &'static str
     ensures { result.now ≡ spec.bold_end form }
 {
     match form {
-        Form::Mermaid => "",
-        Form::Dot => "} [style=bold, label=\"selects\"];",
+        GraphForm::Mermaid => "",
+        GraphForm::Dot => "} [style=bold, label=\"selects\"];",
     }
 }
 
 // The line of a selector's arrows to the groups; nothing for an entry that is not a selector.
 #[derive(Drop)]
 struct Selection<'a> {
-    form: Form,
+    form: GraphForm,
     group: usize,
     index: usize,
     kind: Kind,
@@ -198,7 +198,7 @@ impl fmt::Display for Selection<'_> {
 
 #[derive(Drop)]
 struct Selections<'a> {
-    form: Form,
+    form: GraphForm,
     group: usize,
     entries: &'a [Entry],
     groups: &'a [Group],
@@ -225,7 +225,7 @@ impl fmt::Display for Selections<'_> {
 // The line of the path that an abort takes through a group; nothing if it calls no participant there.
 #[derive(Drop)]
 struct AbortPath<'a> {
-    form: Form,
+    form: GraphForm,
     group: usize,
     entries: &'a [Entry],
 }
@@ -242,15 +242,18 @@ impl fmt::Display for AbortPath<'_> {
         };
         match (self.form, has_called(self.entries)) {
             (_, false) => write!(f, ""),
-            (Form::Mermaid, true) => write!(f, "  g{group}{steps}\n"),
-            (Form::Dot, true) => write!(f, "  g{group}{steps} [style=dashed, label=\"abort\"];\n"),
+            (GraphForm::Mermaid, true) => write!(f, "  g{group}{steps}\n"),
+            (GraphForm::Dot, true) => write!(
+                f,
+                "  g{group}{steps} [style=dashed, label=\"abort\"];\n"
+            ),
         }
     }
 }
 
 #[derive(Drop)]
 struct GroupPaths<'a> {
-    form: Form,
+    form: GraphForm,
     number: usize,
     group: &'a Group,
     groups: &'a [Group],
@@ -279,8 +282,8 @@ impl fmt::Display for GroupPaths<'_> {
             groups: self.groups,
         };
         match form {
-            Form::Mermaid => write!(f, "  g{number}{plain}\n{abort}{selections}"),
-            Form::Dot => write!(f, "  g{number}{plain};\n{abort}{selections}"),
+            GraphForm::Mermaid => write!(f, "  g{number}{plain}\n{abort}{selections}"),
+            GraphForm::Dot => write!(f, "  g{number}{plain};\n{abort}{selections}"),
         }
     }
 }
@@ -288,7 +291,7 @@ impl fmt::Display for GroupPaths<'_> {
 /// The arrows of all groups.
 #[derive(Drop)]
 pub(crate) struct AllPaths<'a> {
-    pub(crate) form: Form,
+    pub(crate) form: GraphForm,
     pub(crate) groups: &'a [Group],
 }
 

@@ -3,7 +3,7 @@ use Rattle.std.specs.Prelude.{ℕ, Bool, true, false, List, ◌++◌, length, Op
 use Rattle.std.specs.List.{flat_map, list_all}
 use Rattle.iso_codec.specs.Spelling.{hex}
 use Rattle.tx_history.specs.declared.journal.Row.{Row}
-use Rattle.tx_history.specs.declared.journal.Waiting.{Waiting}
+use Rattle.tx_history.specs.declared.journal.WaitingContext.{WaitingContext}
 use Rattle.tx_history.specs.History.{is_committing}
 use Rattle.cli_decode.specs.declared.masking.Masking.{Masking}
 use Rattle.cli_decode.specs.Decoded.{frame_text}
@@ -61,7 +61,7 @@ abbrev pub row_json : ℕ → Row → Text
 row_json id r = opening (codes "transaction") id ++ (row_members r ++ codes "}\n")
 
 -- all but the context
-abbrev pub waiting_json : ℕ → Waiting → Text
+abbrev pub waiting_json : ℕ → WaitingContext → Text
 waiting_json id w = opening (codes "shelf") id ++ (number (codes "tries") w.tries ++ codes "}\n")
 
 abbrev pub place_members : ℕ → ℕ × ℕ → Text

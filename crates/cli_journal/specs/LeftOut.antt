@@ -4,8 +4,8 @@ use Rattle.std.specs.Fmt.{signed_decimal}
 use Rattle.journal_rows.specs.declared.error.BadRow.{BadRow}
 use Rattle.journal_rows.specs.declared.error.JournalTable.{JournalTable}
 use Rattle.journal_rows.specs.declared.error.JournalTable.TheVariants.{Advice, Joined, Member, Meta, Part, Shelf, Tx}
-use Rattle.cli_journal.specs.declared.form.Form.{Form}
-use Rattle.cli_journal.specs.declared.form.Form.TheVariants as form
+use Rattle.cli_journal.specs.declared.form.JournalForm.{JournalForm}
+use Rattle.cli_journal.specs.declared.form.JournalForm.TheVariants as form
 use Rattle.cli_journal.specs.Entries.{Text}
 
 -- a table as the error of a bad row names it
@@ -27,6 +27,6 @@ abbrev pub left_out_json : BadRow → Text
 left_out_json bad =
     codes "{\"left_out\":\"" ++ (table_name bad.table ++ (codes "\",\"id\":" ++ (signed_decimal bad.id ++ codes "}\n")))
 
-abbrev pub left_out_as : Form → BadRow → Text
+abbrev pub left_out_as : JournalForm → BadRow → Text
 left_out_as form.Text bad = left_out_line bad
 left_out_as form.Json bad = left_out_json bad

@@ -5,12 +5,12 @@ use Rattle.sw_context.specs.Pairs.{Pairs}
 use Rattle.sw_json.specs.Contexts.{context_at}
 use Rattle.tx_history.specs.declared.journal.JournalView.{JournalView}
 use Rattle.tx_history.specs.declared.journal.Row.{Row}
-use Rattle.tx_history.specs.declared.journal.Waiting.{Waiting}
+use Rattle.tx_history.specs.declared.journal.WaitingContext.{WaitingContext}
 use Rattle.cli_decode.specs.declared.masking.Masking.{Masking}
 use Rattle.cli_decode.specs.Decoded.{frame_text}
 use Rattle.journal_rows.specs.declared.error.BadRow.{BadRow}
-use Rattle.cli_journal.specs.declared.form.Form.{Form}
-use Rattle.cli_journal.specs.declared.form.Form.TheVariants as form
+use Rattle.cli_journal.specs.declared.form.JournalForm.{JournalForm}
+use Rattle.cli_journal.specs.declared.form.JournalForm.TheVariants as form
 use Rattle.cli_journal.specs.declared.form.Style.{Style}
 use Rattle.cli_journal.specs.declared.owner.Owner.{Owner}
 use Rattle.cli_journal.specs.declared.owner.Owner.TheVariants.{Transaction, Shelf}
@@ -22,11 +22,11 @@ use Rattle.cli_journal.specs.Text.{entry_text, head_text, place_text, refused_te
 
 -- ---- a context
 
-abbrev pub entry_as : Form → Masking → Owner → Text × Text → Text
+abbrev pub entry_as : JournalForm → Masking → Owner → Text × Text → Text
 entry_as form.Text k o e = entry_text k (id_of o) e
 entry_as form.Json k o e = entry_json k o e
 
-abbrev pub refused_as : Form → Owner → Text
+abbrev pub refused_as : JournalForm → Owner → Text
 refused_as form.Text o = refused_text
 refused_as form.Json o = refused_json o
 
@@ -43,22 +43,22 @@ context_in s o bytes = entries_in s o (context_at bytes)
 
 -- ---- the items
 
-abbrev pub row_as : Form → ℕ → Row → Text
+abbrev pub row_as : JournalForm → ℕ → Row → Text
 row_as form.Text id r = row_text id r
 row_as form.Json id r = row_json id r
 
 abbrev pub row_in : Style → ℕ × Row → Text
 row_in s r = row_as s.form r.0 r.1 ++ context_in s (Transaction r.0) r.1.context
 
-abbrev pub waiting_as : Form → ℕ → Waiting → Text
+abbrev pub waiting_as : JournalForm → ℕ → WaitingContext → Text
 waiting_as form.Text id w = waiting_text id w
 waiting_as form.Json id w = waiting_json id w
 
-abbrev pub waiting_in : Style → ℕ × Waiting → Text
+abbrev pub waiting_in : Style → ℕ × WaitingContext → Text
 waiting_in s w = waiting_as s.form w.0 w.1 ++ context_in s (Shelf w.0) w.1.context
 
 -- an advice of this place, and the lines of its message
-abbrev pub advice_as : Form → ℕ → ℕ × ℕ → Text → Text
+abbrev pub advice_as : JournalForm → ℕ → ℕ × ℕ → Text → Text
 advice_as form.Text next_id place message = place_text next_id place ++ message
 advice_as form.Json next_id place message = place_members next_id place ++ advised_json message
 
@@ -67,7 +67,7 @@ advice_in s next_id a = advice_as s.form next_id a.0 (frame_text s.masking a.0.0
 
 -- ---- the journal
 
-abbrev pub head_as : Form → ℕ → ℕ → Text
+abbrev pub head_as : JournalForm → ℕ → ℕ → Text
 head_as form.Text layout next_id = head_text layout next_id
 head_as form.Json layout next_id = head_json layout next_id
 

@@ -5,7 +5,7 @@ use Rattle.std.specs.List.{flat_map, list_all}
 use Rattle.iso_codec.specs.Spelling.{hex}
 use Rattle.tx_machine.specs.declared.values.Phase.{Phase}
 use Rattle.tx_history.specs.declared.journal.Row.{Row}
-use Rattle.tx_history.specs.declared.journal.Waiting.{Waiting}
+use Rattle.tx_history.specs.declared.journal.WaitingContext.{WaitingContext}
 use Rattle.tx_history.specs.History.{is_committing, to_tell}
 use Rattle.cli_decode.specs.declared.masking.Masking.{Masking}
 use Rattle.cli_decode.specs.Decoded.{frame_text}
@@ -87,7 +87,7 @@ row_text id r = title_line id r.phase ++ facts_text r
 -- ---- a context that waits to be tried again, and an advice
 
 -- all but the context
-abbrev pub waiting_text : ℕ → Waiting → Text
+abbrev pub waiting_text : ℕ → WaitingContext → Text
 waiting_text id w = number_line (codes "shelf") id ++ number_line (codes "tries") w.tries
 
 -- `advice ID PLACE`

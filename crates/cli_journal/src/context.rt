@@ -4,7 +4,7 @@ ghost use Rattle.std.specs.Prelude.{◌≡◌, ◌++◌, OnOk};
 ghost use Rattle.std.specs.List.{flat_map};
 ghost use Rattle.cli_journal.specs.Shown as spec;
 
-use crate::form::{Form, Style};
+use crate::form::{JournalForm, Style};
 use crate::owner::Owner;
 use crate::{json_entries, text_entries};
 use std::alloc::{AllocError, Global};
@@ -22,8 +22,22 @@ fn push_entry(
         ≡ text.old.items ++ spec.entry_in style owner (name.now, value.now)) }
 {
     match style.form {
-        Form::Text => text_entries::push_entry(alloc, text, style.masking, owner.id(), name, value),
-        Form::Json => json_entries::push_entry(alloc, text, style.masking, owner, name, value),
+        JournalForm::Text => text_entries::push_entry(
+            alloc,
+            text,
+            style.masking,
+            owner.id(),
+            name,
+            value,
+        ),
+        JournalForm::Json => json_entries::push_entry(
+            alloc,
+            text,
+            style.masking,
+            owner,
+            name,
+            value,
+        ),
     }
 }
 
@@ -46,12 +60,12 @@ fn push_entries(
     Ok(())
 }
 
-fn push_refused(text: &mut Vec<u8>, form: Form, owner: Owner) -> Result<(), AllocError>
+fn push_refused(text: &mut Vec<u8>, form: JournalForm, owner: Owner) -> Result<(), AllocError>
     ensures { OnOk result (text.new.items ≡ text.old.items ++ spec.refused_as form owner) }
 {
     match form {
-        Form::Text => text_entries::push_refused(text),
-        Form::Json => json_entries::push_refused(text, owner),
+        JournalForm::Text => text_entries::push_refused(text),
+        JournalForm::Json => json_entries::push_refused(text, owner),
     }
 }
 

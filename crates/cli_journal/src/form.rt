@@ -4,7 +4,7 @@ use cli_decode::Masking;
 
 /// Lines of text, or lines of JSON.
 #[derive(Clone, Copy)]
-pub enum Form {
+pub enum JournalForm {
     Text,
     /// Each line is an object.
     Json,
@@ -13,6 +13,6 @@ pub enum Form {
 /// The form in which a journal is shown, and whether it is masked.
 #[derive(Clone, Copy)]
 pub struct Style {
-    pub form: Form,
+    pub form: JournalForm,
     pub masking: Masking,
 }

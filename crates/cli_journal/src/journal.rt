@@ -8,7 +8,7 @@ ghost use Rattle.cli_journal.specs.Shown as spec;
 
 use crate::context::push_context;
 use crate::entries::message_text;
-use crate::form::{Form, Style};
+use crate::form::{JournalForm, Style};
 use crate::left_out::push_left_out;
 use crate::owner::Owner;
 use crate::{json_items, text_items};
@@ -17,24 +17,34 @@ use journal_rows::BadRow;
 use std::alloc::{AllocError, Global};
 use std::io::Write;
 use sw_participant::Bytes;
-use tx_history::{JournalView, Row, Waiting};
+use tx_history::{JournalView, Row, WaitingContext};
 
-fn push_head(text: &mut Vec<u8>, form: Form, layout: u64, next_id: u64) -> Result<(), AllocError>
+fn push_head(
+    text: &mut Vec<u8>,
+    form: JournalForm,
+    layout: u64,
+    next_id: u64,
+) -> Result<(), AllocError>
     ensures { OnOk result (text.new.items
         ≡ text.old.items ++ spec.head_as form layout next_id) }
 {
     match form {
-        Form::Text => text_items::push_head(text, layout, next_id),
-        Form::Json => json_items::push_head(text, layout, next_id),
+        JournalForm::Text => text_items::push_head(text, layout, next_id),
+        JournalForm::Json => json_items::push_head(text, layout, next_id),
     }
 }
 
-fn push_row_facts(text: &mut Vec<u8>, form: Form, id: u64, row: &Row) -> Result<(), AllocError>
+fn push_row_facts(
+    text: &mut Vec<u8>,
+    form: JournalForm,
+    id: u64,
+    row: &Row,
+) -> Result<(), AllocError>
     ensures { OnOk result (text.new.items ≡ text.old.items ++ spec.row_as form id row.now) }
 {
     match form {
-        Form::Text => text_items::push_row(text, id, row),
-        Form::Json => json_items::push_row(text, id, row),
+        JournalForm::Text => text_items::push_row(text, id, row),
+        JournalForm::Json => json_items::push_row(text, id, row),
     }
 }
 
@@ -70,16 +80,16 @@ fn push_rows(
 
 fn push_waiting_facts(
     text: &mut Vec<u8>,
-    form: Form,
+    form: JournalForm,
     id: u64,
-    waiting: &Waiting,
+    waiting: &WaitingContext,
 ) -> Result<(), AllocError>
     ensures { OnOk result (text.new.items
         ≡ text.old.items ++ spec.waiting_as form id waiting.now) }
 {
     match form {
-        Form::Text => text_items::push_waiting(text, id, waiting),
-        Form::Json => json_items::push_waiting(text, id, waiting),
+        JournalForm::Text => text_items::push_waiting(text, id, waiting),
+        JournalForm::Json => json_items::push_waiting(text, id, waiting),
     }
 }
 
@@ -88,7 +98,7 @@ fn push_waiting(
     text: &mut Vec<u8>,
     style: Style,
     id: u64,
-    waiting: &Waiting,
+    waiting: &WaitingContext,
 ) -> Result<(), AllocError>
     ensures { OnOk result (text.new.items
         ≡ text.old.items ++ spec.waiting_in style (id, waiting.now)) }
@@ -103,7 +113,7 @@ fn push_shelf(
     alloc: Global,
     text: &mut Vec<u8>,
     style: Style,
-    shelf: &[(u64, Waiting)],
+    shelf: &[(u64, WaitingContext)],
 ) -> Result<(), AllocError>
     ensures { OnOk result (text.new.items
         ≡ text.old.items ++ flat_map (spec.waiting_in style) shelf.now) }
@@ -127,11 +137,11 @@ fn push_advice(
 {
     let message = message_text(alloc, style.masking, place.0, advice.as_slice())?;
     match style.form {
-        Form::Text => {
+        JournalForm::Text => {
             text_items::push_place(text, next_id, place)?;
             text.extend_from_slice(message.as_slice())
         }
-        Form::Json => {
+        JournalForm::Json => {
             json_items::push_place(text, next_id, place)?;
             json_items::push_advised(text, message.as_slice())
         }

@@ -8,7 +8,7 @@ use crate::json::push_strings;
 use std::alloc::AllocError;
 use sw_json::{push_number_member, push_opening, push_text_member};
 use sw_participant::Text;
-use tx_history::{Row, Waiting};
+use tx_history::{Row, WaitingContext};
 
 fn push_doing(text: &mut Vec<u8>, doing: &Option<Text>) -> Result<(), AllocError>
     ensures { OnOk result (text.new.items ≡ text.old.items ++ spec.doing_member doing.now) }
@@ -55,7 +55,7 @@ pub fn push_row(text: &mut Vec<u8>, id: u64, row: &Row) -> Result<(), AllocError
 }
 
 /// Adds the line of a context that waits to be tried again.
-pub fn push_waiting(text: &mut Vec<u8>, id: u64, waiting: &Waiting) -> Result<(), AllocError>
+pub fn push_waiting(text: &mut Vec<u8>, id: u64, waiting: &WaitingContext) -> Result<(), AllocError>
     ensures { OnOk result (text.new.items ≡ text.old.items ++ spec.waiting_json id waiting.now) }
 {
     push_opening(text, "shelf", id)?;

@@ -4,7 +4,7 @@ ghost use Rattle.std.specs.Prelude.{◌≡◌, ◌++◌, OnOk};
 ghost use Rattle.std.specs.List.{flat_map};
 ghost use Rattle.cli_journal.specs.LeftOut as spec;
 
-use crate::form::Form;
+use crate::form::JournalForm;
 use journal_rows::{BadRow, JournalTable};
 use std::alloc::{AllocError, Global};
 
@@ -43,14 +43,14 @@ fn push_object(alloc: Global, text: &mut Vec<u8>, bad: BadRow) -> Result<(), All
 fn push_bad_row(
     alloc: Global,
     text: &mut Vec<u8>,
-    form: Form,
+    form: JournalForm,
     bad: BadRow,
 ) -> Result<(), AllocError>
     ensures { OnOk result (text.new.items ≡ text.old.items ++ spec.left_out_as form bad) }
 {
     match form {
-        Form::Text => push_line(alloc, text, bad),
-        Form::Json => push_object(alloc, text, bad),
+        JournalForm::Text => push_line(alloc, text, bad),
+        JournalForm::Json => push_object(alloc, text, bad),
     }
 }
 
@@ -58,7 +58,7 @@ fn push_bad_row(
 pub fn push_left_out(
     alloc: Global,
     text: &mut Vec<u8>,
-    form: Form,
+    form: JournalForm,
     rows: &[BadRow],
 ) -> Result<(), AllocError>
     ensures { OnOk result (text.new.items

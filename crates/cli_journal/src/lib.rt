@@ -25,5 +25,5 @@ mod text_entries;
 mod text_items;
 mod words;
 
-pub use form::{Form, Style};
+pub use form::{JournalForm, Style};
 pub use journal::show;

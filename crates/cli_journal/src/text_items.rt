@@ -9,7 +9,7 @@ use crate::words::{push_name, push_names, push_number_line};
 use cli_decode::push_number;
 use std::alloc::AllocError;
 use sw_participant::Text;
-use tx_history::{Row, Waiting};
+use tx_history::{Row, WaitingContext};
 use tx_machine::Phase;
 
 /// Adds the layout and the next id.
@@ -100,7 +100,7 @@ pub fn push_row(text: &mut Vec<u8>, id: u64, row: &Row) -> Result<(), AllocError
 }
 
 /// Adds the lines of a context that waits to be tried again, but for the context.
-pub fn push_waiting(text: &mut Vec<u8>, id: u64, waiting: &Waiting) -> Result<(), AllocError>
+pub fn push_waiting(text: &mut Vec<u8>, id: u64, waiting: &WaitingContext) -> Result<(), AllocError>
     ensures { OnOk result (text.new.items ≡ text.old.items ++ spec.waiting_text id waiting.now) }
 {
     push_number_line(text, "shelf", id)?;

@@ -3,7 +3,7 @@ use Rattle.std.specs.Prelude.{◌≡◌, ℕ, ◌<◌, ⊤, Bool, true, false, L
 use Rattle.sqlite_trees.specs.declared.store.Store.{Ghosts}
 use Rattle.sw_participant.specs.Chains.{counts_after}
 use Rattle.sw_participant.specs.Stations.{calls_of, name_of}
-use Rattle.tx_journal.specs.Kept.{kept}
+use Rattle.journal_store.specs.Kept.{kept}
 use Rattle.sw_scripted.specs.Puts.{put_all}
 use Rattle.sw_scripted.specs.declared.puts.Put.{Put}
 use Rattle.cli_script.specs.declared.line.Action.{Action}

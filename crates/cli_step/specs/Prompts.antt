@@ -62,7 +62,7 @@ pub record IsRefusedLine (line : List ℕ) : Type 0 where
   pub refused : IsActionRefusal number (line_of line) (meaning_of (line_of line)) cause
 
 -- a word of the prompt shows its text, and changes nothing
-pub record Shows (w : PromptWord) (a b : Scene) : Type 0 where
+pub record ShowsWord (w : PromptWord) (a b : Scene) : Type 0 where
   pub at : b.at ≡ a.at
   pub out : Appends a.out b.out (prompt_word_text w (world_of a.at))
   pub err : b.err ≡ a.err
@@ -100,7 +100,7 @@ abbrev pub IsRunOrReported : List ℕ → Scene → Scene → Type 0
 IsRunOrReported line a b = Does line a b ⊎ Refuses line a b
 
 abbrev pub AnswersBy : Option PromptWord → List ℕ → Scene → Scene → Type 0
-AnswersBy (Some w) line a b = Shows w a b
+AnswersBy (Some w) line a b = ShowsWord w a b
 AnswersBy None line a b = IsRunOrReported line a b
 
 -- a line was answered

@@ -18,7 +18,7 @@ use Rattle.tx_trace.specs.Trace.{Text}
 use Rattle.cli_step.specs.Auto.{Autos}
 use Rattle.cli_step.specs.Errors.{at_line}
 use Rattle.cli_step.specs.Doing.{Point, Says, session_of, turn_of}
-use Rattle.cli_step.specs.Shown.{Shows}
+use Rattle.cli_step.specs.Shown.{ShowsAction}
 use Rattle.cli_step.specs.declared.error.ActionError.{ActionError}
 use Rattle.cli_step.specs.declared.error.ActionError.TheVariants as act
 use Rattle.tx_plant.specs.declared.turn.PlantError.TheVariants as plant
@@ -28,7 +28,7 @@ use Rattle.cli_step.specs.declared.error.StepError.TheVariants as error
 -- what a line does that is not a turn: `auto`, or it shows something
 abbrev pub Queries : Action → Point → Text → Point → Type 0
 Queries action.Auto p text q = Autos p text q
-Queries a p text q = Shows a p text × (q ≡ p)
+Queries a p text q = ShowsAction a p text × (q ≡ p)
 
 abbrev pub ActsBy : Option Turn → Action → Point → Text → Point → Type 0
 ActsBy (Some t) a p text q = Says t (session_of a) p text q

@@ -46,5 +46,5 @@ IsShown (action.Calls name) p line = line ≡ Some (calls_text name (calls_made 
 IsShown _ p line = line ≡ None
 
 -- the text of such a line
-abbrev pub Shows : Action → Point → Text → Type 0
-Shows a p text = (line : Option Text) × IsShown a p line × (text ≡ whole_line line)
+abbrev pub ShowsAction : Action → Point → Text → Type 0
+ShowsAction a p text = (line : Option Text) × IsShown a p line × (text ≡ whole_line line)

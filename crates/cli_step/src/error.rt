@@ -7,10 +7,10 @@ ghost use Rattle.cli_step.specs.declared.error.StepError.TheVariants.{OutOfMemor
 
 use cli_io::{ReadError, WriteError};
 use cli_script::ScriptError;
+use journal_store::JournalError;
 use std::alloc::{AllocError, AllocFailed};
 use sw_participant::{NoMemory, Text};
 use thiserror::Error;
-use tx_journal::JournalError;
 use tx_plant::PlantError;
 
 /// Why the run of a script ends early, and at which line. What the lines before it printed remains.

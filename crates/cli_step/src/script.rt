@@ -20,13 +20,13 @@ use cli_lines::Lines;
 use cli_script::{Action, Actions, LineError, Script, ScriptError, open_script};
 use flow_asm::{Code, assemble};
 use flow_model::Flow;
+use journal_store::Journal;
 use sqlite::{Alter, Connection, MemStore};
 use std::alloc::Global;
 use std::io::{Read, Write};
 use sw_participant::{Participant, Station};
 use sw_scripted::Scripted;
 use tx_engine::EngineError;
-use tx_journal::Journal;
 use tx_plant::{Plant, PlantError};
 use tx_trace::Tracer;
 

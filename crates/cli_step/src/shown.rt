@@ -10,7 +10,7 @@ ghost use Rattle.cli_step.specs.Doing.{Adds, point_of};
 ghost use Rattle.cli_step.specs.Places.{calls_text, entry_text, is_readable, put_in};
 ghost use Rattle.cli_step.specs.Places.{rest_text, saved_text};
 ghost use Rattle.cli_step.specs.TurnLines.{whole_line};
-ghost use Rattle.cli_step.specs.Shown.{IsReadableLine, IsSavedLine, IsShown, Shows, calls_made};
+ghost use Rattle.cli_step.specs.Shown.{IsReadableLine, IsSavedLine, IsShown, ShowsAction, calls_made};
 
 use crate::error::ActionError;
 use crate::places::CallsText;
@@ -244,7 +244,7 @@ pub fn show<S: Alter>(
     action: &Action,
     text: &mut String,
 ) -> Result<(), ActionError>
-    ensures shows { OnOk result (Adds (Shows action.now (point_of S.Store plant.now))
+    ensures shows { OnOk result (Adds (ShowsAction action.now (point_of S.Store plant.now))
         (string_bytes text.old) (string_bytes text.new)) }
     ensures failed { OnErr result (string_bytes text.new ≡ string_bytes text.old) }
 {

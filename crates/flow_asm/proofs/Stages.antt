@@ -25,13 +25,13 @@ front xs k x h =
     drop_more xs k x (slice_get_within xs k x h) ∙ ap (λ y. y ∷ drop (k + 1) xs) e
 
 -- the step is that of the stage
-abbrev Shows : Option Stage → Step → Type 0
-Shows None x = ⊥
-Shows (Some (AtCall s)) x = x ≡ Call s.participant
-Shows (Some (AtPick s)) x = x ≡ Pick s.participant
-Shows (Some AtReturn) x = x ≡ Return
+abbrev ShowsStep : Option Stage → Step → Type 0
+ShowsStep None x = ⊥
+ShowsStep (Some (AtCall s)) x = x ≡ Call s.participant
+ShowsStep (Some (AtPick s)) x = x ≡ Pick s.participant
+ShowsStep (Some AtReturn) x = x ≡ Return
 
-shows : (xs : List Stage) (k : ℕ) (x : Step) → slice_get (map step_of xs) k ≡ Some x → Shows (slice_get xs k) x
+shows : (xs : List Stage) (k : ℕ) (x : Step) → slice_get (map step_of xs) k ≡ Some x → ShowsStep (slice_get xs k) x
 shows [] k x h = absurd (none-some x h)
 shows (AtCall s ∷ xs) zero x h = sym (same_Some _ _ h)
 shows (AtPick s ∷ xs) zero x h = sym (same_Some _ _ h)
@@ -42,7 +42,7 @@ pub call_shown : (xs : List Stage) (k p : ℕ) → slice_get (map step_of xs) k 
     × (s.participant ≡ p)
 call_shown xs k p h = by (slice_get xs k) refl (shows xs k (Call p) h)
   where
-    by : (o : Option Stage) → slice_get xs k ≡ o → Shows o (Call p) → (s : PlacedEntry) × (slice_get xs k ≡ Some (AtCall s)) × (s.participant ≡ p)
+    by : (o : Option Stage) → slice_get xs k ≡ o → ShowsStep o (Call p) → (s : PlacedEntry) × (slice_get xs k ≡ Some (AtCall s)) × (s.participant ≡ p)
     by None e w = absurd w
     by (Some (AtCall s)) e w = (s, e, cc)
     by (Some (AtPick s)) e w = absurd cc
@@ -52,7 +52,7 @@ pub pick_shown : (xs : List Stage) (k p : ℕ) → slice_get (map step_of xs) k 
     × (s.participant ≡ p)
 pick_shown xs k p h = by (slice_get xs k) refl (shows xs k (Pick p) h)
   where
-    by : (o : Option Stage) → slice_get xs k ≡ o → Shows o (Pick p) → (s : PlacedEntry) × (slice_get xs k ≡ Some (AtPick s)) × (s.participant ≡ p)
+    by : (o : Option Stage) → slice_get xs k ≡ o → ShowsStep o (Pick p) → (s : PlacedEntry) × (slice_get xs k ≡ Some (AtPick s)) × (s.participant ≡ p)
     by None e w = absurd w
     by (Some (AtCall s)) e w = absurd cc
     by (Some (AtPick s)) e w = (s, e, cc)
@@ -61,7 +61,7 @@ pick_shown xs k p h = by (slice_get xs k) refl (shows xs k (Pick p) h)
 pub return_shown : (xs : List Stage) (k : ℕ) → slice_get (map step_of xs) k ≡ Some Return → slice_get xs k ≡ Some AtReturn
 return_shown xs k h = by (slice_get xs k) refl (shows xs k Return h)
   where
-    by : (o : Option Stage) → slice_get xs k ≡ o → Shows o Return → slice_get xs k ≡ Some AtReturn
+    by : (o : Option Stage) → slice_get xs k ≡ o → ShowsStep o Return → slice_get xs k ≡ Some AtReturn
     by None e w = absurd w
     by (Some (AtCall s)) e w = absurd cc
     by (Some (AtPick s)) e w = absurd cc

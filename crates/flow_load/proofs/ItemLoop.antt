@@ -4,7 +4,7 @@ use Rattle.std.proofs.Common.{◌≡◌, ℕ, suc, ◌-◌, ◌+◌, ◌≤◌, 
 use Rattle.std.proofs.lemmas.List.{append-nil}
 use Rattle.flow_load.specs.declared.error.LoadError.{LoadError}
 use Rattle.flow_load.specs.declared.error.LoadError.TheVariants.{OutOfMemory, BadHeader, BadLine, BadNumber, BadTarget, NoReturn, Flow}
-use Rattle.flow_load.specs.Reads.{◌>>=◌, Exactly, Fails, Gives}
+use Rattle.flow_load.specs.Reads.{◌>>=◌, Exactly, Fails, GivesImage}
 use Rattle.flow_load.specs.Forms.{line_at, items_at}
 
 fails_same : (Y : Type 0) (e : LoadError) → Fails {Y = Y} e (Err e)
@@ -31,7 +31,7 @@ fails_through (NoReturn n) inner read on h = on h
 fails_through (Flow f) inner read on h = on h
 
 -- what takes no memory is never refused it
-pub gives_exactly : {X Y : Type 0} (view : X → Y) (r : Result X LoadError) (read : Result Y LoadError) → Exactly view r read → Gives view r read
+pub gives_exactly : {X Y : Type 0} (view : X → Y) (r : Result X LoadError) (read : Result Y LoadError) → Exactly view r read → GivesImage view r read
 gives_exactly view (Ok x) read h = h
 gives_exactly view (Err e) read h = fails_when e read h
 

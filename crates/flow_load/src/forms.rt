@@ -2,7 +2,7 @@
 
 ghost use Rattle.std.specs.Prelude.{ℕ, List, Result, Bool, ◌≡◌, ◌+◌, ◌<◌, ◌^◌, length, IfOk, true, false};
 ghost use Rattle.flow_load.specs.declared.error.LoadError.{LoadError};
-ghost use Rattle.flow_load.specs.Reads.{Exactly, Gives};
+ghost use Rattle.flow_load.specs.Reads.{Exactly, GivesImage};
 ghost use Rattle.flow_load.specs.LookOver.{form_over};
 ghost use Rattle.flow_load.specs.Forms as spec;
 ghost use Rattle.flow_load.specs.Bounds.{IsSmall};
@@ -24,7 +24,7 @@ pub(crate) trait Line: Drop {
 
     /// What a line says, with its own number in front.
     fn read(alloc: Global, error: LoadError, line: &[u8]) -> Result<(usize, Self), LoadError>
-        ensures { Gives (λ p. p) result (form error line.now) };
+        ensures { GivesImage (λ p. p) result (form error line.now) };
 
     /// The line's own number, and whether what it says recovers. This takes no memory.
     fn look(error: LoadError, line: &[u8]) -> Result<(usize, bool), LoadError>
@@ -205,7 +205,7 @@ pub fn header_at(bytes: &[u8]) -> Result<(ImageHeader, &[u8]), LoadError>
 }
 
 /// Refuses the line `at` unless its own number is its index among the lines of its kind.
-pub fn test_number(own: usize, number: usize, at: usize) -> Result<(), LoadError>
+pub fn check_number(own: usize, number: usize, at: usize) -> Result<(), LoadError>
     ensures { Exactly (λ u. u) result (spec.in_place own number at) }
 {
     if own == number {
@@ -223,11 +223,11 @@ fn item_at<T: Line>(
     at: usize,
     bytes: &[u8],
 ) -> Result<(T, &[u8]), LoadError>
-    ensures { Gives (λ p. (p.0, p.1.now)) result (spec.line_at T.form number at bytes.now) }
+    ensures { GivesImage (λ p. (p.0, p.1.now)) result (spec.line_at T.form number at bytes.now) }
 {
     let (line, rest) = line_at(LoadError::BadLine(at), bytes)?;
     let (own, item) = T::read(alloc, LoadError::BadLine(at), line)?;
-    test_number(own, number, at)?;
+    check_number(own, number, at)?;
     Ok((item, rest))
 }
 
@@ -239,7 +239,7 @@ fn read_items<T: Line>(
     bytes: &[u8],
 ) -> Result<(Vec<T>, &[u8]), LoadError>
     requires { at + count < 2 ^ 32 }
-    ensures read { Gives (λ p. (p.0.items, p.1.now)) result
+    ensures read { GivesImage (λ p. (p.0.items, p.1.now)) result
         (spec.items_at T.form count 0 at bytes.now) }
     ensures count { IfOk result (λ p. length p.0.items ≡ count) }
 {
@@ -254,7 +254,7 @@ fn read_items<T: Line>(
 }
 
 /// Refuses anything after the last line.
-pub fn test_rest(header: ImageHeader, rest: &[u8]) -> Result<(), LoadError>
+pub fn check_rest(header: ImageHeader, rest: &[u8]) -> Result<(), LoadError>
     requires { spec.is_header header ≡ true }
     ensures { Exactly (λ u. u) result (spec.ended header rest.now) }
 {
@@ -268,14 +268,14 @@ pub fn test_rest(header: ImageHeader, rest: &[u8]) -> Result<(), LoadError>
 /// What the lines of an image say, or the first line that is not of its form.
 #[tactic(auto, using(crate::proofs::ItemLoop::fails_when), unfolding(crate::specs::Forms::lines_in))]
 pub fn read_lines(alloc: Global, bytes: &[u8]) -> Result<Lines, LoadError>
-    ensures read { Gives (λ l. l) result (spec.lines_in bytes.now) }
+    ensures read { GivesImage (λ l. l) result (spec.lines_in bytes.now) }
     ensures small { IfOk result IsSmall }
 {
     let (header, rest) = header_at(bytes)?;
     let (parts, rest) = read_items(alloc, header.parts, 2, rest)?;
     let (starts, rest) = read_items(alloc, header.groups, 2 + header.parts, rest)?;
     let (steps, rest) = read_items(alloc, header.steps, 2 + header.parts + header.groups, rest)?;
-    test_rest(header, rest)?;
+    check_rest(header, rest)?;
     Ok(Lines {
         version: header.version,
         retries: header.retries as u8,

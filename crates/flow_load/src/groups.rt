@@ -1,7 +1,7 @@
 //! From the lines of an image to the flow that they lay out.
 
 ghost use Rattle.std.specs.Prelude.{◌≡◌, ◌≤◌, ◌<◌, ◌+◌, ◌^◌, length, slice_get, IfOk, IfSome, OnOk, None};
-ghost use Rattle.flow_load.specs.Reads.{Gives};
+ghost use Rattle.flow_load.specs.Reads.{GivesImage};
 ghost use Rattle.sw_base.specs.Refusals.{refused};
 ghost use Rattle.flow_load.specs.Groups as spec;
 ghost use Rattle.flow_load.specs.Bounds.{IsCallBelow, IsSmall};
@@ -41,9 +41,9 @@ fn first_double(alloc: Global, parts: &[Part]) -> Result<Option<usize>, AllocErr
     Ok(None)
 }
 
-fn test_distinct(alloc: Global, parts: &[Part]) -> Result<(), LoadError>
+fn check_distinct(alloc: Global, parts: &[Part]) -> Result<(), LoadError>
     requires { length parts.now < 2 ^ 32 }
-    ensures { Gives (λ u. u) result (refused (spec.double_fault parts.now)) }
+    ensures { GivesImage (λ u. u) result (refused (spec.double_fault parts.now)) }
 {
     match first_double(alloc, parts)? {
         Some(number) => Err(LoadError::BadTarget(2 + number)),
@@ -60,7 +60,7 @@ fn role_of(
     step: Step,
 ) -> Result<StepRole, LoadError>
     requires { 1 ≤ here }
-    ensures read { Gives (λ t. t) result (spec.role_of parts.now here select_due seen step) }
+    ensures read { GivesImage (λ t. t) result (spec.role_of parts.now here select_due seen step) }
     ensures known { IfOk result (IsCallBelow (length parts.now)) }
 {
     match select_due {
@@ -137,7 +137,7 @@ fn read_group<'a>(
 ) -> Result<GroupRead<'a>, LoadError>
     requires line { 2 ≤ line }
     requires few { line + at + length steps.now < 2 ^ 32 }
-    ensures read { Gives spec.walk_of result
+    ensures read { GivesImage spec.walk_of result
         (spec.walk parts.now line group None at seen steps.now) }
     ensures within { IfOk result (λ w. w.at + length w.rest.now ≤ at + length steps.now) }
 {
@@ -184,7 +184,7 @@ fn read_groups<'a>(
 ) -> Result<GroupsRead<'a>, LoadError>
     requires line { 2 ≤ line }
     requires few { line + length parts.now + length starts.now + length steps.now < 2 ^ 32 }
-    ensures read { Gives spec.walks_of result
+    ensures read { GivesImage spec.walks_of result
         (spec.walks parts.now line 0 0 0 steps.now starts.now) }
     ensures within { IfOk result (λ w. w.at ≤ length steps.now) }
 {
@@ -215,9 +215,9 @@ fn read_groups<'a>(
 }
 
 // Refuses a step that no group has, and a participant that is not called.
-fn test_end(parts: &[Part], line: usize, walked: &GroupsRead<'_>) -> Result<(), LoadError>
+fn check_end(parts: &[Part], line: usize, walked: &GroupsRead<'_>) -> Result<(), LoadError>
     requires { line + walked.now.at < 2 ^ 32 }
-    ensures { Gives (λ u. u) result (refused
+    ensures { GivesImage (λ u. u) result (refused
         (spec.end_fault parts.now line (spec.walks_of walked.now))) }
 {
     if !walked.rest.is_empty() {
@@ -233,14 +233,14 @@ fn test_end(parts: &[Part], line: usize, walked: &GroupsRead<'_>) -> Result<(), 
 #[tactic(auto, unfolding(crate::specs::Groups::flow_in))]
 pub fn read_flow(alloc: Global, lines: &Lines) -> Result<Flow, LoadError>
     requires { IsSmall lines.now }
-    ensures { Gives (λ f. f) result (spec.flow_in lines.now) }
+    ensures { GivesImage (λ f. f) result (spec.flow_in lines.now) }
 {
     let parts = lines.parts.as_slice();
     let starts = lines.starts.as_slice();
-    test_distinct(alloc, parts)?;
+    check_distinct(alloc, parts)?;
     let line = 2 + parts.len() + starts.len();
     let walked = read_groups(alloc, parts, line, starts, lines.steps.as_slice())?;
-    test_end(parts, line, &walked)?;
+    check_end(parts, line, &walked)?;
     Ok(Flow {
         retries: lines.retries,
         groups: Sequence::new(walked.groups),

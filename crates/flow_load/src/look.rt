@@ -7,14 +7,14 @@ ghost use Rattle.flow_load.specs.LookOver.{items_over, line_over, lines_over};
 ghost use Rattle.sw_base.specs.Refusals.{refused};
 
 use crate::error::LoadError;
-use crate::forms::{Line, header_at, test_number, test_rest};
+use crate::forms::{Line, check_number, check_rest, header_at};
 use crate::words::line_at;
 use flow_asm::{GroupStart, Step};
 use flow_model::Part;
 
 /// Refuses a version that does not fit the participants, of which the first that recovers is on the line
 /// `recovering`.
-pub fn test_version(version: usize, recovering: Option<usize>) -> Result<(), LoadError>
+pub fn check_version(version: usize, recovering: Option<usize>) -> Result<(), LoadError>
     ensures { Exactly (λ u. u) result (refused (misversioned version recovering)) }
 {
     match recovering {
@@ -42,7 +42,7 @@ fn look_at<T: Line>(number: usize, at: usize, bytes: &[u8]) -> Result<(bool, &[u
 {
     let (line, rest) = line_at(LoadError::BadLine(at), bytes)?;
     let (own, recovers) = T::look(LoadError::BadLine(at), line)?;
-    test_number(own, number, at)?;
+    check_number(own, number, at)?;
     Ok((recovers, rest))
 }
 
@@ -75,6 +75,6 @@ pub fn look_over(bytes: &[u8]) -> Result<(), LoadError>
     let (recovering, rest) = look_items::<Part>(header.parts, 2, rest)?;
     let (_, rest) = look_items::<GroupStart>(header.groups, 2 + header.parts, rest)?;
     let (_, rest) = look_items::<Step>(header.steps, 2 + header.parts + header.groups, rest)?;
-    test_rest(header, rest)?;
-    test_version(header.version, recovering)
+    check_rest(header, rest)?;
+    check_version(header.version, recovering)
 }

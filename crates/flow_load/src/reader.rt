@@ -5,13 +5,13 @@ ghost use Rattle.flow_model.specs.Check.{IsChecked, first_fault};
 ghost use Rattle.flow_model.specs.declared.flow.Flow.{Flow as Shown};
 ghost use Rattle.flow_load.specs.declared.error.LoadError.TheVariants.{OutOfMemory};
 ghost use Rattle.flow_load.specs.Image.{image_of};
-ghost use Rattle.flow_load.specs.Reads.{Fails, Gives};
+ghost use Rattle.flow_load.specs.Reads.{Fails, GivesImage};
 ghost use Rattle.flow_load.specs.Load as spec;
 
 use crate::error::LoadError;
 use crate::forms::read_lines;
 use crate::groups::read_flow;
-use crate::look::{look_over, test_version};
+use crate::look::{check_version, look_over};
 use flow_asm::{Code, assemble};
 use flow_model::{Flow, Part};
 use std::alloc::Global;
@@ -30,7 +30,7 @@ fn first_recovering(parts: &[Part]) -> Option<usize>
 
 fn check(alloc: Global, flow: &Flow) -> Result<(), LoadError>
     ensures checked { IfOk result (λ u. IsChecked flow.now) }
-    ensures read { Gives (λ u. flow.now) result (spec.sound flow.now (first_fault flow.now)) }
+    ensures read { GivesImage (λ u. flow.now) result (spec.sound flow.now (first_fault flow.now)) }
 {
     match flow.check_by_map(alloc)? {
         Ok(()) => Ok(()),
@@ -41,18 +41,18 @@ fn check(alloc: Global, flow: &Flow) -> Result<(), LoadError>
 // Reads the flow whose image the bytes are.
 #[tactic(auto, unfolding(crate::specs::Load::load_of))]
 fn read_image(alloc: Global, bytes: &[u8]) -> Result<Flow, LoadError>
-    ensures read { Gives (λ f. f) result (spec.load_of bytes.now) }
+    ensures read { GivesImage (λ f. f) result (spec.load_of bytes.now) }
     ensures checked { IfOk result IsChecked }
 {
     let lines = read_lines(alloc, bytes)?;
-    test_version(lines.version, first_recovering(lines.parts.as_slice()))?;
+    check_version(lines.version, first_recovering(lines.parts.as_slice()))?;
     let flow = read_flow(alloc, &lines)?;
     check(alloc, &flow)?;
     Ok(flow)
 }
 
 fn read_code(alloc: Global, bytes: &[u8]) -> Result<Code, LoadError>
-    ensures { Gives (λ code. code) result (spec.load_of bytes.now) }
+    ensures { GivesImage (λ code. code) result (spec.load_of bytes.now) }
 {
     let flow = read_image(alloc, bytes)?;
     Ok(assemble(alloc, &flow)?)
@@ -82,11 +82,11 @@ fn to_report(e: LoadError, bytes: &[u8]) -> LoadError
 /// `OutOfMemory` is reported only if no line by itself has a fault, nor the version. It may hide a fault of
 /// the lines together or of the flow, since those are found only in lines that are kept.
 pub fn load(alloc: Global, bytes: &[u8]) -> Result<Code, LoadError>
-    ensures exact { Gives (λ code. code) result (spec.load_of bytes.now) }
+    ensures exact { GivesImage (λ code. code) result (spec.load_of bytes.now) }
     ensures last { result ≡ Err OutOfMemory → spec.line_fault bytes.now ≡ None }
     ensures found { IfOk result (λ code. bytes.now ≡ image_of code) }
     ensures only { (f : Shown) → IsChecked f → bytes.now ≡ image_of f
-        → Gives (λ code. code) result (Ok f) }
+        → GivesImage (λ code. code) result (Ok f) }
 {
     match read_code(alloc, bytes) {
         Ok(code) => Ok(code),

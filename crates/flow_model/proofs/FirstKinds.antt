@@ -1,5 +1,5 @@
 -- The first kinds, with one more entry or group.
--- for: kinds::test_kinds
+-- for: kinds::check_kinds
 use Rattle.std.specs.Borrow.{Bor}
 use Rattle.std.specs.Str.{bytes_eq}
 use Rattle.std.specs.Map.{update}

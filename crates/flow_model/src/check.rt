@@ -48,7 +48,7 @@ fn is_large(groups: &[Group], flow: &Flow) -> bool
     count_entries(groups) > MAX_ENTRIES_IN_ALL
 }
 
-pub(crate) fn test_sizes(flow: &Flow) -> Result<(), FlowError>
+pub(crate) fn check_sizes(flow: &Flow) -> Result<(), FlowError>
     ensures { result ≡ refused (spec.size_fault flow.now) }
 {
     if is_large(flow.groups.as_slice(), flow) {
@@ -60,7 +60,7 @@ pub(crate) fn test_sizes(flow: &Flow) -> Result<(), FlowError>
     Ok(())
 }
 
-fn test_name(name: &str, group: usize, index: Option<usize>) -> Result<(), FlowError>
+fn check_name(name: &str, group: usize, index: Option<usize>) -> Result<(), FlowError>
     ensures { result ≡ refused (spec.bad_name group index name.now) }
 {
     if is_name(name) {
@@ -70,27 +70,27 @@ fn test_name(name: &str, group: usize, index: Option<usize>) -> Result<(), FlowE
     }
 }
 
-fn test_participants(group: usize, entries: &[Entry]) -> Result<(), FlowError>
+fn check_participants(group: usize, entries: &[Entry]) -> Result<(), FlowError>
     ensures { result ≡ refused (first_at (spec.bad_entry group) 0 entries.now) }
 {
     for (index, entry) in entries.iter().enumerate() {
-        test_name(entry.participant.as_str(), group, Some(index))?;
+        check_name(entry.participant.as_str(), group, Some(index))?;
     }
     Ok(())
 }
 
-fn test_names_of(number: usize, group: &Group) -> Result<(), FlowError>
+fn check_names_of(number: usize, group: &Group) -> Result<(), FlowError>
     ensures { result ≡ refused (spec.bad_group number group.now) }
 {
-    test_name(group.name.as_str(), number, None)?;
-    test_participants(number, group.entries.as_slice())
+    check_name(group.name.as_str(), number, None)?;
+    check_participants(number, group.entries.as_slice())
 }
 
-pub(crate) fn test_names(groups: &[Group]) -> Result<(), FlowError>
+pub(crate) fn check_names(groups: &[Group]) -> Result<(), FlowError>
     ensures { result ≡ refused (first_at spec.bad_group 0 groups.now) }
 {
     for (number, group) in groups.iter().enumerate() {
-        test_names_of(number, group)?;
+        check_names_of(number, group)?;
     }
     Ok(())
 }
@@ -101,7 +101,7 @@ fn is_named(name: &str, groups: &[Group]) -> bool
     groups.iter().any(|group| group.name.as_str() == name)
 }
 
-pub(crate) fn test_doubles(groups: &[Group]) -> Result<(), FlowError>
+pub(crate) fn check_doubles(groups: &[Group]) -> Result<(), FlowError>
     ensures { result ≡ refused (first_at (spec.double_group groups.now) 0 groups.now) }
 {
     for (number, group) in groups.iter().enumerate() {
@@ -112,7 +112,7 @@ pub(crate) fn test_doubles(groups: &[Group]) -> Result<(), FlowError>
     Ok(())
 }
 
-pub(crate) fn test_main(groups: &[Group]) -> Result<(), FlowError>
+pub(crate) fn check_main(groups: &[Group]) -> Result<(), FlowError>
     ensures { result ≡ refused (spec.no_main groups.now) }
 {
     if is_named("main", groups) {
@@ -153,7 +153,7 @@ pub(crate) fn is_kind(kind: Kind, first: Option<Kind>) -> bool
     }
 }
 
-fn test_kind(groups: &[Group], group: usize, index: usize, entry: &Entry) -> Result<(), FlowError>
+fn check_kind(groups: &[Group], group: usize, index: usize, entry: &Entry) -> Result<(), FlowError>
     ensures { result ≡ refused (spec.clash groups.now group index entry.now) }
 {
     if is_kind(entry.kind, first_kind(entry.participant.as_str(), groups)) {
@@ -163,26 +163,26 @@ fn test_kind(groups: &[Group], group: usize, index: usize, entry: &Entry) -> Res
     }
 }
 
-fn test_kinds_in(groups: &[Group], group: usize, entries: &[Entry]) -> Result<(), FlowError>
+fn check_kinds_in(groups: &[Group], group: usize, entries: &[Entry]) -> Result<(), FlowError>
     ensures { result ≡ refused (first_at (spec.clash groups.now group) 0 entries.now) }
 {
     for (index, entry) in entries.iter().enumerate() {
-        test_kind(groups, group, index, entry)?;
+        check_kind(groups, group, index, entry)?;
     }
     Ok(())
 }
 
-fn test_kinds_of(groups: &[Group], number: usize, group: &Group) -> Result<(), FlowError>
+fn check_kinds_of(groups: &[Group], number: usize, group: &Group) -> Result<(), FlowError>
     ensures { result ≡ refused (spec.clash_in groups.now number group.now) }
 {
-    test_kinds_in(groups, number, group.entries.as_slice())
+    check_kinds_in(groups, number, group.entries.as_slice())
 }
 
-fn test_kinds(groups: &[Group]) -> Result<(), FlowError>
+fn check_kinds(groups: &[Group]) -> Result<(), FlowError>
     ensures { result ≡ refused (spec.clashes groups.now) }
 {
     for (number, group) in groups.iter().enumerate() {
-        test_kinds_of(groups, number, group)?;
+        check_kinds_of(groups, number, group)?;
     }
     Ok(())
 }
@@ -199,11 +199,11 @@ impl Flow {
     pub fn check(&self) -> Result<(), FlowError>
         ensures { result ≡ refused (first_fault self.now) }
     {
-        test_sizes(self)?;
+        check_sizes(self)?;
         let groups = self.groups.as_slice();
-        test_names(groups)?;
-        test_doubles(groups)?;
-        test_main(groups)?;
-        test_kinds(groups)
+        check_names(groups)?;
+        check_doubles(groups)?;
+        check_main(groups)?;
+        check_kinds(groups)
     }
 }

@@ -6,7 +6,7 @@ ghost use Rattle.sw_base.specs.Refusals.{first_at, refused};
 ghost use Rattle.flow_model.specs.Kinds.{clash_by, clashes_by, kind_at};
 ghost use Rattle.flow_model.specs.Kinds.{Has, Joins, kinds_of_entries, kinds_of_groups};
 
-use crate::check::{is_kind, test_doubles, test_main, test_names, test_sizes};
+use crate::check::{check_doubles, check_main, check_names, check_sizes, is_kind};
 use crate::error::FlowError;
 use crate::flow::{Entry, Flow, Group};
 use std::alloc::{AllocError, Global};
@@ -57,7 +57,7 @@ fn first_kinds(alloc: Global, groups: &[Group]) -> Result<BTreeMap<&str, Kind>, 
     Ok(kinds)
 }
 
-fn test_kind(
+fn check_kind(
     kinds: &BTreeMap<&str, Kind>,
     group: usize,
     index: usize,
@@ -72,7 +72,7 @@ fn test_kind(
     }
 }
 
-fn test_kinds_of(
+fn check_kinds_of(
     kinds: &BTreeMap<&str, Kind>,
     group: usize,
     entries: &[Entry],
@@ -80,26 +80,26 @@ fn test_kinds_of(
     ensures { result ≡ refused (first_at (clash_by (kind_at kinds.now) group) 0 entries.now) }
 {
     for (index, entry) in entries.iter().enumerate() {
-        test_kind(kinds, group, index, entry)?;
+        check_kind(kinds, group, index, entry)?;
     }
     Ok(())
 }
 
-fn test_kinds_by(kinds: &BTreeMap<&str, Kind>, groups: &[Group]) -> Result<(), FlowError>
+fn check_kinds_by(kinds: &BTreeMap<&str, Kind>, groups: &[Group]) -> Result<(), FlowError>
     ensures { result ≡ refused (clashes_by (kind_at kinds.now) groups.now) }
 {
     for (number, group) in groups.iter().enumerate() {
-        test_kinds_of(kinds, number, group.entries.as_slice())?;
+        check_kinds_of(kinds, number, group.entries.as_slice())?;
     }
     Ok(())
 }
 
 // As the comparison of kinds without a map; the map has each participant's kind at its first place.
-fn test_kinds(kinds: &BTreeMap<&str, Kind>, groups: &[Group]) -> Result<(), FlowError>
+fn check_kinds(kinds: &BTreeMap<&str, Kind>, groups: &[Group]) -> Result<(), FlowError>
     requires { Has kinds.now (kinds_of_groups groups.now) }
     ensures { result ≡ refused (spec.clashes groups.now) }
 {
-    test_kinds_by(kinds, groups)
+    check_kinds_by(kinds, groups)
 }
 
 // As the check without a map; the map has the same kinds.
@@ -108,12 +108,12 @@ fn check_with(flow: &Flow, kinds: &BTreeMap<&str, Kind>) -> Result<(), FlowError
     requires { Has kinds.now (kinds_of_groups flow.now.groups) }
     ensures { result ≡ refused (spec.first_fault flow.now) }
 {
-    test_sizes(flow)?;
+    check_sizes(flow)?;
     let groups = flow.groups.as_slice();
-    test_names(groups)?;
-    test_doubles(groups)?;
-    test_main(groups)?;
-    test_kinds(kinds, groups)
+    check_names(groups)?;
+    check_doubles(groups)?;
+    check_main(groups)?;
+    check_kinds(kinds, groups)
 }
 
 impl Flow {

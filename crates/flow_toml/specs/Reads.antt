@@ -20,6 +20,6 @@ Fails OutOfMemory read = Unit {0}
 Fails (Toml t) read = ⊥
 Fails e read = read ≡ Err e
 
-abbrev pub Gives : {X Y : Type 0} → (X → Y) → Result X FlowTomlError → Result Y FlowTomlError → Type 0
-Gives view (Ok x) read = read ≡ Ok (view x)
-Gives view (Err e) read = Fails e read
+abbrev pub GivesFlow : {X Y : Type 0} → (X → Y) → Result X FlowTomlError → Result Y FlowTomlError → Type 0
+GivesFlow view (Ok x) read = read ≡ Ok (view x)
+GivesFlow view (Err e) read = Fails e read

@@ -5,7 +5,7 @@ ghost use Rattle.flow_model.specs.Check.{IsChecked};
 ghost use Rattle.toml.specs.Data.{get_member};
 ghost use Rattle.toml.specs.Text.{are_tables};
 ghost use Rattle.toml.specs.View.{view, table_view, array_view};
-ghost use Rattle.flow_toml.specs.Reads.{Gives, each};
+ghost use Rattle.flow_toml.specs.Reads.{GivesFlow, each};
 ghost use Rattle.sw_base.specs.Refusals.{refused};
 ghost use Rattle.flow_toml.specs.Keys as keys;
 ghost use Rattle.flow_toml.specs.Faults as faults;
@@ -118,8 +118,8 @@ fn wrong_key(path: TablePath, table: &Table) -> Option<Key>
 }
 
 // A table by itself, without the tables in it.
-fn test_table(alloc: Global, path: TablePath, table: &Table) -> Result<(), FlowTomlError>
-    ensures { Gives (λ u. u) result (refused (faults.table_fault path (table_view table.now))) }
+fn check_table(alloc: Global, path: TablePath, table: &Table) -> Result<(), FlowTomlError>
+    ensures { GivesFlow (λ u. u) result (refused (faults.table_fault path (table_view table.now))) }
 {
     if let Some(name) = unknown_key(path, table) {
         let name = Text::from_str(alloc, name.as_str())?;
@@ -182,9 +182,9 @@ fn retries_at(table: &Table) -> u8
 }
 
 fn read_entry(alloc: Global, path: TablePath, table: &Table) -> Result<Entry, FlowTomlError>
-    ensures { Gives (λ e. e) result (spec.entry_at path (table_view table.now)) }
+    ensures { GivesFlow (λ e. e) result (spec.entry_at path (table_view table.now)) }
 {
-    test_table(alloc, path, table)?;
+    check_table(alloc, path, table)?;
     let participant = text_at(alloc, table, Key::Participant)?;
     let kind = Kind {
         selector: flag_at(table, Key::Selector),
@@ -195,7 +195,7 @@ fn read_entry(alloc: Global, path: TablePath, table: &Table) -> Result<Entry, Fl
 }
 
 fn read_entries(alloc: Global, group: usize, array: &Array) -> Result<Vec<Entry>, FlowTomlError>
-    ensures { Gives (λ es. es.items) result (spec.entries_in group (array_view array.now)) }
+    ensures { GivesFlow (λ es. es.items) result (spec.entries_in group (array_view array.now)) }
 {
     let mut entries = Vec::new(alloc);
     for value in array {
@@ -208,7 +208,7 @@ fn read_entries(alloc: Global, group: usize, array: &Array) -> Result<Vec<Entry>
 }
 
 fn entries_at(alloc: Global, group: usize, table: &Table) -> Result<Vec<Entry>, FlowTomlError>
-    ensures { Gives (λ es. es.items) result (spec.entries_at group (table_view table.now)) }
+    ensures { GivesFlow (λ es. es.items) result (spec.entries_at group (table_view table.now)) }
 {
     match member(table, Key::Entry) {
         Some(value) => match value.as_array() {
@@ -220,9 +220,9 @@ fn entries_at(alloc: Global, group: usize, table: &Table) -> Result<Vec<Entry>, 
 }
 
 fn read_group(alloc: Global, number: usize, table: &Table) -> Result<Group, FlowTomlError>
-    ensures { Gives (λ g. g) result (spec.group_of number (table_view table.now)) }
+    ensures { GivesFlow (λ g. g) result (spec.group_of number (table_view table.now)) }
 {
-    test_table(alloc, TablePath::Group(number), table)?;
+    check_table(alloc, TablePath::Group(number), table)?;
     let entries = entries_at(alloc, number, table)?;
     let name = text_at(alloc, table, Key::Name)?;
     Ok(Group {
@@ -232,7 +232,7 @@ fn read_group(alloc: Global, number: usize, table: &Table) -> Result<Group, Flow
 }
 
 fn read_groups(alloc: Global, array: &Array) -> Result<Vec<Group>, FlowTomlError>
-    ensures { Gives (λ gs. gs.items) result (spec.groups_in (array_view array.now)) }
+    ensures { GivesFlow (λ gs. gs.items) result (spec.groups_in (array_view array.now)) }
 {
     let mut groups = Vec::new(alloc);
     for value in array {
@@ -244,7 +244,7 @@ fn read_groups(alloc: Global, array: &Array) -> Result<Vec<Group>, FlowTomlError
 }
 
 fn groups_at(alloc: Global, table: &Table) -> Result<Vec<Group>, FlowTomlError>
-    ensures { Gives (λ gs. gs.items) result (spec.groups_at (table_view table.now)) }
+    ensures { GivesFlow (λ gs. gs.items) result (spec.groups_at (table_view table.now)) }
 {
     match member(table, Key::Group) {
         Some(value) => match value.as_array() {
@@ -256,9 +256,9 @@ fn groups_at(alloc: Global, table: &Table) -> Result<Vec<Group>, FlowTomlError>
 }
 
 fn read_tables(alloc: Global, table: &Table) -> Result<Flow, FlowTomlError>
-    ensures { Gives (λ f. f) result (spec.flow_of (table_view table.now)) }
+    ensures { GivesFlow (λ f. f) result (spec.flow_of (table_view table.now)) }
 {
-    test_table(alloc, TablePath::Top, table)?;
+    check_table(alloc, TablePath::Top, table)?;
     let groups = groups_at(alloc, table)?;
     Ok(Flow {
         retries: retries_at(table),
@@ -267,7 +267,7 @@ fn read_tables(alloc: Global, table: &Table) -> Result<Flow, FlowTomlError>
 }
 
 fn read_document(alloc: Global, table: &Table) -> Result<Flow, FlowTomlError>
-    ensures flow { Gives (λ f. f) result (spec.checked_flow_of (table_view table.now)) }
+    ensures flow { GivesFlow (λ f. f) result (spec.checked_flow_of (table_view table.now)) }
     ensures checked { IfOk result (λ f. IsChecked f) }
 {
     let flow = read_tables(alloc, table)?;

@@ -4,7 +4,7 @@ use Rattle.std.proofs.Common.{◌≡◌, ℕ, suc, ◌≤◌, ◌+◌, ◌*◌, 
 use Rattle.std.proofs.Common.{Ok, refl, sym, ap, subst, ◌∙◌, inl, inr, append_assoc, arith}
 use Rattle.std.proofs.lemmas.Bool.{eqb-true, eq-eqb}
 use Rattle.std.proofs.lemmas.List.{take-append-drop, length-take, length-drop, length-append}
-use Rattle.iso_msg.specs.declared.table.Form.{Form}
+use Rattle.iso_msg.specs.declared.table.FieldForm.{FieldForm}
 use Rattle.iso_msg.specs.Table.{form_of}
 use Rattle.iso_msg.proofs.FieldTable.{form_number}
 use Rattle.iso_codec.specs.declared.error.DecodeError.TheVariants.{BadBitmap}
@@ -169,7 +169,7 @@ bitmaps_found bytes x e =
     ]
 
 -- a number of a field isn't 1
-not_1_by : (o : Option Form) → form_of 1 ≡ o → (text v : List ℕ) → SpellsValue o text v → ⊥
+not_1_by : (o : Option FieldForm) → form_of 1 ≡ o → (text v : List ℕ) → SpellsValue o text v → ⊥
 not_1_by None e text v s = s
 not_1_by (Some f) e text v s = let p = form_number 1 f e in omega arith
 

@@ -4,8 +4,8 @@ use Rattle.std.proofs.Common.{◌≡◌, ℕ, Bool, true, false, cond, eqb, ltb,
 use Rattle.std.proofs.Common.{sym, ap, subst, ◌∙◌}
 use Rattle.std.specs.List.{list_all}
 use Rattle.std.specs.Prelude.{IfOk, IsOk, MatchResult}
-use Rattle.iso_msg.specs.declared.table.Form.{Form}
-use Rattle.iso_msg.specs.declared.table.Form.TheVariants.{Fixed, Variable, Binary}
+use Rattle.iso_msg.specs.declared.table.FieldForm.{FieldForm}
+use Rattle.iso_msg.specs.declared.table.FieldForm.TheVariants.{Fixed, Variable, Binary}
 use Rattle.iso_msg.specs.Table.{form_of}
 use Rattle.iso_msg.specs.Values.{has_content}
 use Rattle.iso_msg.specs.Messages.{Fields, PlainMessage}
@@ -71,7 +71,7 @@ clean_known [] = tt
 clean_known (n ∷ ns) = clean_bind (or_fault (form_of n) (FieldNotInProfile n)) (λ form. known ns) (clean_or (form_of n) (FieldNotInProfile n) tt)
     (λ form. clean_known ns)
 
-clean_text : (form : Form) (n : ℕ) (bytes : List ℕ) → Clean (text_at form n bytes)
+clean_text : (form : FieldForm) (n : ℕ) (bytes : List ℕ) → Clean (text_at form n bytes)
 unfolding after_length octets_at
 clean_text (Fixed content exact) n bytes = clean_part exact bytes
 clean_text (Variable content length_digits most) n bytes =
@@ -84,7 +84,7 @@ clean_text Binary n bytes =
     clean_bind (part 16 bytes) (λ text. or_fault (octets text.0) (BadContent n) >>= λ value. got value text.1) (clean_part 16 bytes)
     (λ text. clean_bind (or_fault (octets text.0) (BadContent n)) (λ value. got value text.1) (clean_or (octets text.0) (BadContent n) tt) (λ value. tt))
 
-clean_field : (o : Option Form) (n : ℕ) (bytes : List ℕ) → Clean (field_at o n bytes)
+clean_field : (o : Option FieldForm) (n : ℕ) (bytes : List ℕ) → Clean (field_at o n bytes)
 clean_field None n bytes = tt
 clean_field (Some form) n bytes =
     clean_bind (text_at form n bytes) (λ value. cond (has_content form value.0) (Ok value) (Err (BadContent n))) (clean_text form n bytes)
@@ -143,12 +143,12 @@ content_over : (b : Bool) (n : ℕ) (value : Part) → (cond b fine (Err (BadCon
 content_over true n value = refl
 content_over false n value = refl
 
-form_over_by : (form : Form) (n : ℕ) (r : Result Part DecodeError) → (r >>= λ value. content_is form n value.0 >>= λ ok. Ok value.1)
+form_over_by : (form : FieldForm) (n : ℕ) (r : Result Part DecodeError) → (r >>= λ value. content_is form n value.0 >>= λ ok. Ok value.1)
     ≡ rest_of (r >>= λ value. cond (has_content form value.0) (Ok value) (Err (BadContent n)))
 form_over_by form n (Ok value) = content_over (has_content form value.0) n value
 form_over_by form n (Err e) = refl
 
-field_over_is : (o : Option Form) (n : ℕ) (bytes : List ℕ) → field_over o n bytes ≡ rest_of (field_at o n bytes)
+field_over_is : (o : Option FieldForm) (n : ℕ) (bytes : List ℕ) → field_over o n bytes ≡ rest_of (field_at o n bytes)
 field_over_is None n bytes = refl
 field_over_is (Some form) n bytes = form_over_by form n (text_at form n bytes)
 

@@ -6,8 +6,8 @@ use Rattle.std.specs.Prelude.{IfOk}
 use Rattle.std.specs.Global.{Vec}
 use Rattle.std.specs.List.{flat_map, list_any}
 use Rattle.std.proofs.lemmas.Bool.{cases_eq, eqb-true, ltb-true, leb-true}
-use Rattle.iso_msg.specs.declared.table.Form.{Form}
-use Rattle.iso_msg.specs.declared.table.Form.TheVariants.{Fixed, Variable, Binary}
+use Rattle.iso_msg.specs.declared.table.FieldForm.{FieldForm}
+use Rattle.iso_msg.specs.declared.table.FieldForm.TheVariants.{Fixed, Variable, Binary}
 use Rattle.iso_msg.specs.Table.{form_of, definition_of, rows}
 use Rattle.iso_msg.specs.Values.{refusal_by, has_length, has_content}
 use Rattle.iso_msg.specs.Messages.{Fields, PlainMessage, IsMessage, AreFields, numbers_of}
@@ -17,7 +17,7 @@ use Rattle.iso_codec.specs.RisingBitmaps.{bits_of, bitmaps_of, merged}
 use Rattle.iso_codec.proofs.Encoding.{picked, hex_length, bits_length}
 
 -- no text of a field of this form is longer
-abbrev most_text : Option Form → ℕ
+abbrev most_text : Option FieldForm → ℕ
 most_text None = 0
 most_text (Some (Fixed content exact)) = exact
 most_text (Some (Variable content length_digits most)) = 3 + most
@@ -42,7 +42,7 @@ decimal_short length_digits n = by (eqb length_digits 3)
     by true = omega arith
     by false = omega arith
 
-text_short : (o : Option Form) (n : ℕ) (v : List ℕ) → refusal_by o n v ≡ None → length (text_of o v) ≤ most_text o
+text_short : (o : Option FieldForm) (n : ℕ) (v : List ℕ) → refusal_by o n v ≡ None → length (text_of o v) ≤ most_text o
 text_short None n v e = absurd cc
 text_short (Some (Fixed c l)) n v e =
     let p = picked (has_length (Fixed c l) (length v)) (has_content (Fixed c l) v) _ _ e in

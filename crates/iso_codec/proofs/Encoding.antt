@@ -4,8 +4,8 @@ use Rattle.std.proofs.Common.{◌≡◌, inl, inr, ℕ, zero, suc, ◌<◌, ◌�
 use Rattle.std.proofs.Common.{◌++◌, length, Option, Some, None, refl, sym, ap, subst, ◌∙◌, append_assoc, arith}
 use Rattle.std.specs.List.{flat_map, list_all, list_any}
 use Rattle.std.proofs.lemmas.Bool.{cases_lt, eqb-true, eqb-false, ltb-true, ltb-false, lt-ltb, le-ltb, le-leb, leb-true, lt-leb}
-use Rattle.iso_msg.specs.declared.table.Form.{Form}
-use Rattle.iso_msg.specs.declared.table.Form.TheVariants.{Fixed, Variable, Binary}
+use Rattle.iso_msg.specs.declared.table.FieldForm.{FieldForm}
+use Rattle.iso_msg.specs.declared.table.FieldForm.TheVariants.{Fixed, Variable, Binary}
 use Rattle.iso_msg.specs.Table.{form_of, IsKnown}
 use Rattle.iso_msg.proofs.FieldTable.{is_known}
 use Rattle.iso_msg.proofs.Bools.{and_both, eqb-false_from}
@@ -68,7 +68,7 @@ picked true true x y e = (refl, refl)
 picked true false x y e = absurd cc
 picked false c x y e = absurd cc
 
-value_spelled : (o : Option Form) (n : ℕ) (v : List ℕ) → IsKnown n o → refusal_by o n v ≡ None → SpellsValue o (text_of o v) v
+value_spelled : (o : Option FieldForm) (n : ℕ) (v : List ℕ) → IsKnown n o → refusal_by o n v ≡ None → SpellsValue o (text_of o v) v
 value_spelled None n v k e = absurd cc
 value_spelled (Some (Fixed c l)) n v k e =
     let p = picked (has_length (Fixed c l) (length v)) (has_content (Fixed c l) v) _ _ e in

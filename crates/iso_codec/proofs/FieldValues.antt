@@ -5,8 +5,8 @@ use Rattle.std.proofs.Common.{Ok, Err, refl, sym, ap, subst, ◌∙◌, append_a
 use Rattle.std.proofs.lemmas.Bool.{ltb-false, le-ltb, lt-ltb, leb-true}
 use Rattle.std.specs.List.{list_all}
 use Rattle.iso_msg.proofs.Bools.{and_both, some_is}
-use Rattle.iso_msg.specs.declared.table.Form.{Form}
-use Rattle.iso_msg.specs.declared.table.Form.TheVariants.{Fixed, Variable, Binary}
+use Rattle.iso_msg.specs.declared.table.FieldForm.{FieldForm}
+use Rattle.iso_msg.specs.declared.table.FieldForm.TheVariants.{Fixed, Variable, Binary}
 use Rattle.iso_msg.specs.declared.table.Content.{Content}
 use Rattle.iso_msg.specs.Table.{form_of}
 use Rattle.iso_codec.specs.declared.error.DecodeError.{DecodeError}
@@ -20,7 +20,7 @@ use Rattle.iso_codec.specs.Grammar.{SpellsValue, SpellsFields}
 use Rattle.iso_codec.specs.Reads.{◌>>=◌, or_fault, part, after_length, octets_at, text_at, field_at, fields_at, known}
 
 -- a text at the front
-pub record Front (o : Option Form) (bytes v rest : List ℕ) : Type 0 where
+pub record Front (o : Option FieldForm) (bytes v rest : List ℕ) : Type 0 where
   pub text : List ℕ
   pub whole : bytes ≡ text ++ rest
   pub spells : SpellsValue o text v
@@ -57,12 +57,12 @@ binary_found n bytes x e =
     let all : Front (Some Binary) bytes b.0 a.0.1 = record { text = a.0.0; whole = p.whole; spells = (p.len, or_ok (octets a.0.0) (BadContent n) b.0 b.1) } in
     subst (λ (y : List ℕ × List ℕ). Front (Some Binary) bytes y.0 y.1) (ok_is made x b.2) all
 
-text_found : (f : Form) (n : ℕ) (bytes : List ℕ) (x : List ℕ × List ℕ) → text_at f n bytes ≡ Ok x → has_content f x.0 ≡ true → Front (Some f) bytes x.0 x.1
+text_found : (f : FieldForm) (n : ℕ) (bytes : List ℕ) (x : List ℕ × List ℕ) → text_at f n bytes ≡ Ok x → has_content f x.0 ≡ true → Front (Some f) bytes x.0 x.1
 text_found (Fixed c k) n bytes x e t = fixed_found c k n bytes x e t
 text_found (Variable c length_digits most) n bytes x e t = variable_found c length_digits most n bytes x e t
 text_found Binary n bytes x e t = binary_found n bytes x e
 
-pub value_found : (o : Option Form) (n : ℕ) (bytes : List ℕ) (x : List ℕ × List ℕ) → field_at o n bytes ≡ Ok x → Front o bytes x.0 x.1
+pub value_found : (o : Option FieldForm) (n : ℕ) (bytes : List ℕ) (x : List ℕ × List ℕ) → field_at o n bytes ≡ Ok x → Front o bytes x.0 x.1
 value_found None n bytes x e = absurd cc
 value_found (Some f) n bytes x e =
     let a = bind_ok (text_at f n bytes) (λ v. cond (has_content f v.0) (Ok v) (Err (BadContent n))) x e in
@@ -106,7 +106,7 @@ octets_bytes (c ∷ d ∷ cs) v e =
     let b : s.0 < 256 = octet_by c d s.0 (hex_value c) (hex_value d) refl refl s.2 in
     subst (λ (x : List ℕ). list_all is_byte x ≡ true) (sym s.4) (rw (lt-ltb s.0 256 b) (octets_bytes cs s.1 s.3))
 
-pub value_again : (o : Option Form) (n : ℕ) (text v rest : List ℕ) → SpellsValue o text v → field_at o n (text ++ rest) ≡ Ok (v, rest)
+pub value_again : (o : Option FieldForm) (n : ℕ) (text v rest : List ℕ) → SpellsValue o text v → field_at o n (text ++ rest) ≡ Ok (v, rest)
 unfolding after_length octets_at
 value_again None n text v rest s = absurd s
 value_again (Some (Fixed c k)) n text v rest s = rw (s.0, part_again k v rest s.1, s.2) refl
@@ -147,7 +147,7 @@ fields_again [] text rest s = rw s refl
 fields_again (f ∷ fs) text rest s =
     rw (s.2, append_assoc s.0 s.1 rest, value_again (form_of f.0) f.0 s.0 f.1 (s.1 ++ rest) s.3, fields_again fs s.1 rest s.4) refl
 
-known_one : (o : Option Form) (n : ℕ) (text v : List ℕ) (r : Result (Unit {0}) DecodeError) → SpellsValue o text v →
+known_one : (o : Option FieldForm) (n : ℕ) (text v : List ℕ) (r : Result (Unit {0}) DecodeError) → SpellsValue o text v →
     (or_fault o (FieldNotInProfile n) >>= λ f. r) ≡ r
 known_one None n text v r s = absurd s
 known_one (Some f) n text v r s = refl

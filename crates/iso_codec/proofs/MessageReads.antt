@@ -5,7 +5,7 @@ use Rattle.std.proofs.Common.{ap, subst, ◌∙◌, append_assoc, arith}
 use Rattle.std.specs.List.{list_all}
 use Rattle.std.proofs.lemmas.Bool.{eqb-true, lt-ltb}
 use Rattle.std.proofs.lemmas.List.{append-nil, nil_from_length}
-use Rattle.iso_msg.specs.declared.table.Form.{Form}
+use Rattle.iso_msg.specs.declared.table.FieldForm.{FieldForm}
 use Rattle.iso_msg.specs.Table.{form_of}
 use Rattle.iso_codec.specs.declared.error.DecodeError.{DecodeError}
 use Rattle.iso_codec.specs.declared.error.DecodeError.TheVariants.{BadMti, BadContent, Trailing}
@@ -102,17 +102,17 @@ placed_is : (b : Bool) (m : PlainMessage) (n : ℕ) (v rest : List ℕ) → and_
 placed_is true m n v rest = refl
 placed_is false m n v rest = refl
 
-abbrev checked : Form → ℕ → Result (List ℕ × List ℕ) DecodeError → Result (List ℕ × List ℕ) DecodeError
+abbrev checked : FieldForm → ℕ → Result (List ℕ × List ℕ) DecodeError → Result (List ℕ × List ℕ) DecodeError
 checked f n r = r >>= λ v. cond (has_content f v.0) (Ok v) (Err (BadContent n))
 
-abbrev placed_after : Form → PlainMessage → ℕ → Result (List ℕ × List ℕ) DecodeError → Grown
+abbrev placed_after : FieldForm → PlainMessage → ℕ → Result (List ℕ × List ℕ) DecodeError → Grown
 placed_after f m n r = r >>= λ v. placed f m n v.0 >>= λ w. Ok (w, v.1)
 
-text_is : (f : Form) (m : PlainMessage) (n : ℕ) (r : Result (List ℕ × List ℕ) DecodeError) → placed_after f m n r ≡ put_in m n (checked f n r)
+text_is : (f : FieldForm) (m : PlainMessage) (n : ℕ) (r : Result (List ℕ × List ℕ) DecodeError) → placed_after f m n r ≡ put_in m n (checked f n r)
 text_is f m n (Ok v) = placed_is (has_content f v.0) m n v.0 v.1
 text_is f m n (Err e) = refl
 
-grown_is : (o : Option Form) (m : PlainMessage) (n : ℕ) (bytes : List ℕ) → grown_at o m n bytes ≡ put_in m n (field_at o n bytes)
+grown_is : (o : Option FieldForm) (m : PlainMessage) (n : ℕ) (bytes : List ℕ) → grown_at o m n bytes ≡ put_in m n (field_at o n bytes)
 grown_is None m n bytes = refl
 grown_is (Some f) m n bytes = text_is f m n (text_at f n bytes)
 

@@ -2,8 +2,8 @@
 -- texts of its fields in the order of their numbers, and nothing else. Digits of bitmaps and binary
 -- fields may have either case, and there may be an empty secondary bitmap; everything else has one spelling.
 use Rattle.std.specs.Prelude.{◌≡◌, ◌≤◌, ◌⊎◌, ℕ, true, List, [], ◌∷◌, ◌++◌, length, Option, Some, None}
-use Rattle.iso_msg.specs.declared.table.Form.{Form}
-use Rattle.iso_msg.specs.declared.table.Form.TheVariants.{Fixed, Variable, Binary}
+use Rattle.iso_msg.specs.declared.table.FieldForm.{FieldForm}
+use Rattle.iso_msg.specs.declared.table.FieldForm.TheVariants.{Fixed, Variable, Binary}
 use Rattle.iso_msg.specs.Table.{form_of}
 use Rattle.iso_msg.specs.Values.{takes}
 use Rattle.iso_msg.specs.Messages.{Fields, PlainMessage, IsMti, numbers_of}
@@ -12,7 +12,7 @@ use Rattle.sw_base.specs.Digits.{number_of}
 
 -- The text of a value: the value itself, of its exact length; or the value after as many digits as
 -- the form has for its length, which give it; or the sixteen hexadecimal digits of eight bytes.
-abbrev pub SpellsValue : Option Form → List ℕ → List ℕ → Type 0
+abbrev pub SpellsValue : Option FieldForm → List ℕ → List ℕ → Type 0
 SpellsValue None text value = ⊥
 SpellsValue (Some (Fixed content exact)) text value =
     (text ≡ value) × (length value ≡ exact) × (takes content value ≡ true)

@@ -1,6 +1,6 @@
 -- Reading over a message that grows by each field, for the contracts of the reader's own steps.
 use Rattle.std.specs.Prelude.{ℕ, ◌==◌, List, [], ◌∷◌, length, Option, Some, None, Result, Ok, Err, if◌then◌else◌}
-use Rattle.iso_msg.specs.declared.table.Form.{Form}
+use Rattle.iso_msg.specs.declared.table.FieldForm.{FieldForm}
 use Rattle.iso_msg.specs.Table.{form_of}
 use Rattle.iso_msg.specs.Values.{has_content}
 use Rattle.iso_msg.specs.Messages.{PlainMessage, with_value}
@@ -20,13 +20,13 @@ error_of (message.BadLength n) = BadLength n
 error_of (message.BadContent n) = BadContent n
 error_of message.BadMti = BadMti
 
-abbrev pub placed : Form → PlainMessage → ℕ → List ℕ → Result PlainMessage DecodeError
+abbrev pub placed : FieldForm → PlainMessage → ℕ → List ℕ → Result PlainMessage DecodeError
 placed form m n value = if has_content form value then Ok (with_field m n value) else Err (BadContent n)
 
-abbrev pub grown : Form → PlainMessage → ℕ → List ℕ → Result (PlainMessage × List ℕ) DecodeError
+abbrev pub grown : FieldForm → PlainMessage → ℕ → List ℕ → Result (PlainMessage × List ℕ) DecodeError
 grown form m n bytes = text_at form n bytes >>= λ value. placed form m n value.0 >>= λ more. Ok (more, value.1)
 
-abbrev pub grown_at : Option Form → PlainMessage → ℕ → List ℕ → Result (PlainMessage × List ℕ) DecodeError
+abbrev pub grown_at : Option FieldForm → PlainMessage → ℕ → List ℕ → Result (PlainMessage × List ℕ) DecodeError
 grown_at None m n bytes = Err (FieldNotInProfile n)
 grown_at (Some form) m n bytes = grown form m n bytes
 

@@ -3,8 +3,8 @@
 use Rattle.std.specs.Prelude.{◌≡◌, ℕ, Bool, false, ◌==◌, nat_lt, List, [], ◌∷◌, ◌++◌, length, take, drop, Option, Some, None, Result, Ok, Err, IsOk}
 use Rattle.std.specs.Prelude.{if◌then◌else◌}
 use Rattle.std.specs.List.{list_all}
-use Rattle.iso_msg.specs.declared.table.Form.{Form}
-use Rattle.iso_msg.specs.declared.table.Form.TheVariants.{Fixed, Variable, Binary}
+use Rattle.iso_msg.specs.declared.table.FieldForm.{FieldForm}
+use Rattle.iso_msg.specs.declared.table.FieldForm.TheVariants.{Fixed, Variable, Binary}
 use Rattle.iso_msg.specs.Table.{form_of}
 use Rattle.iso_msg.specs.Values.{has_content}
 use Rattle.iso_msg.specs.Messages.{Fields, PlainMessage}
@@ -83,13 +83,13 @@ octets_at n bytes = do
   Ok (value, text.1)
 
 -- a value of a field's form, whatever its bytes
-abbrev pub text_at : Form → ℕ → List ℕ → Result (List ℕ × List ℕ) DecodeError
+abbrev pub text_at : FieldForm → ℕ → List ℕ → Result (List ℕ × List ℕ) DecodeError
 text_at (Fixed content exact) n bytes = part exact bytes
 text_at (Variable content length_digits most) n bytes = after_length length_digits most n bytes
 text_at Binary n bytes = octets_at n bytes
 
 -- the value of a field
-abbrev pub field_at : Option Form → ℕ → List ℕ → Result (List ℕ × List ℕ) DecodeError
+abbrev pub field_at : Option FieldForm → ℕ → List ℕ → Result (List ℕ × List ℕ) DecodeError
 field_at None n bytes = Err (FieldNotInProfile n)
 field_at (Some form) n bytes = do
   value ← text_at form n bytes
@@ -130,9 +130,9 @@ abbrev pub Fails : {Y : Type 0} → DecodeError → Result Y DecodeError → Typ
 Fails OutOfMemory reading = Unit {0}
 Fails e reading = reading ≡ Err e
 
-abbrev pub Gives : {X Y : Type 0} → (X → Y) → Result X DecodeError → Result Y DecodeError → Type 0
-Gives view (Ok x) reading = reading ≡ Ok (view x)
-Gives view (Err e) reading = Fails e reading
+abbrev pub GivesMessage : {X Y : Type 0} → (X → Y) → Result X DecodeError → Result Y DecodeError → Type 0
+GivesMessage view (Ok x) reading = reading ≡ Ok (view x)
+GivesMessage view (Err e) reading = Fails e reading
 
 -- numbers before those that are read
 abbrev pub preceded_by : List ℕ → Result (List ℕ × List ℕ) DecodeError → Result (List ℕ × List ℕ) DecodeError
@@ -144,13 +144,13 @@ put_before front (Some ns) = Some (front ++ ns)
 
 -- The same reading without its values, for looking bytes over.
 
-abbrev pub content_is : Form → ℕ → List ℕ → Result (Unit {0}) DecodeError
+abbrev pub content_is : FieldForm → ℕ → List ℕ → Result (Unit {0}) DecodeError
 content_is form n value = if has_content form value then Ok tt else Err (BadContent n)
 
-abbrev pub form_over : Form → ℕ → List ℕ → Result (List ℕ) DecodeError
+abbrev pub form_over : FieldForm → ℕ → List ℕ → Result (List ℕ) DecodeError
 form_over form n bytes = text_at form n bytes >>= λ value. content_is form n value.0 >>= λ ok. Ok value.1
 
-abbrev pub field_over : Option Form → ℕ → List ℕ → Result (List ℕ) DecodeError
+abbrev pub field_over : Option FieldForm → ℕ → List ℕ → Result (List ℕ) DecodeError
 field_over None n bytes = Err (FieldNotInProfile n)
 field_over (Some form) n bytes = form_over form n bytes
 

@@ -2,8 +2,8 @@
 -- where there is a field above 64.
 use Rattle.std.specs.Prelude.{ℕ, zero, suc, ◌+◌, ◌*◌, ◌/◌, ◌%◌, ◌==◌, nat_lt, List, [], ◌∷◌, ◌++◌, length, Option, Some, None, if◌then◌else◌}
 use Rattle.std.specs.List.{flat_map, list_any}
-use Rattle.iso_msg.specs.declared.table.Form.{Form}
-use Rattle.iso_msg.specs.declared.table.Form.TheVariants.{Fixed, Variable, Binary}
+use Rattle.iso_msg.specs.declared.table.FieldForm.{FieldForm}
+use Rattle.iso_msg.specs.declared.table.FieldForm.TheVariants.{Fixed, Variable, Binary}
 use Rattle.iso_msg.specs.Table.{form_of}
 use Rattle.iso_msg.specs.Messages.{PlainMessage, numbers_of}
 
@@ -35,7 +35,7 @@ decimal length_digits n = (if length_digits == 3 then (48 + n / 100) ∷ [] else
 abbrev pub hex : ℕ → List ℕ
 hex b = upper (b / 16) ∷ upper (b % 16) ∷ []
 
-abbrev pub text_of : Option Form → List ℕ → List ℕ
+abbrev pub text_of : Option FieldForm → List ℕ → List ℕ
 text_of None value = []
 text_of (Some (Fixed content exact)) value = value
 text_of (Some (Variable content length_digits most)) value = decimal length_digits (length value) ++ value

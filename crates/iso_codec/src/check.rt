@@ -8,20 +8,20 @@ use crate::error::DecodeError;
 use crate::in_place::{check_content, read_front};
 use crate::numbers::Numbers;
 use crate::parts::{mti_of, read_binary, read_variable, split};
-use iso_msg::{Form, Mti, form_at};
+use iso_msg::{FieldForm, Mti, form_at};
 
 /// Passes over a field of this form.
-fn check_form(form: Form, number: u8, bytes: &[u8]) -> Result<&[u8], DecodeError>
+fn check_form(form: FieldForm, number: u8, bytes: &[u8]) -> Result<&[u8], DecodeError>
     requires { IsForm form }
     ensures { Exactly (λ rest. rest.now) result (form_over form number bytes.now) }
 {
     match form {
-        Form::Fixed { length, .. } => {
+        FieldForm::Fixed { length, .. } => {
             let (value, rest) = split(bytes, length as usize)?;
             check_content(form, number, value)?;
             Ok(rest)
         }
-        Form::Variable {
+        FieldForm::Variable {
             length_digits,
             max_length,
             ..
@@ -30,7 +30,7 @@ fn check_form(form: Form, number: u8, bytes: &[u8]) -> Result<&[u8], DecodeError
             check_content(form, number, value)?;
             Ok(rest)
         }
-        Form::Binary => {
+        FieldForm::Binary => {
             let (value, rest) = read_binary(number, bytes)?;
             check_content(form, number, &value)?;
             Ok(rest)

@@ -9,7 +9,7 @@ use crate::bitmap::{check_known, read_bitmaps};
 use crate::error::DecodeError;
 use crate::numbers::Numbers;
 use crate::parts::{mti_of, split};
-use iso_msg::{Form, fits_content};
+use iso_msg::{FieldForm, fits_content};
 
 /// Reads the type and the bitmaps. Returns the digits of the type and the bytes of the fields, and
 /// adds the numbers of the set bits.
@@ -31,7 +31,7 @@ pub fn read_front<'a>(
 }
 
 /// Refuses a value with a byte that the field does not take.
-pub fn check_content(form: Form, number: u8, value: &[u8]) -> Result<(), DecodeError>
+pub fn check_content(form: FieldForm, number: u8, value: &[u8]) -> Result<(), DecodeError>
     ensures { Exactly (λ _. tt) result (content_is form number value.now) }
 {
     if fits_content(form, value) {

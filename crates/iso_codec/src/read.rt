@@ -5,7 +5,7 @@ ghost use Rattle.iso_msg.specs.Table.{form_of};
 ghost use Rattle.iso_msg.specs.Values.{has_length};
 ghost use Rattle.iso_msg.specs.Messages.{PlainMessage};
 ghost use Rattle.iso_codec.specs.Grammar.{Spells};
-ghost use Rattle.iso_codec.specs.Reads.{Fails, Gives, Answers, read};
+ghost use Rattle.iso_codec.specs.Reads.{Fails, GivesMessage, Answers, read};
 ghost use Rattle.iso_codec.specs.GrowingMessage.{placed, grown, grown_at, added, read_grown};
 ghost use Rattle.iso_codec.specs.declared.error.DecodeError.TheVariants.{OutOfMemory};
 
@@ -14,20 +14,20 @@ use crate::error::DecodeError;
 use crate::in_place::read_front;
 use crate::numbers::Numbers;
 use crate::parts::{mti_of, read_binary, read_variable, split};
-use iso_msg::{Content, Form, Message, form_at};
+use iso_msg::{Content, FieldForm, Message, form_at};
 use std::alloc::Global;
 
 /// Puts a value of the right length, which is copied here and nowhere else.
 fn put(
     alloc: Global,
-    form: Form,
+    form: FieldForm,
     number: u8,
     value: &[u8],
     message: &mut Message,
 ) -> Result<(), DecodeError>
     requires form { form_of number ≡ Some form }
     requires len { has_length form (length value.now) ≡ true }
-    ensures { Gives (λ _. message.new) result (placed form message.old number value.now) }
+    ensures { GivesMessage (λ _. message.new) result (placed form message.old number value.now) }
 {
     Ok(message.set(alloc, number, value)?)
 }
@@ -40,14 +40,14 @@ fn read_fixed<'a>(
     bytes: &'a [u8],
     message: &mut Message,
 ) -> Result<&'a [u8], DecodeError>
-    requires { form_of number ≡ Some (Form.Fixed content length) }
-    ensures { Gives (λ rest. (message.new, rest.now)) result
-        (grown (Form.Fixed content length) message.old number bytes.now) }
+    requires { form_of number ≡ Some (FieldForm.Fixed content length) }
+    ensures { GivesMessage (λ rest. (message.new, rest.now)) result
+        (grown (FieldForm.Fixed content length) message.old number bytes.now) }
 {
     let (value, rest) = split(bytes, length as usize)?;
     put(
         alloc,
-        Form::Fixed { content, length },
+        FieldForm::Fixed { content, length },
         number,
         value,
         message,
@@ -64,13 +64,13 @@ fn read_after_length<'a>(
     bytes: &'a [u8],
     message: &mut Message,
 ) -> Result<&'a [u8], DecodeError>
-    requires form { form_of number ≡ Some (Form.Variable content length_digits max_length) }
+    requires form { form_of number ≡ Some (FieldForm.Variable content length_digits max_length) }
     requires digits { length_digits ≤ 3 }
-    ensures { Gives (λ rest. (message.new, rest.now)) result
-        (grown (Form.Variable content length_digits max_length) message.old number bytes.now) }
+    ensures { GivesMessage (λ rest. (message.new, rest.now)) result
+        (grown (FieldForm.Variable content length_digits max_length) message.old number bytes.now) }
 {
     let (value, rest) = read_variable(length_digits, max_length, number, bytes)?;
-    let form = Form::Variable {
+    let form = FieldForm::Variable {
         content,
         length_digits,
         max_length,
@@ -85,12 +85,12 @@ fn read_hex<'a>(
     bytes: &'a [u8],
     message: &mut Message,
 ) -> Result<&'a [u8], DecodeError>
-    requires { form_of number ≡ Some Form.Binary }
-    ensures { Gives (λ rest. (message.new, rest.now)) result
-        (grown Form.Binary message.old number bytes.now) }
+    requires { form_of number ≡ Some FieldForm.Binary }
+    ensures { GivesMessage (λ rest. (message.new, rest.now)) result
+        (grown FieldForm.Binary message.old number bytes.now) }
 {
     let (value, rest) = read_binary(number, bytes)?;
-    put(alloc, Form::Binary, number, &value, message)?;
+    put(alloc, FieldForm::Binary, number, &value, message)?;
     Ok(rest)
 }
 
@@ -101,16 +101,16 @@ fn read_field<'a>(
     bytes: &'a [u8],
     message: &mut Message,
 ) -> Result<&'a [u8], DecodeError>
-    ensures { Gives (λ rest. (message.new, rest.now)) result
+    ensures { GivesMessage (λ rest. (message.new, rest.now)) result
         (grown_at (form_of number) message.old number bytes.now) }
 {
     match form_at(number) {
         None => Err(DecodeError::FieldNotInProfile(number)),
-        Some(Form::Fixed { content, length }) => {
+        Some(FieldForm::Fixed { content, length }) => {
             read_fixed(alloc, content, length, number, bytes, message)
         }
         Some(
-            Form::Variable {
+            FieldForm::Variable {
                 content,
                 length_digits,
                 max_length,
@@ -126,7 +126,7 @@ fn read_field<'a>(
                 message,
             )
         }
-        Some(Form::Binary) => read_hex(alloc, number, bytes, message),
+        Some(FieldForm::Binary) => read_hex(alloc, number, bytes, message),
     }
 }
 
@@ -137,7 +137,7 @@ fn read_fields<'a>(
     bytes: &'a [u8],
     message: &mut Message,
 ) -> Result<&'a [u8], DecodeError>
-    ensures { Gives (λ rest. (message.new, rest.now)) result
+    ensures { GivesMessage (λ rest. (message.new, rest.now)) result
         (added message.old numbers.now bytes.now) }
 {
     let mut rest = bytes;
@@ -150,7 +150,7 @@ fn read_fields<'a>(
 /// Reads the message that all the bytes spell, or stops where memory is refused.
 #[tactic(auto, unfolding(crate::specs::GrowingMessage::read_grown))]
 fn read_message(alloc: Global, bytes: &[u8]) -> Result<Message, DecodeError>
-    ensures { Gives (λ m. m) result (read_grown bytes.now) }
+    ensures { GivesMessage (λ m. m) result (read_grown bytes.now) }
 {
     let mut all = Numbers::new();
     let (digits, rest) = read_front(bytes, &mut all)?;

@@ -10,7 +10,7 @@ ghost use Rattle.iso_codec.specs.Spelling.{upper, decimal, hex, field_text, spel
 ghost use Rattle.iso_codec.specs.RisingBitmaps.{bit_of, digit_of, bits_of, bitmaps_of, merged};
 
 use crate::numbers::Numbers;
-use iso_msg::{Form, Message, form_at};
+use iso_msg::{FieldForm, Message, form_at};
 use std::alloc::{AllocError, Global};
 
 fn upper_digit(d: u8) -> u8
@@ -122,12 +122,12 @@ fn push_field(out: &mut Vec<u8>, number: u8, value: &[u8]) -> Result<(), AllocEr
 {
     match form_at(number) {
         None => Ok(()),
-        Some(Form::Fixed { .. }) => {
+        Some(FieldForm::Fixed { .. }) => {
             out.extend_from_slice(value)?;
             Ok(())
         }
         Some(
-            Form::Variable {
+            FieldForm::Variable {
                 length_digits,
                 max_length,
                 ..
@@ -140,7 +140,7 @@ fn push_field(out: &mut Vec<u8>, number: u8, value: &[u8]) -> Result<(), AllocEr
             out.extend_from_slice(value)?;
             Ok(())
         }
-        Some(Form::Binary) => push_hex(out, value),
+        Some(FieldForm::Binary) => push_hex(out, value),
     }
 }
 

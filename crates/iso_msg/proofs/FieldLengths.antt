@@ -1,6 +1,6 @@
 -- The forms of some fields, and the length of a value of a field of fixed length.
 use Rattle.std.proofs.Common.{◌≡◌, ℕ, Bool, true, false, ◌==◌, List, length, Some, None, refl, sym, ap, ◌∙◌, arith}
-use Rattle.iso_msg.specs.declared.table.Form.TheVariants.{Fixed}
+use Rattle.iso_msg.specs.declared.table.FieldForm.TheVariants.{Fixed}
 use Rattle.iso_msg.specs.declared.table.Content.{Content}
 use Rattle.iso_msg.specs.declared.table.Content.TheVariants.{Numeric, Printable}
 use Rattle.iso_msg.specs.Table.{form_of, definition_of, rows}

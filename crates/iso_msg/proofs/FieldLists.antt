@@ -1,7 +1,7 @@
 -- Walks over fields.
 -- for: storage::put_among, storage::take, storage::copy, message::Message
 use Rattle.std.specs.Result.{OnOk, OnErr}
-use Rattle.iso_msg.specs.declared.table.Form.{Form}
+use Rattle.iso_msg.specs.declared.table.FieldForm.{FieldForm}
 use Rattle.iso_msg.specs.Table.{form_of}
 use Rattle.iso_msg.proofs.FieldTable.{form_number}
 use Rattle.iso_msg.proofs.Bools.{chosen, ok_is, err_is, ok_err, equal-eqb, eqb-false_from}
@@ -63,7 +63,7 @@ value_here fs i n f r h e eq so_far =
     ∙ sym (ap (value_at n) (pairs_at fs i f h e)) ∙ so_far
 
 -- an index that was found is one of the list's, and a value goes there
-pub record Found (ps : Fields) (n : ℕ) (v : List ℕ) (i : ℕ) : Type 0 where
+pub record FoundField (ps : Fields) (n : ℕ) (v : List ℕ) (i : ℕ) : Type 0 where
   pub below : i < length ps
   pub put : with_value n v ps ≡ set ps i (n, v)
 
@@ -79,17 +79,17 @@ unshift_err : (r : Result ℕ ℕ) (i : ℕ) → shift 1 r ≡ Err i → (k : �
 unshift_err (Err k) i e = (k, refl, omega (arith, err_is (1 + k) i e))
 unshift_err (Ok k) i e = absurd cc
 
-pub found : (ps : Fields) (n : ℕ) (v : List ℕ) (i : ℕ) → field_index n ps ≡ Ok i → Found ps n v i
+pub found : (ps : Fields) (n : ℕ) (v : List ℕ) (i : ℕ) → field_index n ps ≡ Ok i → FoundField ps n v i
 found [] n v i e = absurd cc
 found (f ∷ fs) n v i e =
     elim (chosen (ltb f.0 n) (shift 1 (field_index n fs)) (cond (eqb f.0 n) (Ok 0) (Err 0)) (Ok i) e) [
       | inl w ↦
           let u = unshift_ok (field_index n fs) i w.1 in
           let r = found fs n v u.0 u.1 in
-          subst (λ j. Found (f ∷ fs) n v j) (sym u.2) (record { below = omega (arith, r.below); put = rw w.0 (ap (λ (x : Fields). f ∷ x) r.put) })
+          subst (λ j. FoundField (f ∷ fs) n v j) (sym u.2) (record { below = omega (arith, r.below); put = rw w.0 (ap (λ (x : Fields). f ∷ x) r.put) })
       | inr w ↦
           elim (chosen (eqb f.0 n) (Ok 0) (Err 0) (Ok i) w.1) [
-            | inl u ↦ subst (λ j. Found (f ∷ fs) n v j) (ok_is 0 i u.1) (record { below = omega arith; put = rw (w.0, u.0) refl })
+            | inl u ↦ subst (λ j. FoundField (f ∷ fs) n v j) (ok_is 0 i u.1) (record { below = omega arith; put = rw (w.0, u.0) refl })
             | inr u ↦ absurd (ok_err i 0 (sym u.1))
           ]
     ]
@@ -138,11 +138,11 @@ put_keeps (Err x) old new n v p q h e a = subst (λ (fs : List Field). AreFields
 pub taken_above : (n : ℕ) (v : List ℕ) → refusal n v ≡ None → 1 < n
 taken_above n v e = taken_by n v (form_of n) refl e
   where
-    taken_by : (n : ℕ) (v : List ℕ) (o : Option Form) → form_of n ≡ o → refusal_by o n v ≡ None → 1 < n
+    taken_by : (n : ℕ) (v : List ℕ) (o : Option FieldForm) → form_of n ≡ o → refusal_by o n v ≡ None → 1 < n
     taken_by n v None h e = absurd cc
     taken_by n v (Some f) h e = (form_number n f h).0
 
-pub taken_below : (n : ℕ) (v : List ℕ) (o : Option Form) → form_of n ≡ o → refusal_by o n v ≡ None → n < 129
+pub taken_below : (n : ℕ) (v : List ℕ) (o : Option FieldForm) → form_of n ≡ o → refusal_by o n v ≡ None → n < 129
 taken_below n v None h e = absurd cc
 taken_below n v (Some f) h e = (form_number n f h).1
 

@@ -7,8 +7,8 @@ use Rattle.std.proofs.lemmas.Bool.{eqb-true, ltb-true, lt-ltb}
 use Rattle.iso_msg.specs.Values.{is_byte}
 use Rattle.std.specs.List.{list_all}
 use Rattle.iso_msg.proofs.Bools.{and_both, or_either, chosen, some_is}
-use Rattle.iso_msg.specs.declared.table.Form.{Form}
-use Rattle.iso_msg.specs.declared.table.Form.TheVariants.{Fixed, Variable, Binary}
+use Rattle.iso_msg.specs.declared.table.FieldForm.{FieldForm}
+use Rattle.iso_msg.specs.declared.table.FieldForm.TheVariants.{Fixed, Variable, Binary}
 use Rattle.std.specs.Prelude.{option_map}
 use Rattle.iso_msg.specs.declared.table.Definition.{Definition}
 use Rattle.iso_msg.specs.Table.{FieldRow, form_of, rows, definition_in, definition_of, definitions, IsForm, IsKnown}
@@ -18,12 +18,12 @@ definitions_at zero n i h = absurd (omega arith)
 definitions_at (suc k) n zero h = ap definition_of (omega arith)
 definitions_at (suc k) n (suc i) h = definitions_at k (suc n) i (omega arith) ∙ ap definition_of (omega arith)
 
-abbrev is_form : Form → Bool
+abbrev is_form : FieldForm → Bool
 is_form (Fixed c k) = true
 is_form (Variable c p most) = (eqb p 2 && ltb most 100) || (eqb p 3 && ltb most 1000)
 is_form Binary = true
 
-abbrev is_row : ℕ → Form → Bool
+abbrev is_row : ℕ → FieldForm → Bool
 is_row n f = ltb 1 n && ltb n 129 && is_form f
 
 rows_are : list_all (λ (r : FieldRow). is_row r.0 r.2) rows ≡ true
@@ -47,23 +47,23 @@ unfolding definition_of
 definition_is_row n d e = row_is rows n d rows_are e
 
 -- a form is that of a definition
-form_from : (o : Option Definition) (f : Form) → option_map (λ (d : Definition). d.form) o ≡ Some f → (d : Definition) × (o ≡ Some d) × (d.form ≡ f)
+form_from : (o : Option Definition) (f : FieldForm) → option_map (λ (d : Definition). d.form) o ≡ Some f → (d : Definition) × (o ≡ Some d) × (d.form ≡ f)
 form_from None f e = absurd cc
 form_from (Some d) f e = (d, refl, some_is d.form f e)
 
-form_is_row : (n : ℕ) (f : Form) → form_of n ≡ Some f → is_row n f ≡ true
+form_is_row : (n : ℕ) (f : FieldForm) → form_of n ≡ Some f → is_row n f ≡ true
 unfolding form_of
 form_is_row n f e =
     let s = form_from (definition_of n) f e in
-    subst (λ (x : Form). is_row n x ≡ true) s.2 (definition_is_row n s.0 s.1)
+    subst (λ (x : FieldForm). is_row n x ≡ true) s.2 (definition_is_row n s.0 s.1)
 
-pub form_number : (n : ℕ) (f : Form) → form_of n ≡ Some f → (1 < n) × (n < 129)
+pub form_number : (n : ℕ) (f : FieldForm) → form_of n ≡ Some f → (1 < n) × (n < 129)
 form_number n f e =
     let p = and_both (ltb 1 n && ltb n 129) (is_form f) (form_is_row n f e) in
     let q = and_both (ltb 1 n) (ltb n 129) p.0 in
     (ltb-true _ _ q.0, ltb-true _ _ q.1)
 
-is_form-IsForm : (f : Form) → is_form f ≡ true → IsForm f
+is_form-IsForm : (f : FieldForm) → is_form f ≡ true → IsForm f
 is_form-IsForm (Fixed c k) h = tt
 is_form-IsForm (Variable c p most) h =
     elim (or_either (eqb p 2 && ltb most 100) (eqb p 3 && ltb most 1000) h) [
@@ -72,7 +72,7 @@ is_form-IsForm (Variable c p most) h =
     ]
 is_form-IsForm Binary h = tt
 
-pub form_is : (n : ℕ) (f : Form) → form_of n ≡ Some f → IsForm f
+pub form_is : (n : ℕ) (f : FieldForm) → form_of n ≡ Some f → IsForm f
 form_is n f e = is_form-IsForm f (and_both (ltb 1 n && ltb n 129) (is_form f) (form_is_row n f e)).1
 
 defined_below : (n : ℕ) (d : Definition) → definition_of n ≡ Some d → n < 129
@@ -92,7 +92,7 @@ pub form_by : (n : ℕ) (o : Option Definition) → o ≡ definition_of n → op
 unfolding form_of
 form_by n o e = ap (option_map (λ (d : Definition). d.form)) e
 
-pub form_is_known : (n : ℕ) (o : Option Form) → form_of n ≡ o → IsKnown n o
+pub form_is_known : (n : ℕ) (o : Option FieldForm) → form_of n ≡ o → IsKnown n o
 form_is_known n None e = tt
 form_is_known n (Some f) e = let p = form_number n f e in (p.0, p.1, form_is n f e)
 

@@ -17,31 +17,31 @@ use Rattle.iso_msg.specs.declared.name.FieldName.TheVariants.{MessageAuthenticat
 use Rattle.iso_msg.specs.declared.name.FieldName.TheVariants.{ReplacementAmounts, ReceivingInstitutionIdentificationCode, AccountIdentification1}
 use Rattle.iso_msg.specs.declared.name.FieldName.TheVariants.{AccountIdentification2}
 use Rattle.iso_msg.specs.declared.table.Definition.{Definition}
-use Rattle.iso_msg.specs.declared.table.Form.{Form}
-use Rattle.iso_msg.specs.declared.table.Form.TheVariants.{Fixed, Variable, Binary}
+use Rattle.iso_msg.specs.declared.table.FieldForm.{FieldForm}
+use Rattle.iso_msg.specs.declared.table.FieldForm.TheVariants.{Fixed, Variable, Binary}
 use Rattle.iso_msg.specs.declared.table.Content.TheVariants.{Numeric, Printable}
 
 abbrev pub FieldRow : Type 0
-FieldRow = ℕ × FieldName × Form
+FieldRow = ℕ × FieldName × FieldForm
 
 -- The forms as the standard writes them: a fixed number of digits (n) or characters (ans), at most a given number of them
 -- after two digits of length (LLVAR) or three (LLLVAR), and 64 bits (b).
-abbrev n : ℕ → Form
+abbrev n : ℕ → FieldForm
 n length = Fixed Numeric length
 
-abbrev ans : ℕ → Form
+abbrev ans : ℕ → FieldForm
 ans length = Fixed Printable length
 
-abbrev n_llvar : ℕ → Form
+abbrev n_llvar : ℕ → FieldForm
 n_llvar most = Variable Numeric 2 most
 
-abbrev ans_llvar : ℕ → Form
+abbrev ans_llvar : ℕ → FieldForm
 ans_llvar most = Variable Printable 2 most
 
-abbrev ans_lllvar : ℕ → Form
+abbrev ans_lllvar : ℕ → FieldForm
 ans_lllvar most = Variable Printable 3 most
 
-abbrev b64 : Form
+abbrev b64 : FieldForm
 b64 = Binary
 
 unfoldable pub rows : List FieldRow
@@ -111,7 +111,7 @@ unfoldable pub definition_of : ℕ → Option Definition
 definition_of n = definition_in n rows
 
 -- the form of a field's values
-unfoldable pub form_of : ℕ → Option Form
+unfoldable pub form_of : ℕ → Option FieldForm
 form_of n = option_map (λ d. d.form) (definition_of n)
 
 -- the definitions of this many numbers from n on
@@ -120,12 +120,12 @@ definitions n zero = []
 definitions n (suc count) = definition_of n ∷ definitions (suc n) count
 
 -- there are as many digits of length as the greatest length has
-abbrev pub IsForm : Form → Type 0
+abbrev pub IsForm : FieldForm → Type 0
 IsForm (Fixed content exact) = Unit {0}
 IsForm (Variable content length_digits most) = ((length_digits ≡ 2) × (most < 100)) ⊎ ((length_digits ≡ 3) × (most < 1000))
 IsForm Binary = Unit {0}
 
 -- a number that has a form is one of 2 to 128: bit 1 is not a field
-abbrev pub IsKnown : ℕ → Option Form → Type 0
+abbrev pub IsKnown : ℕ → Option FieldForm → Type 0
 IsKnown n None = Unit {0}
 IsKnown n (Some form) = (1 < n) × (n < 129) × IsForm form

@@ -1,8 +1,8 @@
 -- The values that a field takes.
 use Rattle.std.specs.Prelude.{◌≡◌, ℕ, Bool, ◌&&◌, ◌==◌, nat_le, nat_lt, List, length, Option, Some, None, if◌then◌else◌}
 use Rattle.std.specs.List.{list_all}
-use Rattle.iso_msg.specs.declared.table.Form.{Form}
-use Rattle.iso_msg.specs.declared.table.Form.TheVariants.{Fixed, Variable, Binary}
+use Rattle.iso_msg.specs.declared.table.FieldForm.{FieldForm}
+use Rattle.iso_msg.specs.declared.table.FieldForm.TheVariants.{Fixed, Variable, Binary}
 use Rattle.iso_msg.specs.declared.table.Content.{Content}
 use Rattle.iso_msg.specs.declared.table.Content.TheVariants.{Numeric, Printable}
 use Rattle.iso_msg.specs.declared.error.MessageError.{MessageError}
@@ -21,18 +21,18 @@ abbrev pub takes : Content → List ℕ → Bool
 takes Numeric value = list_all is_digit value
 takes Printable value = list_all is_text value
 
-abbrev pub has_length : Form → ℕ → Bool
+abbrev pub has_length : FieldForm → ℕ → Bool
 has_length (Fixed content exact) len = len == exact
 has_length (Variable content length_digits most) len = nat_le len most
 has_length Binary len = len == 8
 
-abbrev pub has_content : Form → List ℕ → Bool
+abbrev pub has_content : FieldForm → List ℕ → Bool
 has_content (Fixed content exact) value = takes content value
 has_content (Variable content length_digits most) value = takes content value
 has_content Binary value = list_all is_byte value
 
 -- why a field of this form doesn't take a value, or None where it does
-abbrev pub refusal_by : Option Form → ℕ → List ℕ → Option MessageError
+abbrev pub refusal_by : Option FieldForm → ℕ → List ℕ → Option MessageError
 refusal_by None n value = Some (FieldNotInProfile n)
 refusal_by (Some form) n value =
     if has_length form (length value)

@@ -29,5 +29,5 @@ pub use laws::fields_are_a_map;
 pub use message::Message;
 pub use mti::Mti;
 pub use name::FieldName;
-pub use table::{Content, Definition, Form, definition_at, form_at};
+pub use table::{Content, Definition, FieldForm, definition_at, form_at};
 pub use value::fits_content;

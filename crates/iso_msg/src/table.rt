@@ -17,7 +17,7 @@ pub enum Content {
 
 /// What the values of a field are, and how one is spelled.
 #[derive(Clone, Copy, PartialEq, Eq)]
-pub enum Form {
+pub enum FieldForm {
     /// `n 6` or `ans 6`: a value of this length, spelled as it is.
     Fixed {
         content: Content,
@@ -35,16 +35,16 @@ pub enum Form {
 }
 
 /// As a person reads it, as in "at most 19 digits".
-impl fmt::Display for Form {
+impl fmt::Display for FieldForm {
     fn fmt<W: fmt::Write>(&self, f: &mut fmt::Formatter<W>) -> fmt::Result {
         match *self {
-            Form::Fixed { content, length } => write!(f, "{length} {content}"),
-            Form::Variable {
+            FieldForm::Fixed { content, length } => write!(f, "{length} {content}"),
+            FieldForm::Variable {
                 content,
                 max_length,
                 ..
             } => write!(f, "at most {max_length} {content}"),
-            Form::Binary => f.write_str("8 bytes"),
+            FieldForm::Binary => f.write_str("8 bytes"),
         }
     }
 }
@@ -63,35 +63,35 @@ impl fmt::Display for Content {
 #[derive(Clone, Copy, PartialEq, Eq)]
 pub struct Definition {
     pub name: FieldName,
-    pub form: Form,
+    pub form: FieldForm,
 }
 
 // A definition as the standard writes it: the field's name, and `n`, `ans` or `b` with a length, or
 // with LLVAR or LLLVAR and the greatest length.
 macro_rules! definition {
     ($name:ident, n $length:literal) => {
-        definition!($name; Form::Fixed { content: Content::Numeric, length: $length })
+        definition!($name; FieldForm::Fixed { content: Content::Numeric, length: $length })
     };
     ($name:ident, ans $length:literal) => {
-        definition!($name; Form::Fixed { content: Content::Printable, length: $length })
+        definition!($name; FieldForm::Fixed { content: Content::Printable, length: $length })
     };
     ($name:ident, n LLVAR $max:literal) => {
-        definition!($name; Form::Variable {
+        definition!($name; FieldForm::Variable {
             content: Content::Numeric, length_digits: 2, max_length: $max
         })
     };
     ($name:ident, ans LLVAR $max:literal) => {
-        definition!($name; Form::Variable {
+        definition!($name; FieldForm::Variable {
             content: Content::Printable, length_digits: 2, max_length: $max
         })
     };
     ($name:ident, ans LLLVAR $max:literal) => {
-        definition!($name; Form::Variable {
+        definition!($name; FieldForm::Variable {
             content: Content::Printable, length_digits: 3, max_length: $max
         })
     };
     ($name:ident, b 64) => {
-        definition!($name; Form::Binary)
+        definition!($name; FieldForm::Binary)
     };
     ($name:ident; $form:expr) => {
         Some(Definition { name: FieldName::$name, form: $form })
@@ -254,7 +254,7 @@ pub fn definition_at(number: u8) -> Option<Definition>
 }
 
 /// The form of a field, or `None` for a number that is not a field of the profile.
-pub fn form_at(number: u8) -> Option<Form>
+pub fn form_at(number: u8) -> Option<FieldForm>
     ensures form { result ≡ form_of number }
     ensures known { IsKnown number result }
 {

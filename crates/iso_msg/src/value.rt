@@ -6,7 +6,7 @@ ghost use Rattle.sw_base.specs.Digits.{is_digit};
 ghost use Rattle.iso_msg.specs.Values.{is_text, takes, has_length, has_content, refusal};
 
 use crate::error::MessageError;
-use crate::table::{Content, Form, form_at};
+use crate::table::{Content, FieldForm, form_at};
 
 fn are_digits(bytes: &[u8]) -> bool
     ensures { result ≡ list_all is_digit bytes.now }
@@ -29,23 +29,25 @@ pub(crate) fn takes_all(content: Content, bytes: &[u8]) -> bool
     }
 }
 
-fn fits_length(form: Form, value_length: usize) -> bool
+fn fits_length(form: FieldForm, value_length: usize) -> bool
     ensures { result ≡ has_length form value_length }
 {
     match form {
-        Form::Fixed { length, .. } => value_length == length as usize,
-        Form::Variable { max_length, .. } => value_length <= max_length as usize,
-        Form::Binary => value_length == 8,
+        FieldForm::Fixed { length, .. } => value_length == length as usize,
+        FieldForm::Variable { max_length, .. } => value_length <= max_length as usize,
+        FieldForm::Binary => value_length == 8,
     }
 }
 
 /// Whether a field of this form takes the bytes of the value, whatever its length.
-pub fn fits_content(form: Form, value: &[u8]) -> bool
+pub fn fits_content(form: FieldForm, value: &[u8]) -> bool
     ensures { result ≡ has_content form value.now }
 {
     match form {
-        Form::Fixed { content, .. } | Form::Variable { content, .. } => takes_all(content, value),
-        Form::Binary => true,
+        FieldForm::Fixed { content, .. } | FieldForm::Variable { content, .. } => takes_all(
+            content, value,
+        ),
+        FieldForm::Binary => true,
     }
 }
 

@@ -19,17 +19,17 @@ use Rattle.sqlite.specs.Files.{AreFoundIn, Finds, IsOpened, file_state, over_fil
 use Rattle.journal_rows.specs.Tables.{Tables}
 use Rattle.journal_rows.specs.declared.error.BadRow.{BadRow}
 use Rattle.journal_tables.specs.Schema.{first_schema, journal_schema}
-use Rattle.tx_journal.specs.Kept.{OpensAs}
-use Rattle.tx_journal.specs.Left.{doubt_of}
-use Rattle.tx_journal.specs.Making.{no_schema}
-use Rattle.tx_journal.proofs.Opens.{same_count}
-use Rattle.tx_journal.specs.declared.journal.Left.{Left}
-use Rattle.tx_journal.specs.declared.journal.Left.TheVariants.{Closed, Open}
+use Rattle.journal_store.specs.Kept.{OpensAs}
+use Rattle.journal_store.specs.Left.{doubt_of}
+use Rattle.journal_store.specs.Making.{no_schema}
+use Rattle.journal_store.proofs.Opens.{same_count}
+use Rattle.journal_store.specs.declared.journal.Left.{Left}
+use Rattle.journal_store.specs.declared.journal.Left.TheVariants.{Closed, Open}
 use Rattle.journal_copy.specs.Copied.{HoldsFault, HoldsJournal, IsLayoutOf, image_of}
 use Rattle.journal_copy.specs.Found.{IfBadRow, IsFaultBy, IsFoundBy, IsOtherFault, layout_by}
 use Rattle.journal_copy.specs.declared.error.LookError.{LookError}
 use Rattle.journal_copy.specs.declared.error.LookError.TheVariants as error
-use Rattle.journal_copy.specs.declared.found.Found.{Found}
+use Rattle.journal_copy.specs.declared.found.FoundJournal.{FoundJournal}
 
 -- ---- the layout
 
@@ -63,7 +63,7 @@ module _ {D : Type 0} {g : disk.Ghosts D} (honest : (d : D) → g.is_clean d ≡
   no_doubt_of (Open c) = no_doubt (view c.store).is_clean (clean c.store)
   no_doubt_of (Closed s) = no_doubt (view s).is_clean (clean s)
 
-  holds_journal_by : (db log : List ℕ) (files : Files D) (conn : Held (FileStore D g)) (f : Found) → g.seen files.log ≡ log → g.seen files.db ≡ db
+  holds_journal_by : (db log : List ℕ) (files : Files D) (conn : Held (FileStore D g)) (f : FoundJournal) → g.seen files.log ≡ log → g.seen files.db ≡ db
       → (HasCleanDisk (file_state conn) → IsOpened conn) → (HasCleanDisk (file_state conn) → Finds files conn) → IsFoundBy over_files conn f
       → HoldsJournal (image_of db log) f.layout f.view
   holds_journal_by db log files conn f log_is db_is opened finds found =
@@ -100,7 +100,7 @@ module _ {D : Type 0} {g : disk.Ghosts D} (honest : (d : D) → g.is_clean d ≡
   holds_fault_by db log files conn (error.Database e) log_is db_is finds h = tt
   holds_fault_by db log files conn error.OutOfMemory log_is db_is finds h = tt
 
-pub holds_journal : {D : Type 0} {g : disk.Ghosts D} (db log : List ℕ) (files : Files D) (conn : Held (FileStore D g)) (f : Found) →
+pub holds_journal : {D : Type 0} {g : disk.Ghosts D} (db log : List ℕ) (files : Files D) (conn : Held (FileStore D g)) (f : FoundJournal) →
     g.seen files.log ≡ log → g.seen files.db ≡ db
     → (HasCleanDisk (file_state conn) → IsOpened conn) → (HasCleanDisk (file_state conn) → Finds files conn) → IsFoundBy over_files conn f
     → ((d : D) → g.is_clean d ≡ true) → HoldsJournal (image_of db log) f.layout f.view

@@ -7,16 +7,16 @@ use Rattle.sqlite_schema.specs.declared.schema.Schema.{Schema}
 use Rattle.sqlite.specs.Held.{Held, state}
 use Rattle.sqlite.specs.State.{IsLive}
 use Rattle.tx_history.specs.declared.journal.JournalView.{JournalView}
-use Rattle.tx_journal.specs.Kept.{IsCleanJournal, Kept, kept}
-use Rattle.tx_journal.specs.Left.{doubt_of}
-use Rattle.tx_journal.specs.Means.{Means}
-use Rattle.tx_journal.specs.Converted.{IsNaming}
-use Rattle.tx_journal.specs.declared.journal.Left.{Left}
-use Rattle.tx_journal.specs.declared.error.Cause.TheVariants.{Memory, Refused}
-use Rattle.tx_journal.specs.declared.error.JournalError.{JournalError}
-use Rattle.tx_journal.specs.declared.error.JournalError.TheVariants as journal
+use Rattle.journal_store.specs.Kept.{IsCleanJournal, Kept, kept}
+use Rattle.journal_store.specs.Left.{doubt_of}
+use Rattle.journal_store.specs.Means.{Means}
+use Rattle.journal_store.specs.Converted.{IsNaming}
+use Rattle.journal_store.specs.declared.journal.Left.{Left}
+use Rattle.journal_store.specs.declared.error.Cause.TheVariants.{Memory, Refused}
+use Rattle.journal_store.specs.declared.error.JournalError.{JournalError}
+use Rattle.journal_store.specs.declared.error.JournalError.TheVariants as journal
 use Rattle.journal_copy.specs.declared.error.LookError.{LookError}
-use Rattle.journal_copy.specs.declared.found.Found.{Found}
+use Rattle.journal_copy.specs.declared.found.FoundJournal.{FoundJournal}
 use Rattle.journal_copy.specs.Errors.{error_of_journal}
 use Rattle.journal_rows.specs.declared.error.BadRow.{BadRow}
 use Rattle.journal_copy.specs.Found.{IfBadRow, IfRest, IsFaultBy, IsFoundBy, IsOpenedBy, IsSpoilt, layout_by}

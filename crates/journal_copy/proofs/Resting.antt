@@ -3,7 +3,7 @@
 use Rattle.std.proofs.Common.{◌≡◌, ◌∙◌, List, [], ◌∷◌, ◌++◌, Some, Result, Err, refl, subst, sym, ap}
 use Rattle.sqlite_value.specs.Order.{Row}
 use Rattle.tx_history.specs.declared.journal.JournalView.{JournalView}
-use Rattle.tx_journal.specs.declared.reading.Stored.{Stored}
+use Rattle.journal_store.specs.declared.reading.Stored.{Stored}
 use Rattle.journal_rows.specs.Answer.{IsReading}
 use Rattle.journal_rows.specs.Faults.{IsFault}
 use Rattle.journal_rows.specs.declared.error.BadRow.{BadRow}

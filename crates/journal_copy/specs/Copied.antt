@@ -10,7 +10,7 @@ use Rattle.journal_rows.specs.Faults.{IsFaultAs, IsFaultIn, IsViewIn}
 use Rattle.journal_rows.specs.declared.error.BadRow.{BadRow}
 use Rattle.journal_rows.specs.declared.layout.Layout.TheVariants.{First}
 use Rattle.journal_tables.specs.Schema.{first_schema, journal_schema}
-use Rattle.tx_journal.specs.Kept.{OpensAs}
+use Rattle.journal_store.specs.Kept.{OpensAs}
 
 abbrev pub image_of : List ℕ → List ℕ → Image
 image_of db log = record { log = log; db = db }

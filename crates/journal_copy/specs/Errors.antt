@@ -2,9 +2,9 @@
 use Rattle.std.specs.Prelude.{None}
 use Rattle.cli_io.specs.declared.error.ReadError.{ReadError}
 use Rattle.cli_io.specs.declared.error.ReadError.TheVariants as read
-use Rattle.tx_journal.specs.declared.error.Cause.TheVariants.{Memory}
-use Rattle.tx_journal.specs.declared.error.JournalError.{JournalError}
-use Rattle.tx_journal.specs.declared.error.JournalError.TheVariants as journal
+use Rattle.journal_store.specs.declared.error.Cause.TheVariants.{Memory}
+use Rattle.journal_store.specs.declared.error.JournalError.{JournalError}
+use Rattle.journal_store.specs.declared.error.JournalError.TheVariants as journal
 use Rattle.journal_copy.specs.declared.error.CopyError.{CopyError}
 use Rattle.journal_copy.specs.declared.error.CopyError.TheVariants as copy
 use Rattle.journal_copy.specs.declared.error.LookError.{LookError}

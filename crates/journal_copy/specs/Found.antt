@@ -6,13 +6,13 @@ use Rattle.sqlite.specs.State.{IsLive}
 use Rattle.journal_rows.specs.Tables.{Tables}
 use Rattle.journal_rows.specs.Faults.{IsFaultIn, IsViewIn}
 use Rattle.journal_rows.specs.declared.error.BadRow.{BadRow}
-use Rattle.tx_journal.specs.Kept.{IsCleanJournal, Kept, OpensAs, kept}
-use Rattle.tx_journal.specs.Left.{doubt_of}
-use Rattle.tx_journal.specs.Converted.{IsNaming}
-use Rattle.tx_journal.specs.declared.journal.Left.{Left}
-use Rattle.tx_journal.specs.declared.error.JournalError.TheVariants as journal
-use Rattle.journal_copy.specs.declared.found.Found.{Found}
-use Rattle.tx_journal.specs.declared.error.JournalError.{JournalError}
+use Rattle.journal_store.specs.Kept.{IsCleanJournal, Kept, OpensAs, kept}
+use Rattle.journal_store.specs.Left.{doubt_of}
+use Rattle.journal_store.specs.Converted.{IsNaming}
+use Rattle.journal_store.specs.declared.journal.Left.{Left}
+use Rattle.journal_store.specs.declared.error.JournalError.TheVariants as journal
+use Rattle.journal_copy.specs.declared.found.FoundJournal.{FoundJournal}
+use Rattle.journal_store.specs.declared.error.JournalError.{JournalError}
 use Rattle.journal_copy.specs.Errors.{error_of_journal}
 use Rattle.journal_copy.specs.Rest.{IsSomeRest}
 use Rattle.journal_copy.specs.declared.rest.Rest.{Rest}
@@ -30,7 +30,7 @@ module _ {S : Type 0} (g : Ghosts S) where
     pub opened : IsCleanJournal (kept g j) → IsTrue (state g conn).is_open × OpensAs (state g conn).committed.trees (kept g j).tables
 
   -- Its layout is that of the connection's tables, and it has the view of the tables that an opening makes of them.
-  pub record IsFoundBy (conn : Held S) (f : Found) : Type 0 where
+  pub record IsFoundBy (conn : Held S) (f : FoundJournal) : Type 0 where
     pub layout : layout_by (length (state g conn).now.schema.tables) ≡ Some f.layout
     pub live : IsLive (state g conn)
     pub last : Kept S

@@ -9,7 +9,7 @@ use Rattle.journal_rows.specs.declared.error.BadRow.{BadRow}
 use Rattle.journal_rows.specs.declared.error.JournalTable.{JournalTable}
 use Rattle.journal_rows.specs.declared.error.JournalTable.TheVariants.{Advice, Joined, Member, Meta, Part, Shelf, Tx}
 use Rattle.journal_rows.specs.declared.layout.Layout.{Layout}
-use Rattle.tx_journal.specs.declared.reading.Stored.{Stored}
+use Rattle.journal_store.specs.declared.reading.Stored.{Stored}
 use Rattle.journal_copy.specs.declared.rest.Rest.{Rest}
 
 -- the rows of the tables, each table by its key, members with their names

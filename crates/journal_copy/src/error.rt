@@ -8,10 +8,10 @@ ghost use Rattle.journal_copy.specs.declared.error.LookError.TheVariants as look
 use crate::rest::Rest;
 use cli_io::ReadError;
 use journal_rows::BadRow;
+use journal_store::{Cause, JournalError};
 use std::alloc::{AllocError, AllocFailed};
 use std::{fmt, io};
 use thiserror::Error;
-use tx_journal::{Cause, JournalError};
 
 /// Why there is no copy of a journal's files. The text does not name them.
 #[derive(Drop, Error)]

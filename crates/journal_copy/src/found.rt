@@ -6,22 +6,22 @@ ghost use Rattle.journal_copy.specs.Found as spec;
 use crate::error::LookError;
 use crate::rest::rest_of;
 use journal_rows::Layout;
+use journal_store::{Journal, JournalError, Left, Stored, read_all, read_first};
 use sqlite::{Alter, Connection};
 use std::alloc::Global;
 use tx_history::JournalView;
-use tx_journal::{Journal, JournalError, Left, Stored, read_all, read_first};
 
 /// What a copy of a journal holds.
-pub struct Found {
+pub struct FoundJournal {
     /// The layout of the journal's tables: 1 or 2.
     pub layout: u64,
     pub view: JournalView,
 }
 
 // Written out, so that no caller proves again how its parts are dropped.
-impl Drop for Found {
+impl Drop for FoundJournal {
     fn drop(self) {
-        let Found { layout: _, view: _ } = self;
+        let FoundJournal { layout: _, view: _ } = self;
     }
 }
 
@@ -90,7 +90,10 @@ fn open<S: Alter + Drop>(alloc: Global, conn: Connection<S>) -> Result<Journal<S
 }
 
 /// The layout of a connection's journal, and its view.
-pub fn found_by<S: Alter + Drop>(alloc: Global, conn: Connection<S>) -> Result<Found, LookError>
+pub fn found_by<S: Alter + Drop>(
+    alloc: Global,
+    conn: Connection<S>,
+) -> Result<FoundJournal, LookError>
     ensures found { IfOk result (spec.IsFoundBy S.Store conn) }
     ensures bad { IfErr result (spec.IfBadRow (spec.IsFaultBy S.Store conn)) }
     ensures rest { IfErr result spec.IfRest }
@@ -100,7 +103,7 @@ pub fn found_by<S: Alter + Drop>(alloc: Global, conn: Connection<S>) -> Result<F
     };
     let mut journal = open(alloc, conn)?;
     match journal.view(alloc) {
-        Ok(view) => Ok(Found { layout, view }),
+        Ok(view) => Ok(FoundJournal { layout, view }),
         Err(error) => Err(unread(alloc, error, journal)),
     }
 }

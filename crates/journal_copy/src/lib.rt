@@ -18,6 +18,6 @@ mod rest;
 
 pub use error::{CopyError, LookError};
 pub use files::{Copy, copy_files};
-pub use found::Found;
+pub use found::FoundJournal;
 pub use looking::look;
 pub use rest::Rest;

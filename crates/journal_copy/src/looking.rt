@@ -6,7 +6,7 @@ ghost use Rattle.journal_copy.specs.Found.{IfBadRow, IfRest, IsOtherFault};
 
 use crate::disks::disks_of;
 use crate::error::LookError;
-use crate::found::{Found, found_by};
+use crate::found::{FoundJournal, found_by};
 use sqlite::{Connection, Error, ErrorCode, Options};
 use std::alloc::Global;
 
@@ -32,7 +32,7 @@ fn refusal(error: Error) -> LookError
 /// would find it. A journal with rows at fault is refused with the first of them and the journal that
 /// is left without them, if there is one; a file that is not a journal is refused too. Out of memory is
 /// reported as such.
-pub fn look(alloc: Global, db: &[u8], log: &[u8]) -> Result<Found, LookError>
+pub fn look(alloc: Global, db: &[u8], log: &[u8]) -> Result<FoundJournal, LookError>
     ensures found { IfOk result (λ f.
         HoldsJournal (image_of db.now log.now) f.layout f.view) }
     ensures bad { IfErr result (IfBadRow (HoldsFault (image_of db.now log.now))) }

@@ -5,10 +5,10 @@ ghost use Rattle.journal_copy.specs.Rest.{IsRest, rows_of, without, without_id};
 
 use crate::error::LookError;
 use journal_rows::{BadRow, JournalTable, Layout, RowsError, int_at, view_of};
+use journal_store::Stored;
 use sqlite::Row;
 use std::alloc::Global;
 use tx_history::JournalView;
-use tx_journal::Stored;
 
 /// With this many rows at fault there is no [`Rest`]: each of them costs a look at all rows.
 const MOST_LEFT_OUT: u32 = 1_000;

@@ -21,7 +21,7 @@ use Rattle.tx_machine.specs.declared.values.Phase.TheVariants.{Preparing, Aborti
 use Rattle.tx_machine.specs.Table.{is_open}
 use Rattle.tx_history.specs.declared.journal.JournalView.{JournalView}
 use Rattle.tx_history.specs.declared.journal.Row as own
-use Rattle.tx_history.specs.declared.journal.Waiting.{Waiting}
+use Rattle.tx_history.specs.declared.journal.WaitingContext.{WaitingContext}
 use Rattle.tx_history.specs.Keys.{Rising, look, place_lt}
 use Rattle.tx_history.specs.Views.{IsDoing, IsNamed, IsOk, PlacesRise, RowFits, WaitingFits}
 use Rattle.journal_rows.specs.declared.error.JournalTable.TheVariants.{Joined}
@@ -296,7 +296,7 @@ module _ (t : Tables) (o : IsOrdered t) (f : IsFaultIn t None) where
   abbrev row_under : Row → ℕ × own.Row
   row_under r = (nat_at r 0, row_of members r)
 
-  abbrev shelf_under : Row → ℕ × Waiting
+  abbrev shelf_under : Row → ℕ × WaitingContext
   shelf_under r = (nat_at r 0, waiting_of r)
 
   rows_rise : Rising 1 n (map row_under tx)
@@ -325,11 +325,11 @@ module _ (t : Tables) (o : IsOrdered t) (f : IsFaultIn t None) where
       (λ r nat k. sym (ap (λ i. has_id i tx) (ap int_in nat)) ∙ not-true (has_id (int_at r 0) tx) (and_parts _ _ (and_parts _ _ k.good).0).1)
       shelf nats shelf_fits
 
-  apart_ids : (id : ℕ) (r : own.Row) (w : Waiting) → look id (map row_under tx) ≡ Some r → look id (map shelf_under shelf) ≡ Some w → ⊥
+  apart_ids : (id : ℕ) (r : own.Row) (w : WaitingContext) → look id (map row_under tx) ≡ Some r → look id (map shelf_under shelf) ≡ Some w → ⊥
   apart_ids id r w here there =
       let has = look_has (row_of members) id tx (all_map (λ r. IsNat (column r 0)) shown_tx t.tx o.tx_ids) r here in
       let none = look_fits (λ k x. has_id (pos k) tx ≡ false) (map shelf_under shelf)
-      (all_map (λ (y : ℕ × Waiting). has_id (pos y.0) tx ≡ false) shelf_under shelf unlisted) id w there in
+      (all_map (λ (y : ℕ × WaitingContext). has_id (pos y.0) tx ≡ false) shelf_under shelf unlisted) id w there in
       true≢false (sym has ∙ none)
 
   all_rows : AllByRecursion (λ (y : ℕ × own.Row). RowFits y.1) (map row_under tx)
@@ -339,9 +339,9 @@ module _ (t : Tables) (o : IsOrdered t) (f : IsFaultIn t None) where
       (all_both (TxFits (next_of t) members) (λ r. are_placed 0 (members_of (int_at r 0) members) ≡ true) (λ r. RowFits (row_of members r))
       (row_from (next_of t) members) tx rows_fit placed)
 
-  all_shelf : AllByRecursion (λ (y : ℕ × Waiting). WaitingFits y.1) (map shelf_under shelf)
+  all_shelf : AllByRecursion (λ (y : ℕ × WaitingContext). WaitingFits y.1) (map shelf_under shelf)
   all_shelf =
-      all_map (λ (y : ℕ × Waiting). WaitingFits y.1) shelf_under shelf
+      all_map (λ (y : ℕ × WaitingContext). WaitingFits y.1) shelf_under shelf
       (all_weaker (ShelfFits (next_of t) tx 0) (λ r. WaitingFits (waiting_of r))
       (λ r k. record { tries = within_from (int_at r 1) 100 (and_parts _ _ k.good).1; context = k.context }) shelf shelf_fits)
 

@@ -1,5 +1,5 @@
 -- What CREATE TABLE makes of a database whose schema is known.
--- for: converting::create_part and converting::create_joined here, tables::create_meta and the like in tx_journal
+-- for: converting::create_part and converting::create_joined here, tables::create_meta and the like in journal_store
 use Rattle.std.proofs.Common.{◌≡◌, ℕ, List, [], ◌∷◌, None, Ok, false, sym, ap, subst, ◌∙◌}
 use Rattle.std.specs.List.{AllByRecursion}
 use Rattle.sqlite_schema.specs.declared.schema.Table.{Table}

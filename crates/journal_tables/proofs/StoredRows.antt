@@ -1,5 +1,5 @@
 -- The rows of a table as pairs of a rowid and the columns after it, in the order of the rowids.
--- for: whoever reads or changes a table, here and in tx_journal
+-- for: whoever reads or changes a table, here and in journal_store
 use Rattle.std.proofs.Common.{◌≡◌, ◌<ℤ◌, ℤ, List, [], ◌∷◌, map, drop, true, Less, IsTrue, refl, sym, ap, subst, ◌∙◌, true≢false}
 use Rattle.std.specs.List.{AllByRecursion}
 use Rattle.sqlite.specs.declared.types.Value.{Value}

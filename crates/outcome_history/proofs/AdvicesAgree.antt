@@ -12,14 +12,14 @@ use Rattle.tx_machine.specs.declared.values.Phase.TheVariants.{Preparing, Aborti
 use Rattle.tx_machine.specs.declared.values.Item.TheVariants as item
 use Rattle.tx_machine.specs.Due.{call_of, due_at, due_of}
 use Rattle.tx_machine.specs.Table.{TxState, Upcoming, is_due, is_open}
-use Rattle.tx_outcome.specs.One.{DueCall, Preparation, Selection, Telling, Recovery, NoCall, FullReply, Answer, Chosen, Advice, Restored, Standing, advised}
-use Rattle.tx_outcome.specs.One.{without}
-use Rattle.tx_outcome.specs.States.{FullState, restores, seen, standing}
-use Rattle.tx_outcome.specs.Stations.{outcome_act, station_call}
-use Rattle.tx_outcome.specs.Core as core
-use Rattle.tx_outcome.specs.Core.{IdView, IdEvent, advised_at, at, standing_of}
-use Rattle.tx_outcome.specs.Plant as plant
-use Rattle.tx_outcome.specs.Plant.{given_to}
+use Rattle.outcome_calls.specs.One.{DueCall, Preparation, Selection, Telling, Recovery, NoCall, FullReply, Answer, Chosen, Advice, Restored, Standing, advised}
+use Rattle.outcome_calls.specs.One.{without}
+use Rattle.outcome_calls.specs.States.{FullState, restores, seen, standing}
+use Rattle.outcome_calls.specs.Stations.{outcome_act, station_call}
+use Rattle.outcome_calls.specs.Core as core
+use Rattle.outcome_calls.specs.Core.{IdView, IdEvent, advised_at, at, standing_of}
+use Rattle.outcome_calls.specs.Plant as plant
+use Rattle.outcome_calls.specs.Plant.{given_to}
 use Rattle.tx_history.specs.declared.event.Event.{Event}
 use Rattle.tx_history.specs.declared.event.Event.TheVariants.{Offered, Taken, Answered, Chose, Told, Recovered, Released, Acked, Broke, Cleared, LetGo, Closed}
 use Rattle.tx_history.specs.Keys.{put_place}
@@ -34,7 +34,7 @@ use Rattle.outcome_history.specs.Calls.{call_or}
 use Rattle.outcome_history.proofs.AdvicesByPlace.{put_at_place}
 use Rattle.outcome_history.proofs.StatesAgree.{serves_agree}
 use Rattle.outcome_history.proofs.CallsAgree.{calls_agree}
-use Rattle.tx_outcome.proofs.StationCalls.{call_from}
+use Rattle.outcome_calls.proofs.StationCalls.{call_from}
 
 -- replies that give no advice
 

@@ -13,15 +13,15 @@ use Rattle.tx_machine.specs.declared.values.Due.TheVariants as due
 use Rattle.tx_machine.specs.Due.{call_of, due_of}
 use Rattle.tx_machine.specs.Row.{Row as TxRow}
 use Rattle.tx_machine.specs.Table.{TxState}
-use Rattle.tx_outcome.specs.States.{FullState, own, is_recovering, recovers as recovers_it}
-use Rattle.tx_outcome.specs.Stations.{station_call}
+use Rattle.outcome_calls.specs.States.{FullState, own, is_recovering, recovers as recovers_it}
+use Rattle.outcome_calls.specs.Stations.{station_call}
 use Rattle.tx_history.specs.declared.event.Event.{Event}
 use Rattle.tx_history.specs.declared.journal.Row.{Row}
 use Rattle.tx_history.specs.Keys.{look}
 use Rattle.tx_history.specs.History.{Start, recovers, recovering, is_restored, marked, outcome_of, own_items, serves, state_of}
 use Rattle.tx_history.specs.Journal.{IsLawful, is_closed}
 use Rattle.tx_history.specs.Views.{IsOrdered}
-use Rattle.tx_history.proofs.OwnItems.{Found, serves_below, serves_old, taken_from}
+use Rattle.tx_history.proofs.OwnItems.{FoundRow, serves_below, serves_old, taken_from}
 use Rattle.tx_history.proofs.Sessions.{serves_who}
 use Rattle.outcome_history.specs.Sessions.{restored, recovered_state}
 use Rattle.outcome_history.specs.Calls.{call_or, due_call, Calls}
@@ -78,7 +78,7 @@ back_call f id s row back due.Done = plain_call id due.Done back _ refl
 
 -- what is held
 
-unclosed : (f : Flow) (v : Start) (past : List Event) (id : ℕ) → IsOrdered v.view → IsLawful f v past → Found f v.view.rows (own_items f v past) id →
+unclosed : (f : Flow) (v : Start) (past : List Event) (id : ℕ) → IsOrdered v.view → IsLawful f v past → FoundRow f v.view.rows (own_items f v past) id →
     (b : Bool) → is_closed past id ≡ b → b ≡ false
 unclosed f v past id o law w false e = refl
 unclosed f v past id o law w true e =

@@ -7,18 +7,18 @@ use Rattle.flow_model.specs.declared.flow.Flow.{Flow}
 use Rattle.tx_machine.specs.declared.values.Item.{Item}
 use Rattle.tx_machine.specs.declared.values.Item.TheVariants as item
 use Rattle.tx_machine.specs.Table.{TxState, next}
-use Rattle.tx_outcome.specs.Trail.{is_committing as is_committed}
-use Rattle.tx_outcome.specs.One.{Restored}
-use Rattle.tx_outcome.specs.States.{begin, reopen}
-use Rattle.tx_outcome.specs.Owning.{reply_of}
-use Rattle.tx_outcome.specs.Core as core
-use Rattle.tx_outcome.specs.Core.{later}
+use Rattle.outcome_calls.specs.Trail.{is_committing as is_committed}
+use Rattle.outcome_calls.specs.One.{Restored}
+use Rattle.outcome_calls.specs.States.{begin, reopen}
+use Rattle.outcome_calls.specs.Owning.{reply_of}
+use Rattle.outcome_calls.specs.Core as core
+use Rattle.outcome_calls.specs.Core.{later}
 use Rattle.tx_machine.specs.declared.values.Phase.{Phase}
 use Rattle.tx_machine.specs.declared.values.Phase.TheVariants.{Preparing, Aborting, Committing, Undoing}
 use Rattle.tx_history.specs.declared.event.Event.{Event}
 use Rattle.tx_history.specs.declared.event.Event.TheVariants as event
 use Rattle.tx_history.specs.declared.journal.Row.{Row}
-use Rattle.tx_history.specs.declared.journal.Waiting.{Waiting}
+use Rattle.tx_history.specs.declared.journal.WaitingContext.{WaitingContext}
 use Rattle.tx_history.specs.Keys.{look}
 use Rattle.tx_history.specs.History.{Start, begun, is_committing, reopened, own_items, serves, state_of, next_id, takes, queue, arrivals}
 use Rattle.tx_history.specs.Journal.{is_closed}
@@ -141,7 +141,7 @@ closed_other f v past id j d = rw d refl
 
 -- a take
 
-begin_from : (f : Flow) (o : Option Waiting) → (o ≡ None → ⊥) → Some (begin f (head_of o)) ≡ taken_at true (begun f o)
+begin_from : (f : Flow) (o : Option WaitingContext) → (o ≡ None → ⊥) → Some (begin f (head_of o)) ≡ taken_at true (begun f o)
 begin_from f None some = absurd (some refl)
 begin_from f (Some w) some = refl
 

@@ -4,8 +4,8 @@ use Rattle.std.proofs.Common.{◌≡◌, ℕ, List, refl}
 use Rattle.std.proofs.Math.Path.{fun_ext}
 use Rattle.flow_model.specs.declared.flow.Flow.{Flow}
 use Rattle.sw_seating.proofs.Numbered.{numbered_parts}
-use Rattle.tx_outcome.specs.Core as core
-use Rattle.tx_outcome.specs.Core.{IdView}
+use Rattle.outcome_calls.specs.Core as core
+use Rattle.outcome_calls.specs.Core.{IdView}
 use Rattle.tx_history.specs.declared.event.Event.{Event}
 use Rattle.tx_history.specs.History.{Start}
 use Rattle.tx_history.specs.Journal.{IsLawful, journal}

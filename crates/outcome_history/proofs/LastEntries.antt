@@ -3,11 +3,11 @@
 use Rattle.std.proofs.Common.{◌≡◌, ℕ, ◌+◌, List, [], ◌∷◌, length, Option, Some, None, refl, ◌∙◌, ap, suc}
 use Rattle.std.specs.Prelude.{if◌then◌else◌, slice_get, ◌==◌}
 use Rattle.flow_model.specs.declared.flow.Flow.{Flow}
-use Rattle.tx_outcome.specs.One.{FullReply, Answer, Chosen, Advice, Restored}
-use Rattle.tx_outcome.specs.Core as core
-use Rattle.tx_outcome.specs.Core.{IdView, IdEvent}
-use Rattle.tx_outcome.specs.Plant as plant
-use Rattle.tx_outcome.specs.Plant.{given_to, last_own, shut, Replied, event_of}
+use Rattle.outcome_calls.specs.One.{FullReply, Answer, Chosen, Advice, Restored}
+use Rattle.outcome_calls.specs.Core as core
+use Rattle.outcome_calls.specs.Core.{IdView, IdEvent}
+use Rattle.outcome_calls.specs.Plant as plant
+use Rattle.outcome_calls.specs.Plant.{given_to, last_own, shut, Replied, event_of}
 use Rattle.tx_history.specs.declared.event.Event.{Event}
 use Rattle.tx_history.specs.declared.event.Event.TheVariants.{Offered, Taken, Answered, Chose, Told, Recovered, Released, Acked, Broke, Cleared, LetGo, Closed}
 use Rattle.tx_history.specs.History.{Start, is_id, next_id, serves, queue, last_of}

@@ -8,7 +8,7 @@ use Rattle.flow_model.specs.declared.flow.Flow.{Flow}
 use Rattle.tx_machine.specs.declared.values.Phase.{Phase}
 use Rattle.tx_machine.specs.declared.values.Phase.TheVariants.{Preparing, Aborting, Committing, Undoing}
 use Rattle.tx_machine.specs.Row.{Row as TxRow, IsInPhase}
-use Rattle.tx_outcome.specs.Core.{ViewFits}
+use Rattle.outcome_calls.specs.Core.{ViewFits}
 use Rattle.tx_history.specs.declared.journal.Row.{Row}
 use Rattle.tx_history.specs.declared.journal.JournalView.{JournalView}
 use Rattle.tx_history.specs.Keys.{look, Rising}

@@ -8,9 +8,9 @@ use Rattle.std.proofs.lemmas.Bool.Decides.{nat_tests}
 use Rattle.flow_model.specs.declared.flow.Flow.{Flow}
 use Rattle.tx_machine.specs.Row.{Row as TxRow}
 use Rattle.tx_machine.specs.Table.{is_open}
-use Rattle.tx_outcome.specs.Trail.{listed, one_of}
-use Rattle.tx_outcome.specs.Core.{IdView, Closings, Shuts, closed}
-use Rattle.tx_outcome.specs.Plant.{shut_ids}
+use Rattle.outcome_calls.specs.Trail.{listed, one_of}
+use Rattle.outcome_calls.specs.Core.{IdView, Closings, Shuts, closed}
+use Rattle.outcome_calls.specs.Plant.{shut_ids}
 use Rattle.tx_history.specs.declared.journal.Row.{Row}
 use Rattle.tx_history.specs.Keys.{look, Rising}
 use Rattle.tx_history.specs.History.{Start, number_of, to_tell, reopened, is_ended}

@@ -14,7 +14,7 @@ use Rattle.tx_machine.proofs.BoundLaws.{next_proper, opening_proper, reopening_p
 use Rattle.tx_history.specs.declared.event.Event.{Event}
 use Rattle.tx_history.specs.declared.event.Event.TheVariants.{Offered, Taken, Answered, Chose, Told, Recovered, Released, Acked, Broke, Cleared, LetGo, Closed}
 use Rattle.tx_history.specs.declared.journal.Row.{Row}
-use Rattle.tx_history.specs.declared.journal.Waiting.{Waiting}
+use Rattle.tx_history.specs.declared.journal.WaitingContext.{WaitingContext}
 use Rattle.tx_history.specs.Keys.{look}
 use Rattle.tx_history.specs.History.{Start, number_of, is_committing, to_tell, no_state, reopened_at, begun, first, own_items, arrivals, next_id, state_of}
 use Rattle.tx_history.specs.Journal.{IsLawful}
@@ -52,16 +52,16 @@ reopened_proper f v id (Some r) e st =
     (told_within f r (is_open r.phase) refl fits) (few_told f r fits)
     (All-map (λ p. p < length (parts_of f)) (number_of f) (to_tell r r.doing) (st.knows id r e))
 
-begun_proper : (f : Flow) (o : Option Waiting) → IsProper f (begun f o)
+begun_proper : (f : Flow) (o : Option WaitingContext) → IsProper f (begun f o)
 begun_proper f None = none_proper f
 begun_proper f (Some w) = opening_proper f w.tries w.context
 
-first_if : (f : Flow) (v : Start) (ws : List Waiting) (id : ℕ) (b : Bool) → StartFits f v →
+first_if : (f : Flow) (v : Start) (ws : List WaitingContext) (id : ℕ) (b : Bool) → StartFits f v →
     IsProper f (if b then reopened_at f (look id v.view.rows) else begun f (slice_get ws (id - v.view.next_id)))
 first_if f v ws id true st = reopened_proper f v id (look id v.view.rows) refl st
 first_if f v ws id false st = begun_proper f (slice_get ws (id - v.view.next_id))
 
-first_proper : (f : Flow) (v : Start) (ws : List Waiting) (id : ℕ) → StartFits f v → IsProper f (first f v ws id)
+first_proper : (f : Flow) (v : Start) (ws : List WaitingContext) (id : ℕ) → StartFits f v → IsProper f (first f v ws id)
 first_proper f v ws id st = first_if f v ws id (nat_lt id v.view.next_id) st
 
 -- after each event

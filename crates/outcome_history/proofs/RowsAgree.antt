@@ -17,9 +17,9 @@ use Rattle.tx_machine.specs.Table.{TxState}
 use Rattle.tx_machine.specs.Bounds.{IsProper, after_newest}
 use Rattle.tx_machine.specs.Row.{Row as TxRow, IsDoing, IsRow, row_of}
 use Rattle.tx_machine.proofs.BoundLaws.{row_bounded}
-use Rattle.tx_outcome.specs.One.{standing_row}
-use Rattle.tx_outcome.specs.States.{FullState, own, standing}
-use Rattle.tx_outcome.specs.Core.{at, standing_of}
+use Rattle.outcome_calls.specs.One.{standing_row}
+use Rattle.outcome_calls.specs.States.{FullState, own, standing}
+use Rattle.outcome_calls.specs.Core.{at, standing_of}
 use Rattle.tx_history.specs.declared.event.Event.{Event}
 use Rattle.tx_history.specs.declared.event.Event.TheVariants.{Offered, Taken, Answered, Chose, Told, Recovered, Released, Acked, Broke, Cleared, LetGo, Closed}
 use Rattle.tx_history.specs.declared.journal.Row.{Row}

@@ -10,12 +10,12 @@ use Rattle.tx_machine.specs.declared.values.Due.{Due}
 use Rattle.tx_machine.specs.declared.values.Due.TheVariants as due
 use Rattle.tx_machine.specs.Due.{due_of}
 use Rattle.tx_machine.specs.Bounds.{after_newest}
-use Rattle.tx_outcome.specs.One.{FullReply, Answer, Chosen, Advice, Restored}
-use Rattle.tx_outcome.specs.States.{FullState, seen, outcome_due, restores}
-use Rattle.tx_outcome.specs.Core as core
-use Rattle.tx_outcome.specs.Core.{IdEvent, at}
-use Rattle.tx_outcome.specs.Plant as plant
-use Rattle.tx_outcome.specs.Plant.{is_idle, unfinished, seek, serves_in, given_to, taken_count}
+use Rattle.outcome_calls.specs.One.{FullReply, Answer, Chosen, Advice, Restored}
+use Rattle.outcome_calls.specs.States.{FullState, seen, outcome_due, restores}
+use Rattle.outcome_calls.specs.Core as core
+use Rattle.outcome_calls.specs.Core.{IdEvent, at}
+use Rattle.outcome_calls.specs.Plant as plant
+use Rattle.outcome_calls.specs.Plant.{is_idle, unfinished, seek, serves_in, given_to, taken_count}
 use Rattle.tx_history.specs.declared.event.Event.{Event}
 use Rattle.tx_history.specs.declared.event.Event.TheVariants.{Offered, Taken, Answered, Chose, Told, Recovered, Released, Acked, Broke, Cleared, LetGo, Closed}
 use Rattle.tx_history.specs.declared.journal.Row.{Row}

@@ -5,12 +5,12 @@ use Rattle.std.specs.Prelude.{if◌then◌else◌, slice_get, ◌==◌, ◌&&◌
 use Rattle.std.proofs.lemmas.Bool.Decides.{nat_tests}
 use Rattle.flow_model.specs.declared.flow.Flow.{Flow}
 use Rattle.tx_machine.specs.declared.values.Item.TheVariants as item
-use Rattle.tx_outcome.specs.One.{FullReply, Answer, Chosen, Advice, Restored}
-use Rattle.tx_outcome.specs.States.{FullState, begin}
-use Rattle.tx_outcome.specs.Core as core
-use Rattle.tx_outcome.specs.Core.{IdView, IdEvent, at, later}
-use Rattle.tx_outcome.specs.Plant as plant
-use Rattle.tx_outcome.specs.Plant.{given_to}
+use Rattle.outcome_calls.specs.One.{FullReply, Answer, Chosen, Advice, Restored}
+use Rattle.outcome_calls.specs.States.{FullState, begin}
+use Rattle.outcome_calls.specs.Core as core
+use Rattle.outcome_calls.specs.Core.{IdView, IdEvent, at, later}
+use Rattle.outcome_calls.specs.Plant as plant
+use Rattle.outcome_calls.specs.Plant.{given_to}
 use Rattle.tx_history.specs.declared.event.Event.{Event}
 use Rattle.tx_history.specs.declared.event.Event.TheVariants.{Offered, Taken, Answered, Chose, Told, Recovered, Released, Acked, Broke, Cleared, LetGo, Closed}
 use Rattle.tx_history.specs.Keys.{look}

@@ -5,9 +5,9 @@ use Rattle.sw_participant.specs.declared.call.Call.{Call}
 use Rattle.flow_model.specs.declared.flow.Flow.{Flow}
 use Rattle.tx_machine.specs.declared.values.Due.{Due}
 use Rattle.tx_machine.specs.Due.{call_of, due_of}
-use Rattle.tx_outcome.specs.States.{FullState}
-use Rattle.tx_outcome.specs.Stations.{station_call}
-use Rattle.tx_outcome.specs.Core.{at}
+use Rattle.outcome_calls.specs.States.{FullState}
+use Rattle.outcome_calls.specs.Stations.{station_call}
+use Rattle.outcome_calls.specs.Core.{at}
 use Rattle.tx_history.specs.declared.event.Event.{Event}
 use Rattle.tx_history.specs.History.{Start, restores, state_of}
 use Rattle.outcome_history.specs.Looked.{id_view}

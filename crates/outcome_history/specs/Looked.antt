@@ -2,7 +2,7 @@
 use Rattle.std.specs.Prelude.{ℕ, List, [], ◌∷◌, map, Option, Some, None, option_map, if◌then◌else◌}
 use Rattle.flow_model.specs.declared.flow.Flow.{Flow}
 use Rattle.tx_machine.specs.Row.{Row as TxRow}
-use Rattle.tx_outcome.specs.Core.{IdView}
+use Rattle.outcome_calls.specs.Core.{IdView}
 use Rattle.tx_history.specs.declared.journal.Row.{Row}
 use Rattle.tx_history.specs.declared.journal.JournalView.{JournalView}
 use Rattle.tx_history.specs.Keys.{look, same_place}

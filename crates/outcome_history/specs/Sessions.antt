@@ -6,21 +6,21 @@ use Rattle.tx_machine.specs.declared.values.Item.TheVariants as item
 use Rattle.tx_machine.specs.Bounds.{after_newest}
 use Rattle.tx_machine.specs.Row.{Row as TxRow}
 use Rattle.tx_machine.specs.Table.{TxState}
-use Rattle.tx_outcome.specs.One.{Answer, Chosen, Advice, Restored}
-use Rattle.tx_outcome.specs.States.{FullState, Head, own}
-use Rattle.tx_outcome.specs.Core.{IdEvent}
-use Rattle.tx_outcome.specs.Plant.{SessionEvent, Taken, Replied, Ack, Closing, Plain, by_ids}
+use Rattle.outcome_calls.specs.One.{Answer, Chosen, Advice, Restored}
+use Rattle.outcome_calls.specs.States.{FullState, Head, own}
+use Rattle.outcome_calls.specs.Core.{IdEvent}
+use Rattle.outcome_calls.specs.Plant.{SessionEvent, Taken, Replied, Ack, Closing, Plain, by_ids}
 use Rattle.tx_history.specs.declared.event.Event.{Event}
 use Rattle.tx_history.specs.declared.event.Event.TheVariants as event
 use Rattle.tx_history.specs.declared.journal.Row.{Row}
-use Rattle.tx_history.specs.declared.journal.Waiting.{Waiting}
+use Rattle.tx_history.specs.declared.journal.WaitingContext.{WaitingContext}
 use Rattle.tx_history.specs.Keys.{look}
 use Rattle.tx_history.specs.History.{Start, queue, reopened, own_items, serves, state_of, is_id, next_id}
 use Rattle.tx_history.specs.Journal.{is_closed}
 use Rattle.outcome_history.specs.Looked.{numbered, id_view}
 
 -- tries and context of what waits
-abbrev pub head_of : Option Waiting → Head
+abbrev pub head_of : Option WaitingContext → Head
 head_of None = (0, [])
 head_of (Some w) = (w.tries, w.context)
 

@@ -4,12 +4,12 @@
 ghost use Rattle.std.specs.Prelude.{◌≡◌, ◌<◌, ◌≤◌, ◌∷◌, ℕ, true, false, List};
 ghost use Rattle.std.specs.Prelude.{Option, Some, None, if◌then◌else◌};
 ghost use Rattle.flow_model.specs.declared.flow.Flow.{Flow};
-ghost use Rattle.tx_outcome.specs.One.{FullReply};
-ghost use Rattle.tx_outcome.specs.States.{own};
-ghost use Rattle.tx_outcome.specs.Core.{Shuts, ViewFits, at};
-ghost use Rattle.tx_outcome.specs.Core as core;
-ghost use Rattle.tx_outcome.specs.Plant.{Replied, event_of, given_to, last_own, shut, shut_ids};
-ghost use Rattle.tx_outcome.specs.Plant as plant;
+ghost use Rattle.outcome_calls.specs.One.{FullReply};
+ghost use Rattle.outcome_calls.specs.States.{own};
+ghost use Rattle.outcome_calls.specs.Core.{Shuts, ViewFits, at};
+ghost use Rattle.outcome_calls.specs.Core as core;
+ghost use Rattle.outcome_calls.specs.Plant.{Replied, event_of, given_to, last_own, shut, shut_ids};
+ghost use Rattle.outcome_calls.specs.Plant as plant;
 ghost use Rattle.tx_history.specs.declared.event.Event.{Event};
 ghost use Rattle.tx_history.specs.declared.journal.JournalView.{JournalView};
 ghost use Rattle.tx_history.specs.declared.journal.Row.{Row};

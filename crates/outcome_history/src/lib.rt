@@ -1,4 +1,4 @@
-//! The outcome law joined with histories: what its own words (`tx_outcome`) are in the words of
+//! The outcome law joined with histories: what its own words (`outcome_calls`) are in the words of
 //! histories and journals (`tx_history`).
 //!
 //! There is no code here, but laws of the definitions: sound journals are what the outcome law

@@ -26,14 +26,19 @@ fn first_message(alloc: Global, held: &[u8], first: &[u8]) -> Result<Vec<u8>, Al
 
 /// What a feed finds: messages, and what the framer is left with.
 #[derive(Drop)]
-struct Found {
+struct FoundFrames {
     messages: Vec<Vec<u8>>,
     held: Vec<u8>,
     failed: bool,
 }
 
 /// The messages of the frame that the first bytes of a piece make whole, and of those that follow it.
-fn finish(alloc: Global, held: &[u8], piece: &[u8], missing: usize) -> Result<Found, AllocError>
+fn finish(
+    alloc: Global,
+    held: &[u8],
+    piece: &[u8],
+    missing: usize,
+) -> Result<FoundFrames, AllocError>
     requires within { missing ≤ length piece.now }
     requires whole { MakesWhole held.now piece.now missing }
     ensures { IfOk result (λ f. Stream (held.now ++ piece.now) (messages f.messages.items)
@@ -49,7 +54,7 @@ fn finish(alloc: Global, held: &[u8], piece: &[u8], missing: usize) -> Result<Fo
     } else {
         Vec::from_slice(alloc, pending)?
     };
-    Ok(Found {
+    Ok(FoundFrames {
         messages: walk.messages,
         held,
         failed: walk.bad,

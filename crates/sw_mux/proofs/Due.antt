@@ -3,7 +3,7 @@
 use Rattle.std.proofs.Common.{◌≡◌, ℕ, Bool, true, false, cond, not, List, [], ◌∷◌, map, filter, Some, None, refl, ap, ◌∙◌}
 use Rattle.std.specs.Map.{values_of}
 use Rattle.sw_mux.specs.declared.key.Key.{Key}
-use Rattle.sw_mux.specs.Waiting.{Waiting, without, without_all, due, later, is_due}
+use Rattle.sw_mux.specs.Waiting.{WaitingKeys, without, without_all, due, later, is_due}
 use Rattle.sw_mux.specs.Numbered.{Numbered, key_eq, number_of, HaveOwnKeys}
 use Rattle.sw_mux.proofs.Numbers.{back, same_key}
 
@@ -12,7 +12,7 @@ abbrev IsNoneOf : Key → List Key → Type 0
 IsNoneOf k [] = Unit {0}
 IsNoneOf k (q ∷ qs) = (key_eq k q ≡ false) × IsNoneOf k qs
 
-keeps_first : (ks : List Key) (e : Key × ℕ) (es : Waiting) → IsNoneOf e.0 ks → without_all ks (e ∷ es) ≡ e ∷ without_all ks es
+keeps_first : (ks : List Key) (e : Key × ℕ) (es : WaitingKeys) → IsNoneOf e.0 ks → without_all ks (e ∷ es) ≡ e ∷ without_all ks es
 keeps_first [] e es h = refl
 keeps_first (k ∷ ks) e es h =
     ap (λ b. without_all ks (cond b es (e ∷ without k.bytes es))) h.0 ∙ keeps_first ks e (without k.bytes es) h.1

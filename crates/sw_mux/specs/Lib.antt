@@ -1,5 +1,5 @@
 pub mod Keys
-pub mod Waiting
+pub mod WaitingKeys
 pub mod Outcomes
 pub mod Numbered
 pub mod Times

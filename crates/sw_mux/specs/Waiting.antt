@@ -11,19 +11,19 @@ use Rattle.sw_mux.specs.declared.error.MuxError.TheVariants.{OutOfMemory, NoKey,
 use Rattle.sw_mux.specs.Keys.{key}
 
 -- keys with their deadlines, in order of request
-abbrev pub Waiting : Type 0
-Waiting = List (Key × ℕ)
+abbrev pub WaitingKeys : Type 0
+WaitingKeys = List (Key × ℕ)
 
 -- whether a key waits
-abbrev pub waits : List ℕ → Waiting → Bool
+abbrev pub waits : List ℕ → WaitingKeys → Bool
 waits k es = is_some (lookup (λ q. bytes_eq q.bytes k) es)
 
 -- without it; the others keep their order
-abbrev pub without : List ℕ → Waiting → Waiting
+abbrev pub without : List ℕ → WaitingKeys → WaitingKeys
 without k es = remove_entry (λ q. bytes_eq q.bytes k) es
 
 -- without these, one after the other
-abbrev pub without_all : List Key → Waiting → Waiting
+abbrev pub without_all : List Key → WaitingKeys → WaitingKeys
 without_all [] es = es
 without_all (k ∷ ks) es = without_all ks (without k.bytes es)
 
@@ -32,18 +32,18 @@ abbrev pub is_due : ℕ → Key × ℕ → Bool
 is_due tick e = nat_le e.1 tick
 
 -- the keys that are due, and what still waits without them
-abbrev pub due : ℕ → Waiting → List Key
+abbrev pub due : ℕ → WaitingKeys → List Key
 due tick es = map (λ e. e.0) (filter (is_due tick) es)
 
-abbrev pub later : ℕ → Waiting → Waiting
+abbrev pub later : ℕ → WaitingKeys → WaitingKeys
 later tick es = filter (λ e. not (is_due tick e)) es
 
 -- why a request is not taken, memory aside
-abbrev pub refusal_of : Option (List ℕ) → Waiting → Option MuxError
+abbrev pub refusal_of : Option (List ℕ) → WaitingKeys → Option MuxError
 refusal_of None es = Some NoKey
 refusal_of (Some k) es = refused_if (waits k es) DuplicateKey
 
-abbrev pub refusal : PlainMessage → Waiting → Option MuxError
+abbrev pub refusal : PlainMessage → WaitingKeys → Option MuxError
 refusal m es = refusal_of (key m) es
 
 -- the error is that refusal; out of memory and numbers spent come only where there is none
@@ -58,6 +58,6 @@ IsUnspent NumbersSpent = ⊥
 IsUnspent e = ⊤
 
 -- whether a message's key waits
-abbrev pub answers : Option (List ℕ) → Waiting → Bool
+abbrev pub answers : Option (List ℕ) → WaitingKeys → Bool
 answers None es = false
 answers (Some k) es = waits k es

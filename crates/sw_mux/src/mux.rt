@@ -61,10 +61,10 @@ impl Model for Mux {
     ghost use Rattle.std.specs.Map.{values_of};
     ghost use Rattle.std.specs.BTreeMap.{get as key_at};
     ghost use Rattle.std.specs.HashMap.{get};
-    ghost use Rattle.sw_mux.specs.Waiting.{Waiting};
+    ghost use Rattle.sw_mux.specs.Waiting.{WaitingKeys};
     ghost use Rattle.sw_mux.specs.Numbered.{IsNumbered, key_eq, pair_cmp};
 
-    ghost Value = { Waiting };
+    ghost Value = { WaitingKeys };
 
     ghost view = { λ m. values_of m.requests.entries };
 

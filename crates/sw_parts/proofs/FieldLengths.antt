@@ -1,7 +1,7 @@
 -- Lengths of values of fields.
 -- for: limits::asked, limits::original
 use Rattle.std.proofs.Common.{◌≡◌, ℕ, ◌≤◌, Bool, true, false, List, length, nat_le, Some, None, refl, sym, ap, ◌∙◌, arith}
-use Rattle.iso_msg.specs.declared.table.Form.TheVariants.{Fixed, Variable}
+use Rattle.iso_msg.specs.declared.table.FieldForm.TheVariants.{Fixed, Variable}
 use Rattle.iso_msg.specs.declared.table.Content.{Content}
 use Rattle.iso_msg.specs.declared.table.Content.TheVariants.{Numeric}
 use Rattle.iso_msg.specs.Table.{form_of, definition_of, rows}

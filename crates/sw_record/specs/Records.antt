@@ -10,7 +10,7 @@ use Rattle.tx_history.specs.declared.event.Entry.{Entry}
 use Rattle.tx_history.specs.declared.event.Event.{Event}
 use Rattle.tx_history.specs.declared.event.Event.TheVariants.{Taken}
 use Rattle.tx_history.specs.declared.journal.Row.{Row}
-use Rattle.tx_history.specs.declared.journal.Waiting.{Waiting}
+use Rattle.tx_history.specs.declared.journal.WaitingContext.{WaitingContext}
 use Rattle.sw_record.specs.Courses.{course, no_course, pairs_in, with_entry}
 use Rattle.sw_record.specs.declared.record.Record.{Record}
 use Rattle.sw_record.specs.declared.course.Course.{Course}
@@ -66,7 +66,7 @@ record_of id retries tries t = record {
 }
 
 -- the transaction that ends: its row is taken away, and it does not go to the shelf
-abbrev pub ended_by : Option (ℕ × Option Row) → Option (ℕ × Waiting) → Option ℕ
+abbrev pub ended_by : Option (ℕ × Option Row) → Option (ℕ × WaitingContext) → Option ℕ
 ended_by None shelved = None
 ended_by (Some (id, Some row)) shelved = None
 ended_by (Some (id, None)) (Some w) = None

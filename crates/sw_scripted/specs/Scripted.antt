@@ -75,5 +75,5 @@ Restored q x r y = (r ≡ record q { restores = drop 1 q.restores })
     × (y ≡ put_all x (unwrap_or (slice_get q.restores 0) []))
 
 -- the same of objects that show the queues
-abbrev pub Shows : List ℕ → List ℕ → (Queues → Queues → Type 0) → Type 0
-Shows o p Is = (q : Queues) × (r : Queues) × (o ≡ shown_queues q) × (p ≡ shown_queues r) × Is q r
+abbrev pub ShowsQueues : List ℕ → List ℕ → (Queues → Queues → Type 0) → Type 0
+ShowsQueues o p Is = (q : Queues) × (r : Queues) × (o ≡ shown_queues q) × (p ≡ shown_queues r) × Is q r

@@ -2,7 +2,7 @@
 
 ghost use Rattle.std.specs.Prelude.{◌≡◌, IfOk, OnErr, slice_get};
 ghost use Rattle.sw_scripted.specs.Puts.{put_all};
-ghost use Rattle.sw_scripted.specs.Scripted.{Advised, Answered, Chosen, Restored, Shows};
+ghost use Rattle.sw_scripted.specs.Scripted.{Advised, Answered, Chosen, Restored, ShowsQueues};
 ghost use Rattle.sw_scripted.specs.Scripted.{queues_of, shown_queues};
 
 use crate::puts::{Put, put_all};
@@ -135,19 +135,19 @@ impl Scripted {
 impl Participant for Scripted {
     ghost object = { λ scripted. shown_queues (queues_of scripted.replies) };
 
-    ghost prepares = { λ id o x byte p y. Shows o p (λ q r. Answered q x byte r y) };
+    ghost prepares = { λ id o x byte p y. ShowsQueues o p (λ q r. Answered q x byte r y) };
 
-    ghost prepares_for_abort = { λ id o x byte p y. Shows o p (λ q r. Answered q x byte r y) };
+    ghost prepares_for_abort = { λ id o x byte p y. ShowsQueues o p (λ q r. Answered q x byte r y) };
 
-    ghost selects = { λ id o x text p. Shows o p (λ q r. Chosen q text r) };
+    ghost selects = { λ id o x text p. ShowsQueues o p (λ q r. Chosen q text r) };
 
-    ghost commits = { λ id recovering o x advice p y. Shows o p (λ q r. Advised q advice r)
+    ghost commits = { λ id recovering o x advice p y. ShowsQueues o p (λ q r. Advised q advice r)
         × (y ≡ x) };
 
-    ghost aborts = { λ id recovering o x advice p y. Shows o p (λ q r. Advised q advice r)
+    ghost aborts = { λ id recovering o x advice p y. ShowsQueues o p (λ q r. Advised q advice r)
         × (y ≡ x) };
 
-    ghost recovers = { λ id commit o x p y. Shows o p (λ q r. Restored q x r y) };
+    ghost recovers = { λ id commit o x p y. ShowsQueues o p (λ q r. Restored q x r y) };
 
     fn prepare(&mut self, id: u64, context: &mut Context) -> Result<u8, NoMemory> {
         Ok(self.replies.answer(context)?)

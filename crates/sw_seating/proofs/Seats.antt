@@ -1,5 +1,5 @@
 -- The station of a participant that has one is found after those that are seated, and goes to its index.
--- for: seating::has_name, seating::test_doubles, seating::find_from, seating::seat_one, seating::seat
+-- for: seating::has_name, seating::check_doubles, seating::find_from, seating::seat_one, seating::seat
 use Rattle.std.proofs.Common.{◌≡◌, ℕ, suc, zero, ◌+◌, ◌<◌, ◌≤◌, Bool, true, false, ◌||◌, not, ◌⊎◌, inl, inr, ⊎_elim, List, [], ◌∷◌, ◌++◌, length, get_or, take}
 use Rattle.std.proofs.Common.{drop, set, swap, map, Option, None, Some, Result, Ok, refl, sym, ap, ◌∙◌, arith, true≢false}
 use Rattle.std.specs.List.{list_any}

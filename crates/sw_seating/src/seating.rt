@@ -42,7 +42,7 @@ fn has_name(stations: &[Station], end: usize, name: &str) -> bool
     false
 }
 
-fn test_missing(stations: &[Station], parts: &[Part]) -> Result<(), SeatingError>
+fn check_missing(stations: &[Station], parts: &[Part]) -> Result<(), SeatingError>
     ensures { result ≡ refused (first_at (no_station (names_of stations.now)) 0 parts.now) }
 {
     for (number, part) in parts.iter().enumerate() {
@@ -54,7 +54,7 @@ fn test_missing(stations: &[Station], parts: &[Part]) -> Result<(), SeatingError
 }
 
 // A plant is made once, so all pairs may be compared.
-fn test_doubles(stations: &[Station]) -> Result<(), SeatingError>
+fn check_doubles(stations: &[Station]) -> Result<(), SeatingError>
     ensures { result
         ≡ refused (first_at (double_station (names_of stations.now)) 0 (names_of stations.now)) }
 {
@@ -118,8 +118,8 @@ pub fn seat(stations: &mut Vec<Station>, parts: &[Part]) -> Result<(), SeatingEr
     ensures kept { OnErr result (stations.new.items ≡ stations.old.items) }
     ensures seated { OnOk result (AreSeated (names_of stations.new.items) parts.now) }
 {
-    test_missing(stations.as_slice(), parts)?;
-    test_doubles(stations.as_slice())?;
+    check_missing(stations.as_slice(), parts)?;
+    check_doubles(stations.as_slice())?;
     seat_all(stations, parts);
     Ok(())
 }

@@ -2,7 +2,7 @@
 -- for: echo::message_of
 use Rattle.std.proofs.Common.{◌≡◌, ℕ, List, length, Some, None, true, codes, refl, ap, ◌∙◌}
 use Rattle.std.specs.List.{list_all}
-use Rattle.iso_msg.specs.declared.table.Form.TheVariants.{Fixed}
+use Rattle.iso_msg.specs.declared.table.FieldForm.TheVariants.{Fixed}
 use Rattle.iso_msg.specs.declared.table.Content.TheVariants.{Numeric}
 use Rattle.iso_msg.specs.Table.{form_of, definition_of, rows}
 use Rattle.iso_msg.specs.Values.{refusal, refusal_by}

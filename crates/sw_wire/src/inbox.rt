@@ -4,15 +4,15 @@ ghost use Rattle.std.specs.Prelude.{◌≡◌, ◌∷◌, ◌++◌, [], length, 
 ghost use Rattle.sw_wire.specs.Boxes.{first_of, after_first, before_first, newest};
 ghost use Rattle.sw_wire.specs.Wanted.{has_key};
 
+use crate::backlog::{Backlog, Picked, Picks};
 use crate::received::Received;
-use crate::waiting::{Found, Picks, Waiting};
 use std::alloc::{AllocError, Global};
 use sw_mux::Key;
 
 /// The messages of a host that no link has taken yet.
 #[derive(Drop)]
 pub struct Inbox {
-    held: Waiting<Received>,
+    held: Backlog<Received>,
 }
 
 // A key looks for the messages that have it.
@@ -30,7 +30,7 @@ impl Inbox {
         ensures { IfOk result (λ inbox. inbox.held ≡ []) }
     {
         Ok(Inbox {
-            held: Waiting::new(alloc)?,
+            held: Backlog::new(alloc)?,
         })
     }
 
@@ -59,7 +59,7 @@ impl Inbox {
 
     /// Takes the first message with the key. Those before it are dropped; if none has the key, all
     /// are.
-    pub fn take(&mut self, key: &Key) -> Found<Received>
+    pub fn take(&mut self, key: &Key) -> Picked<Received>
         ensures keyed { IfSome result.item (λ m. m.key.bytes ≡ key.now.bytes) }
         ensures taken { result.item ≡ first_of (has_key key.now.bytes) self.old.held }
         ensures left { self.new.held ≡ after_first (has_key key.now.bytes) self.old.held }

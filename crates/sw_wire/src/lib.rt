@@ -14,6 +14,7 @@
 //! was when a pause or an echo test began, the host has sent nothing since.
 #![tactic(auto)]
 
+mod backlog;
 mod came;
 mod counts;
 mod direction;
@@ -28,10 +29,10 @@ mod pause;
 mod received;
 mod state;
 mod times;
-mod waiting;
 mod watch;
 mod way;
 
+pub use backlog::Picked;
 pub use came::{Came, came_in};
 pub use counts::Counts;
 pub use direction::{DirectionState, is_ordered, opened_from};
@@ -46,6 +47,5 @@ pub use pause::{Pause, PauseChange, is_paused, pause_by, pause_by_tests, tested_
 pub use received::Received;
 pub use state::{HostSign, HostState};
 pub use times::HostTimes;
-pub use waiting::Found;
 pub use watch::{Duty, EchoTests, Watch};
 pub use way::{Way, receive_over, send_over};

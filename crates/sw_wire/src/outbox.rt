@@ -5,15 +5,15 @@ ghost use Rattle.std.specs.Prelude.{if◌then◌else◌};
 ghost use Rattle.sw_wire.specs.Boxes.{first_of, after_first, before_first};
 ghost use Rattle.sw_wire.specs.Wanted.{is_timely};
 
+use crate::backlog::{Backlog, Picked, Picks};
 use crate::frame::Frame;
 use crate::moment::Moment;
-use crate::waiting::{Found, Picks, Waiting};
 use std::alloc::{AllocError, Global};
 
 /// The frames that a host's thread has not begun to write.
 #[derive(Drop)]
 pub struct Outbox {
-    held: Waiting<Frame>,
+    held: Backlog<Frame>,
 }
 
 // A moment looks for the frames that are not too late by then.
@@ -31,7 +31,7 @@ impl Outbox {
         ensures { IfOk result (λ outbox. outbox.held ≡ []) }
     {
         Ok(Outbox {
-            held: Waiting::new(alloc)?,
+            held: Backlog::new(alloc)?,
         })
     }
 
@@ -51,7 +51,7 @@ impl Outbox {
 
     /// Takes the first frame whose deadline has not come by now. Those before it are dropped; if every
     /// frame is too late, all are.
-    pub fn next(&mut self, now: Moment) -> Found<Frame>
+    pub fn next(&mut self, now: Moment) -> Picked<Frame>
         ensures timely { IfSome result.item (λ frame. IsTrue (is_timely now.micros frame)) }
         ensures taken { result.item ≡ first_of (is_timely now.micros) self.old.held }
         ensures left { self.new.held ≡ after_first (is_timely now.micros) self.old.held }

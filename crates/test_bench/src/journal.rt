@@ -4,11 +4,11 @@ ghost use Rattle.std.specs.Prelude.{◌<◌, ◌≤◌, ◌+◌, All, IfOk};
 ghost use Rattle.journal_tables.specs.Small.{IsEntrySmall, IsRowSmall};
 
 use crate::MEMORY;
+use journal_store::Journal;
 use sqlite::{Alter, Connection};
 use std::alloc::{AllocError, Global};
 use sw_participant::{Bytes, Sequence, Text};
 use tx_history::{Change, Entry, Event, Row};
-use tx_journal::Journal;
 use tx_machine::Phase;
 
 fn taken_row(alloc: Global) -> Result<Row, AllocError>

@@ -4,6 +4,7 @@ ghost use Rattle.tx_plant.specs.Plant.{IsEngine};
 
 use crate::error::TestError;
 use crate::runs::offers_of;
+use journal_store::{Cause, Journal, JournalError};
 use sqlite::MemStore;
 use std::alloc::{AllocError, Global};
 use std::sync::Wait;
@@ -11,7 +12,6 @@ use std::thread::Threads;
 use sw_participant::Station;
 use tx_engine::EngineError;
 use tx_intake::Listed;
-use tx_journal::{Cause, Journal, JournalError};
 use tx_plant::Plant;
 use tx_pool::{Early, Fault, Gate, Late, Pool, PoolError};
 
@@ -73,7 +73,7 @@ pub fn run_again<G: Gate + Sync, R: Threads + Wait + Sync>(
     let mut plant = plant;
     for _ in 0..TRIES {
         let source = offers_again(alloc, offers)?;
-        plant.is_engine();
+        plant.engine_is_sound();
         match Pool::run(rt, alloc, plant, source, offers.max(1), gate) {
             Ok((plant, _, _)) => return Ok(End::Done(plant)),
             Err(PoolError::Early(back, Early::OutOfMemory)) => plant = back,

@@ -110,7 +110,7 @@ fn play_again<R: Threads + Wait + Sync, W: Write>(
     let watch = Watch::new(rt, alloc);
     let mut was_given_up = false;
     for _ in 0..2 {
-        plant.is_engine();
+        plant.engine_is_sound();
         plant = match run_again(rt, alloc, plant, task.offers, &watch)? {
             End::Done(plant) => plant,
             End::GivenUp(journal, stations) => {

@@ -3,13 +3,13 @@
 ghost use Rattle.tx_plant.specs.Plant.{IsEngine};
 
 use crate::error::TestError;
+use journal_store::Journal;
 use sqlite::{Connection, MemStore};
 use std::alloc::Global;
 use std::sync::Wait;
 use std::thread::Threads;
 use sw_context::Context;
 use tx_intake::Listed;
-use tx_journal::Journal;
 use tx_plant::{Outcome, Plant, PlantError, Turn};
 use tx_pool::{Gate, Pool, PoolError, Report};
 
@@ -111,9 +111,9 @@ pub fn run_all<G: Gate + Sync, R: Threads + Wait + Sync>(
         if plant.engine().shelved() == 0 {
             return Ok((plant, runs));
         }
-        plant.is_engine();
+        plant.engine_is_sound();
         release(alloc, &mut plant)?;
-        plant.is_engine();
+        plant.engine_is_sound();
         let none = Listed::new(Vec::new(alloc));
         let (next, ran) = run_one(rt, alloc, plant, none, capacity, gate)?;
         plant = next;

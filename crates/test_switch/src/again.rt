@@ -12,13 +12,13 @@ use cli_io::write_whole;
 use cli_script::{Actions, ScriptError, open_script};
 use cli_step::{outcome_line, turn_of};
 use flow_asm::{Code, assemble};
+use journal_store::{Cause, Journal, JournalError, Left};
 use sqlite::{Connection, MemStore};
 use std::alloc::{AllocError, Global};
 use std::io::Write;
 use sw_participant::Station;
 use sw_scripted::Scripted;
 use tx_engine::{Engine, EngineError};
-use tx_journal::{Cause, Journal, JournalError, Left};
 use tx_plant::{Outcome, Plant, PlantError, Turn};
 use tx_trace::line;
 
@@ -144,7 +144,7 @@ fn drive_again(
     requires { IsEngine plant.old.running.engine }
 {
     for _ in 0..TRIES {
-        plant.is_engine();
+        plant.engine_is_sound();
         match drive(alloc, plant, turn) {
             Ok(outcome) => return Ok(Some(outcome)),
             Err(Refused::Memory) => {}
@@ -169,7 +169,7 @@ fn drive_rest<W: Write>(
     for at in *done..turns.len() {
         *done = at;
         let turn = &turns[at..=at];
-        plant.is_engine();
+        plant.engine_is_sound();
         let Some(outcome) = drive_again(alloc, plant, turn)? else {
             return Ok(false);
         };
@@ -202,7 +202,7 @@ fn drive_all<W: Write>(
                     write_told(alloc, plant.engine(), 0, &restarted, out)?;
                 }
                 *is_begun = true;
-                plant.is_engine();
+                plant.engine_is_sound();
                 if drive_rest(alloc, &mut plant, turns, &mut done, out)? {
                     return Ok(());
                 }

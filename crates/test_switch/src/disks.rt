@@ -1,9 +1,9 @@
 //! The journal's files, on disks in memory whose calls are counted together.
 
-use once_disk::{Fault, Once, pair};
 use sqlite::Files;
 use sqlite_disk::{Crash, Memory};
 use std::alloc::{AllocError, Global};
+use test_disk::{Fault, Once, pair};
 
 /// The journal's files.
 pub type Disks = Files<Once<Memory>>;

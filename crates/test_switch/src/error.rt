@@ -3,10 +3,10 @@
 use cli_io::{ReadError, WriteError};
 use cli_script::ScriptError;
 use cli_step::StepError;
+use journal_store::JournalError;
 use std::alloc::{AllocError, AllocFailed};
 use std::{fmt, io};
 use thiserror::Error;
-use tx_journal::JournalError;
 use tx_plant::PlantError;
 
 /// Why the program ends early. Disks that are cut are not an error.

@@ -7,11 +7,11 @@ use crate::lines::write_view;
 use cli_io::write_whole;
 use cli_script::Actions;
 use cli_step::{StepError, run_actions};
+use journal_store::JournalError;
 use sqlite::Alter;
 use std::alloc::Global;
 use std::io::Write;
 use tx_engine::Engine;
-use tx_journal::JournalError;
 use tx_plant::{Plant, PlantError, Turn};
 use tx_trace::{Tracer, line};
 

@@ -5,10 +5,10 @@ mod views;
 use crate::disks::{Cut, Disks, found_again, new_disks};
 use crate::error::TestError;
 use crate::lines::write_run;
+use journal_store::{Journal, Left};
 use sqlite::{Alter, Connection, Options};
 use std::alloc::Global;
 use std::io::Write;
-use tx_journal::{Journal, Left};
 use views::{write_layout, write_view_of};
 
 /// More calls than any opening makes.

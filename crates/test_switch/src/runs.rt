@@ -6,12 +6,12 @@ use crate::lines::{write_calls, write_run};
 use crate::lives::{finish, is_plant_cut, play};
 use cli_script::{Script, open_script};
 use flow_asm::{Code, assemble};
+use journal_store::{Journal, Left};
 use sqlite::{Alter, Connection, Options};
 use std::alloc::Global;
 use std::io::Write;
 use sw_participant::Station;
 use sw_scripted::Scripted;
-use tx_journal::{Journal, Left};
 use tx_plant::Plant;
 
 /// More calls than any run makes.

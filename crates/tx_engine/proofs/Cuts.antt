@@ -10,7 +10,7 @@ use Rattle.flow_model.specs.declared.flow.Flow.{Flow}
 use Rattle.tx_history.specs.declared.event.Event.{Event}
 use Rattle.tx_history.specs.declared.event.Entry.{Entry}
 use Rattle.tx_history.specs.declared.journal.JournalView.{JournalView}
-use Rattle.tx_history.specs.declared.journal.Waiting.{Waiting}
+use Rattle.tx_history.specs.declared.journal.WaitingContext.{WaitingContext}
 use Rattle.tx_history.specs.Keys.{gather, look}
 use Rattle.tx_history.specs.History.{Start, has_break, holds, ids, is_among, is_ended, next_id, own_items, recovering, state_of}
 use Rattle.tx_history.specs.Journal.{IsLawful, is_closed, old_row, row, row_at, to_close}
@@ -247,7 +247,7 @@ may_cut w h = by (is_in_use w) (nat_lt w.mark (length w.past)) h
 idle_world : (u w : World) → u ≡ w → cut_refusal w ≡ None → is_in_use u ≡ false
 idle_world u w same h = subst (λ (z : World). is_in_use z ≡ false) (sym same) (may_cut w h)
 
-pub cut_kept : (f : Flow) (n : ℕ) (v : Start) (es : List Entry) (mark reserved : ℕ) (r : Running) (w : World) (view : JournalView) (waiting : List Waiting)
+pub cut_kept : (f : Flow) (n : ℕ) (v : Start) (es : List Entry) (mark reserved : ℕ) (r : Running) (w : World) (view : JournalView) (waiting : List WaitingContext)
     (breaks : List ℕ) (left : List Entry)
     → Kept (world f n v es mark reserved) es r → world f n v es mark reserved ≡ w → length r.slots ≡ n → cut_refusal w ≡ None
     → view ≡ record { next_id = r.next_id; rows = []; shelf = r.shelf; advices = r.advices } → waiting ≡ r.queue →
@@ -257,7 +257,7 @@ cut_kept f n v es mark reserved r w view waiting breaks left k same many none ev
     rw (ev, ew, eb, el) (kept_cut f n v es mark reserved r k many (idle_world (world f n v es mark reserved) w same none))
 
 -- what contracts see of it
-pub cut_shown : (f : Flow) (n : ℕ) (v : Start) (es : List Entry) (mark reserved : ℕ) (r : Running) (w : World) (view : JournalView) (waiting : List Waiting)
+pub cut_shown : (f : Flow) (n : ℕ) (v : Start) (es : List Entry) (mark reserved : ℕ) (r : Running) (w : World) (view : JournalView) (waiting : List WaitingContext)
     (breaks : List ℕ) (left : List Entry)
     → Kept (world f n v es mark reserved) es r → world f n v es mark reserved ≡ w → cut_refusal w ≡ None
     → view ≡ record { next_id = r.next_id; rows = []; shelf = r.shelf; advices = r.advices } → waiting ≡ r.queue →

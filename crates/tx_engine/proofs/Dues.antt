@@ -24,7 +24,7 @@ use Rattle.tx_machine.specs.Contract.{IsSound}
 use Rattle.tx_machine.specs.Table.{next as step}
 use Rattle.tx_history.specs.declared.event.Event.TheVariants.{Answered, Chose, Told}
 use Rattle.tx_history.specs.History.{put_advice}
-use Rattle.tx_engine.specs.Items.{Gives}
+use Rattle.tx_engine.specs.Items.{GivesEvent}
 use Rattle.flow_model.specs.declared.flow.Flow.{Flow}
 use Rattle.tx_history.specs.declared.event.Event.{Event}
 use Rattle.tx_history.specs.History.{Start}
@@ -188,10 +188,10 @@ allows_of u w s k h same a = subst (λ (z : World). Allows z s k h) (sym same) a
 
 pub gives_answer : (u w : World) (s b : ℕ) (c : List ℕ) (h : Hold) (m : Machine) (restored : Bool) → u ≡ w → Allows w s kind.Answer h → IsSpelled c →
     restored ≡ is_restored u.past → IsSound u.flow m
-    → tx_state u.flow m ≡ step u.flow (tx_state u.flow h.machine) (Answer b c) → Gives w s h.id m (Answered s b c) None restored
+    → tx_state u.flow m ≡ step u.flow (tx_state u.flow h.machine) (Answer b c) → GivesEvent w s h.id m (Answered s b c) None restored
 gives_answer u w s b c h m restored same allowed sp renewed sound went =
     let a = allows_of u w s kind.Answer h same allowed in
-    subst (λ (z : World). Gives z s h.id m (Answered s b c) None restored) same (record {
+    subst (λ (z : World). GivesEvent z s h.id m (Answered s b c) None restored) same (record {
       before = tx_state u.flow h.machine;
       item = Answer b c;
       reply = (refl, refl);
@@ -210,10 +210,10 @@ gives_answer u w s b c h m restored same allowed sp renewed sound went =
 
 pub gives_choice : (u w : World) (s : ℕ) (t : List ℕ) (h : Hold) (m : Machine) (restored : Bool) → u ≡ w → Allows w s kind.Choice h →
     restored ≡ is_restored u.past → IsSound u.flow m
-    → tx_state u.flow m ≡ step u.flow (tx_state u.flow h.machine) (Choice t) → Gives w s h.id m (Chose s t) None restored
+    → tx_state u.flow m ≡ step u.flow (tx_state u.flow h.machine) (Choice t) → GivesEvent w s h.id m (Chose s t) None restored
 gives_choice u w s t h m restored same allowed renewed sound went =
     let a = allows_of u w s kind.Choice h same allowed in
-    subst (λ (z : World). Gives z s h.id m (Chose s t) None restored) same (record {
+    subst (λ (z : World). GivesEvent z s h.id m (Chose s t) None restored) same (record {
       before = tx_state u.flow h.machine;
       item = Choice t;
       reply = (refl, refl);
@@ -232,10 +232,10 @@ gives_choice u w s t h m restored same allowed renewed sound went =
 
 pub gives_told : (u w : World) (s place : ℕ) (a : Option (List ℕ)) (h : Hold) (m : Machine) (restored after : Bool) → u ≡ w → Allows w s kind.Told h →
     restored ≡ is_restored u.past → after ≡ (not (s == 0) && restored) → place ≡ (tx_state u.flow h.machine).told → IsSound u.flow m
-    → tx_state u.flow m ≡ step u.flow (tx_state u.flow h.machine) (ToldOne None) → Gives w s h.id m (Told s a) (put_advice (Some (h.id, place)) a) after
+    → tx_state u.flow m ≡ step u.flow (tx_state u.flow h.machine) (ToldOne None) → GivesEvent w s h.id m (Told s a) (put_advice (Some (h.id, place)) a) after
 gives_told u w s place a h m restored after same allowed renewed goes at sound went =
     let al = allows_of u w s kind.Told h same allowed in
-    subst (λ (z : World). Gives z s h.id m (Told s a) (put_advice (Some (h.id, place)) a) after) same (record {
+    subst (λ (z : World). GivesEvent z s h.id m (Told s a) (put_advice (Some (h.id, place)) a) after) same (record {
       before = tx_state u.flow h.machine;
       item = ToldOne a;
       reply = (refl, refl);

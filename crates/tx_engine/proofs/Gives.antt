@@ -13,7 +13,7 @@ use Rattle.tx_history.specs.declared.event.Event.{Event}
 use Rattle.tx_history.specs.declared.event.Change.{Change}
 use Rattle.tx_history.specs.declared.event.Entry.{Entry}
 use Rattle.tx_history.specs.declared.journal.Row.{Row}
-use Rattle.tx_history.specs.declared.journal.Waiting.{Waiting}
+use Rattle.tx_history.specs.declared.journal.WaitingContext.{WaitingContext}
 use Rattle.tx_history.specs.Keys.{Rising, look, put_new, put_place}
 use Rattle.tx_history.specs.History.{Start, is_ended, taken, is_id, serves, recovering, state_of, last_of, is_let_go, shelved, reopened, reopened_at}
 use Rattle.tx_history.specs.Journal.{IsLawful, row, shelved_change, touched}
@@ -28,7 +28,7 @@ use Rattle.tx_slots.specs.declared.slot.Slot.{Slot}
 use Rattle.tx_slots.specs.declared.slot.Slot.TheVariants.{Free, Holding}
 use Rattle.tx_engine.specs.World.{World}
 use Rattle.tx_slots.specs.Rows.{item_change}
-use Rattle.tx_engine.specs.Items.{Gives, advice_of}
+use Rattle.tx_engine.specs.Items.{GivesEvent, advice_of}
 use Rattle.tx_slots.specs.Slots.{slot_of, is_holding}
 use Rattle.tx_slots.specs.Rows.{AreKnown, next_row, IsSlotOfRow, IsSlotAfter, SlotBy}
 use Rattle.tx_engine.specs.Kept.{Kept, Running, SlotIs, past_of, world, going_on}
@@ -216,9 +216,9 @@ abbrev made : Flow → ℕ → TxState → Option ((ℕ × ℕ) × Option (List 
 made f id st advice = record { next_id = None; row = Some (id, row f st); shelved = shelved_change id (shelved f st true); emptied = false; advice = advice }
 
 pub steps_given : (f : Flow) (n : ℕ) (v : Start) (es : List Entry) (mark reserved : ℕ) (r : Running) (s id number : ℕ) (m : Machine) (e : Event)
-    (advice : Option ((ℕ × ℕ) × Option (List ℕ))) (restored : Bool) (y : Slot) (kept : List (ℕ × Waiting)) (stored : List ((ℕ × ℕ) × List ℕ))
+    (advice : Option ((ℕ × ℕ) × Option (List ℕ))) (restored : Bool) (y : Slot) (kept : List (ℕ × WaitingContext)) (stored : List ((ℕ × ℕ) × List ℕ))
     → Kept (world f n v es mark reserved) es r → length es < 1048576 → number ≡ length es + 1 →
-    Gives (world f n v es mark reserved) s id m e advice restored → IsSlotAfter r.recovering f v.view.rows id m number y
+    GivesEvent (world f n v es mark reserved) s id m e advice restored → IsSlotAfter r.recovering f v.view.rows id m number y
     → kept ≡ put_new (shelved_change id (shelved f (tx_state f m) true)) r.shelf → stored ≡ put_place advice r.advices
     → Steps f n v (past_of es) e (record {
       next_id = None;
@@ -283,13 +283,13 @@ steps_given f n v es mark reserved r s id number m e advice restored y kept stor
     }
 
 pub gives_at : (u w : World) (s id : ℕ) (m : Machine) (e : Event) (advice : Option ((ℕ × ℕ) × Option (List ℕ))) (restored : Bool) → u ≡ w →
-    Gives w s id m e advice restored → Gives u s id m e advice restored
-gives_at u w s id m e advice restored same g = subst (λ (z : World). Gives z s id m e advice restored) (sym same) g
+    GivesEvent w s id m e advice restored → GivesEvent u s id m e advice restored
+gives_at u w s id m e advice restored same g = subst (λ (z : World). GivesEvent z s id m e advice restored) (sym same) g
 
 -- the shelf does not have the transaction
 pub gives_lacks : (f : Flow) (n : ℕ) (v : Start) (es : List Entry) (mark reserved : ℕ) (r : Running) (s id : ℕ) (m : Machine) (e : Event)
     (advice : Option ((ℕ × ℕ) × Option (List ℕ))) (restored : Bool) → Kept (world f n v es mark reserved) es r →
-    Gives (world f n v es mark reserved) s id m e advice restored
+    GivesEvent (world f n v es mark reserved) s id m e advice restored
     → look id r.shelf ≡ None
 gives_lacks f n v es mark reserved r s id m e advice restored k g =
     let past : List Event = past_of es in
@@ -305,14 +305,14 @@ gives_lacks f n v es mark reserved r s id m e advice restored k g =
     rw k.shelved (shelf_lacks f v past e s id g.item k.start.view.ordered t.gave w.0 (rw w.1 g.unfinished))
 
 pub gives_room : (f : Flow) (n : ℕ) (v : Start) (es : List Entry) (mark reserved s id : ℕ) (m : Machine) (e : Event)
-    (advice : Option ((ℕ × ℕ) × Option (List ℕ))) (restored : Bool) → Gives (world f n v es mark reserved) s id m e advice restored → length es < 1048576
+    (advice : Option ((ℕ × ℕ) × Option (List ℕ))) (restored : Bool) → GivesEvent (world f n v es mark reserved) s id m e advice restored → length es < 1048576
 gives_room f n v es mark reserved s id m e advice restored g = let len = length_past es in let room = g.room in grind (arith, nat_tests)
 
 -- the engine after an item
 pub kept_given : (f : Flow) (n m : ℕ) (v : Start) (es : List Entry) (mark reserved : ℕ) (r : Running) (s id number : ℕ) (x : Machine) (e : Event)
-    (advice : Option ((ℕ × ℕ) × Option (List ℕ))) (restored recovering : Bool) (y : Slot) (entry : Entry) (kept : List (ℕ × Waiting))
+    (advice : Option ((ℕ × ℕ) × Option (List ℕ))) (restored recovering : Bool) (y : Slot) (entry : Entry) (kept : List (ℕ × WaitingContext))
     (stored : List ((ℕ × ℕ) × List ℕ))
-    → Kept (world f n v es mark reserved) es r → Gives (world f n v es mark reserved) s id x e advice restored → number ≡ length es + 1 → m ≡ n →
+    → Kept (world f n v es mark reserved) es r → GivesEvent (world f n v es mark reserved) s id x e advice restored → number ≡ length es + 1 → m ≡ n →
     IsSlotAfter r.recovering f v.view.rows id x number y
     → entry ≡ record { number = number; event = e; change = item_change f id x advice } →
     kept ≡ put_new (shelved_change id (shelved f (tx_state f x) true)) r.shelf → stored ≡ put_place advice r.advices →

@@ -8,7 +8,7 @@ use Rattle.flow_model.specs.declared.flow.Flow.{Flow}
 use Rattle.tx_history.specs.declared.event.Event.{Event}
 use Rattle.tx_history.specs.declared.event.Event.TheVariants.{Offered, Released}
 use Rattle.tx_history.specs.declared.event.Entry.{Entry}
-use Rattle.tx_history.specs.declared.journal.Waiting.{Waiting}
+use Rattle.tx_history.specs.declared.journal.WaitingContext.{WaitingContext}
 use Rattle.tx_history.specs.History.{Start, takes, arrivals, shelf_of}
 use Rattle.tx_history.specs.Journal.{no_change}
 use Rattle.tx_history.proofs.OwnItems.{room}
@@ -30,7 +30,7 @@ steps_offered f n v es mark reserved r c sp k = record {
   sessions = λ s x h. slot_keep f v (past_of es) (Offered c) s x (held_offered f v (past_of es) c s k.start.view.ordered k.past.lawful) (λ id z. refl) refl
       (k.sessions s x h);
   queued = rw (drop-append-le (takes (past_of es)) (arrivals f v (past_of es)) (record { tries = f.retries; context = c } ∷ [])
-      (room f v (past_of es) k.past.lawful)) (ap (λ (l : List Waiting). l ++ record { tries = f.retries; context = c } ∷ []) k.queued);
+      (room f v (past_of es) k.past.lawful)) (ap (λ (l : List WaitingContext). l ++ record { tries = f.retries; context = c } ∷ []) k.queued);
   shelved = refl;
   advised = refl;
   stops = k.stops;
@@ -42,7 +42,7 @@ steps_offered f n v es mark reserved r c sp k = record {
 
 pub steps_released : (f : Flow) (n : ℕ) (v : Start) (es : List Entry) (mark reserved : ℕ) (r : Running) → Kept (world f n v es mark reserved) es r
     → Steps f n v (past_of es) Released (record { next_id = None; row = None; shelved = None; emptied = true; advice = None }) r
-    (record r { queue = r.queue ++ map (λ (item : ℕ × Waiting). item.1) r.shelf; shelf = [] })
+    (record r { queue = r.queue ++ map (λ (item : ℕ × WaitingContext). item.1) r.shelf; shelf = [] })
 steps_released f n v es mark reserved r k = record {
   accepted = tt;
   usual = refl;
@@ -53,7 +53,7 @@ steps_released f n v es mark reserved r k = record {
       (k.sessions s x h);
   queued = rw (
     drop-append-le (takes (past_of es)) (arrivals f v (past_of es))
-        (map (λ (item : ℕ × Waiting). item.1) (shelf_of f v (arrivals f v (past_of es)) (past_of es))) (room f v (past_of es) k.past.lawful),
+        (map (λ (item : ℕ × WaitingContext). item.1) (shelf_of f v (arrivals f v (past_of es)) (past_of es))) (room f v (past_of es) k.past.lawful),
     k.queued,
     k.shelved,
   ) refl;

@@ -12,7 +12,7 @@ use Rattle.tx_history.specs.declared.event.Event.TheVariants.{Closed}
 use Rattle.tx_history.specs.declared.event.Entry.{Entry}
 use Rattle.tx_history.specs.declared.journal.JournalView.{JournalView}
 use Rattle.tx_history.specs.declared.journal.Row.{Row}
-use Rattle.tx_history.specs.declared.journal.Waiting.{Waiting}
+use Rattle.tx_history.specs.declared.journal.WaitingContext.{WaitingContext}
 use Rattle.tx_history.specs.History.{Start, first_unfinished, has_break, is_let_go, is_restored, last_of, next_id, or_taken, queue, recovering, shelf}
 use Rattle.tx_history.specs.Held.{session_state, state_of_served}
 use Rattle.tx_history.specs.Journal.{advices, entries, to_close}
@@ -164,8 +164,8 @@ pub sessions_are : (n : ℕ) (x : Slot) → length (slice_set (replicate n Free)
 sessions_are n x = length_set (replicate n Free) 0 x ∙ length_replicate n Free
 
 -- the same of parts that are equal to these
-pub kept_made : (f g : Flow) (j k : JournalView) (n m : ℕ) (es : List Entry) (x : Slot) (q : List Waiting) (b : List ℕ) (slots : List Slot)
-    (waiting : List Waiting) (kept : List (ℕ × Waiting)) (stored : List ((ℕ × ℕ) × List ℕ)) (breaks : List Bool) (busy : Bool)
+pub kept_made : (f g : Flow) (j k : JournalView) (n m : ℕ) (es : List Entry) (x : Slot) (q : List WaitingContext) (b : List ℕ) (slots : List Slot)
+    (waiting : List WaitingContext) (kept : List (ℕ × WaitingContext)) (stored : List ((ℕ × ℕ) × List ℕ)) (breaks : List Bool) (busy : Bool)
     → FlowFits f → StartFits f (first_start j) → 1 ≤ n → n ≤ 16 → es ≡ entries f (first_start j) (opened f (first_start j)) → IsNextSlot f j.rows 0 x
     → g ≡ f → k ≡ j → m ≡ n → q ≡ [] → b ≡ [] → slots ≡ slice_set (replicate n Free) 0 x → waiting ≡ [] → kept ≡ j.shelf → stored ≡ j.advices →
     breaks ≡ replicate (length (parts_of f)) false → busy ≡ is_holding x

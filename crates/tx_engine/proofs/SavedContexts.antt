@@ -13,10 +13,10 @@ use Rattle.tx_machine.specs.Table.{TxState}
 use Rattle.tx_machine.specs.Bounds.{after_newest}
 use Rattle.tx_history.specs.declared.event.Event.{Event}
 use Rattle.tx_history.specs.declared.event.Entry.{Entry}
-use Rattle.tx_history.specs.declared.journal.Waiting.{Waiting}
+use Rattle.tx_history.specs.declared.journal.WaitingContext.{WaitingContext}
 use Rattle.tx_history.specs.History.{Start, arrivals, next_id, own_items, queue, reopened, serves, state_of, takes}
 use Rattle.tx_history.specs.Views.{StartFits, WaitingFits}
-use Rattle.tx_history.proofs.OwnItems.{Found, Old, old_stays, serves_below, serves_old}
+use Rattle.tx_history.proofs.OwnItems.{FoundRow, Old, old_stays, serves_below, serves_old}
 use Rattle.tx_history.proofs.SoundJournals.{Good, good}
 use Rattle.tx_slots.specs.declared.slot.Hold.{Hold}
 use Rattle.tx_engine.specs.World.{World}
@@ -27,17 +27,17 @@ good_kept : (w : World) (es : List Entry) (r : Running) → Kept w es r → Good
 good_kept w es r k = good w.flow w.start w.past k.flow k.start k.past.spelled k.past.lawful
 
 -- the queue's first
-pub first_spelled : (w : World) (es : List Entry) (r : Running) (first : Waiting) → Kept w es r →
+pub first_spelled : (w : World) (es : List Entry) (r : Running) (first : WaitingContext) → Kept w es r →
     slice_get (queue w.flow w.start w.past) 0 ≡ Some first → IsSpelled first.context
 first_spelled w es r first k there =
-    let waits : List Waiting = queue w.flow w.start w.past in
+    let waits : List WaitingContext = queue w.flow w.start w.past in
     let all : All WaitingFits waits = All-drop WaitingFits (takes w.past) (arrivals w.flow w.start w.past) (good_kept w es r k).arrived in
     let within : 0 < length waits = slice_get_within waits 0 first there in
     let fits : WaitingFits first = subst WaitingFits (get_or_from_slice_get waits 0 first first there) (All-get_or WaitingFits waits 0 first within all) in
     fits.context
 
 -- a journalled transaction keeps the context of its row
-saved_old : (f : Flow) (v : Start) (past : List Event) (id : ℕ) → StartFits f v → id < v.view.next_id → Found f v.view.rows (own_items f v past) id →
+saved_old : (f : Flow) (v : Start) (past : List Event) (id : ℕ) → StartFits f v → id < v.view.next_id → FoundRow f v.view.rows (own_items f v past) id →
     IsSpelled (state_of f v past id).saved
 saved_old f v past id st lt w =
     let old : nat_lt id v.view.next_id ≡ true = grind (arith, nat_tests) in

@@ -13,7 +13,7 @@ use Rattle.tx_machine.specs.Table.{opening}
 use Rattle.tx_history.specs.declared.event.Event.{Event}
 use Rattle.tx_history.specs.declared.event.Event.TheVariants.{Taken}
 use Rattle.tx_history.specs.declared.event.Entry.{Entry}
-use Rattle.tx_history.specs.declared.journal.Waiting.{Waiting}
+use Rattle.tx_history.specs.declared.journal.WaitingContext.{WaitingContext}
 use Rattle.tx_history.specs.History.{Start, takes, next_id, taken, own_items, or_taken, arrivals, queue, serves, recovering, state_of, holds, last_of}
 use Rattle.tx_history.specs.History.{is_let_go}
 use Rattle.tx_history.specs.Journal.{row}
@@ -45,7 +45,7 @@ serves_new false r t id z h = h
 taken_self : (v : Start) (past : List Event) (s : ℕ) → taken v (Taken s ∷ past) s ≡ Some (next_id v past)
 taken_self v past s = rw (same_yes s) refl
 
-state_new : (f : Flow) (v : Start) (past : List Event) (s : ℕ) (w : Waiting) → IsOrdered v.view → recovering f v past ≡ None →
+state_new : (f : Flow) (v : Start) (past : List Event) (s : ℕ) (w : WaitingContext) → IsOrdered v.view → recovering f v past ≡ None →
     slice_get (arrivals f v past) (takes past) ≡ Some w
     → session_state f v (Taken s ∷ past) s ≡ Some (next_id v past, opening f w.tries w.context)
 state_new f v past s w o none there =
@@ -57,7 +57,7 @@ state_new f v past s w o none there =
     ap (state_of_served f v (Taken s ∷ past)) who ∙ (rw (no, at, there, own_is) refl)
 
 -- what an allowed take knows
-pub record CanTake (f : Flow) (n : ℕ) (v : Start) (es : List Entry) (s : ℕ) (w : Waiting) : Type 0 where
+pub record CanTake (f : Flow) (n : ℕ) (v : Start) (es : List Entry) (s : ℕ) (w : WaitingContext) : Type 0 where
   pub session : s < n
   pub none : recovering f v (past_of es) ≡ None
   pub free : holds f v (past_of es) s ≡ None
@@ -65,7 +65,7 @@ pub record CanTake (f : Flow) (n : ℕ) (v : Start) (es : List Entry) (s : ℕ) 
   pub more : next_id v (past_of es) ≢ 9223372036854775807
   pub few : length es < 1048576
 
-pub steps_taken : (f : Flow) (n : ℕ) (v : Start) (es : List Entry) (mark reserved : ℕ) (r : Running) (s number : ℕ) (w : Waiting) (m : Machine) (y : Slot) →
+pub steps_taken : (f : Flow) (n : ℕ) (v : Start) (es : List Entry) (mark reserved : ℕ) (r : Running) (s number : ℕ) (w : WaitingContext) (m : Machine) (y : Slot) →
     Kept (world f n v es mark reserved) es r → CanTake f n v es s w
     → number ≡ length es + 1 → IsSound f m → tx_state f m ≡ opening f w.tries w.context → y ≡ slot_of f m r.next_id number
     → Steps f n v (past_of es) (Taken s) (record {
@@ -154,7 +154,7 @@ all_false false false false true e g h = absurd (cc)
 all_false false false false false true g h = absurd (cc)
 all_false false false false false false true h = absurd (cc)
 
-pub can_take : (f : Flow) (n : ℕ) (v : Start) (es : List Entry) (mark reserved : ℕ) (w : World) (s : ℕ) (x : Waiting) → world f n v es mark reserved ≡ w →
+pub can_take : (f : Flow) (n : ℕ) (v : Start) (es : List Entry) (mark reserved : ℕ) (w : World) (s : ℕ) (x : WaitingContext) → world f n v es mark reserved ≡ w →
     IsFirst w s x → CanTake f n v es s x
 can_take f n v es mark reserved w s x same h =
     let u : World = world f n v es mark reserved in
@@ -174,7 +174,7 @@ can_take f n v es mark reserved w s x same h =
       few = grind (arith, nat_tests);
     }
 
-pub queue_first : (u w : World) (es : List Entry) (r : Running) (x : Waiting) → Kept u es r → u ≡ w → slice_get r.queue 0 ≡ Some x →
+pub queue_first : (u w : World) (es : List Entry) (r : Running) (x : WaitingContext) → Kept u es r → u ≡ w → slice_get r.queue 0 ≡ Some x →
     slice_get (waits w) 0 ≡ Some x
 queue_first u w es r x k same g = subst (λ (z : World). slice_get (waits z) 0 ≡ Some x) same (rw (← k.queued) g)
 

@@ -9,7 +9,7 @@ use Rattle.tx_machine.specs.Table.{is_due}
 use Rattle.tx_history.specs.declared.event.Event.{Event}
 use Rattle.tx_history.specs.declared.event.Event.TheVariants.{Offered, Taken, Answered, Chose, Told, Recovered, Released, Acked, Broke, Cleared, LetGo, Closed}
 use Rattle.tx_history.specs.declared.journal.Row.{Row}
-use Rattle.tx_history.specs.declared.journal.Waiting.{Waiting}
+use Rattle.tx_history.specs.declared.journal.WaitingContext.{WaitingContext}
 use Rattle.tx_history.specs.Keys.{look, gather}
 use Rattle.tx_history.specs.History.{Start, is_ended, taken, is_id, serves, state_of, last_of, is_let_go, has_break, restores, place_in, put_advice, holds}
 use Rattle.tx_history.specs.History.{reopened, first_unfinished, shelf, shelved_at, arrivals, ids}
@@ -119,8 +119,8 @@ shelf_lacks f v past e s id x o g h u =
     let w = unshelved_if f v past e id s x o g h u (nat_lt id v.view.next_id) refl in
     look_apart (shelved_at f v (arrivals f v past) past) 1 (ids v past) id (look id (shelf f v past)) refl w.before
 
-pub lacks_change : (id : ℕ) (o : Option Waiting) (xs : List (ℕ × Waiting)) → look id xs ≡ None →
-    IfSome (shelved_change id o) (λ (new : ℕ × Waiting). look new.0 xs ≡ None)
+pub lacks_change : (id : ℕ) (o : Option WaitingContext) (xs : List (ℕ × WaitingContext)) → look id xs ≡ None →
+    IfSome (shelved_change id o) (λ (new : ℕ × WaitingContext). look new.0 xs ≡ None)
 lacks_change id None xs h = search rules
 lacks_change id (Some w) xs h = search rules
 

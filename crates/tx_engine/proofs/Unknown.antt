@@ -1,5 +1,5 @@
 -- The first name that the flow does not have.
--- for: engine::opening::test_rows
+-- for: engine::opening::check_rows
 use Rattle.std.proofs.Common.{◌≡◌, ℕ, ◌<◌, Bool, true, false, List, [], ◌∷◌, ◌++◌, length, Option, Some, None, refl, sym, ◌∙◌, ap, subst, arith, suc, zero}
 use Rattle.std.specs.Prelude.{if◌then◌else◌, slice_get, nat_lt, ◌==◌}
 use Rattle.std.specs.List.{All}

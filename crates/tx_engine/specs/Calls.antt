@@ -13,7 +13,7 @@ use Rattle.tx_machine.specs.Due.{due_of, places_of}
 use Rattle.tx_machine.specs.declared.values.Item.{Item}
 use Rattle.tx_machine.specs.Bounds.{after_newest}
 use Rattle.tx_history.specs.declared.journal.Row.{Row}
-use Rattle.tx_history.specs.declared.journal.Waiting.{Waiting}
+use Rattle.tx_history.specs.declared.journal.WaitingContext.{WaitingContext}
 use Rattle.tx_history.specs.History.{next_id, queue, state_of, holds, last_of, is_held_at, recovering, restores, own_items, is_ended, reopened, number_of}
 use Rattle.tx_history.specs.History.{is_held}
 use Rattle.tx_history.specs.Keys.{same_place}
@@ -40,7 +40,7 @@ no_session w s = nat_le w.sessions s
 abbrev pub held_id : World → ℕ → Option ℕ
 held_id w s = holds w.flow w.start w.past s
 
-abbrev pub waits : World → List Waiting
+abbrev pub waits : World → List WaitingContext
 waits w = queue w.flow w.start w.past
 
 -- a journalled transaction's context is restored before each outcome of a participant that restores contexts
@@ -85,7 +85,7 @@ abbrev pub with_reserved : World → ℕ → World
 with_reserved w n = record w { reserved = n }
 
 -- the queue's first, which the session may take
-pub record IsFirst (w : World) (s : ℕ) (first : Waiting) : Type 0 where
+pub record IsFirst (w : World) (s : ℕ) (first : WaitingContext) : Type 0 where
   pub allowed : take_refusal w s ≡ None
   pub first_is : slice_get (waits w) 0 ≡ Some first
 

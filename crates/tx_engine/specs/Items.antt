@@ -44,7 +44,7 @@ pub record Allows (w : World) (s : ℕ) (kind : ReplyKind) (h : Hold) : Type 0 w
   pub asked : IsAsked kind (tx_state w.flow h.machine) (restores w.flow w.start w.past h.id)
 
 -- the event gives an item that is due, and the machine is as the item leaves it
-pub record Gives (w : World) (s id : ℕ) (m : Machine) (e : Event) (advice : Option ((ℕ × ℕ) × Option (List ℕ))) (restored : Bool) : Type 0 where
+pub record GivesEvent (w : World) (s id : ℕ) (m : Machine) (e : Event) (advice : Option ((ℕ × ℕ) × Option (List ℕ))) (restored : Bool) : Type 0 where
   pub before : TxState
   pub item : Item
   pub reply : IsReply e s item

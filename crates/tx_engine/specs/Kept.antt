@@ -6,7 +6,7 @@ use Rattle.tx_machine.specs.Contract.{IsSound, tx_state}
 use Rattle.tx_machine.specs.Table.{TxState}
 use Rattle.tx_history.specs.declared.event.Event.{Event}
 use Rattle.tx_history.specs.declared.event.Entry.{Entry}
-use Rattle.tx_history.specs.declared.journal.Waiting.{Waiting}
+use Rattle.tx_history.specs.declared.journal.WaitingContext.{WaitingContext}
 use Rattle.tx_history.specs.History.{Start, is_ended, next_id, queue, shelf, unless_ended, last_of, is_let_go, has_break, is_restored, recovering}
 use Rattle.tx_history.specs.Journal.{entries, advices, to_close}
 use Rattle.tx_history.specs.Views.{FlowFits, StartFits, IsHistory}
@@ -48,8 +48,8 @@ AreBreaks f v past breaks = (length breaks ≡ length (parts_of f)) × ((p : ℕ
 -- what an engine keeps besides its history
 pub record Running : Type 0 where
   pub slots : List Slot
-  pub queue : List Waiting
-  pub shelf : List (ℕ × Waiting)
+  pub queue : List WaitingContext
+  pub shelf : List (ℕ × WaitingContext)
   pub advices : List ((ℕ × ℕ) × List ℕ)
   pub breaks : List Bool
   pub next_id : ℕ

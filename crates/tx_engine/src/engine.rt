@@ -15,7 +15,7 @@ pub use queue::TakenTx;
 use std::collections::BTreeMap;
 use std::marker::Model;
 use sw_participant::{Bytes, Sequence};
-use tx_history::{JournalView, Waiting};
+use tx_history::{JournalView, WaitingContext};
 use tx_slots::{Lists, Slot};
 
 /// A transaction engine: sessions that take transactions from one queue. Contracts see its flow,
@@ -25,12 +25,12 @@ pub struct Engine {
     code: Code,
     // What the history began from.
     first: JournalView,
-    first_queue: Sequence<Waiting>,
+    first_queue: Sequence<WaitingContext>,
     first_breaks: Sequence<usize>,
     lists: Lists,
     mark: usize,
     slots: Vec<Slot>,
-    shelf: BTreeMap<u64, Waiting>,
+    shelf: BTreeMap<u64, WaitingContext>,
     advices: BTreeMap<(u64, usize), Bytes>,
     // Whether the participant of the number has a breakpoint.
     breaks: Vec<bool>,

@@ -11,7 +11,7 @@ use Rattle.tx_machine.specs.Table.{TxState}
 use Rattle.tx_machine.specs.Due.{due_of}
 use Rattle.tx_history.specs.declared.event.Event.{Event}
 use Rattle.tx_history.specs.declared.event.Event.TheVariants.{Offered, Taken, Answered, Chose, Told, Recovered, Released, Acked, Broke, Cleared, LetGo, Closed}
-use Rattle.tx_history.specs.declared.journal.Waiting.{Waiting}
+use Rattle.tx_history.specs.declared.journal.WaitingContext.{WaitingContext}
 use Rattle.tx_history.specs.declared.journal.Row.{Row}
 use Rattle.tx_history.specs.Keys.{Rising, look, gather, put_at}
 use Rattle.tx_history.specs.History.{Start, reopened_at, begun, first, state_with, next_id, ids, own_items, is_fresh, arrivals, shelved}
@@ -29,7 +29,7 @@ row_first f v id true None st h = refl
 row_first f v id true (Some r) st h = refl
 row_first f v id false o st h = absurd (cc)
 
-shelf_first : (b : Bool) (o p : Option Waiting) → b ≡ true → (if b then o else p) ≡ o
+shelf_first : (b : Bool) (o p : Option WaitingContext) → b ≡ true → (if b then o else p) ≡ o
 shelf_first true o p h = refl
 shelf_first false o p h = absurd (cc)
 
@@ -55,7 +55,7 @@ journal_first f v o =
     refl
 
 -- what arrives later changes no transaction's index
-first_if : (f : Flow) (v : Start) (past : List Event) (more : List Waiting) (j : ℕ) → IsOrdered v.view → IsLawful f v past → j < 1 + ids v past →
+first_if : (f : Flow) (v : Start) (past : List Event) (more : List WaitingContext) (j : ℕ) → IsOrdered v.view → IsLawful f v past → j < 1 + ids v past →
     (b : Bool) → nat_lt j v.view.next_id ≡ b
     → (if b then reopened_at f (look j v.view.rows) else begun f (slice_get (arrivals f v past ++ more) (j - v.view.next_id)))
     ≡ (if b then reopened_at f (look j v.view.rows) else begun f (slice_get (arrivals f v past) (j - v.view.next_id)))
@@ -65,13 +65,13 @@ first_if f v past more j o law hi false lt =
     let above : v.view.next_id ≤ j = grind (arith, nat_tests) in
     rw (get_append (arrivals f v past) more (j - v.view.next_id) (omega (arith, room f v past law))) refl
 
-pub first_more : (f : Flow) (v : Start) (past : List Event) (more : List Waiting) (j : ℕ) → IsOrdered v.view → IsLawful f v past → j < 1 + ids v past
+pub first_more : (f : Flow) (v : Start) (past : List Event) (more : List WaitingContext) (j : ℕ) → IsOrdered v.view → IsLawful f v past → j < 1 + ids v past
     → first f v (arrivals f v past ++ more) j ≡ first f v (arrivals f v past) j
 first_more f v past more j o law hi = first_if f v past more j o law hi (nat_lt j v.view.next_id) refl
 
 pub leads_offered : (f : Flow) (v : Start) (past : List Event) (c : List ℕ) → IsOrdered v.view → IsLawful f v (Offered c ∷ past) → Leads f v past (Offered c)
 leads_offered f v past c o law =
-    let more : List Waiting = record { tries = f.retries; context = c } ∷ [] in
+    let more : List WaitingContext = record { tries = f.retries; context = c } ∷ [] in
     same_journal (applied no_change (journal f v past)) (journal f v (Offered c ∷ past)) refl
     (gather_same (row_at f v past) (row_at f v (Offered c ∷ past)) 1 (ids v past) (λ j a b. sym (rw (first_more f v past more j o law.2 b) refl)))
     (gather_same (shelved_at f v (arrivals f v past) past) (shelved_at f v (arrivals f v past ++ more) (Offered c ∷ past)) 1 (ids v past)
@@ -84,7 +84,7 @@ released_none false d st = stale_shelved d st
 
 pub leads_released : (f : Flow) (v : Start) (past : List Event) → IsOrdered v.view → IsLawful f v (Released ∷ past) → Leads f v past Released
 leads_released f v past o law =
-    let more : List Waiting = map (λ (item : ℕ × Waiting). item.1) (shelf_of f v (arrivals f v past) past) in
+    let more : List WaitingContext = map (λ (item : ℕ × WaitingContext). item.1) (shelf_of f v (arrivals f v past) past) in
     same_journal (applied (change f v (Released ∷ past)) (journal f v past)) (journal f v (Released ∷ past)) refl
     (gather_same (row_at f v past) (row_at f v (Released ∷ past)) 1 (ids v past) (λ j a b. sym (rw (first_more f v past more j o law.2 b) refl)))
     (sym (gather_none (shelved_at f v (arrivals f v past ++ more) (Released ∷ past)) 1 (ids v past)

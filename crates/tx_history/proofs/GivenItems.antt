@@ -13,7 +13,7 @@ use Rattle.tx_machine.specs.Table.{TxState}
 use Rattle.tx_machine.specs.Due.{due_of}
 use Rattle.tx_history.specs.declared.event.Event.{Event}
 use Rattle.tx_history.specs.declared.event.Event.TheVariants.{Offered, Taken, Answered, Chose, Told, Recovered, Released, Acked, Broke, Cleared, LetGo, Closed}
-use Rattle.tx_history.specs.declared.journal.Waiting.{Waiting}
+use Rattle.tx_history.specs.declared.journal.WaitingContext.{WaitingContext}
 use Rattle.tx_history.specs.declared.journal.Row.{Row}
 use Rattle.tx_history.specs.declared.journal.JournalView.{JournalView}
 use Rattle.tx_history.specs.Keys.{Rising, look, gather, put_at, put_new}
@@ -23,7 +23,7 @@ use Rattle.tx_history.specs.History.{shelved_at, shelf, state_of, advice_place, 
 use Rattle.tx_history.specs.Journal.{IsLawful, to_close, row, row_at, is_closed, journal, applied, Leads, touched, shelved_change}
 use Rattle.tx_history.specs.Views.{IsOrdered}
 use Rattle.tx_history.proofs.RisingKeys.{put_gather, put_none, look_other}
-use Rattle.tx_history.proofs.OwnItems.{Found, serves_below, serves_old, is_yes, is_other, holds_serves, old_outcome, ended_stays}
+use Rattle.tx_history.proofs.OwnItems.{FoundRow, serves_below, serves_old, is_yes, is_other, holds_serves, old_outcome, ended_stays}
 
 -- an item given for a transaction
 
@@ -138,7 +138,7 @@ closed_over f v (LetGo t ∷ past) id o law h = closed_over f v past id o law.2 
 closed_over f v (Closed k ∷ past) id o law h = closed_if f v past k id o law.0 (closed_over f v past id o law.2) (k == id) refl h
 
 -- a journalled transaction that is served was not closed
-unclosed_if : (f : Flow) (v : Start) (past : List Event) (id : ℕ) → IsOrdered v.view → IsLawful f v past → Found f v.view.rows (own_items f v past) id →
+unclosed_if : (f : Flow) (v : Start) (past : List Event) (id : ℕ) → IsOrdered v.view → IsLawful f v past → FoundRow f v.view.rows (own_items f v past) id →
     (b : Bool) → is_closed past id ≡ b → b ≡ false
 unclosed_if f v past id o law w false e = refl
 unclosed_if f v past id o law w true e =
@@ -198,11 +198,11 @@ stale_shelved Done st = refl
 not_over : (f : Flow) (st : TxState) → is_ended f st ≡ false → due_of f st ≡ Shelve → ⊥
 not_over f st h e = let over : is_ended f st ≡ true = rw e refl in cc
 
-none_for : (b : Bool) (o : Option Waiting) → o ≡ None → (if b then None else o) ≡ None
+none_for : (b : Bool) (o : Option WaitingContext) → o ≡ None → (if b then None else o) ≡ None
 none_for true o h = refl
 none_for false o h = h
 
-else_none : (b : Bool) (x y : Option Waiting) → b ≡ false → y ≡ None → (if b then x else y) ≡ None
+else_none : (b : Bool) (x y : Option WaitingContext) → b ≡ false → y ≡ None → (if b then x else y) ≡ None
 else_none true x y h e = absurd (cc)
 else_none false x y h e = e
 
@@ -242,11 +242,11 @@ shelved_other : (f : Flow) (v : Start) (past : List Event) (e : Event) (id : ℕ
     → shelved_at f v (arrivals f v (e ∷ past)) (e ∷ past) j ≡ shelved_at f v (arrivals f v past) past j
 shelved_other f v past e id x j g d = rw (g.arrived, g.others j d, g.stale j d, g.kept) refl
 
-put_new_gather : (h g : ℕ → Option Waiting) (n k id : ℕ) (o : Option Waiting) → n ≤ id → id < n + k → h id ≡ None → o ≡ g id →
+put_new_gather : (h g : ℕ → Option WaitingContext) (n k id : ℕ) (o : Option WaitingContext) → n ≤ id → id < n + k → h id ≡ None → o ≡ g id →
     ((j : ℕ) → n ≤ j → j < n + k → j ≢ id → h j ≡ g j)
     → put_new (shelved_change id o) (gather h n k) ≡ gather g n k
 put_new_gather h g n k id None le lt none is same = put_none h g n k id le lt none same None is refl
-put_new_gather h g n k id (Some w) le lt none is same = subst (λ (o : Option Waiting). put_at id o (gather h n k) ≡ gather g n k) (sym is)
+put_new_gather h g n k id (Some w) le lt none is same = subst (λ (o : Option WaitingContext). put_at id o (gather h n k) ≡ gather g n k) (sym is)
     (put_gather h g n k id le lt same)
 
 pub shelf_gave : (f : Flow) (v : Start) (past : List Event) (e : Event) (id s : ℕ) (x : Item) → IsOrdered v.view → Gave f v past e id x →

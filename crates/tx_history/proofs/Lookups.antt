@@ -1,5 +1,5 @@
 -- What is found under an id: in one list after another, and in a list that was gathered.
--- for: laws::journals_agree of outcome_history, laws::entries_fit of tx_journal
+-- for: laws::journals_agree of outcome_history, laws::entries_fit of journal_store
 use Rattle.std.proofs.Common.{◌≡◌, ℕ, zero, suc, ◌+◌, ◌<◌, ◌≤◌, Bool, true, false, List, [], ◌∷◌, ◌++◌, Option, Some, None, refl, ◌∙◌, arith}
 use Rattle.std.specs.Prelude.{if◌then◌else◌, ◌==◌}
 use Rattle.std.proofs.lemmas.Bool.Decides.{nat_tests}

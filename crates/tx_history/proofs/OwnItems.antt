@@ -110,25 +110,25 @@ ended_stays f r items h =
 
 -- whom a session serves
 
-pub record Found (f : Flow) (rows : List (ℕ × Row)) (items : ℕ → List Item) (id : ℕ) : Type 0 where
+pub record FoundRow (f : Flow) (rows : List (ℕ × Row)) (items : ℕ → List Item) (id : ℕ) : Type 0 where
   pub row : Row
   pub there : look id rows ≡ Some row
   pub unfinished : is_ended f (after_newest f (reopened f row) (items id)) ≡ false
 
 found_if : (f : Flow) (r : ℕ × Row) (rows : List (ℕ × Row)) (items : ℕ → List Item) (n m id : ℕ) → Rising n m (r ∷ rows) →
-    (first_unfinished f rows items ≡ Some id → Found f rows items id)
+    (first_unfinished f rows items ≡ Some id → FoundRow f rows items id)
     → (b : Bool) → is_ended f (after_newest f (reopened f r.1) (items r.0)) ≡ b → (if b then first_unfinished f rows items else Some r.0) ≡ Some id →
-    Found f (r ∷ rows) items id
+    FoundRow f (r ∷ rows) items id
 found_if f r rows items n m id rise ih true e h =
     let w = ih h in
     record { row = w.row; there = look_other r rows m id w.row rise.2 w.there; unfinished = w.unfinished }
 found_if f r rows items n m id rise ih false e h =
     let same : r.0 ≡ id = grind (arith) in
     let yes : (r.0 == r.0) ≡ true = grind (arith, nat_tests) in
-    subst (λ (i : ℕ). Found f (r ∷ rows) items i) same (record { row = r.1; there = rw yes refl; unfinished = e })
+    subst (λ (i : ℕ). FoundRow f (r ∷ rows) items i) same (record { row = r.1; there = rw yes refl; unfinished = e })
 
 pub found : (f : Flow) (rows : List (ℕ × Row)) (items : ℕ → List Item) (n m id : ℕ) → Rising n m rows → first_unfinished f rows items ≡ Some id →
-    Found f rows items id
+    FoundRow f rows items id
 found f [] items n m id rise h = absurd (cc)
 found f (r ∷ rows) items n m id rise h =
     found_if f r rows items n m id rise (found f rows items (r.0 + 1) m id rise.2) (is_ended f (after_newest f (reopened f r.1) (items r.0))) refl h
@@ -206,7 +206,7 @@ serves_below f v past s id o h = elim (serves_one f v past s id h) [
 
 -- a journalled id that is served has its row there
 pub serves_old : (f : Flow) (v : Start) (past : List Event) (s id : ℕ) → IsOrdered v.view → serves f v past s ≡ Some id → id < v.view.next_id →
-    Found f v.view.rows (own_items f v past) id
+    FoundRow f v.view.rows (own_items f v past) id
 serves_old f v past s id o h lt = elim (serves_one f v past s id h) [
   | inl old ↦ found f v.view.rows (own_items f v past) 1 v.view.next_id id o.rows old
   | inr new ↦ absurd (let b = taken_from v past s id new in omega arith)

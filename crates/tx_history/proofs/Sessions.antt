@@ -9,7 +9,7 @@ use Rattle.tx_machine.specs.declared.values.Item.TheVariants.{Answer, Choice, To
 use Rattle.tx_machine.specs.Table.{next}
 use Rattle.tx_history.specs.declared.event.Event.{Event}
 use Rattle.tx_history.specs.declared.event.Event.TheVariants.{Offered, Taken, Answered, Chose, Told, Recovered, Released, Acked, Broke, Cleared, LetGo, Closed}
-use Rattle.tx_history.specs.declared.journal.Waiting.{Waiting}
+use Rattle.tx_history.specs.declared.journal.WaitingContext.{WaitingContext}
 use Rattle.tx_history.specs.History.{Start, is_ended, takes, next_id, taken, is_id, or_taken, serves, own_items, recovering, arrivals}
 use Rattle.tx_history.specs.History.{state_of, held_of, holds}
 use Rattle.tx_history.specs.History.{shelf_of}
@@ -194,4 +194,4 @@ state_more f v past c j o law lt = let n = o.next in rw (first_more f v past (re
 pub state_released : (f : Flow) (v : Start) (past : List Event) (j : ℕ) → IsOrdered v.view → IsLawful f v past → j < next_id v past →
     state_of f v (Released ∷ past) j ≡ state_of f v past j
 state_released f v past j o law lt = let n = o.next in rw (first_more f v past
-    (map (λ (item : ℕ × Waiting). item.1) (shelf_of f v (arrivals f v past) past)) j o law (omega arith)) refl
+    (map (λ (item : ℕ × WaitingContext). item.1) (shelf_of f v (arrivals f v past) past)) j o law (omega arith)) refl

@@ -14,7 +14,7 @@ use Rattle.tx_machine.specs.Due.{due_of}
 use Rattle.tx_machine.proofs.StepBounds.{reopened_open}
 use Rattle.tx_history.specs.declared.event.Event.{Event}
 use Rattle.tx_history.specs.declared.event.Event.TheVariants.{Offered, Taken, Answered, Chose, Told, Recovered, Released, Acked, Broke, Cleared, LetGo, Closed}
-use Rattle.tx_history.specs.declared.journal.Waiting.{Waiting}
+use Rattle.tx_history.specs.declared.journal.WaitingContext.{WaitingContext}
 use Rattle.tx_history.specs.declared.journal.Row.{Row}
 use Rattle.tx_history.specs.Keys.{Rising, look, keyed, gather}
 use Rattle.tx_machine.specs.Bounds.{after_newest}
@@ -181,7 +181,7 @@ pub record Good (f : Flow) (v : Start) (past : List Event) : Type 0 where
   pub arrived : All WaitingFits (arrivals f v past)
   pub proper : (j : ℕ) → v.view.next_id ≤ j → j < next_id v past → Proper f (state_of f v past j)
 
-shelved_fits_in : (d : Due) (b : Bool) (f : Flow) (s : TxState) (w : Waiting) → Proper f s → shelved_in d b s ≡ Some w → WaitingFits w
+shelved_fits_in : (d : Due) (b : Bool) (f : Flow) (s : TxState) (w : WaitingContext) → Proper f s → shelved_in d b s ≡ Some w → WaitingFits w
 shelved_fits_in (Prepare p) b f s w h e = absurd (cc)
 shelved_fits_in (PrepareForAbort p) b f s w h e = absurd (cc)
 shelved_fits_in (Select p) b f s w h e = absurd (cc)
@@ -195,7 +195,7 @@ shelved_fits_in Shelve true f s w h e =
     let less : s.tries - 1 ≤ 100 = omega arith in
     subst WaitingFits same (record { tries = less; context = h.saved })
 
-shelf_if : (f : Flow) (v : Start) (past : List Event) (j : ℕ) (w : Waiting) → StartFits f v → Good f v past → j < next_id v past → (b c : Bool) →
+shelf_if : (f : Flow) (v : Start) (past : List Event) (j : ℕ) (w : WaitingContext) → StartFits f v → Good f v past → j < next_id v past → (b c : Bool) →
     nat_lt j v.view.next_id ≡ b
     → (if b then (if c then None else look j v.view.shelf) else shelved f (state_of f v past j) (is_fresh f v past j)) ≡ Some w → WaitingFits w
 shelf_if f v past j w st g lt true true e h = absurd (cc)
@@ -204,7 +204,7 @@ shelf_if f v past j w st g lt false c e h =
     let above : v.view.next_id ≤ j = grind (arith, nat_tests) in
     shelved_fits_in (due_of f (state_of f v past j)) (is_fresh f v past j) f (state_of f v past j) w (g.proper j above lt) h
 
-pub shelf_fits : (f : Flow) (v : Start) (past : List Event) (j : ℕ) (w : Waiting) → StartFits f v → Good f v past → j < next_id v past →
+pub shelf_fits : (f : Flow) (v : Start) (past : List Event) (j : ℕ) (w : WaitingContext) → StartFits f v → Good f v past → j < next_id v past →
     shelved_at f v (arrivals f v past) past j ≡ Some w → WaitingFits w
 shelf_fits f v past j w st g lt h = shelf_if f v past j w st g lt (nat_lt j v.view.next_id) (is_released past) refl h
 
@@ -223,11 +223,11 @@ good_gave f v past e id x fits g i d h = record {
         (subst (Proper f) (sym (state_given f v past e id x g)) (next_proper f (state_of f v past id) x i d q))
     by j false z p = let differ : j ≢ id = grind (arith, nat_tests) in subst (Proper f) (sym (state_other f v past e id x j g differ)) p
 
-begun_proper : (f : Flow) (o : Option Waiting) (ws : List Waiting) (k : ℕ) → FlowFits f → All WaitingFits ws → k < length ws → slice_get ws k ≡ o →
+begun_proper : (f : Flow) (o : Option WaitingContext) (ws : List WaitingContext) (k : ℕ) → FlowFits f → All WaitingFits ws → k < length ws → slice_get ws k ≡ o →
     Proper f (begun f o)
 begun_proper f None ws k fits all lt e = absurd (within ws k lt e)
   where
-    within : (ws : List Waiting) (k : ℕ) → k < length ws → slice_get ws k ≡ None → ⊥
+    within : (ws : List WaitingContext) (k : ℕ) → k < length ws → slice_get ws k ≡ None → ⊥
     within [] k lt e = omega arith
     within (w ∷ ws) zero lt e = cc
     within (w ∷ ws) (suc k) lt e = within ws k (omega arith) e
@@ -270,7 +270,7 @@ good f v (Released ∷ past) fits st sp law =
     let g = good f v past fits st sp law.2 in
     let n = o.next in
     record {
-      arrived = All-append WaitingFits (arrivals f v past) (map (λ (p : ℕ × Waiting). p.1) (shelf_of f v (arrivals f v past) past)) g.arrived
+      arrived = All-append WaitingFits (arrivals f v past) (map (λ (p : ℕ × WaitingContext). p.1) (shelf_of f v (arrivals f v past) past)) g.arrived
           (all_items WaitingFits (shelf_of f v (arrivals f v past) past) (all_gather WaitingFits (shelved_at f v (arrivals f v past) past) 1 (ids v past)
           (λ j w a b h. shelf_fits f v past j w st g (omega arith) h)));
       proper = λ j lo hi. subst (Proper f) (sym (state_released f v past j o law.2 hi)) (g.proper j lo hi);
@@ -319,7 +319,7 @@ row_at_fits f v past j r fits st g lt h = row_if f v past j r fits st g lt (nat_
 
 -- no id with a row is on the shelf
 
-shelved_over : (d : Due) (b : Bool) (s : TxState) (w : Waiting) → shelved_in d b s ≡ Some w → is_over d ≡ true
+shelved_over : (d : Due) (b : Bool) (s : TxState) (w : WaitingContext) → shelved_in d b s ≡ Some w → is_over d ≡ true
 shelved_over (Prepare p) b s w e = absurd (cc)
 shelved_over (PrepareForAbort p) b s w e = absurd (cc)
 shelved_over (Select p) b s w e = absurd (cc)
@@ -332,7 +332,7 @@ old_there : (f : Flow) (o : Option Row) (b : Bool) (items : List Item) (r : Row)
 old_there f None b items r e = absurd (cc)
 old_there f (Some q) b items r e = (q, refl)
 
-apart_if : (f : Flow) (v : Start) (past : List Event) (j : ℕ) (r : Row) (w : Waiting) → IsOrdered v.view → (b c : Bool)
+apart_if : (f : Flow) (v : Start) (past : List Event) (j : ℕ) (r : Row) (w : WaitingContext) → IsOrdered v.view → (b c : Bool)
     → (if b then old_row f (look j v.view.rows) (is_closed past j) (own_items f v past j) else row f (state_of f v past j)) ≡ Some r
     → (if b then (if c then None else look j v.view.shelf) else shelved f (state_of f v past j) (is_fresh f v past j)) ≡ Some w → ⊥
 apart_if f v past j r w o true true h k = cc

@@ -7,7 +7,7 @@ use Rattle.std.proofs.lemmas.Bool.Decides.{nat_tests}
 use Rattle.std.proofs.lemmas.Bool.{and_parts}
 use Rattle.std.proofs.lemmas.List.Elements.{All-nil, All-cons, All-head}
 use Rattle.tx_history.specs.declared.journal.Row.{Row}
-use Rattle.tx_history.specs.declared.journal.Waiting.{Waiting}
+use Rattle.tx_history.specs.declared.journal.WaitingContext.{WaitingContext}
 use Rattle.tx_history.specs.Keys.{Rising, look, place_lt}
 use Rattle.tx_history.specs.declared.journal.JournalView.{JournalView}
 use Rattle.tx_history.specs.Checks.{are_apart, follows, numbers_fit, place_fits, places_rise, rises}
@@ -56,7 +56,7 @@ found_all {A = A} P n m (y ∷ xs) rising found =
         found id x (ap (λ (b : Bool). if b then Some y.1 else look id xs) other ∙ h)
 
 -- no id in both
-found_apart : (rows : List (ℕ × Row)) (shelf : List (ℕ × Waiting)) → are_apart rows shelf ≡ true → (id : ℕ) (r : Row) → look id rows ≡ Some r →
+found_apart : (rows : List (ℕ × Row)) (shelf : List (ℕ × WaitingContext)) → are_apart rows shelf ≡ true → (id : ℕ) (r : Row) → look id rows ≡ Some r →
     not (is_some (look id shelf)) ≡ true
 found_apart [] shelf h id r there = absurd (cc)
 found_apart (x ∷ rows) shelf h id r there =
@@ -68,20 +68,20 @@ found_apart (x ∷ rows) shelf h id r there =
     by true e there here ih = let same : x.0 ≡ id = grind (arith, nat_tests) in subst (λ k. not (is_some (look k shelf)) ≡ true) same here
     by false e there here ih = ih there
 
-pub apart_tested : (rows : List (ℕ × Row)) (shelf : List (ℕ × Waiting)) → are_apart rows shelf ≡ true → (id : ℕ) (r : Row) (w : Waiting) →
+pub apart_tested : (rows : List (ℕ × Row)) (shelf : List (ℕ × WaitingContext)) → are_apart rows shelf ≡ true → (id : ℕ) (r : Row) (w : WaitingContext) →
     look id rows ≡ Some r → look id shelf ≡ Some w → ⊥
 apart_tested rows shelf h id r w there other =
     let free = found_apart rows shelf h id r there in
     let taken : not (is_some (look id shelf)) ≡ false = ap (λ o. not (is_some o)) other in
     absurd (cc)
 
-not_found : (shelf : List (ℕ × Waiting)) (id : ℕ) (o : Option Waiting) → look id shelf ≡ o → ((w : Waiting) → look id shelf ≡ Some w → ⊥) →
+not_found : (shelf : List (ℕ × WaitingContext)) (id : ℕ) (o : Option WaitingContext) → look id shelf ≡ o → ((w : WaitingContext) → look id shelf ≡ Some w → ⊥) →
     not (is_some o) ≡ true
 not_found shelf id None e none = refl
 not_found shelf id (Some w) e none = absurd (none w e)
 
-pub apart_tests : (n m : ℕ) (rows : List (ℕ × Row)) (shelf : List (ℕ × Waiting)) → Rising n m rows →
-    ((id : ℕ) (r : Row) (w : Waiting) → look id rows ≡ Some r → look id shelf ≡ Some w → ⊥) → are_apart rows shelf ≡ true
+pub apart_tests : (n m : ℕ) (rows : List (ℕ × Row)) (shelf : List (ℕ × WaitingContext)) → Rising n m rows →
+    ((id : ℕ) (r : Row) (w : WaitingContext) → look id rows ≡ Some r → look id shelf ≡ Some w → ⊥) → are_apart rows shelf ≡ true
 apart_tests n m [] shelf rising apart = refl
 apart_tests n m (x ∷ rows) shelf rising apart =
     let here : x.0 == x.0 ≡ true = grind (arith, nat_tests) in
@@ -89,7 +89,7 @@ apart_tests n m (x ∷ rows) shelf rising apart =
     (λ w h. apart x.0 x.1 w (ap (λ (b : Bool). if b then Some x.1 else look x.0 rows) here) h) in
     rw free (apart_tests (x.0 + 1) m rows shelf rising.2 later)
   where
-    later : (id : ℕ) (r : Row) (w : Waiting) → look id rows ≡ Some r → look id shelf ≡ Some w → ⊥
+    later : (id : ℕ) (r : Row) (w : WaitingContext) → look id rows ≡ Some r → look id shelf ≡ Some w → ⊥
     later id r w h k =
         let above : x.0 + 1 ≤ id = (look_within rows (x.0 + 1) m id r rising.2 h).0 in
         let other : x.0 == id ≡ false = grind (arith, nat_tests) in

@@ -3,7 +3,7 @@ use Rattle.std.specs.Prelude.{ℕ, ◌+◌, ◌==◌, Bool, true, ◌&&◌, nat_
 use Rattle.tx_machine.specs.Table.{is_open}
 use Rattle.tx_history.specs.declared.journal.JournalView.{JournalView}
 use Rattle.tx_history.specs.declared.journal.Row.{Row}
-use Rattle.tx_history.specs.declared.journal.Waiting.{Waiting}
+use Rattle.tx_history.specs.declared.journal.WaitingContext.{WaitingContext}
 use Rattle.tx_history.specs.Keys.{look, place_lt}
 
 -- the ids rise from n on and are below m
@@ -11,7 +11,7 @@ abbrev pub rises : {A : Type 0} → ℕ → ℕ → List (ℕ × A) → Bool
 rises n m [] = nat_le n m
 rises n m (x ∷ xs) = (nat_le n x.0 && nat_lt x.0 m) && rises (x.0 + 1) m xs
 
-abbrev pub are_apart : List (ℕ × Row) → List (ℕ × Waiting) → Bool
+abbrev pub are_apart : List (ℕ × Row) → List (ℕ × WaitingContext) → Bool
 are_apart [] shelf = true
 are_apart (r ∷ rows) shelf = not (is_some (look r.0 shelf)) && are_apart rows shelf
 

@@ -16,7 +16,7 @@ use Rattle.tx_machine.specs.Due.{due_of, participant_of}
 use Rattle.tx_machine.specs.Bounds.{after_newest}
 use Rattle.tx_history.specs.declared.event.Event.{Event}
 use Rattle.tx_history.specs.declared.event.Event.TheVariants.{Offered, Taken, Answered, Chose, Told, Recovered, Released, Broke, Cleared, LetGo}
-use Rattle.tx_history.specs.declared.journal.Waiting.{Waiting}
+use Rattle.tx_history.specs.declared.journal.WaitingContext.{WaitingContext}
 use Rattle.tx_history.specs.declared.journal.Row.{Row}
 use Rattle.tx_history.specs.declared.journal.JournalView.{JournalView}
 use Rattle.tx_history.specs.Keys.{gather, look}
@@ -24,7 +24,7 @@ use Rattle.tx_history.specs.Keys.{gather, look}
 -- what a history begins from: after an opening only a view, after a cut also a queue and breakpoints
 pub record Start : Type 0 where
   pub view : JournalView
-  pub queue : List Waiting
+  pub queue : List WaitingContext
   pub breaks : List ℕ
 
 abbrev pub name_of : Flow → ℕ → List ℕ
@@ -74,7 +74,7 @@ abbrev pub reopened_at : Flow → Option Row → TxState
 reopened_at f None = no_state
 reopened_at f (Some r) = reopened f r
 
-abbrev pub begun : Flow → Option Waiting → TxState
+abbrev pub begun : Flow → Option WaitingContext → TxState
 begun f None = no_state
 begun f (Some w) = opening f w.tries w.context
 
@@ -137,20 +137,20 @@ is_fresh f v (Told s a ∷ past) id = is_id (serves f v past s) id || is_fresh f
 is_fresh f v (_ ∷ past) id = is_fresh f v past id
 
 -- where a transaction begins, given what arrived so far
-abbrev pub first : Flow → Start → List Waiting → ℕ → TxState
+abbrev pub first : Flow → Start → List WaitingContext → ℕ → TxState
 first f v arrived id = if nat_lt id v.view.next_id then reopened_at f (look id v.view.rows) else begun f (slice_get arrived (id - v.view.next_id))
 
-abbrev pub state_with : Flow → Start → List Waiting → List Event → ℕ → TxState
+abbrev pub state_with : Flow → Start → List WaitingContext → List Event → ℕ → TxState
 state_with f v arrived past id = after_newest f (first f v arrived id) (own_items f v past id)
 
 -- queue and shelf
 
-abbrev pub shelved_in : Due → Bool → TxState → Option Waiting
+abbrev pub shelved_in : Due → Bool → TxState → Option WaitingContext
 shelved_in Shelve true st = Some (record { tries = st.tries - 1; context = st.saved })
 shelved_in _ _ st = None
 
 -- what the shelf keeps of a transaction in this state
-abbrev pub shelved : Flow → TxState → Bool → Option Waiting
+abbrev pub shelved : Flow → TxState → Bool → Option WaitingContext
 shelved f st fresh = shelved_in (due_of f st) fresh st
 
 abbrev pub is_released : List Event → Bool
@@ -158,7 +158,7 @@ is_released [] = false
 is_released (Released ∷ past) = true
 is_released (_ ∷ past) = is_released past
 
-abbrev pub shelved_at : Flow → Start → List Waiting → List Event → ℕ → Option Waiting
+abbrev pub shelved_at : Flow → Start → List WaitingContext → List Event → ℕ → Option WaitingContext
 shelved_at f v arrived past id =
     if nat_lt id v.view.next_id then (if is_released past then None else look id v.view.shelf)
     else shelved f (state_with f v arrived past id) (is_fresh f v past id)
@@ -167,25 +167,25 @@ shelved_at f v arrived past id =
 abbrev pub ids : Start → List Event → ℕ
 ids v past = next_id v past - 1
 
-abbrev pub shelf_of : Flow → Start → List Waiting → List Event → List (ℕ × Waiting)
+abbrev pub shelf_of : Flow → Start → List WaitingContext → List Event → List (ℕ × WaitingContext)
 shelf_of f v arrived past = gather (shelved_at f v arrived past) 1 (ids v past)
 
 -- the contexts offered and released, in order, after those that were there
-abbrev pub arrivals : Flow → Start → List Event → List Waiting
+abbrev pub arrivals : Flow → Start → List Event → List WaitingContext
 arrivals f v [] = v.queue
 arrivals f v (Offered c ∷ past) = arrivals f v past ++ record { tries = f.retries; context = c } ∷ []
 arrivals f v (Released ∷ past) = arrivals f v past ++ map (λ item. item.1) (shelf_of f v (arrivals f v past) past)
 arrivals f v (_ ∷ past) = arrivals f v past
 
 -- the queue: what arrived, without the first ones, as many as there were takes
-abbrev pub queue : Flow → Start → List Event → List Waiting
+abbrev pub queue : Flow → Start → List Event → List WaitingContext
 queue f v past = drop (takes past) (arrivals f v past)
 
 -- where the transaction stands in the specified table, by its own items
 abbrev pub state_of : Flow → Start → List Event → ℕ → TxState
 state_of f v past id = state_with f v (arrivals f v past) past id
 
-abbrev pub shelf : Flow → Start → List Event → List (ℕ × Waiting)
+abbrev pub shelf : Flow → Start → List Event → List (ℕ × WaitingContext)
 shelf f v past = shelf_of f v (arrivals f v past) past
 
 -- sessions

@@ -9,7 +9,7 @@ use Rattle.tx_machine.specs.Table.{TxState, is_due}
 use Rattle.tx_machine.specs.Row.{Row as TxRow, row_of}
 use Rattle.tx_history.specs.declared.event.Event.{Event}
 use Rattle.tx_history.specs.declared.event.Event.TheVariants.{Offered, Taken, Answered, Chose, Told, Recovered, Released, Acked, Broke, Cleared, LetGo, Closed}
-use Rattle.tx_history.specs.declared.journal.Waiting.{Waiting}
+use Rattle.tx_history.specs.declared.journal.WaitingContext.{WaitingContext}
 use Rattle.tx_history.specs.declared.journal.Row.{Row}
 use Rattle.tx_history.specs.declared.journal.JournalView.{JournalView}
 use Rattle.tx_history.specs.declared.event.Change.{Change}
@@ -85,7 +85,7 @@ applied change j =
 abbrev pub no_change : Change
 no_change = record { next_id = None; row = None; shelved = None; emptied = false; advice = None }
 
-abbrev pub shelved_change : ℕ → Option Waiting → Option (ℕ × Waiting)
+abbrev pub shelved_change : ℕ → Option WaitingContext → Option (ℕ × WaitingContext)
 shelved_change id None = None
 shelved_change id (Some w) = Some (id, w)
 
@@ -134,16 +134,16 @@ to_close f [] = []
 to_close f (r ∷ rows) = if is_ended f (reopened f r.1) then r.0 ∷ to_close f rows else to_close f rows
 
 -- the session holds a transaction whose due call this is the reply to
-abbrev pub Gives : Flow → Start → List Event → ℕ → Item → Type 0
-Gives f v past s x = (id : ℕ) × (holds f v past s ≡ Some id) × (is_due (state_of f v past id) x ≡ true) × (restores f v past id ≡ None)
+abbrev pub GivesItem : Flow → Start → List Event → ℕ → Item → Type 0
+GivesItem f v past s x = (id : ℕ) × (holds f v past s ≡ Some id) × (is_due (state_of f v past id) x ≡ true) × (restores f v past id ≡ None)
 
 abbrev pub IsAccepted : Flow → Start → List Event → Event → Type 0
 IsAccepted f v past (Offered c) = Unit {0}
 IsAccepted f v past (Taken s) = (recovering f v past ≡ None) × (holds f v past s ≡ None) × (takes past < length (arrivals f v past))
     × (next_id v past < 9223372036854775807)
-IsAccepted f v past (Answered s b c) = Gives f v past s (Answer b c)
-IsAccepted f v past (Chose s t) = Gives f v past s (Choice t)
-IsAccepted f v past (Told s a) = Gives f v past s (ToldOne a)
+IsAccepted f v past (Answered s b c) = GivesItem f v past s (Answer b c)
+IsAccepted f v past (Chose s t) = GivesItem f v past s (Choice t)
+IsAccepted f v past (Told s a) = GivesItem f v past s (ToldOne a)
 IsAccepted f v past (Recovered s c) = (id : ℕ) × (call : ℕ × Bool) × (holds f v past s ≡ Some id) × (restores f v past id ≡ Some call)
 IsAccepted f v past Released = Unit {0}
 IsAccepted f v past (Acked id place) = (a : List ℕ) × (n : ℕ) × (slice_get (advices f v past) n ≡ Some ((id, place), a))

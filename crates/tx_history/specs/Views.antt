@@ -13,7 +13,7 @@ use Rattle.tx_history.specs.declared.event.Event.{Event}
 use Rattle.tx_history.specs.declared.event.Event.TheVariants.{Offered, Taken, Answered, Recovered}
 use Rattle.tx_history.specs.declared.journal.JournalView.{JournalView}
 use Rattle.tx_history.specs.declared.journal.Row.{Row}
-use Rattle.tx_history.specs.declared.journal.Waiting.{Waiting}
+use Rattle.tx_history.specs.declared.journal.WaitingContext.{WaitingContext}
 use Rattle.tx_history.specs.Keys.{Rising, look, place_lt}
 use Rattle.tx_history.specs.History.{Start, number_of, to_tell}
 use Rattle.tx_history.specs.Journal.{IsLawful}
@@ -23,7 +23,7 @@ pub record IsOrdered (v : JournalView) : Type 0 where
   pub next : 1 ≤ v.next_id
   pub rows : Rising 1 v.next_id v.rows
   pub shelf : Rising 1 v.next_id v.shelf
-  pub apart : (id : ℕ) (r : Row) (w : Waiting) → look id v.rows ≡ Some r → look id v.shelf ≡ Some w → ⊥
+  pub apart : (id : ℕ) (r : Row) (w : WaitingContext) → look id v.rows ≡ Some r → look id v.shelf ≡ Some w → ⊥
 
 abbrev pub IsNamed : List ℕ → Type 0
 IsNamed name = IsTrue (is_name name)
@@ -49,7 +49,7 @@ abbrev pub AllUnder : {A : Type 0} → (A → Type 0) → List (ℕ × A) → Ty
 AllUnder P [] = Unit {0}
 AllUnder P (x ∷ xs) = P x.1 × AllUnder P xs
 
-pub record WaitingFits (w : Waiting) : Type 0 where
+pub record WaitingFits (w : WaitingContext) : Type 0 where
   pub tries : w.tries ≤ 100
   pub context : IsSpelled w.context
 
@@ -64,7 +64,7 @@ pub record IsOk (v : JournalView) : Type 0 where
   pub last : v.next_id ≤ 9223372036854775807
   pub few : length v.rows ≤ 16
   pub rows : (id : ℕ) (r : Row) → look id v.rows ≡ Some r → RowFits r
-  pub shelf : (id : ℕ) (w : Waiting) → look id v.shelf ≡ Some w → WaitingFits w
+  pub shelf : (id : ℕ) (w : WaitingContext) → look id v.shelf ≡ Some w → WaitingFits w
   pub advices : PlacesRise v.next_id v.advices
 
 -- of a flow: what a checked flow is

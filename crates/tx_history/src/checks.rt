@@ -6,7 +6,7 @@ ghost use Rattle.tx_history.specs.Checks.{are_apart, counts_fit, follows, number
 ghost use Rattle.tx_history.specs.Keys.{look};
 ghost use Rattle.tx_history.specs.Views.{AllUnder, IsDoing, IsNamed, IsOk, RowFits, WaitingFits};
 
-use crate::journal::{JournalView, Row, Waiting};
+use crate::journal::{JournalView, Row, WaitingContext};
 use sw_context::{Context, is_name};
 use sw_participant::{Bytes, Text};
 use tx_machine::Phase;
@@ -40,7 +40,7 @@ fn rise<T>(entries: &[(u64, T)], next_id: u64) -> bool
     least <= next_id
 }
 
-fn has_id(shelf: &[(u64, Waiting)], id: u64) -> bool
+fn has_id(shelf: &[(u64, WaitingContext)], id: u64) -> bool
     ensures { result ≡ is_some (look id shelf.now) }
 {
     for waiting in shelf {
@@ -52,7 +52,7 @@ fn has_id(shelf: &[(u64, Waiting)], id: u64) -> bool
 }
 
 // Whether no id is in both lists.
-fn are_apart(rows: &[(u64, Row)], shelf: &[(u64, Waiting)]) -> bool
+fn are_apart(rows: &[(u64, Row)], shelf: &[(u64, WaitingContext)]) -> bool
     ensures { result ≡ are_apart rows.now shelf.now }
 {
     for row in rows {
@@ -103,7 +103,7 @@ impl Row {
     }
 }
 
-impl Waiting {
+impl WaitingContext {
     fn fits(&self) -> bool
         ensures { IsTrue result ↔ WaitingFits self.now }
     {
@@ -122,7 +122,7 @@ fn rows_fit(rows: &[(u64, Row)]) -> bool
     true
 }
 
-fn shelf_fits(shelf: &[(u64, Waiting)]) -> bool
+fn shelf_fits(shelf: &[(u64, WaitingContext)]) -> bool
     ensures { IsTrue result ↔ AllUnder WaitingFits shelf.now }
 {
     for waiting in shelf {

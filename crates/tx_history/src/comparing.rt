@@ -3,7 +3,7 @@
 ghost use Rattle.std.specs.Prelude.{◌≡◌, ◌↔◌, IsTrue};
 
 use crate::event::{Change, Entry, Event};
-use crate::journal::{Row, Waiting};
+use crate::journal::{Row, WaitingContext};
 use sw_participant::{Bytes, Text, is_same_advice};
 use tx_machine::Phase;
 
@@ -49,8 +49,8 @@ fn is_same_phase(one: Phase, other: Phase) -> bool
     }
 }
 
-impl Waiting {
-    fn is_same(&self, other: &Waiting) -> bool
+impl WaitingContext {
+    fn is_same(&self, other: &WaitingContext) -> bool
         ensures { IsTrue result ↔ (self.now ≡ other.now) }
     {
         self.tries == other.tries && self.context.as_slice() == other.context.as_slice()
@@ -147,7 +147,10 @@ fn is_same_row(one: &Option<(u64, Option<Row>)>, other: &Option<(u64, Option<Row
     }
 }
 
-fn is_same_waiting(one: &Option<(u64, Waiting)>, other: &Option<(u64, Waiting)>) -> bool
+fn is_same_waiting(
+    one: &Option<(u64, WaitingContext)>,
+    other: &Option<(u64, WaitingContext)>,
+) -> bool
     ensures { IsTrue result ↔ (one.now ≡ other.now) }
 {
     match (one, other) {

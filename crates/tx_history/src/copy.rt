@@ -3,7 +3,7 @@
 ghost use Rattle.std.specs.Prelude.{◌≡◌, IfOk};
 
 use crate::event::{Change, Entry, Event};
-use crate::journal::{JournalView, Row, Waiting};
+use crate::journal::{JournalView, Row, WaitingContext};
 use std::alloc::{AllocError, Global};
 use sw_participant::{Bytes, Sequence, Text};
 
@@ -35,11 +35,11 @@ fn copy_names(alloc: Global, names: &[Text]) -> Result<Sequence<Text>, AllocErro
     Ok(Sequence::new(copies))
 }
 
-impl Waiting {
-    pub fn copy(&self) -> Result<Waiting, AllocError>
+impl WaitingContext {
+    pub fn copy(&self) -> Result<WaitingContext, AllocError>
         ensures { IfOk result (λ copy. copy ≡ self.now) }
     {
-        Ok(Waiting {
+        Ok(WaitingContext {
             tries: self.tries,
             context: self.context.copy()?,
         })
@@ -180,8 +180,8 @@ fn copy_rows(alloc: Global, rows: &[(u64, Row)]) -> Result<Sequence<(u64, Row)>,
 
 fn copy_shelf(
     alloc: Global,
-    shelf: &[(u64, Waiting)],
-) -> Result<Sequence<(u64, Waiting)>, AllocError>
+    shelf: &[(u64, WaitingContext)],
+) -> Result<Sequence<(u64, WaitingContext)>, AllocError>
     ensures { IfOk result (λ copies. copies ≡ shelf.now) }
 {
     let mut copies = Vec::new(alloc);

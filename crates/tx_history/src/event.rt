@@ -1,6 +1,6 @@
 //! Accepted events, the entries of a history, and what an entry changes in the journal.
 
-use crate::journal::{Row, Waiting};
+use crate::journal::{Row, WaitingContext};
 use sw_participant::{Bytes, Text};
 
 /// An accepted event. Sessions and participants are numbered from 0, transactions from 1; a context
@@ -107,7 +107,7 @@ pub struct Change {
     /// The row under an id, or that there is none.
     pub row: Option<(u64, Option<Row>)>,
     /// The context that is put on the shelf, under the transaction's id.
-    pub shelved: Option<(u64, Waiting)>,
+    pub shelved: Option<(u64, WaitingContext)>,
     /// The shelf is emptied first.
     pub emptied: bool,
     /// The advice under a member's place (id, place), or that there is none.

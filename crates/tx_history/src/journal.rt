@@ -8,7 +8,7 @@ use sw_participant::{Bytes, Sequence, Text};
 use tx_machine::Phase;
 
 /// A context that waits in the queue or on the shelf.
-pub struct Waiting {
+pub struct WaitingContext {
     /// How often it may be tried again after its next try; at most 100.
     pub tries: u8,
     /// The context, as bytes.
@@ -16,9 +16,9 @@ pub struct Waiting {
 }
 
 // Written out, so that no caller proves again how its parts are dropped.
-impl Drop for Waiting {
+impl Drop for WaitingContext {
     fn drop(self) {
-        let Waiting {
+        let WaitingContext {
             tries: _,
             context: _,
         } = self;
@@ -61,7 +61,7 @@ pub struct JournalView {
     /// The unfinished transactions under their ids, which rise.
     pub rows: Sequence<(u64, Row)>,
     /// The contexts of aborted transactions that wait to be tried again, under ids that rise.
-    pub shelf: Sequence<(u64, Waiting)>,
+    pub shelf: Sequence<(u64, WaitingContext)>,
     /// The advices that were not acknowledged, each under a transaction's id and the number of the
     /// member that gave it, from 0. These places rise.
     pub advices: Sequence<((u64, usize), Bytes)>,

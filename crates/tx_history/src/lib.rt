@@ -21,7 +21,7 @@ mod journal;
 mod laws;
 
 pub use event::{Change, Entry, Event};
-pub use journal::{JournalView, Row, Waiting};
+pub use journal::{JournalView, Row, WaitingContext};
 pub use laws::{
     changes_lead_on, checked_flows_fit, items_are_of_their_holders, journals_are_sound,
     recovered_in_turn, rows_are_bounded,

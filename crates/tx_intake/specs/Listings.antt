@@ -16,7 +16,7 @@ abbrev pub given_of : Listing → List Pairs
 given_of l = take l.count l.list
 
 -- the answer is the next of the list, or that there is none after its last
-pub record Gives (old : Listing) (answer : Option Pairs) (new : Listing) : Type 0 where
+pub record GivesListed (old : Listing) (answer : Option Pairs) (new : Listing) : Type 0 where
   pub next : answer ≡ slice_get old.list old.count
   pub same : new.list ≡ old.list
   pub counted : new.count ≡ old.count + length (option_to_list answer)

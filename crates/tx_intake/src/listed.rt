@@ -3,7 +3,7 @@
 ghost use Rattle.std.specs.Prelude.{◌≡◌, ◌||◌, ◌++◌, IfOk, IfNone, OnErr, is_none, false};
 ghost use Rattle.std.specs.Prelude.{List, option_to_list};
 ghost use Rattle.sw_context.specs.Pairs.{Pairs};
-ghost use Rattle.tx_intake.specs.Listings.{listing, given_of, Gives};
+ghost use Rattle.tx_intake.specs.Listings.{listing, given_of, GivesListed};
 
 use crate::source::Source;
 use std::marker::Model;
@@ -72,7 +72,7 @@ impl Source for Listed {
         ensures plan { (all : List Pairs) → all ≡ self.new.list → all ≡ self.old.list }
         ensures given_kept { OnErr result (given_of self.new ≡ given_of self.old) }
         ensures ended_kept { OnErr result (self.new.ended ≡ self.old.ended) }
-        ensures gives { IfOk result (λ next. Gives self.old next self.new) }
+        ensures gives { IfOk result (λ next. GivesListed self.old next self.new) }
         ensures kept { OnErr result (self.new ≡ self.old) }
     {
         let Some(context) = self.contexts.get(self.count) else {

@@ -1,7 +1,7 @@
 //! Why a run is given up.
 
+use journal_store::JournalError;
 use tx_engine::EngineError;
-use tx_journal::JournalError;
 
 /// Why a run is given up.
 #[derive(Debug, Drop)]

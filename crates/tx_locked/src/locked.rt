@@ -78,7 +78,7 @@ fn take(running: &mut Running, alloc: Global, session: usize) -> Result<usize, F
     ensures engine { IsEngine running.new.engine }
 {
     let taken = running.take(alloc, session);
-    running.is_engine();
+    running.engine_is_sound();
     match taken {
         Ok(Outcome::Accepted(number)) => Ok(number),
         Ok(Outcome::Refused(error)) => Err(Fault::of_engine(error)),
@@ -211,7 +211,7 @@ impl<K: Run> Locked<K> {
         match intake.intake.get(rt, &mut self.getter) {
             Some(offer) => {
                 let _ = self.running.offer_reserved(offer);
-                self.running.is_engine();
+                self.running.engine_is_sound();
                 Plan::Admitted
             }
             None => {
@@ -247,7 +247,7 @@ impl<K: Run> Locked<K> {
             .enter(alloc, session.index, call, &reply, after)
         {
             Ok((number, before)) => {
-                self.running.is_engine();
+                self.running.engine_is_sound();
                 self.book.add(&mut session.share, 1);
                 self.made.push_reserved(MadeCall {
                     call: *call,
@@ -369,7 +369,7 @@ impl<K: Run> Locked<K> {
         }
         self.is_quick = !self.is_called();
         if self.running.wrote(count) {
-            self.running.is_engine();
+            self.running.engine_is_sound();
         } else {
             let _ = self.contradict();
         }

@@ -1,6 +1,6 @@
 -- What an outcome that is no fault is of.
 use Rattle.std.proofs.Common.{◌≡◌, Result, Ok, Err}
-use Rattle.tx_journal.specs.declared.error.JournalError.{JournalError}
+use Rattle.journal_store.specs.declared.error.JournalError.{JournalError}
 use Rattle.tx_plant.specs.declared.turn.Outcome.{Outcome}
 use Rattle.tx_plant.specs.declared.turn.StepFault.{StepFault}
 use Rattle.tx_plant.specs.declared.turn.StepFault.TheVariants as fault

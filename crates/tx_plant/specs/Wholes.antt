@@ -1,5 +1,5 @@
 -- An engine with its seats, and the journal that it writes, as one.
-use Rattle.tx_journal.specs.Kept.{JournalState}
+use Rattle.journal_store.specs.Kept.{JournalState}
 use Rattle.tx_plant.specs.declared.running.Running.{Running}
 use Rattle.tx_plant.specs.Plant.{Whole, whole_of}
 

@@ -10,7 +10,7 @@ ghost use Rattle.tx_plant.specs.Plant.{IsEngine};
 use tx_engine::Engine;
 
 /// States what every engine is, for the proofs of its callers. It does nothing.
-pub(crate) fn is_engine(engine: &Engine)
+pub(crate) fn engine_is_sound(engine: &Engine)
     ensures { IsEngine engine.now }
 {
     let _ = engine.history();
@@ -24,5 +24,5 @@ pub(crate) fn state_history(engine: &Engine)
     ensures room { (e : Happening) (past : List Happening) → engine.now.past ≡ e ∷ past
         → closes e ≡ false → length past < 1048576 }
 {
-    is_engine(engine);
+    engine_is_sound(engine);
 }

@@ -13,7 +13,7 @@ use Rattle.tx_history.specs.declared.event.Event.{Event}
 use Rattle.tx_history.specs.declared.event.Event.TheVariants as event
 use Rattle.tx_history.specs.declared.event.Entry.{Entry}
 use Rattle.tx_history.specs.Journal.{change}
-use Rattle.tx_journal.specs.Kept.{IsCleanJournal, JournalState}
+use Rattle.journal_store.specs.Kept.{IsCleanJournal, JournalState}
 use Rattle.tx_engine.specs.World.{World, happened}
 use Rattle.tx_plant.specs.Core.{Core}
 use Rattle.tx_plant.specs.Steps.{event_of}

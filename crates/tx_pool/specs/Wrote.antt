@@ -4,7 +4,7 @@ use Rattle.sqlite_trees.specs.View.{doubt}
 use Rattle.journal_rows.specs.Tables.{Tables, all_made}
 use Rattle.journal_rows.specs.Law.{changes_of}
 use Rattle.tx_history.specs.declared.event.Entry.{Entry}
-use Rattle.tx_journal.specs.Kept.{IsCleanJournal, JournalState}
+use Rattle.journal_store.specs.Kept.{IsCleanJournal, JournalState}
 use Rattle.tx_plant.specs.Plant.{seen}
 
 -- what a stop may leave of the second, it may leave of the first

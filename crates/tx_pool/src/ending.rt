@@ -15,13 +15,13 @@ use crate::keeper::Kept;
 use crate::moving::{Back, close_sessions};
 use crate::report::Report;
 use crate::threads::Worked;
+use journal_store::Journal;
 use sqlite::Alter;
 use std::sync::ledger::Share;
 use sw_participant::Caller;
 use tx_engine::Engine;
 use tx_history::Entry;
 use tx_intake::Source;
-use tx_journal::Journal;
 use tx_locked::{
     Fault, Left, Locked, MadeCall, Run, RunIntake, Session, StationParts, are_all_own, are_calls,
     are_same, both, count_finished, count_on_shelf, is_settled,
@@ -150,7 +150,7 @@ fn take_back<K: Run, O: Source>(
     let receipts = close_sessions(sessions, &mut share, receipts);
     book.audit(&mut share);
     let all_got = intake.intake.settle(putter, getter);
-    running.is_engine();
+    running.engine_is_sound();
     Ok(Settled {
         running,
         source,

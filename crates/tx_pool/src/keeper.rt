@@ -2,16 +2,16 @@
 
 ghost use Rattle.std.specs.Prelude.{All, ◌≡◌, ◌<◌, length, true, IfOk, IfSome, MatchResult};
 ghost use Rattle.journal_tables.specs.Small.{IsEntrySmall};
-ghost use Rattle.tx_journal.specs.Kept.{kept};
+ghost use Rattle.journal_store.specs.Kept.{kept};
 ghost use Rattle.tx_pool.specs.Wrote.{Wrote};
 
 use crate::shared::Shared;
+use journal_store::{Journal, JournalError};
 use sqlite::Alter;
 use std::alloc::Global;
 use std::sync::Wait;
 use sw_participant::Caller;
 use tx_history::Entry;
-use tx_journal::{Journal, JournalError};
 use tx_locked::{Fault, Run};
 
 /// A journal with copies of the entries that were written to it, and whether each write was done.

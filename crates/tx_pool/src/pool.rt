@@ -3,7 +3,7 @@
 ghost use Rattle.std.specs.Prelude.{◌≡◌, ◌≤◌, [], None, IfErr, IfOk, MatchResult, map, vec_len, vec_capacity};
 ghost use Rattle.sw_participant.specs.Chains.{rule_at};
 ghost use Rattle.sw_participant.specs.Stations.{name_of, calls_of, object_of, rule_of};
-ghost use Rattle.tx_journal.specs.Kept.{kept};
+ghost use Rattle.journal_store.specs.Kept.{kept};
 ghost use Rattle.tx_plant.specs.Plant.{IsEngine, whole_of};
 ghost use Rattle.tx_plant.specs.Written.{IsWritten};
 ghost use Rattle.tx_pool.specs.Drives.{Drove};

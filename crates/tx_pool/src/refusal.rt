@@ -1,9 +1,9 @@
 //! Why a pool did not begin a run, or gave it up.
 
+use journal_store::Journal;
 use sqlite::Alter;
 use sw_participant::Station;
 use thiserror::Error;
-use tx_journal::Journal;
 use tx_locked::Fault;
 use tx_plant::Plant;
 

@@ -3,7 +3,7 @@
 ghost use Rattle.std.specs.Prelude.{◌≡◌, ◌≤◌, ◌+◌, List, [], length, map, IfErr, IfOk, vec_len, vec_capacity};
 ghost use Rattle.sw_context.specs.Pairs.{Pairs};
 ghost use Rattle.sw_participant.specs.Chains.{rule_at};
-ghost use Rattle.tx_journal.specs.Kept.{kept};
+ghost use Rattle.journal_store.specs.Kept.{kept};
 ghost use Rattle.tx_plant.specs.Core.{core};
 ghost use Rattle.tx_plant.specs.Plant.{seen};
 ghost use Rattle.tx_plant.specs.Written.{IsWritten};
@@ -17,6 +17,7 @@ use crate::gate::Gate;
 use crate::moving::{lock_stations, open_sessions, unlock_stations};
 use crate::shared::Shared;
 use crate::threads::work;
+use journal_store::Journal;
 use sqlite::Alter;
 use std::alloc::{AllocError, Global};
 use std::marker::{Brand, PhantomData};
@@ -26,7 +27,6 @@ use std::sync::{Condvar, Mutex, Wait};
 use std::thread::Threads;
 use sw_participant::Caller;
 use tx_intake::{Getter, Intake, Putter, Source};
-use tx_journal::Journal;
 use tx_locked::{Fault, Locked, MadeCall, Run, RunIntake, Session, StationLog, StationParts};
 use tx_plant::Running;
 
@@ -230,7 +230,7 @@ pub(crate) fn run_parts<
         → IsWritten r.running.engine (kept S.Store r.journal)) }
     ensures lost { IfErr result (λ e. vec_len e.stations ≡ vec_len task.stations) }
 {
-    task.running.is_engine();
+    task.running.engine_is_sound();
     let sessions = task.running.engine().sessions();
     let blank = Blank::new(sessions as u64 + 1);
     run_in::<S, Brand, C, O, G, R>(rt, alloc, task, blank, gate)

@@ -2,7 +2,7 @@
 
 ghost use Rattle.std.specs.Prelude.{◌≡◌, [], List, true};
 ghost use Rattle.sw_context.specs.Pairs.{Pairs};
-ghost use Rattle.tx_journal.specs.Kept.{kept};
+ghost use Rattle.journal_store.specs.Kept.{kept};
 ghost use Rattle.tx_pool.specs.Wrote.{Wrote};
 
 use crate::attending::attend_all;
@@ -10,13 +10,13 @@ use crate::feeding::{Fed, feed};
 use crate::gate::Gate;
 use crate::keeper::{Kept, keep};
 use crate::shared::Shared;
+use journal_store::Journal;
 use sqlite::Alter;
 use std::alloc::Global;
 use std::sync::Wait;
 use std::thread::{self, Threads};
 use sw_participant::Caller;
 use tx_intake::{Putter, Source};
-use tx_journal::Journal;
 use tx_locked::{Fault, Run, Session};
 
 /// What comes back from the threads. The source or the sessions are missing if their thread could

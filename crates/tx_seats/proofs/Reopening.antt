@@ -17,7 +17,7 @@ use Rattle.tx_history.specs.Journal.{journal}
 use Rattle.tx_history.specs.Views.{IsHistory}
 use Rattle.tx_history.proofs.NextStarts.{stopped_fits, Known}
 use Rattle.tx_history.proofs.RisingKeys.{look_within}
-use Rattle.tx_journal.proofs.HistoryChanges.{earlier}
+use Rattle.journal_store.proofs.HistoryChanges.{earlier}
 use Rattle.tx_engine.specs.declared.error.EngineError.{EngineError}
 use Rattle.tx_engine.specs.declared.error.EngineError.TheVariants.{BadSessions, UnknownParticipant}
 use Rattle.tx_engine.specs.Opening.{are_bad_sessions, open_refusal, unknown_in, unknown_of}

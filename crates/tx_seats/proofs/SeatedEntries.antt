@@ -7,7 +7,7 @@ use Rattle.tx_history.specs.declared.event.Event.{Event}
 use Rattle.tx_history.specs.declared.event.Event.TheVariants.{Offered, Taken, Answered, Chose, Told, Recovered, Released, Acked, Broke, Cleared, LetGo, Closed}
 use Rattle.tx_history.specs.History.{is_ended, own_items, reopened}
 use Rattle.tx_history.specs.Views.{IsOrdered}
-use Rattle.tx_journal.specs.declared.error.JournalError.{JournalError}
+use Rattle.journal_store.specs.declared.error.JournalError.{JournalError}
 use Rattle.tx_engine.specs.World.{World, happened}
 use Rattle.tx_engine.specs.Replies.{kind_of}
 use Rattle.tx_plant.specs.declared.turn.Outcome.{Outcome}

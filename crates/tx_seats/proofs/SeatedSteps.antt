@@ -14,7 +14,7 @@ use Rattle.tx_history.specs.declared.event.Event.{Event}
 use Rattle.tx_history.specs.declared.event.Event.TheVariants as event
 use Rattle.tx_history.specs.declared.event.Change.{Change}
 use Rattle.tx_history.specs.declared.journal.Row.{Row}
-use Rattle.tx_history.specs.declared.journal.Waiting.{Waiting}
+use Rattle.tx_history.specs.declared.journal.WaitingContext.{WaitingContext}
 use Rattle.tx_history.specs.History.{is_ended, shelved, state_of}
 use Rattle.tx_history.specs.Journal.{shelved_change, touched}
 use Rattle.tx_history.proofs.OwnItems.{holds_serves}
@@ -140,12 +140,12 @@ follows_given p e s h g over j held =
     let going = (holds_serves w.flow w.start (e ∷ w.past) s j held).1 in
     (k.first, λ es. record { written = ap (λ (n : ℕ). nat_lt w.mark n) k.fresh ∙ none_above w.mark; going = going; context = x.0; waits = x.1 })
 
-over_by : (p q : Core) (s id : ℕ) (l : Seat) (to : World) (item : Option (ℕ × Waiting)) → Seated p → OthersStand p s to → Follows p s to →
+over_by : (p q : Core) (s id : ℕ) (l : Seat) (to : World) (item : Option (ℕ × WaitingContext)) → Seated p → OthersStand p s to → Follows p s to →
     Leaves (fate_by (Some (id, None)) item) (left p s (fate_by (Some (id, None)) item) l to) q → Seated q
 over_by p q s id l to None h z next k = seated_again _ q (goes p s _ to h z next) k
 over_by p q s id l to (Some item) h z next k = seated_again _ q (goes p s _ to h z next) k
 
-item_by : (p q : Core) (e : Event) (s : ℕ) (l : Seat) (r : Row) (item : Option (ℕ × Waiting)) (g : GivesItem p.world.flow p.world.start p.world.past e s) →
+item_by : (p q : Core) (e : Event) (s : ℕ) (l : Seat) (r : Row) (item : Option (ℕ × WaitingContext)) (g : GivesItem p.world.flow p.world.start p.world.past e s) →
     Seated p → OthersStand p s (happened p.world e) → l.id ≡ g.id → l.kept ≡ None
     → (b : Bool) → is_ended p.world.flow (state_of p.world.flow p.world.start (e ∷ p.world.past) g.id) ≡ b
     → Leaves (fate_by (Some (g.id, if b then None else Some r)) item) (left p s (fate_by (Some (g.id, if b then None else Some r)) item) l

@@ -13,7 +13,7 @@ use Rattle.tx_history.specs.Keys.{look}
 use Rattle.tx_history.specs.History.{holds, last_of, own_items, taken}
 use Rattle.tx_history.specs.Journal.{to_close}
 use Rattle.tx_history.specs.Lives.{opened}
-use Rattle.tx_history.proofs.OwnItems.{Found, found, holds_serves}
+use Rattle.tx_history.proofs.OwnItems.{FoundRow, found, holds_serves}
 use Rattle.tx_history.proofs.Sessions.{serves_who}
 use Rattle.tx_engine.specs.World.{World}
 use Rattle.tx_engine.specs.Calls.{held_id}
@@ -50,7 +50,7 @@ saved : (view : JournalView) (ws : List (ℕ × Pairs)) (id : ℕ) (r : Row) →
 saved view ws id r all h = all id ∙ ap (option_map (λ (r : Row). pairs_of r.context)) h
 
 first_row : (f : Flow) (view : JournalView) (n id : ℕ) → IsEngine (opened_world f view n) → held_id (opened_world f view n) 0 ≡ Some id →
-    Found f view.rows (own_items f (first_start view) (opened f (first_start view))) id
+    FoundRow f view.rows (own_items f (first_start view) (opened f (first_start view))) id
 first_row f view n id engine held = elim (serves_who f (first_start view) (opened f (first_start view)) 0 id
     (holds_serves f (first_start view) (opened f (first_start view)) 0 id held).0) [
       | inl a ↦ found f view.rows (own_items f (first_start view) (opened f (first_start view))) 1 view.next_id id engine.start.view.ordered.rows a.0

@@ -6,7 +6,7 @@ use Rattle.std.specs.List.{AllByRecursion}
 use Rattle.std.proofs.lemmas.Bool.Decides.{nat_tests}
 use Rattle.sw_base.specs.Refusals.{first_of, refused_if}
 use Rattle.sw_participant.specs.Chains.{Rule}
-use Rattle.tx_journal.specs.declared.error.JournalError.{JournalError}
+use Rattle.journal_store.specs.declared.error.JournalError.{JournalError}
 use Rattle.tx_engine.specs.declared.error.EngineError.{EngineError}
 use Rattle.tx_engine.specs.declared.error.EngineError.TheVariants.{HistoryFull, NoSession}
 use Rattle.tx_engine.specs.World.{World}

@@ -6,7 +6,7 @@ ghost use Rattle.tx_history.specs.Keys.{look, put_new, put_place};
 use std::alloc::AllocError;
 use std::collections::BTreeMap;
 use sw_participant::Bytes;
-use tx_history::Waiting;
+use tx_history::WaitingContext;
 
 // Puts an advice in or takes it out, if the change says so.
 fn put_advice(
@@ -33,9 +33,9 @@ fn put_advice(
 
 /// Puts both or neither: a context that the shelf does not have yet, and an advice.
 pub fn put_both(
-    shelf: &mut BTreeMap<u64, Waiting>,
+    shelf: &mut BTreeMap<u64, WaitingContext>,
     advices: &mut BTreeMap<(u64, usize), Bytes>,
-    shelved: Option<(u64, Waiting)>,
+    shelved: Option<(u64, WaitingContext)>,
     change: Option<((u64, usize), Option<Bytes>)>,
 ) -> Result<(), AllocError>
     requires { IfSome shelved (λ new. look new.0 shelf.old.entries ≡ None) }

@@ -18,7 +18,7 @@ use crate::slot::{Slot, is_holding};
 use flow_asm::Code;
 use std::alloc::{AllocError, Global};
 use sw_participant::Bytes;
-use tx_history::{Change, Entry, Event, Row, Waiting};
+use tx_history::{Change, Entry, Event, Row, WaitingContext};
 use tx_machine::{Machine, MachineError};
 
 /// A reply as it is recorded. The machine is as the reply leaves it.
@@ -34,7 +34,7 @@ pub struct Given {
 }
 
 // A copy of what goes on the shelf.
-fn shelved_by(change: &Change) -> Result<Option<(u64, Waiting)>, AllocError>
+fn shelved_by(change: &Change) -> Result<Option<(u64, WaitingContext)>, AllocError>
     ensures { IfOk result (λ copy. copy ≡ change.now.shelved) }
 {
     match &change.shelved {
@@ -74,7 +74,7 @@ pub fn goes_on(recovering: bool, slot: &Slot) -> bool
 #[derive(Drop)]
 pub struct Ready {
     pub entry: Entry,
-    pub shelved: Option<(u64, Waiting)>,
+    pub shelved: Option<(u64, WaitingContext)>,
     pub advice: Option<((u64, usize), Option<Bytes>)>,
     pub slot: Slot,
 }

@@ -4,18 +4,18 @@ ghost use Rattle.std.specs.Prelude.{◌≡◌, ◌+◌, ◌-◌, ◌++◌, ◌�
 ghost use Rattle.std.specs.Prelude.{drop, map, vec_len, vec_capacity};
 ghost use Rattle.std.specs.VecDeque.{deque_len, deque_capacity};
 ghost use Rattle.std.specs.BTreeMap.{btree_map_len};
-ghost use Rattle.tx_history.specs.declared.journal.Waiting.{Waiting as Waits};
+ghost use Rattle.tx_history.specs.declared.journal.WaitingContext.{WaitingContext as Waits};
 
 use std::alloc::{AllocError, Global};
 use std::collections::{BTreeMap, VecDeque};
-use tx_history::{Entry, Waiting};
+use tx_history::{Entry, WaitingContext};
 
 /// The entries and the queue. An offer adds to both.
 pub struct Lists {
     /// Oldest first.
     pub entries: Vec<Entry>,
     /// First in, first out.
-    pub queue: VecDeque<Waiting>,
+    pub queue: VecDeque<WaitingContext>,
     /// For how many offers both have memory.
     pub reserved: usize,
     ghost entries_fit: { vec_len entries + reserved ≤ vec_capacity entries },
@@ -82,7 +82,7 @@ impl Lists {
     }
 
     /// Adds an offer, in reserved memory.
-    pub fn push_offer(&mut self, entry: Entry, waiting: Waiting)
+    pub fn push_offer(&mut self, entry: Entry, waiting: WaitingContext)
         requires { 1 ≤ self.old.reserved }
         ensures entries { self.new.entries.items ≡ self.old.entries.items ++ entry ∷ [] }
         ensures queue { self.new.queue.items ≡ self.old.queue.items ++ waiting ∷ [] }
@@ -140,7 +140,7 @@ impl Lists {
     /// Adds the entry of a release, and moves all of the shelf to the end of the queue.
     pub fn release(
         &mut self,
-        shelf: &mut BTreeMap<u64, Waiting>,
+        shelf: &mut BTreeMap<u64, WaitingContext>,
         entry: Entry,
     ) -> Result<(), AllocError>
         ensures entries { OnOk result (self.new.entries.items
@@ -173,7 +173,7 @@ impl Lists {
 }
 
 // Moves all of a shelf to the end of a queue that has room.
-fn move_all(shelf: &mut BTreeMap<u64, Waiting>, queue: &mut VecDeque<Waiting>)
+fn move_all(shelf: &mut BTreeMap<u64, WaitingContext>, queue: &mut VecDeque<WaitingContext>)
     requires { deque_len queue.old + btree_map_len shelf.old ≤ deque_capacity queue.old }
     ensures queue { queue.new.items
         ≡ queue.old.items ++ map (λ (item : ℕ × Waits). item.1) shelf.old.entries }

@@ -9,7 +9,7 @@ ghost use Rattle.tx_slots.specs.Rows.{item_change};
 use flow_asm::Code;
 use std::alloc::{AllocError, Global};
 use sw_participant::{Bytes, Sequence, Text};
-use tx_history::{Change, Row, Waiting};
+use tx_history::{Change, Row, WaitingContext};
 use tx_machine::{Due, Machine};
 
 /// The change that leaves the journal as it is.
@@ -72,12 +72,16 @@ pub fn row_of(alloc: Global, code: &Code, machine: &Machine) -> Result<Option<Ro
 }
 
 // What the shelf keeps of a transaction, if it ends there: its saved context, with one try fewer.
-fn shelved_of(alloc: Global, code: &Code, machine: &Machine) -> Result<Option<Waiting>, AllocError>
+fn shelved_of(
+    alloc: Global,
+    code: &Code,
+    machine: &Machine,
+) -> Result<Option<WaitingContext>, AllocError>
     requires { IsSound code.now machine.now }
     ensures { IfOk result (λ r. r ≡ shelved code.now (tx_state code.now machine.now) true) }
 {
     match machine.due(code) {
-        Due::Shelve => Ok(Some(Waiting {
+        Due::Shelve => Ok(Some(WaitingContext {
             tries: machine.tries().saturating_sub(1),
             context: Bytes::new(Vec::from_slice(alloc, machine.saved())?),
         })),

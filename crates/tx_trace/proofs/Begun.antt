@@ -13,7 +13,7 @@ use Rattle.tx_machine.specs.Due.{due_at, due_of, end_by}
 use Rattle.tx_history.specs.declared.event.Event.{Event}
 use Rattle.tx_history.specs.declared.event.Event.TheVariants.{Taken}
 use Rattle.tx_history.specs.declared.journal.Row.{Row}
-use Rattle.tx_history.specs.declared.journal.Waiting.{Waiting}
+use Rattle.tx_history.specs.declared.journal.WaitingContext.{WaitingContext}
 use Rattle.tx_history.specs.History.{Start, arrivals, is_ended, is_over, next_id, own_items, state_of, takes}
 use Rattle.tx_history.specs.Journal.{IsLawful, row}
 use Rattle.tx_history.specs.Views.{IsOrdered}
@@ -117,7 +117,7 @@ get_within (x ∷ xs) zero h = (x, refl)
 get_within (x ∷ xs) (suc n) h = get_within xs n (omega arith)
 
 pub record StandsTaken (f : Flow) (v : Start) (past : List Event) (s : ℕ) : Type 0 where
-  pub first : Waiting
+  pub first : WaitingContext
   pub state : state_of f v (Taken s ∷ past) (next_id v past) ≡ opening f first.tries first.context
 
 pub stands_taken : (f : Flow) (v : Start) (past : List Event) (s : ℕ) → IsOrdered v.view → IsLawful f v (Taken s ∷ past) → StandsTaken f v past s

@@ -8,7 +8,7 @@ use Rattle.flow_model.specs.declared.flow.Flow.{Flow}
 use Rattle.tx_machine.specs.declared.values.Item.TheVariants.{Answer, Choice, Told as ToldOne}
 use Rattle.tx_history.specs.declared.event.Event.{Event}
 use Rattle.tx_history.specs.declared.event.Event.TheVariants.{Offered, Taken, Answered, Chose, Told, Recovered, Released, Acked, Broke, Cleared, LetGo, Closed}
-use Rattle.tx_history.specs.declared.journal.Waiting.{Waiting}
+use Rattle.tx_history.specs.declared.journal.WaitingContext.{WaitingContext}
 use Rattle.tx_history.specs.declared.journal.JournalView.{JournalView}
 use Rattle.tx_history.specs.Keys.{gather, keyed, look, put_new}
 use Rattle.tx_history.specs.History.{Start, arrivals, ids, serves, shelf, shelved, shelved_at, state_of}
@@ -47,12 +47,12 @@ sides_count id (x ∷ xs) h =
     let both = apart_count id x xs w.0 (sides_count id xs w.1) (nat_lt x.0 id) refl (nat_lt id x.0) refl in
     omega arith
 
-pub put_count : (id : ℕ) (o : Option Waiting) (xs : List (ℕ × Waiting)) → look id xs ≡ None →
+pub put_count : (id : ℕ) (o : Option WaitingContext) (xs : List (ℕ × WaitingContext)) → look id xs ≡ None →
     length (put_new (shelved_change id o) xs) ≡ (if is_some (shelved_change id o) then length xs + 1 else length xs)
 put_count id None xs h = refl
 put_count id (Some w) xs h =
-    let low : List (ℕ × Waiting) = filter (λ (p : ℕ × Waiting). nat_lt p.0 id) xs in
-    let high : List (ℕ × Waiting) = filter (λ (p : ℕ × Waiting). nat_lt id p.0) xs in
+    let low : List (ℕ × WaitingContext) = filter (λ (p : ℕ × WaitingContext). nat_lt p.0 id) xs in
+    let high : List (ℕ × WaitingContext) = filter (λ (p : ℕ × WaitingContext). nat_lt id p.0) xs in
     let is : length (put_new (shelved_change id (Some w)) xs) ≡ length ((low ++ (id, w) ∷ []) ++ high) = refl in
     let sum : length ((low ++ (id, w) ∷ []) ++ high) ≡ length (low ++ (id, w) ∷ []) + length high = length-append (low ++ (id, w) ∷ []) high in
     let one : length (low ++ (id, w) ∷ []) ≡ length low + 1 = length-append low ((id, w) ∷ []) in
@@ -69,22 +69,22 @@ plain_count : (f : Flow) (v : Start) (past : List Event) (e : Event) → IsOrder
     (change f v (e ∷ past)).emptied ≡ false
     → shelved_after (length (shelf f v past)) (change f v (e ∷ past)) ≡ length (shelf f v (e ∷ past))
 plain_count f v past e o law none kept =
-    let same : shelf f v past ≡ shelf f v (e ∷ past) = subst (λ (c : Option (ℕ × Waiting)). put_new c (shelf f v past) ≡ shelf f v (e ∷ past)) none
+    let same : shelf f v past ≡ shelf f v (e ∷ past) = subst (λ (c : Option (ℕ × WaitingContext)). put_new c (shelf f v past) ≡ shelf f v (e ∷ past)) none
     (subst (λ (b : Bool). put_new (change f v (e ∷ past)).shelved (if b then [] else shelf f v past) ≡ shelf f v (e ∷ past)) kept
     (shelf_led f v past e o law)) in
-    rw (none, kept) (ap (λ (xs : List (ℕ × Waiting)). length xs) same)
+    rw (none, kept) (ap (λ (xs : List (ℕ × WaitingContext)). length xs) same)
 
 given_count : (f : Flow) (v : Start) (past : List Event) (e : Event) (id : ℕ) → IsOrdered v.view → IsLawful f v (e ∷ past) →
     look id (shelf f v past) ≡ None → (change f v (e ∷ past)).shelved ≡ shelved_change id (shelved f (state_of f v (e ∷ past) id) true) →
     (change f v (e ∷ past)).emptied ≡ false
     → shelved_after (length (shelf f v past)) (change f v (e ∷ past)) ≡ length (shelf f v (e ∷ past))
 given_count f v past e id o law lacks is kept =
-    let o2 : Option Waiting = shelved f (state_of f v (e ∷ past) id) true in
+    let o2 : Option WaitingContext = shelved f (state_of f v (e ∷ past) id) true in
     let led : put_new (shelved_change id o2) (shelf f v past) ≡ shelf f v (e ∷ past) =
-    subst (λ (c : Option (ℕ × Waiting)). put_new c (shelf f v past) ≡ shelf f v (e ∷ past)) is
+    subst (λ (c : Option (ℕ × WaitingContext)). put_new c (shelf f v past) ≡ shelf f v (e ∷ past)) is
     (subst (λ (b : Bool). put_new (change f v (e ∷ past)).shelved (if b then [] else shelf f v past) ≡ shelf f v (e ∷ past)) kept
     (shelf_led f v past e o law)) in
-    rw (is, kept) (sym (put_count id o2 (shelf f v past) lacks) ∙ ap (λ (xs : List (ℕ × Waiting)). length xs) led)
+    rw (is, kept) (sym (put_count id o2 (shelf f v past) lacks) ∙ ap (λ (xs : List (ℕ × WaitingContext)). length xs) led)
 
 touched_shelved : (f : Flow) (v : Start) (past : List Event) (a : Option ((ℕ × ℕ) × Option (List ℕ))) (s : Option ℕ) (id : ℕ) → s ≡ Some id →
     ((touched f v past a s).shelved ≡ shelved_change id (shelved f (state_of f v past id) true)) × ((touched f v past a s).emptied ≡ false)
@@ -111,7 +111,7 @@ shelf_count f v past (Told s a) o law =
     let t = touched_shelved f v (Told s a ∷ past) _ (serves f v past s) id w.0 in
     given_count f v past (Told s a) id o law (shelf_lacks f v past (Told s a) s id (ToldOne a) o (gave_told f v past s a id w.0) w.0 w.1) t.0 t.1
 shelf_count f v past (Recovered s c) o law = plain_count f v past (Recovered s c) o law refl refl
-shelf_count f v past Released o law = ap (λ (xs : List (ℕ × Waiting)). length xs) (shelf_led f v past Released o law)
+shelf_count f v past Released o law = ap (λ (xs : List (ℕ × WaitingContext)). length xs) (shelf_led f v past Released o law)
 shelf_count f v past (Acked id n) o law = plain_count f v past (Acked id n) o law refl refl
 shelf_count f v past (Broke p) o law = plain_count f v past (Broke p) o law refl refl
 shelf_count f v past (Cleared p) o law = plain_count f v past (Cleared p) o law refl refl

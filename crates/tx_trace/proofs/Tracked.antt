@@ -142,7 +142,7 @@ left_over f m (Some x) first id over h = rw h.1 (none_of (nat_lt id first))
     none_of false = refl
 
 -- what a tracer finds of such an entry
-pub record Found (f : Flow) (v : Start) (past : List Event) (e : Event) (id : ℕ) (before after : Machine) (j was is : Bool) (r to : Option (ℕ × Bool))
+pub record FoundTrack (f : Flow) (v : Start) (past : List Event) (e : Event) (id : ℕ) (before after : Machine) (j was is : Bool) (r to : Option (ℕ × Bool))
     (k : Option Machine) : Type 0 where
   pub stood : IsMachineOf f v past id before
   pub sound : IsSound f after
@@ -155,7 +155,7 @@ pub record Found (f : Flow) (v : Start) (past : List Event) (e : Event) (id : �
   pub left : IsLeft f after k
 
 pub given_traced : (f : Flow) (v : Start) (past : List Event) (e : Event) (id : ℕ) (before after : Machine) (j was is : Bool) (r to : Option (ℕ × Bool))
-    (k : Option Machine) (t : Traced) → Concerns f v past e id → Found f v past e id before after j was is r to k
+    (k : Option Machine) (t : Traced) → Concerns f v past e id → FoundTrack f v past e id before after j was is r to k
     → t.shown ≡ Moved (moved_of f id j (point_of f before r) (point_of f after to)) → t.moved ≡ Some (id, k) → IsTraced f v past e t
 given_traced f v past e id before after j was is r to k t c h shown moved =
     let state : tx_state f after ≡ state_of f v (e ∷ past) id = h.led ∙ (ap (λ (st : TxState). led_by f st e) h.stood.state ∙ sym c.after) in

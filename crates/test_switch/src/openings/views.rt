@@ -1,13 +1,13 @@
 //! A journal's layout and view, as lines.
 
 use crate::error::TestError;
+use journal_store::{Journal, JournalError};
 use sqlite::types::ValueRef;
 use sqlite::{Alter, Connection};
 use std::alloc::Global;
 use std::io::{self, Write};
 use sw_participant::Text;
 use tx_history::{JournalView, Row};
-use tx_journal::{Journal, JournalError};
 use tx_trace::PhaseText;
 
 /// `layout N`, by the database; `layout none` if it has no such row.

@@ -11,7 +11,7 @@ use crate::error::EngineError;
 use std::alloc::{AllocError, Global};
 use std::collections::{BTreeMap, VecDeque};
 use sw_participant::{Bytes, Sequence};
-use tx_history::{JournalView, Waiting};
+use tx_history::{JournalView, WaitingContext};
 use tx_slots::{Slot, is_holding};
 
 impl Engine {
@@ -73,7 +73,7 @@ fn any_holding(slots: &[Slot]) -> bool
 fn view_of(
     alloc: Global,
     next_id: u64,
-    shelf: &BTreeMap<u64, Waiting>,
+    shelf: &BTreeMap<u64, WaitingContext>,
     advices: &BTreeMap<(u64, usize), Bytes>,
 ) -> Result<JournalView, AllocError>
     ensures { IfOk result (λ view. view ≡ record {
@@ -94,8 +94,8 @@ fn view_of(
 // A copy of the contexts on the shelf, under their ids.
 fn shelf_items(
     alloc: Global,
-    shelf: &BTreeMap<u64, Waiting>,
-) -> Result<Vec<(u64, Waiting)>, AllocError>
+    shelf: &BTreeMap<u64, WaitingContext>,
+) -> Result<Vec<(u64, WaitingContext)>, AllocError>
     ensures { IfOk result (λ items. items.items ≡ shelf.now.entries) }
 {
     let mut items = Vec::new(alloc);
@@ -120,7 +120,10 @@ fn advice_items(
 }
 
 // A copy of the contexts that wait.
-fn queue_items(alloc: Global, queue: &VecDeque<Waiting>) -> Result<Vec<Waiting>, AllocError>
+fn queue_items(
+    alloc: Global,
+    queue: &VecDeque<WaitingContext>,
+) -> Result<Vec<WaitingContext>, AllocError>
     ensures { IfOk result (λ items. items.items ≡ queue.now.items) }
 {
     let mut items = Vec::new(alloc);

@@ -20,7 +20,7 @@ use flow_model::number_of;
 use std::alloc::{AllocError, Global};
 use std::collections::BTreeMap;
 use sw_participant::{Bytes, Sequence, Text};
-use tx_history::{Change, Entry, Event, JournalView, Row, Waiting};
+use tx_history::{Change, Entry, Event, JournalView, Row, WaitingContext};
 use tx_slots::{Lists, Slot, is_holding, is_over, next_slot};
 
 /// The greatest number of sessions.
@@ -49,7 +49,7 @@ impl Engine {
             return Err(EngineError::BadSessions);
         }
         let rows = view.rows.as_slice();
-        test_rows(code, rows)?;
+        check_rows(code, rows)?;
         let first_slot = next_slot(alloc, code, rows, 0)?;
         let recovering = is_holding(&first_slot);
         let slots = seated(alloc, first_slot, sessions)?;
@@ -81,9 +81,9 @@ impl Engine {
 // The shelf of a view, as a map.
 pub(super) fn shelf_of(
     alloc: Global,
-    items: &[(u64, Waiting)],
+    items: &[(u64, WaitingContext)],
     next_id: u64,
-) -> Result<BTreeMap<u64, Waiting>, AllocError>
+) -> Result<BTreeMap<u64, WaitingContext>, AllocError>
     requires { Rising 1 next_id items.now }
     ensures { IfOk result (λ shelf. shelf.entries ≡ items.now) }
 {
@@ -147,7 +147,7 @@ fn no_breaks(alloc: Global, participants: usize) -> Result<Vec<bool>, AllocError
 }
 
 // Refuses a name that no participant of the flow has.
-fn test_name(code: &Code, id: u64, name: &Text) -> Result<(), EngineError>
+fn check_name(code: &Code, id: u64, name: &Text) -> Result<(), EngineError>
     ensures { RefusesOpen (unknown_in code.now id (name.now ∷ [])) result }
 {
     let parts = code.participants();
@@ -160,31 +160,31 @@ fn test_name(code: &Code, id: u64, name: &Text) -> Result<(), EngineError>
     })
 }
 
-fn test_names(code: &Code, id: u64, names: &[Text]) -> Result<(), EngineError>
+fn check_names(code: &Code, id: u64, names: &[Text]) -> Result<(), EngineError>
     ensures { RefusesOpen (unknown_in code.now id names.now) result }
 {
     for name in names {
-        test_name(code, id, name)?;
+        check_name(code, id, name)?;
     }
     Ok(())
 }
 
 // Refuses a row that names a participant to be notified that the flow does not have.
-fn test_row(code: &Code, id: u64, row: &Row) -> Result<(), EngineError>
+fn check_row(code: &Code, id: u64, row: &Row) -> Result<(), EngineError>
     ensures { RefusesOpen (unknown_in code.now id (to_tell row.now row.now.doing)) result }
 {
-    test_names(code, id, row.joined.as_slice())?;
+    check_names(code, id, row.joined.as_slice())?;
     match &row.doing {
-        Some(name) => test_name(code, id, name),
+        Some(name) => check_name(code, id, name),
         None => Ok(()),
     }
 }
 
-fn test_rows(code: &Code, rows: &[(u64, Row)]) -> Result<(), EngineError>
+fn check_rows(code: &Code, rows: &[(u64, Row)]) -> Result<(), EngineError>
     ensures { RefusesOpen (unknown_of code.now rows.now) result }
 {
     for (id, row) in rows {
-        test_row(code, *id, row)?;
+        check_row(code, *id, row)?;
     }
     Ok(())
 }

@@ -12,7 +12,7 @@ use crate::error::EngineError;
 use crate::offer::{Offer, context_of};
 use std::alloc::Global;
 use sw_context::Context;
-use tx_history::{Change, Entry, Event, Row, Waiting};
+use tx_history::{Change, Entry, Event, Row, WaitingContext};
 use tx_machine::Machine;
 use tx_slots::{is_holding, no_change, row_of, slot_for};
 
@@ -111,7 +111,7 @@ impl Engine {
             event: Event::Offered { context: event },
             change: no_change(),
         };
-        let waiting = Waiting {
+        let waiting = WaitingContext {
             tries: self.code.retries(),
             context: waiting,
         };
@@ -129,7 +129,7 @@ impl Engine {
     }
 
     // The queue's first context, if the session may take it.
-    fn allow_take(&self, s: usize) -> Result<&Waiting, EngineError>
+    fn allow_take(&self, s: usize) -> Result<&WaitingContext, EngineError>
         ensures { MatchResult result
             (λ w. IsFirst self.now s w.now)
             (λ e. take_refusal self.now s ≡ Some e) }

@@ -9,7 +9,7 @@ ghost use Rattle.tx_machine.specs.declared.values.Item.TheVariants.{Answer, Choi
 ghost use Rattle.tx_history.specs.History.{put_advice, shelved};
 ghost use Rattle.tx_engine.specs.World.{Recorded};
 ghost use Rattle.tx_engine.specs.Calls.{is_full, reply_refusal};
-ghost use Rattle.tx_engine.specs.Items.{Allows, Gives};
+ghost use Rattle.tx_engine.specs.Items.{Allows, GivesEvent};
 
 use super::Engine;
 use crate::error::EngineError;
@@ -48,7 +48,7 @@ impl Engine {
 
     // Records a reply that is due.
     fn give(&mut self, alloc: Global, given: Given) -> Result<usize, EngineError>
-        requires { Gives self.old given.session given.id given.machine given.event given.advice
+        requires { GivesEvent self.old given.session given.id given.machine given.event given.advice
             given.restored }
         ensures { MatchResult result
             (λ n. Recorded self.old given.event n self.new)

@@ -1,5 +1,5 @@
 use Rattle.std.proofs.Common.{ap}
-use Rattle.cli_setup.specs.Plans.{PlainSetup}
+use Rattle.run_setup.specs.Plans.{PlainSetup}
 use Rattle.cardswitch.proofs.Answering.{recovered_by, taken, unrecovered}
 use Rattle.cardswitch.proofs.requests.recover_by.Goals as goal
 

@@ -1,5 +1,5 @@
 use Rattle.std.proofs.Common.{arith}
-use Rattle.tx_journal.specs.Kept.{kept}
+use Rattle.journal_store.specs.Kept.{kept}
 use Rattle.tx_plant.specs.Plant.{seen, whole}
 use Rattle.cli_step.proofs.Turning.{ahead, goes_on, last_driven, none_driven, world_after}
 use Rattle.cli_step.proofs.turns.drive_one.Goals as goal

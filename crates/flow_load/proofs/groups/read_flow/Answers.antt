@@ -12,8 +12,8 @@ read_groups-requires-clause-few c = omega (
   c.requires.steps,
 )
 
-pub test_end-requires : goal.test_end-requires
-test_end-requires c = omega (
+pub check_end-requires : goal.check_end-requires
+check_end-requires c = omega (
   arith,
   ap length c.as_slice-parts.ensures,
   ap length c.as_slice-starts.ensures,

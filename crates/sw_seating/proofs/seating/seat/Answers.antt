@@ -6,5 +6,5 @@ use Rattle.sw_seating.proofs.seating.seat.Goals as goal
 
 pub seat_all-requires-clause-suited : goal.seat_all-requires-clause-suited
 seat_all-requires-clause-suited g c = none_missing _ 0 c.args.parts.now
-    (ap (λ ss. first_at (no_station (names_of ss)) 0 c.args.parts.now) (sym c.as_slice.ensures.value) ∙ passed _ _ c.test_missing.ensures
-    c.in_ok-test_missing.was)
+    (ap (λ ss. first_at (no_station (names_of ss)) 0 c.args.parts.now) (sym c.as_slice.ensures.value) ∙ passed _ _ c.check_missing.ensures
+    c.in_ok-check_missing.was)

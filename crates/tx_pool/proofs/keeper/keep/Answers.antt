@@ -1,5 +1,5 @@
 use Rattle.std.proofs.Common.{rules, ◌≡◌, ◌++◌, ◌<◌, length, sym, subst}
-use Rattle.tx_journal.specs.Kept.{kept}
+use Rattle.journal_store.specs.Kept.{kept}
 use Rattle.tx_pool.specs.Wrote.{Wrote}
 use Rattle.tx_pool.proofs.Keeping.{wrote_more}
 use Rattle.tx_pool.proofs.keeper.keep.Goals as goal

@@ -1,4 +1,4 @@
-use Rattle.tx_journal.specs.Kept.{kept}
+use Rattle.journal_store.specs.Kept.{kept}
 use Rattle.tx_pool.specs.Wrote.{Wrote}
 use Rattle.tx_pool.proofs.keeper.keep.Given as goal
 

@@ -1,5 +1,5 @@
 use Rattle.std.proofs.Common.{◌≡◌, ◌≤◌, ◌∙◌, ℕ, length, map, vec_len, sym, ap, subst}
-use Rattle.tx_journal.specs.Kept.{kept}
+use Rattle.journal_store.specs.Kept.{kept}
 use Rattle.tx_plant.specs.Core.{Core, core}
 use Rattle.tx_plant.specs.Plant.{seen}
 use Rattle.tx_plant.specs.Written.{IsWritten}

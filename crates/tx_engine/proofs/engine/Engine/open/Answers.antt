@@ -8,11 +8,11 @@ use Rattle.tx_engine.proofs.Unknown.{rows_known, start_fits}
 use Rattle.tx_engine.proofs.engine.Engine.open.Goals as goal
 
 pub next_slot-requires : goal.next_slot-requires
-next_slot-requires c = rows_known c.args.code.now c.as_slice-rows.result.now (c.in_ok-test_rows.ensures)
+next_slot-requires c = rows_known c.args.code.now c.as_slice-rows.result.now (c.in_ok-check_rows.ensures)
 
 pub invariant_of-result : goal.invariant_of-result
 invariant_of-result c =
-    let known = rows_known c.args.code.now c.args.view.now.rows (rw c.as_slice-rows.ensures at (c.in_ok-test_rows.ensures)) in
+    let known = rows_known c.args.code.now c.args.view.now.rows (rw c.as_slice-rows.ensures at (c.in_ok-check_rows.ensures)) in
     let st = start_fits c.args.code.now c.args.view.now c.requires known in
     let fits = checked_fits c.args.code.now c.is_checked.ensures in
     let some : 1 ≤ c.args.sessions = omega arith in

@@ -9,7 +9,7 @@ use Rattle.sw_context.specs.Spelling.{IsSpelled}
 use Rattle.std.specs.Option.{option_map}
 use Rattle.tx_history.specs.History.{next_id}
 use Rattle.tx_history.specs.declared.event.Event.TheVariants.{Taken}
-use Rattle.tx_history.specs.declared.journal.Waiting.{Waiting}
+use Rattle.tx_history.specs.declared.journal.WaitingContext.{WaitingContext}
 use Rattle.tx_engine.specs.Kept.{past_of}
 use Rattle.tx_engine.specs.World.{World, happened}
 use Rattle.tx_engine.specs.contracts.engine.Engine.{the_view}
@@ -69,5 +69,5 @@ returns c =
             view;
       };
       id_is = c.self.invariant.numbered ∙ ap (λ (w : World). next_id w.start w.past) view;
-      context_is = ap (option_map (λ (w : Waiting). w.context)) c.in_ok-first.ensures.first_is ∙ ap Some (sym c.as_slice.ensures ∙ c.in_ok-context.ensures);
+      context_is = ap (option_map (λ (w : WaitingContext). w.context)) c.in_ok-first.ensures.first_is ∙ ap Some (sym c.as_slice.ensures ∙ c.in_ok-context.ensures);
     })

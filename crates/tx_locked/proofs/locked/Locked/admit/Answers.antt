@@ -16,6 +16,6 @@ invariant_of-self-in-Some g c =
             offer_allowed i.running.engine c.in_default.ensures.allowed,
             recorded,
             ap (core j.engine) (c.offer_reserved.ensures.seats ∙ c.in_default.ensures.seats),
-          ) c.is_engine.ensures.engine c.in-Some.ensures.got,
+          ) c.engine_is_sound.ensures.engine c.in-Some.ensures.got,
       c.in-Some.ensures.own ∙ c.self.invariant.1,
     )

@@ -15,7 +15,7 @@ invariant_of-self-in-Ok-enter g c =
     let e = subst (λ y. Entered p c.args.session.now.index c.args.call.now c.args.reply c.in-Ok-enter.before y c.in-Ok-enter.number q) (sym c.in-Ok.ensures)
     c.in-Ok-enter.ensures.entered in (
       since_reply g.K.Run.start p q i.getter.passed i.book.total c.add.new.self.total i.made.items c.push_reserved.new.self.items c.args.session.now.index
-          c.in-Ok-enter.number m c.self.invariant.0 e c.is_engine.ensures.engine c.add.ensures.total
+          c.in-Ok-enter.number m c.self.invariant.0 e c.engine_is_sound.ensures.engine c.add.ensures.total
           (c.push_reserved.ensures.items ∙ ap (λ l. l ++ m ∷ []) c.reserve-2.ensures.items),
       c.self.invariant.1,
     )

@@ -10,6 +10,6 @@ invariant_of-self g c =
     let j = c.wrote.new.self in
     let moved = ap (core j.engine) c.if-wrote.ensures.seats ∙ ap (λ (w : World). core w i.running.seats) (c.if-wrote.ensures.moved refl) in (
       since_write g.K.Run.start (core i.running.engine i.running.seats) (core j.engine j.seats) i.getter.passed i.book.total i.made.items c.args.count
-          c.self.invariant.0 (omega (arith, c.if-count-eq0.false)) (c.if-wrote.ensures.few refl) moved c.is_engine.ensures.engine,
+          c.self.invariant.0 (omega (arith, c.if-count-eq0.false)) (c.if-wrote.ensures.few refl) moved c.engine_is_sound.ensures.engine,
       c.self.invariant.1,
     )

@@ -1,6 +1,0 @@
-use Rattle.std.proofs.Common.{◌≡◌, ◌≤◌, take}
-use Rattle.cli_run.specs.Shown.{committing_in}
-use Rattle.cli_run.proofs.saying.committing_in.Given as goal
-
-abbrev pub invariant-loop-row : goal.invariant-loop-row
-invariant-loop-row l = (l.count ≡ committing_in (take l.row-index l.rows)) × (l.count ≤ l.row-index)

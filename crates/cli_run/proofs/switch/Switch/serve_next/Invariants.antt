@@ -1,8 +1,0 @@
-use Rattle.tx_journal.specs.Kept.{kept}
-use Rattle.cli_run.specs.Points.{point}
-use Rattle.cli_run.proofs.Transactions.{Under}
-use Rattle.cli_run.proofs.switch.Switch.serve_next.Given as goal
-
-abbrev pub invariant-loop : goal.invariant-loop
-invariant-loop g l = Under (point l.fn.self.plant.running.engine l.fn.self.plant.running.seats (kept g.S.Store l.fn.self.plant.journal) l.fn.self.answered)
-    (point l.self.plant.running.engine l.self.plant.running.seats (kept g.S.Store l.self.plant.journal) l.self.answered)

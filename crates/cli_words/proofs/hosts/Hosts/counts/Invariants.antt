@@ -1,6 +1,0 @@
-use Rattle.std.proofs.Common.{map, take, string_bytes}
-use Rattle.cli_words.specs.Hosts.{AreHostLines}
-use Rattle.cli_words.proofs.hosts.Hosts.counts.Given as goal
-
-abbrev pub invariant-loop-host : goal.invariant-loop-host
-invariant-loop-host l = AreHostLines (map (λ h. h.name) (take l.host-index l.host-items)) (string_bytes l.lines)

@@ -1,7 +1,0 @@
-use Rattle.std.proofs.Common.{◌≡◌, map, take, string_bytes}
-use Rattle.cli_words.specs.Hosts.{AreNews, names_in}
-use Rattle.cli_words.proofs.hosts.Hosts.news.Given as goal
-
-abbrev pub invariant-loop-host : goal.invariant-loop-host
-invariant-loop-host l = (map (λ h. h.name) l.host-items ≡ names_in l.fn.self)
-    × AreNews (map (λ h. h.name) (take l.host-index l.host-items)) (string_bytes l.text)

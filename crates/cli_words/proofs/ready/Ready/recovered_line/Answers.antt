@@ -1,5 +1,0 @@
-use Rattle.std.proofs.Common.{append_assoc, sym}
-use Rattle.cli_words.proofs.ready.Ready.recovered_line.Goals as goal
-
-pub returns : goal.returns
-returns c = simp append_assoc (rw (sym c.journal_text-journal.ensures) c.format.ensures.ok)

@@ -1,0 +1,75 @@
+//! The configuration file that an option names.
+
+ghost use Rattle.std.specs.Prelude.{◌≡◌, IfErr, IfNone, IfOk, Ok};
+ghost use Rattle.cli_config.specs.ConfigFile.{IsConfigFile};
+ghost use Rattle.run_setup.specs.Errors.{RefusesBytes, RefusesConfig, StatesConfig};
+ghost use Rattle.run_setup.specs.Plans.{no_config};
+
+use crate::error::ConfigFileError;
+use cli_config::{Config, Limits, RunTable, read_config};
+use cli_io::{Input, read_input};
+use std::alloc::Global;
+use std::fs::{File, Files};
+use std::io::Read;
+
+// A configuration that states nothing.
+fn no_config() -> Config
+    ensures { result ≡ no_config }
+{
+    Config {
+        hosts: None,
+        routes: None,
+        limits: Limits {
+            per_card: None,
+            stand_in: None,
+        },
+        run: RunTable {
+            advices: None,
+            allow: None,
+            sessions: None,
+            journal: None,
+            log: None,
+            threads: None,
+        },
+    }
+}
+
+// The configuration that the bytes of a file state.
+fn config_in(alloc: Global, bytes: &[u8]) -> Result<Config, ConfigFileError>
+    ensures states { IfOk result (λ config. IsConfigFile config bytes.now) }
+    ensures refused { IfErr result (RefusesBytes bytes.now) }
+{
+    let text = str::from_utf8(bytes)?;
+    Ok(read_config(alloc, text)?)
+}
+
+/// The configuration that a reader gives.
+pub(crate) fn config_from<R: Read + Drop>(
+    alloc: Global,
+    input: R,
+) -> Result<Config, ConfigFileError>
+    ensures states { IfOk result (StatesConfig (R.remaining input)) }
+    ensures refused { IfErr result (RefusesConfig (R.remaining input)) }
+{
+    let mut input = Input::new(input);
+    let bytes = read_input(alloc, &mut input)?;
+    config_in(alloc, bytes.as_slice())
+}
+
+/// The configuration of the file at a path; without a path it states nothing. No contract can say what a file
+/// holds.
+pub fn config_at<F: Files>(
+    alloc: Global,
+    files: &F,
+    path: Option<&str>,
+) -> Result<Config, ConfigFileError>
+    ensures none { IfNone path.entry (result ≡ Ok no_config) }
+{
+    let Some(path) = path else {
+        return Ok(no_config());
+    };
+    match File::open(files, path) {
+        Ok(file) => config_from(alloc, file),
+        Err(error) => Err(ConfigFileError::Open(error)),
+    }
+}

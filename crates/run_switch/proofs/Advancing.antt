@@ -1,0 +1,179 @@
+-- Requests answered with advices sent between them.
+-- for: stream::Requests::serve_all, batches::Requests::serve_in_batches, advices::send_between
+use Rattle.std.proofs.Common.{◌≡◌, ℕ, ◌+◌, Bool, false, List, [], ◌∷◌, ◌++◌, length, Option, refl, sym, ap, subst, ◌∙◌, append_assoc, append-nil}
+use Rattle.sw_context.specs.Pairs.{Pairs}
+use Rattle.sw_frame.specs.Stream.{State, blank}
+use Rattle.run_switch.specs.Advices.{AdviceStep, Between, PlainAdvisor, SendsAll, SendsBetween, due_between}
+use Rattle.run_switch.specs.Legs.{Advances, AdvancesFor, Leg, Legs, Stage, lines_of, rounds_in, stage}
+use Rattle.run_switch.specs.Lines.{Line}
+use Rattle.run_switch.specs.Points.{Point, is_long, world_at}
+use Rattle.run_switch.specs.Requests.{Reads, requests}
+use Rattle.run_switch.specs.Rounds.{Round, RoundsFor, Serves}
+use Rattle.run_switch.specs.Stopped.{HaltsOn, StopsWithin}
+use Rattle.run_switch.specs.Traces.{Cuts, Log, ReportsFor, Tells, passed_over}
+use Rattle.run_switch.proofs.Readings.{nothing_read, requests_append}
+use Rattle.run_switch.proofs.Resting.{may_keep}
+use Rattle.run_switch.proofs.Rounds.{serves_none, serves_then}
+use Rattle.run_switch.proofs.Stops.{rounds_append, rounds_none, toward_none}
+use Rattle.run_switch.proofs.Tracing.{lines_then, passed_over_append, tells_none, tells_then}
+
+-- legs
+
+legs_more : (step : AdviceStep) (legs : List (List Round)) (rs : List Round) (lines more : List Line) (x y z : Stage) → Legs step legs x lines y →
+    Leg step rs y more z → Legs step (legs ++ rs ∷ []) x (lines ++ more) z
+legs_more step [] rs lines more x y z (none, same) leg =
+    let here : Leg step rs x more z = subst (λ (w : Stage). Leg step rs w more z) same leg in
+    (more, [], z, here, (refl, refl), ap (λ (l : List Line). l ++ more) none ∙ sym (append-nil more))
+legs_more step (r ∷ legs) rs lines more x y z (first, later, w, leg, others, are) next =
+    (first, later ++ more, w, leg, legs_more step legs rs later more w y z others next, ap (λ (l : List Line). l ++ more) are ∙ append_assoc first later more)
+
+rounds_in_more : (legs : List (List Round)) (rs : List Round) → rounds_in (legs ++ rs ∷ []) ≡ rounds_in legs ++ rs
+rounds_in_more [] rs = append-nil rs
+rounds_in_more (r ∷ legs) rs = ap (λ (l : List Round). r ++ l) (rounds_in_more legs rs) ∙ sym (append_assoc r (rounds_in legs) rs)
+
+abbrev advances_none : (step : AdviceStep) (x : Stage) → Advances step [] x x
+advances_none step x = record {
+  legs = [];
+  last = [];
+  split = refl;
+  lines = [];
+  halfway = x;
+  goes = (refl, refl);
+  serves = serves_none x.point x.out;
+  advisor = refl;
+}
+
+-- further rounds
+abbrev advances_serves : (step : AdviceStep) (rs ss : List Round) (x y : Stage) (q : Point) (c : Option (List ℕ)) → Advances step rs x y →
+    Serves ss y.point y.out q c → Advances step (rs ++ ss) x (stage y.advisor q c)
+advances_serves step rs ss x y q c a s = record {
+  legs = a.legs;
+  last = a.last ++ ss;
+  split = ap (λ (l : List Round). l ++ ss) a.split ∙ append_assoc (rounds_in a.legs) a.last ss;
+  lines = a.lines;
+  halfway = a.halfway;
+  goes = a.goes;
+  serves = serves_then a.last ss a.halfway.point y.point q a.halfway.out y.out c a.serves s;
+  advisor = a.advisor;
+}
+
+-- and then advices
+abbrev leg_of : (step : AdviceStep) (rs : List Round) (x y : Stage) (lines : List Line) (t : PlainAdvisor) (q : Point) →
+    (s : Serves rs x.point x.out y.point y.out) → y.advisor ≡ x.advisor → Between step y.advisor y.point lines t q →
+    Leg step rs x (s.lines ++ lines) (stage t q y.out)
+leg_of step rs x y lines t q s same b = record {
+  served = y.point;
+  serves = s;
+  cut = lines;
+  between = subst (λ (a : PlainAdvisor). Between step a y.point lines t q) same b;
+  lines_are = refl;
+}
+
+abbrev advances_sends : (step : AdviceStep) (rs : List Round) (x y : Stage) (lines : List Line) (t : PlainAdvisor) (q : Point) → Advances step rs x y →
+    Between step y.advisor y.point lines t q → Advances step rs x (stage t q y.out)
+advances_sends step rs x y lines t q a b = record {
+  legs = a.legs ++ a.last ∷ [];
+  last = [];
+  split = a.split ∙ (sym (rounds_in_more a.legs a.last) ∙ sym (append-nil (rounds_in (a.legs ++ a.last ∷ []))));
+  lines = a.lines ++ (a.serves.lines ++ lines);
+  halfway = stage t q y.out;
+  goes = legs_more step a.legs a.last a.lines (a.serves.lines ++ lines) x a.halfway (stage t q y.out) a.goes
+      (leg_of step a.last a.halfway y lines t q a.serves a.advisor b);
+  serves = serves_none q y.out;
+  advisor = refl;
+}
+
+-- of the messages of frames
+
+pub advanced_none : (step : AdviceStep) (threads : Bool) (x : Stage) (l : Log) → AdvancesFor step threads [] x l x l
+advanced_none step threads x l = record { rounds = []; answers = rounds_none threads; advances = advances_none step x; tells = tells_none l }
+
+pub advanced_then : (step : AdviceStep) (threads : Bool) (frames more : List (List ℕ)) (x y : Stage) (q : Point) (c : Option (List ℕ)) (k l m : Log) →
+    AdvancesFor step threads frames x k y l → ReportsFor threads more y.point y.out l q c m →
+    AdvancesFor step threads (frames ++ more) x k (stage y.advisor q c) m
+advanced_then step threads frames more x y q c k l m a r = record {
+  rounds = a.rounds ++ r.rounds;
+  answers = subst (λ (xs : List Pairs). RoundsFor threads xs (a.rounds ++ r.rounds)) (sym (requests_append frames more))
+      (rounds_append threads (requests frames) (requests more) a.rounds r.rounds a.answers r.answers);
+  advances = advances_serves step a.rounds r.rounds x y q c a.advances r.reports.serves;
+  tells = (let both : Tells ((a.advances.lines ++ a.advances.serves.lines) ++ r.reports.serves.lines) (passed_over frames + passed_over more) k m =
+      tells_then (lines_of a.advances) r.reports.serves.lines (passed_over frames) (passed_over more) k l m a.tells r.reports.tells in
+      subst (λ (n : ℕ). Tells (a.advances.lines ++ (a.advances.serves.lines ++ r.reports.serves.lines)) n k m) (sym (passed_over_append frames more))
+      (subst (λ (ls : List Line). Tells ls (passed_over frames + passed_over more) k m)
+      (append_assoc a.advances.lines a.advances.serves.lines r.reports.serves.lines) both));
+}
+
+pub advanced_sends : (step : AdviceStep) (threads : Bool) (frames : List (List ℕ)) (x y : Stage) (t : PlainAdvisor) (q : Point) (k l m : Log) →
+    AdvancesFor step threads frames x k y l → SendsBetween step y.advisor y.point l t q m → AdvancesFor step threads frames x k (stage t q y.out) m
+advanced_sends step threads frames x y t q k l m a b = record {
+  rounds = a.rounds;
+  answers = a.answers;
+  advances = advances_sends step a.rounds x y b.lines t q a.advances b.between;
+  tells = (let both : Tells ((a.advances.lines ++ a.advances.serves.lines) ++ b.lines) (passed_over frames) k m =
+      lines_then (lines_of a.advances) b.lines (passed_over frames) k l m a.tells b.tells in
+      subst (λ (ls : List Line). Tells ls (passed_over frames) k m) (append_assoc a.advances.lines a.advances.serves.lines b.lines
+      ∙ sym (append-nil (a.advances.lines ++ (a.advances.serves.lines ++ b.lines)))) both);
+}
+
+-- up to an error
+
+pub stops_fresh : (step : AdviceStep) (threads : Bool) (input : Option (List ℕ)) (s : State) (x : Stage) → s ≡ blank → StopsWithin step threads input x x.out
+stops_fresh step threads input s x fresh = record {
+  frames = [];
+  begins = record { left = input; state = s; reads = nothing_read input s fresh };
+  halts = record {
+    first = [];
+    later = [];
+    order = refl;
+    rounds = [];
+    answers = rounds_none threads;
+    reached = x;
+    advances = advances_none step x;
+    halts = toward_none threads [] x.point x.out;
+  };
+}
+
+pub stops_on : (step : AdviceStep) (threads : Bool) (input left : Option (List ℕ)) (frames : List (List ℕ)) (s : State) (x y : Stage) (k l : Log)
+    (c : Option (List ℕ)) → Reads input left frames s → AdvancesFor step threads frames x k y l → HaltsOn threads left s y.point y.out c →
+    StopsWithin step threads input x c
+stops_on step threads input left frames s x y k l c reads a on =
+    let (more, begins, halts) = on input frames reads in
+    record {
+      frames = frames ++ more;
+      begins = begins;
+      halts = record {
+        first = requests frames;
+        later = requests more;
+        order = requests_append frames more;
+        rounds = a.rounds;
+        answers = a.answers;
+        reached = y;
+        advances = a.advances;
+        halts = halts;
+      };
+    }
+
+-- advices between two reads
+
+pub none_between : (step : AdviceStep) (bs : List ((ℕ × ℕ) × List ℕ)) (s : PlainAdvisor) (p : Point) (l : Log) → bs ≡ due_between s p →
+    length bs ≡ 0 → is_long (world_at p) ≡ false → SendsBetween step s p l s p l
+none_between step bs s p l are none short = record {
+  lines = [];
+  between = record {
+    sent = p;
+    sends = subst (λ (cs : List ((ℕ × ℕ) × List ℕ)). SendsAll step cs s p s p) are (nothing bs none);
+    cuts = may_keep p short;
+  };
+  tells = tells_none l;
+} where
+  nothing : (cs : List ((ℕ × ℕ) × List ℕ)) → length cs ≡ 0 → SendsAll step cs s p s p
+  nothing [] h = (refl, refl)
+  nothing (c ∷ cs) h = absurd (cc)
+
+pub some_between : (step : AdviceStep) (bs : List ((ℕ × ℕ) × List ℕ)) (s t : PlainAdvisor) (p w q : Point) (l m : Log) → bs ≡ due_between s p →
+    SendsAll step bs s p t w → Cuts w l q m → SendsBetween step s p l t q m
+some_between step bs s t p w q l m are sends cuts = record {
+  lines = cuts.lines;
+  between = record { sent = w; sends = subst (λ (cs : List ((ℕ × ℕ) × List ℕ)). SendsAll step cs s p t w) are sends; cuts = cuts.cuts };
+  tells = cuts.tells;
+}

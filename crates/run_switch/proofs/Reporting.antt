@@ -1,0 +1,59 @@
+-- The messages of frames that were answered, or passed over.
+-- for: stream::Requests, batches::Requests, batches::answer_batches
+use Rattle.std.proofs.Common.{◌≡◌, ◌<◌, ℕ, ◌+◌, Bool, false, List, [], ◌∷◌, ◌++◌, length, map, take, get_or, Option, sym, subst, zero-add}
+use Rattle.std.specs.Global.{Vec}
+use Rattle.sw_context.specs.Pairs.{Pairs}
+use Rattle.sw_frame.specs.Feeds.{messages}
+use Rattle.iso_codec.specs.Reads.{read}
+use Rattle.run_switch.specs.Points.{Point}
+use Rattle.run_switch.specs.Requests.{if_read, request_of, requests}
+use Rattle.run_switch.specs.Rounds.{Round, RoundsFor, ServesFor, Trimmed, answering}
+use Rattle.run_switch.specs.Traces.{Cuts, Log, Reports, ReportsFor, if_passed, passed_over}
+use Rattle.run_switch.proofs.Readings.{requests_append, requests_next}
+use Rattle.run_switch.proofs.Rounds.{answering_append, reports_both, reports_none, reports_trimmed}
+use Rattle.run_switch.proofs.Stops.{rounds_append, rounds_none, untrimmed_answering}
+use Rattle.run_switch.proofs.Tracing.{passed_over_append, passed_over_next}
+
+pub for_none : (threads : Bool) (p : Point) (a : Option (List ℕ)) (l : Log) → ReportsFor threads [] p a l p a l
+for_none threads p a l = record { rounds = []; answers = rounds_none threads; reports = reports_none p a l }
+
+pub for_then : (threads : Bool) (frames more : List (List ℕ)) (p q r : Point) (a b c : Option (List ℕ)) (k l m : Log) →
+    ReportsFor threads frames p a k q b l → ReportsFor threads more q b l r c m → ReportsFor threads (frames ++ more) p a k r c m
+for_then threads frames more p q r a b c k l m s t = record {
+  rounds = s.rounds ++ t.rounds;
+  answers = subst (λ (xs : List Pairs). RoundsFor threads xs (s.rounds ++ t.rounds)) (sym (requests_append frames more))
+      (rounds_append threads (requests frames) (requests more) s.rounds t.rounds s.answers t.answers);
+  reports = reports_both s.rounds t.rounds (passed_over frames) (passed_over more) (passed_over (frames ++ more)) p q r a b c k l m
+      (passed_over_append frames more) s.reports t.reports;
+}
+
+pub for_serves : (threads : Bool) (frames : List (List ℕ)) (p q : Point) (a b : Option (List ℕ)) (k l : Log) → ReportsFor threads frames p a k q b l →
+    ServesFor threads (requests frames) p a q b
+for_serves threads frames p q a b k l s = (s.rounds, s.answers, s.reports.serves)
+
+-- one more message
+pub message_more : (list : List (Vec ℕ)) (i : ℕ) (m : Vec ℕ) (bytes : List ℕ) (p q r : Point) (a b c : Option (List ℕ)) (x y z : Log) → i < length list →
+    m ≡ get_or list i m → bytes ≡ m.items
+    → Reports (answering (requests (messages (take i list)))) (passed_over (messages (take i list))) p a x q b y →
+    Reports (answering (map request_of (if_read (read bytes) bytes))) (if_passed (read bytes)) q b y r c z
+    → Reports (answering (requests (messages (take (i + 1) list)))) (passed_over (messages (take (i + 1) list))) p a x r c z
+message_more list i m bytes p q r a b c x y z lt at is s t =
+    let first : List Pairs = requests (messages (take i list)) in
+    let next : List Pairs = map request_of (if_read (read bytes) bytes) in
+    let count : ℕ = passed_over (messages (take (i + 1) list)) in
+    let both : Reports (answering first ++ answering next) count p a x r c z =
+    reports_both (answering first) (answering next) (passed_over (messages (take i list))) (if_passed (read bytes)) count p q r a b c x y z
+    (passed_over_next list i m bytes lt at is) s t in
+    let joined : Reports (answering (first ++ next)) count p a x r c z =
+    subst (λ (l : List Round). Reports l count p a x r c z) (sym (answering_append first next)) both in
+    subst (λ (xs : List Pairs). Reports (answering xs) count p a x r c z) (sym (requests_next list i m bytes lt at is)) joined
+
+-- the history may be cut first
+pub for_trimmed : (frames : List (List ℕ)) (p q r : Point) (a b : Option (List ℕ)) (k l m : Log) → Cuts p k q l →
+    Reports (answering (requests frames)) (passed_over frames) q a l r b m → ReportsFor false frames p a k r b m
+for_trimmed frames p q r a b k l m cuts s = record {
+  rounds = Trimmed ∷ answering (requests frames);
+  answers = untrimmed_answering (requests frames);
+  reports = reports_both (Trimmed ∷ []) (answering (requests frames)) 0 (passed_over frames) (passed_over frames) p q r a a b k l m
+      (sym (zero-add (passed_over frames))) (reports_trimmed p q a k l cuts) s;
+}

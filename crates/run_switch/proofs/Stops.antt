@@ -1,0 +1,306 @@
+-- What is written where a switch ends with an error.
+-- for: switch::Switch, stream::Requests, serving::Switch, serving::Over, batches::Switch, batches::Requests
+use Rattle.std.proofs.Common.{◌≡◌, ◌<◌, ◌⊎◌, ℕ, ◌+◌, Bool, true, false, List, [], ◌∷◌, ◌++◌, length, map, take, drop, get_or, Option, Result, Ok, Err, refl}
+use Rattle.std.proofs.Common.{sym, ap, subst, ◌∙◌, append_assoc, append-nil, inl, inr}
+use Rattle.std.specs.Global.{Vec}
+use Rattle.std.specs.Prelude.{IfOk, OnErr, OnOk}
+use Rattle.std.specs.Io.KnownBytes.{Appends}
+use Rattle.std.specs.List.{AllByRecursion}
+use Rattle.cli_io.specs.Written.{AppendsBeginning}
+use Rattle.cli_io.proofs.Writing.{beginning_all, beginning_none}
+use Rattle.sw_context.specs.Pairs.{Pairs}
+use Rattle.sw_frame.specs.Feeds.{messages}
+use Rattle.sw_frame.specs.Stream.{AreFramed, State}
+use Rattle.iso_codec.specs.Reads.{read}
+use Rattle.tx_plant.specs.declared.turn.Outcome.{Outcome}
+use Rattle.tx_plant.specs.declared.turn.Turn.TheVariants as turn
+use Rattle.run_switch.specs.Points.{IsAtRest, IsReady, Point, responses, unanswered}
+use Rattle.run_switch.specs.Requests.{Reads, ReadsOn, if_read, request_of, requests}
+use Rattle.run_switch.specs.Lines.{Line}
+use Rattle.run_switch.specs.Rounds.{Alone, Batched, Completed, Does, Drains, IsOfBatches, IsRetry, MayCut, Offered, Released, Round, RoundsFor, Serves, ServesFor}
+use Rattle.run_switch.specs.Rounds.{Transacts, Trimmed, answering, offered_in, untrimmed}
+use Rattle.run_switch.specs.Stopped.{DrainsSome, GivesSome, Halts, HaltsOn, HaltsToward, IsOfNext}
+use Rattle.run_switch.proofs.Readings.{requests_front, requests_next}
+use Rattle.run_switch.specs.Traces.{Log}
+use Rattle.run_switch.proofs.Rounds.{Empties, answering_append, gives_own, retries_append, serves_none, serves_offer, serves_then, serves_trimmed}
+
+pub nothing_next : (rounds : List Round) (p : Point) → IsOfNext rounds p []
+nothing_next [] p = refl
+nothing_next (Offered x ∷ rounds) p = refl
+nothing_next (Completed ∷ rounds) p = inl refl
+nothing_next (Released ∷ rounds) p = refl
+nothing_next (Batched xs ∷ rounds) p = inl refl
+nothing_next (Alone x ∷ rounds) p = inl refl
+nothing_next (Trimmed ∷ rounds) p = refl
+
+-- none of them was done
+pub halts_none : (rounds : List Round) (p : Point) (a : Option (List ℕ)) → Halts rounds p a a
+halts_none rounds p a = record {
+  done = [];
+  rest = rounds;
+  order = refl;
+  at = p;
+  between = a;
+  serves = serves_none p a;
+  next = [];
+  is_next = nothing_next rounds p;
+  written = beginning_none a [];
+}
+
+-- all of them were
+pub halts_all : (rounds : List Round) (p q : Point) (a b : Option (List ℕ)) → Serves rounds p a q b → Halts rounds p a b
+halts_all rounds p q a b serves = record {
+  done = rounds;
+  rest = [];
+  order = sym (append-nil rounds);
+  at = q;
+  between = b;
+  serves = serves;
+  next = [];
+  is_next = refl;
+  written = beginning_none b [];
+}
+
+-- others were done before
+pub halts_then : (ds bs : List Round) (p q : Point) (a b c : Option (List ℕ)) → Serves ds p a q b → Halts bs q b c → Halts (ds ++ bs) p a c
+halts_then ds bs p q a b c serves h = record {
+  done = ds ++ h.done;
+  rest = h.rest;
+  order = ap (λ (l : List Round). ds ++ l) h.order ∙ sym (append_assoc ds h.done h.rest);
+  at = h.at;
+  between = h.between;
+  serves = serves_then ds h.done p q h.at a b h.between serves h.serves;
+  next = h.next;
+  is_next = h.is_next;
+  written = h.written;
+}
+
+more_next : (rounds others : List Round) (p : Point) (text : List ℕ) → IsOfNext rounds p text → IsOfNext (rounds ++ others) p text
+more_next [] others p text none = subst (IsOfNext others p) (sym none) (nothing_next others p)
+more_next (Offered x ∷ rounds) others p text h = h
+more_next (Completed ∷ rounds) others p text h = h
+more_next (Released ∷ rounds) others p text h = h
+more_next (Batched xs ∷ rounds) others p text h = h
+more_next (Alone x ∷ rounds) others p text h = h
+more_next (Trimmed ∷ rounds) others p text h = h
+
+-- others were to come
+pub halts_before : (ds bs : List Round) (p : Point) (a b : Option (List ℕ)) → Halts ds p a b → Halts (ds ++ bs) p a b
+halts_before ds bs p a b h = record {
+  done = h.done;
+  rest = h.rest ++ bs;
+  order = ap (λ (l : List Round). l ++ bs) h.order ∙ append_assoc h.done h.rest bs;
+  at = h.at;
+  between = h.between;
+  serves = h.serves;
+  next = h.next;
+  is_next = more_next h.rest bs h.at h.next h.is_next;
+  written = h.written;
+}
+
+pub halts_offer : (x : Pairs) (o : Outcome) (p w : Point) (ds : List Round) (a b : Option (List ℕ)) → IsReady p → Does (turn.Offer x) o p w →
+    Halts ds w a b → Halts (Offered x ∷ ds) p a b
+halts_offer x o p w ds a b ready does h = record {
+  done = Offered x ∷ h.done;
+  rest = h.rest;
+  order = ap (λ (l : List Round). Offered x ∷ l) h.order;
+  at = h.at;
+  between = h.between;
+  serves = serves_offer x o p w h.at h.done a h.between ready does h.serves;
+  next = h.next;
+  is_next = h.is_next;
+  written = h.written;
+}
+
+halts_next : (p : Point) (text : List ℕ) (a b : Option (List ℕ)) → IsOfNext (Completed ∷ []) p text → AppendsBeginning a b text → Halts (Completed ∷ []) p a b
+halts_next p text a b is written = record {
+  done = [];
+  rest = Completed ∷ [];
+  order = refl;
+  at = p;
+  between = a;
+  serves = serves_none p a;
+  next = text;
+  is_next = is;
+  written = written;
+}
+
+-- a transaction ran to its end, and its response was not written, or what comes after it failed
+pub halts_gives : (own : Option Pairs) (p q : Point) (a b : Option (List ℕ)) → IsAtRest p → Transacts p own q → GivesSome q a b → Halts (Completed ∷ []) p a b
+halts_gives own p q a b rest transacts (text, is, written) = halts_next p text a b (by_text is) written where
+  by_text : (text ≡ []) ⊎ AreFramed text (responses (unanswered q)) → IsOfNext (Completed ∷ []) p text
+  by_text (inl none) = inl none
+  by_text (inr framed) = inr (record { own = own; ended = q; transacts = transacts; framed = gives_own p q own text rest transacts framed })
+
+pub halts_given : (own : Option Pairs) (text : List ℕ) (p q : Point) (a b : Option (List ℕ)) → IsAtRest p → Transacts p own q →
+    AreFramed text (responses (unanswered q)) → Appends a b text → Halts (Completed ∷ []) p a b
+halts_given own text p q a b rest transacts framed written =
+    halts_gives own p q a b rest transacts (text, inr framed, beginning_all a b text written)
+
+-- requests
+
+pub halts_answering : (xs ys : List Pairs) (p q : Point) (a b c : Option (List ℕ)) → Serves (answering xs) p a q b → Halts (answering ys) q b c →
+    Halts (answering (xs ++ ys)) p a c
+halts_answering xs ys p q a b c serves h =
+    subst (λ (l : List Round). Halts l p a c) (sym (answering_append xs ys)) (halts_then (answering xs) (answering ys) p q a b c serves h)
+
+pub halts_answers : (xs ys : List Pairs) (p : Point) (a b : Option (List ℕ)) → Halts (answering xs) p a b → Halts (answering (xs ++ ys)) p a b
+halts_answers xs ys p a b h =
+    subst (λ (l : List Round). Halts l p a b) (sym (answering_append xs ys)) (halts_before (answering xs) (answering ys) p a b h)
+
+-- in batches, or one after the other
+
+pub offered_append : (rs ss : List Round) → offered_in (rs ++ ss) ≡ offered_in rs ++ offered_in ss
+offered_append [] ss = refl
+offered_append (Offered x ∷ rs) ss = ap (λ (l : List Pairs). x ∷ l) (offered_append rs ss)
+offered_append (Completed ∷ rs) ss = offered_append rs ss
+offered_append (Released ∷ rs) ss = offered_append rs ss
+offered_append (Batched xs ∷ rs) ss = ap (λ (l : List Pairs). xs ++ l) (offered_append rs ss) ∙ sym (append_assoc xs (offered_in rs) (offered_in ss))
+offered_append (Alone x ∷ rs) ss = ap (λ (l : List Pairs). x ∷ l) (offered_append rs ss)
+offered_append (Trimmed ∷ rs) ss = offered_append rs ss
+
+pub of_batches_append : (rs ss : List Round) → AllByRecursion IsOfBatches rs → AllByRecursion IsOfBatches ss → AllByRecursion IsOfBatches (rs ++ ss)
+of_batches_append [] ss h k = k
+of_batches_append (r ∷ rs) ss h k = (h.0, of_batches_append rs ss h.1 k)
+
+pub retries_are_of_batches : (rs : List Round) → AllByRecursion IsRetry rs → AllByRecursion IsOfBatches rs
+retries_are_of_batches [] h = tt
+retries_are_of_batches (Offered x ∷ rs) h = absurd h.0
+retries_are_of_batches (Completed ∷ rs) h = (tt, retries_are_of_batches rs h.1)
+retries_are_of_batches (Released ∷ rs) h = (tt, retries_are_of_batches rs h.1)
+retries_are_of_batches (Batched xs ∷ rs) h = absurd h.0
+retries_are_of_batches (Alone x ∷ rs) h = absurd h.0
+retries_are_of_batches (Trimmed ∷ rs) h = absurd h.0
+
+pub retries_offer_none : (rs : List Round) → AllByRecursion IsRetry rs → offered_in rs ≡ []
+retries_offer_none [] h = refl
+retries_offer_none (Offered x ∷ rs) h = absurd h.0
+retries_offer_none (Completed ∷ rs) h = retries_offer_none rs h.1
+retries_offer_none (Released ∷ rs) h = retries_offer_none rs h.1
+retries_offer_none (Batched xs ∷ rs) h = absurd h.0
+retries_offer_none (Alone x ∷ rs) h = absurd h.0
+retries_offer_none (Trimmed ∷ rs) h = absurd h.0
+
+pub untrimmed_append : (rs ss : List Round) → untrimmed (rs ++ ss) ≡ untrimmed rs ++ untrimmed ss
+untrimmed_append [] ss = refl
+untrimmed_append (Offered x ∷ rs) ss = ap (λ (l : List Round). Offered x ∷ l) (untrimmed_append rs ss)
+untrimmed_append (Completed ∷ rs) ss = ap (λ (l : List Round). Completed ∷ l) (untrimmed_append rs ss)
+untrimmed_append (Released ∷ rs) ss = ap (λ (l : List Round). Released ∷ l) (untrimmed_append rs ss)
+untrimmed_append (Batched xs ∷ rs) ss = ap (λ (l : List Round). Batched xs ∷ l) (untrimmed_append rs ss)
+untrimmed_append (Alone x ∷ rs) ss = ap (λ (l : List Round). Alone x ∷ l) (untrimmed_append rs ss)
+untrimmed_append (Trimmed ∷ rs) ss = untrimmed_append rs ss
+
+pub untrimmed_answering : (xs : List Pairs) → untrimmed (answering xs) ≡ answering xs
+untrimmed_answering [] = refl
+untrimmed_answering (x ∷ xs) = ap (λ (l : List Round). Offered x ∷ Completed ∷ l) (untrimmed_answering xs)
+
+both_answering : (xs ys : List Pairs) (rs ss : List Round) → untrimmed rs ≡ answering xs → untrimmed ss ≡ answering ys →
+    untrimmed (rs ++ ss) ≡ answering (xs ++ ys)
+both_answering xs ys rs ss is are = untrimmed_append rs ss ∙ (rw (is, are) (sym (answering_append xs ys)))
+
+pub rounds_append : (threads : Bool) (xs ys : List Pairs) (rs ss : List Round) → RoundsFor threads xs rs → RoundsFor threads ys ss →
+    RoundsFor threads (xs ++ ys) (rs ++ ss)
+rounds_append false xs ys rs ss is are = both_answering xs ys rs ss is are
+rounds_append true xs ys rs ss is are = (rw (sym is.0, sym are.0) (offered_append rs ss), of_batches_append rs ss is.1 are.1)
+
+pub rounds_none : (threads : Bool) → RoundsFor threads [] []
+rounds_none false = refl
+rounds_none true = (refl, tt)
+
+pub toward_none : (threads : Bool) (xs : List Pairs) (p : Point) (a : Option (List ℕ)) → HaltsToward threads xs p a a
+toward_none false xs p a = (answering xs, untrimmed_answering xs, halts_none (answering xs) p a)
+toward_none true xs p a = ([], (xs, refl, tt), halts_none [] p a)
+
+pub toward_then : (threads : Bool) (xs ys : List Pairs) (p q : Point) (a b c : Option (List ℕ)) → ServesFor threads xs p a q b →
+    HaltsToward threads ys q b c → HaltsToward threads (xs ++ ys) p a c
+toward_then false xs ys p q a b c (rs, is, s) (ss, are, h) = (rs ++ ss, both_answering xs ys rs ss is are, halts_then rs ss p q a b c s h)
+toward_then true xs ys p q a b c (rs, is, s) (ss, (later, split, all), h) = (
+  rs ++ ss,
+  (
+    later,
+    ap (λ (l : List Pairs). xs ++ l) split ∙ (ap (λ (l : List Pairs). l ++ (offered_in ss ++ later)) (sym is.0)
+        ∙ (sym (append_assoc (offered_in rs) (offered_in ss) later) ∙ ap (λ (l : List Pairs). l ++ later) (sym (offered_append rs ss)))),
+    of_batches_append rs ss is.1 all,
+  ),
+  halts_then rs ss p q a b c s h,
+)
+
+pub toward_before : (threads : Bool) (xs ys : List Pairs) (p : Point) (a b : Option (List ℕ)) → HaltsToward threads xs p a b →
+    HaltsToward threads (xs ++ ys) p a b
+toward_before false xs ys p a b (rs, is, h) = (
+  rs ++ answering ys,
+  both_answering xs ys rs (answering ys) is (untrimmed_answering ys),
+  halts_before rs (answering ys) p a b h,
+)
+toward_before true xs ys p a b (rs, (later, split, all), h) = (
+  rs,
+  (later ++ ys, ap (λ (l : List Pairs). l ++ ys) split ∙ append_assoc (offered_in rs) later ys, all),
+  h,
+)
+
+-- the history may be cut first
+pub toward_trimmed : (xs : List Pairs) (p q : Point) (lines : List Line) (a b : Option (List ℕ)) → MayCut p lines q → Halts (answering xs) q a b →
+    HaltsToward false xs p a b
+toward_trimmed xs p q lines a b cuts h =
+    (Trimmed ∷ answering xs, untrimmed_answering xs, halts_then (Trimmed ∷ []) (answering xs) p q a a b (serves_trimmed p q lines a cuts) h)
+
+-- the queue and the shelf
+
+pub drains_none : (p q : Point) (a b : Option (List ℕ)) (k l : Log) → Empties p a k q b l → DrainsSome p a b
+drains_none p q a b k l e = record { rounds = e.rounds; retries = e.retries; halts = halts_all e.rounds p q a b e.reports.serves }
+
+pub drains_next : (p q : Point) (a b c : Option (List ℕ)) (k l : Log) → Empties p a k q b l → Halts (Completed ∷ []) q b c → DrainsSome p a c
+drains_next p q a b c k l e h = record {
+  rounds = e.rounds ++ Completed ∷ [];
+  retries = retries_append e.rounds (Completed ∷ []) e.retries (tt, tt);
+  halts = halts_then e.rounds (Completed ∷ []) p q a b c e.reports.serves h;
+}
+
+pub drains_all : (p q : Point) (a b : Option (List ℕ)) → Drains p a q b → DrainsSome p a b
+drains_all p q a b d = record { rounds = d.rounds; retries = d.retries; halts = halts_all d.rounds p q a b d.serves }
+
+-- what follows of an Err
+
+pub on_err : {T E : Type 0} {P Q : Type 0} (r : Result T E) → (P → Q) → OnErr r P → OnErr r Q
+on_err (Ok x) f h = tt
+on_err (Err e) f h = f h
+
+pub on_ok_or_err : {T E : Type 0} {P Q R : Type 0} (r : Result T E) → (P → R) → (Q → R) → OnOk r P → OnErr r Q → OnErr r R
+on_ok_or_err (Ok x) f g h k = tt
+on_ok_or_err (Err e) f g h k = g k
+
+-- of what was served, whatever came of the call after it
+pub either_way : {T E : Type 0} {P : T → Type 0} {Q R : Type 0} (s r : Result T E) → IfOk s P → OnErr s Q → ((x : T) → P x → R) → (Q → R) → OnErr r R
+either_way s (Ok y) h k f g = tt
+either_way (Ok x) (Err e) h k f g = f x h
+either_way (Err d) (Err e) h k f g = g k
+
+pub on_err_of : {T E : Type 0} {P : Type 0} (r : Result T E) → P → OnErr r P
+on_err_of (Ok x) h = tt
+on_err_of (Err e) h = h
+
+-- one message of a list, after those before it
+pub halts_message : (list : List (Vec ℕ)) (i : ℕ) (m : Vec ℕ) (bytes : List ℕ) (p q : Point) (a b c : Option (List ℕ)) → i < length list →
+    m ≡ get_or list i m → bytes ≡ m.items
+    → Serves (answering (requests (messages (take i list)))) p a q b → Halts (answering (map request_of (if_read (read bytes) bytes))) q b c →
+    Halts (answering (requests (messages list))) p a c
+halts_message list i m bytes p q a b c lt at is serves h =
+    let first : Halts (answering (requests (messages (take i list)) ++ map request_of (if_read (read bytes) bytes))) p a c =
+    halts_answering (requests (messages (take i list))) (map request_of (if_read (read bytes) bytes)) p q a b c serves h in
+    let here : Halts (answering (requests (messages (take (i + 1) list)))) p a c =
+    subst (λ (l : List Pairs). Halts (answering l) p a c) (sym (requests_next list i m bytes lt at is)) first in
+    subst (λ (l : List Pairs). Halts (answering l) p a c) (sym (requests_front list (i + 1)))
+    (halts_answers (requests (messages (take (i + 1) list))) (requests (messages (drop (i + 1) list))) p a c here)
+
+-- a piece of an input
+
+pub halts_reads : (threads : Bool) (left then : Option (List ℕ)) (more : List (List ℕ)) (s t : State) (p : Point) (a b : Option (List ℕ)) →
+    ReadsOn left s more then t → HaltsToward threads (requests more) p a b → HaltsOn threads left s p a b
+halts_reads threads left then more s t p a b on h = λ input frames reads. (more, record { left = then; state = t; reads = on input frames reads }, h)
+
+pub halts_unread : (threads : Bool) (left : Option (List ℕ)) (s : State) (p : Point) (a : Option (List ℕ)) → HaltsOn threads left s p a a
+halts_unread threads left s p a = λ input frames reads. (
+  [],
+  record { left = left; state = s; reads = subst (λ (l : List (List ℕ)). Reads input left l s) (sym (append-nil frames)) reads },
+  toward_none threads [] p a,
+)

@@ -1,0 +1,205 @@
+-- What a switch does: recoveries, requests offered, transactions run to their end, batches run, the shelf released.
+use Rattle.std.specs.Prelude.{◌≡◌, ◌≤◌, ◌⊎◌, ℕ, ◌+◌, ⊤, Bool, true, false, List, [], ◌∷◌, ◌++◌, length, map, drop, Option, None}
+use Rattle.std.specs.Io.KnownBytes.{Appends}
+use Rattle.std.specs.List.{AllByRecursion}
+use Rattle.sw_context.specs.Pairs.{Pairs}
+use Rattle.sw_context.specs.Spelling.{bytes_of}
+use Rattle.sw_frame.specs.Stream.{AreFramed}
+use Rattle.tx_history.specs.History.{recovering, shelf}
+use Rattle.tx_engine.specs.World.{World}
+use Rattle.tx_engine.specs.Calls.{take_refusal, waits}
+use Rattle.tx_plant.specs.declared.turn.Outcome.{Outcome}
+use Rattle.tx_plant.specs.declared.turn.Outcome.TheVariants as outcome
+use Rattle.tx_plant.specs.declared.turn.Turn.{Turn}
+use Rattle.tx_plant.specs.declared.turn.Turn.TheVariants as turn
+use Rattle.tx_plant.specs.Recovery.{IsRecovery}
+use Rattle.tx_plant.specs.Steps.{Moved}
+use Rattle.tx_seats.specs.Drives.{AllDriven, Done, Drive}
+use Rattle.tx_locked.specs.Receipts.{offered_of, run_entries}
+use Rattle.tx_locked.specs.Settled.{IsSettled}
+use Rattle.tx_pool.specs.Went.{Grown}
+use Rattle.run_switch.specs.Lines.{Line, lines_in}
+use Rattle.run_switch.specs.Points.{IsAllWritten, IsAtRest, IsIdle, IsReady, Point, all_answered, ended_at, is_long, next_at, response_of, responses, unanswered}
+use Rattle.run_switch.specs.Points.{with_ended, world_at}
+
+-- calls of `drive`, one after the other; no response is given in between
+pub record Acts (drives : List Drive) (p q : Point) : Type 0 where
+  pub moved : List Moved
+  pub driven : AllDriven drives moved p.plant q.plant
+  pub answered : q.answered ≡ p.answered
+
+-- a turn and the write of its entry, with their outcomes
+abbrev pub doing : Turn → Outcome × Outcome → Drive
+doing t o = Done (t ∷ turn.Write None ∷ []) (o.0 ∷ o.1 ∷ [])
+
+abbrev pub IsDone : Outcome → Type 0
+IsDone (outcome.Refused e) = ⊥
+IsDone o = ⊤
+
+-- the turn was done, with this outcome, and all is written
+pub record Does (t : Turn) (o : Outcome) (p q : Point) : Type 0 where
+  pub wrote : Outcome
+  pub acts : Acts (doing t (o, wrote) ∷ []) p q
+  pub done : IsDone o
+  pub written : IsAllWritten (world_at q)
+
+-- One transaction, from its take to its end: session 0 takes the queue's first context, under the next id, and is stepped until
+-- it is idle. `own` is the context that the transaction ended with; one that was put on the shelf has none.
+pub record Transacts (p : Point) (own : Option Pairs) (q : Point) : Type 0 where
+  pub took : Outcome × Outcome
+  pub steps : List (Outcome × Outcome)
+  pub acts : Acts (doing (turn.Take 0) took ∷ map (doing (turn.Step 0)) steps) p q
+  pub allowed : take_refusal (world_at p) 0 ≡ None
+  pub queue : waits (world_at q) ≡ drop 1 (waits (world_at p))
+  pub next : next_at q ≡ next_at p + 1
+  pub ended : ended_at q ≡ with_ended (next_at p) own (ended_at p)
+  pub idle : IsIdle (world_at q)
+  pub written : IsAllWritten (world_at q)
+
+-- The history is cut or not, and is not long then. These are the lines of the entries that are cut.
+pub record MayCut (p : Point) (lines : List Line) (q : Point) : Type 0 where
+  pub cuts : ((q ≡ p) × (lines ≡ [])) ⊎ ((o : Outcome) × Does turn.Cut o p q × (lines ≡ lines_in (world_at p)))
+  pub short : is_long (world_at q) ≡ false
+
+-- A transaction runs to its end; then its response is given, and no other. The history may be cut.
+pub record Completes (p : Point) (bytes : List ℕ) (lines : List Line) (q : Point) : Type 0 where
+  pub own : Option Pairs
+  pub ended : Point
+  pub transacts : Transacts p own ended
+  pub gives : AreFramed bytes (response_of own)
+  pub cuts : MayCut (all_answered ended) lines q
+  pub rest : IsAtRest q
+
+-- A batch: the requests are offered, in their order, and run by all sessions at once, until nothing waits, no session holds a
+-- transaction, and all is written. It is one call of `drive`.
+pub record Together (requests : List Pairs) (p q : Point) : Type 0 where
+  pub turns : List Turn
+  pub outcomes : List Outcome
+  pub acts : Acts (Done turns outcomes ∷ []) p q
+  pub grown : Grown (world_at p) (world_at q)
+  pub offered : offered_of (run_entries (world_at p) (world_at q)) ≡ map bytes_of requests
+  pub settled : IsSettled (world_at q)
+
+-- A batch is run; then the responses of all transactions that ended are given, ids rising.
+pub record Runs (requests : List Pairs) (p : Point) (bytes : List ℕ) (q : Point) : Type 0 where
+  pub ended : Point
+  pub together : Together requests p ended
+  pub gives : AreFramed bytes (responses (unanswered ended))
+  pub answered : q ≡ all_answered ended
+
+-- A request that came alone, in a run with threads: it is offered, and session 0 runs its transaction to its end. No thread is
+-- started for it.
+pub record Lone (request : Pairs) (p : Point) (own : Option Pairs) (q : Point) : Type 0 where
+  pub outcome : Outcome
+  pub offered : Point
+  pub offers : Does (turn.Offer request) outcome p offered
+  pub transacts : Transacts offered own q
+
+-- Then its response is given, and no other.
+pub record RunsLone (request : Pairs) (p : Point) (bytes : List ℕ) (q : Point) : Type 0 where
+  pub own : Option Pairs
+  pub ended : Point
+  pub lone : Lone request p own ended
+  pub gives : AreFramed bytes (response_of own)
+  pub answered : q ≡ all_answered ended
+
+-- what is done, from one response to the next
+pub data Round : Type 0 where
+  Offered : (request : Pairs) → Round
+  Completed : Round
+  Released : Round
+  Batched : (requests : List Pairs) → Round
+  Alone : (request : Pairs) → Round
+  Trimmed : Round
+
+-- One after the other, with what they give, and the lines of the entries that are cut. A request is offered, or a batch, only
+-- when the switch is ready for it.
+abbrev pub Goes : List Round → Point → List ℕ → List Line → Point → Type 0
+Goes [] p bytes lines q = (bytes ≡ []) × (lines ≡ []) × (q ≡ p)
+Goes (Offered x ∷ rs) p bytes lines q = IsReady p × (o : Outcome) × (w : Point) × Does (turn.Offer x) o p w × Goes rs w bytes lines q
+Goes (Completed ∷ rs) p bytes lines q =
+    (w : Point) × (first : List ℕ) × (later : List ℕ) × (cut : List Line) × (others : List Line)
+    × Completes p first cut w × Goes rs w later others q × (bytes ≡ first ++ later) × (lines ≡ cut ++ others)
+Goes (Released ∷ rs) p bytes lines q = (o : Outcome) × (w : Point) × Does turn.Release o p w × Goes rs w bytes lines q
+Goes (Batched xs ∷ rs) p bytes lines q = IsReady p × (w : Point) × (first : List ℕ) × (later : List ℕ) × Runs xs p first w × Goes rs w later lines q
+    × (bytes ≡ first ++ later)
+Goes (Alone x ∷ rs) p bytes lines q = IsReady p × (w : Point) × (first : List ℕ) × (later : List ℕ) × RunsLone x p first w × Goes rs w later lines q
+    × (bytes ≡ first ++ later)
+Goes (Trimmed ∷ rs) p bytes lines q = (w : Point) × (cut : List Line) × (others : List Line) × MayCut p cut w × Goes rs w bytes others q
+    × (lines ≡ cut ++ others)
+
+-- each request is offered, and the queue's first transaction runs to its end before the next is
+abbrev pub answering : List Pairs → List Round
+answering [] = []
+answering (x ∷ xs) = Offered x ∷ Completed ∷ answering xs
+
+-- without the cuts between two transactions
+abbrev pub untrimmed : List Round → List Round
+untrimmed [] = []
+untrimmed (Trimmed ∷ rs) = untrimmed rs
+untrimmed (r ∷ rs) = r ∷ untrimmed rs
+
+-- no request is offered any more
+abbrev pub IsRetry : Round → Type 0
+IsRetry Completed = ⊤
+IsRetry Released = ⊤
+IsRetry _ = ⊥
+
+-- with threads: a batch has 2 to 256 requests, and one that came alone is answered alone
+abbrev pub IsOfBatches : Round → Type 0
+IsOfBatches (Offered x) = ⊥
+IsOfBatches (Batched xs) = (2 ≤ length xs) × (length xs ≤ 256)
+IsOfBatches _ = ⊤
+
+-- the requests that are offered, in their order
+abbrev pub offered_in : List Round → List Pairs
+offered_in [] = []
+offered_in (Offered x ∷ rs) = x ∷ offered_in rs
+offered_in (Batched xs ∷ rs) = xs ++ offered_in rs
+offered_in (Alone x ∷ rs) = x ∷ offered_in rs
+offered_in (_ ∷ rs) = offered_in rs
+
+-- rounds, with what an output holds before and after, where that is known, and the lines of the entries that are cut
+pub record Serves (rounds : List Round) (p : Point) (before : Option (List ℕ)) (q : Point) (after : Option (List ℕ)) : Type 0 where
+  pub bytes : List ℕ
+  pub lines : List Line
+  pub goes : Goes rounds p bytes lines q
+  pub appends : Appends before after bytes
+
+-- rounds that answer these requests: without threads one after the other, with threads in batches. The history may be cut between them.
+abbrev pub RoundsFor : Bool → List Pairs → List Round → Type 0
+RoundsFor false requests rounds = untrimmed rounds ≡ answering requests
+RoundsFor true requests rounds = (offered_in rounds ≡ requests) × AllByRecursion IsOfBatches rounds
+
+-- rounds on the way to that: with threads, batches of the last requests may be missing
+abbrev pub RoundsToward : Bool → List Pairs → List Round → Type 0
+RoundsToward false requests rounds = untrimmed rounds ≡ answering requests
+RoundsToward true requests rounds = (later : List Pairs) × (requests ≡ offered_in rounds ++ later) × AllByRecursion IsOfBatches rounds
+
+-- these requests are answered
+abbrev pub ServesFor : Bool → List Pairs → Point → Option (List ℕ) → Point → Option (List ℕ) → Type 0
+ServesFor threads requests p before q after = (rounds : List Round) × RoundsFor threads requests rounds × Serves rounds p before q after
+
+-- nothing waits
+pub record IsEmptied (w : World) : Type 0 where
+  pub queue : waits w ≡ []
+  pub shelf : shelf w.flow w.start w.past ≡ []
+
+-- the queue and the shelf are emptied
+pub record Drains (p : Point) (before : Option (List ℕ)) (q : Point) (after : Option (List ℕ)) : Type 0 where
+  pub rounds : List Round
+  pub retries : AllByRecursion IsRetry rounds
+  pub serves : Serves rounds p before q after
+  pub rest : IsAtRest q
+  pub emptied : IsEmptied (world_at q)
+
+-- A recovery: turns that only write or step session 0. Then nothing is left to recover, and nothing waits in the queue.
+pub record Recovers (p q : Point) : Type 0 where
+  pub turns : List Turn
+  pub outcomes : List Outcome
+  pub wrote : Outcome
+  pub own : AllByRecursion IsRecovery turns
+  pub acts : Acts (Done turns outcomes ∷ Done (turn.Write None ∷ []) (wrote ∷ []) ∷ []) p q
+  pub rest : IsAtRest q
+  pub recovered : recovering (world_at q).flow (world_at q).start (world_at q).past ≡ None
+  pub empty : waits (world_at q) ≡ []

@@ -1,0 +1,474 @@
+//! The whole run.
+
+ghost use Rattle.std.specs.Prelude.{◌≡◌, ◌-◌, ℕ, List, [], true, false, option_map};
+ghost use Rattle.std.specs.Prelude.{IfErr, IfNone, IfOk, IfSome, OnErr, OnOk};
+ghost use Rattle.tx_engine.specs.Calls.{waits};
+ghost use Rattle.std.specs.Io.KnownBytes.{Appends};
+ghost use Rattle.flow_model.specs.declared.flow.Flow.{Flow};
+ghost use Rattle.sw_context.specs.Names.{is_name};
+ghost use Rattle.sw_issuers.specs.Sending.{SendsAdvice};
+ghost use Rattle.sw_participant.specs.Stations.{calls_of, name_of};
+ghost use Rattle.tx_history.specs.declared.journal.JournalView.{JournalView};
+ghost use Rattle.journal_store.specs.Kept.{kept};
+ghost use Rattle.tx_plant.specs.Plant.{IsEngine, Seen, seen};
+ghost use Rattle.tx_seats.specs.Drives.{IsMade};
+ghost use Rattle.run_switch.specs.Links.{sender_with};
+ghost use Rattle.run_switch.specs.Lines.{lines_in, written_as};
+ghost use Rattle.run_switch.specs.Points.{IsAtRest, point_of};
+ghost use Rattle.run_switch.specs.Ran.{Closes, Printed, Ran, ServesAll, all_lines, lines_cut};
+ghost use Rattle.run_switch.specs.Rounds.{Recovers, Round, RoundsFor};
+ghost use Rattle.run_switch.specs.Requests.{ReadTo, requests};
+ghost use Rattle.run_switch.specs.Stopped.{DrainsSome, IsStopped, ServesSome};
+ghost use Rattle.run_switch.specs.Shown.{TellsAll, TellsRun, unfinished_in, unfinished_of};
+ghost use Rattle.run_switch.specs.Traces.{DrainsAll, Tells, log_of, passed_over};
+ghost use Rattle.cli_io.specs.Written.{AppendsBeginning};
+ghost use Rattle.run_switch.specs.declared.reporter.TraceForm.TheVariants.{Text};
+
+use crate::advices::{Advisor, send_advices};
+use crate::error::ServeError;
+use crate::progress::Progress;
+use crate::reporter::{Reporter, write_lines};
+use crate::saying::unfinished_in;
+use crate::setup::{NamedLink, Setup, SwitchLink, query_name, sender_over};
+use crate::stream::{Requests, StreamEnd};
+use crate::switch::Switch;
+use crate::unsuited::cause_of;
+use cli_io::WriteError;
+use flow_asm::Code;
+use journal_store::Journal;
+use run_reports::Recovered;
+use sqlite::Alter;
+use std::alloc::Global;
+use std::io::{Read, Write};
+use std::sync::Wait;
+use std::thread::Threads;
+use std::time::Clock;
+use sw_issuers::Sender;
+use sw_participant::{Bystander, NoMemory, Participant, Station, StationError, Unjoined};
+use sw_parts::{CheckFields, Forward, Limits, Link, QueryIssuer, Respond, Reverse, Route, StandIn};
+use sw_timed::Timed;
+use tx_engine::Engine;
+use tx_plant::{Plant, Turn};
+
+/// More rounds than there can be: each release uses up one of at most 100 tries.
+const MAX_ROUNDS: u64 = u64::MAX;
+
+impl<S: Alter> Switch<S> {
+    // What the journal of a new plant has unfinished.
+    fn unfinished(&self) -> Recovered
+        ensures { result ≡ unfinished_of (point_of S.Store self.now).plant }
+    {
+        unfinished_in(self.engine().opened())
+    }
+
+    // Finishes what the journal of a new plant has unfinished.
+    fn recover(&mut self, alloc: Global) -> Result<(), ServeError>
+        requires made { IsEngine self.old.plant.running.engine }
+        ensures recovers { OnOk result ((f : Flow) (n : ℕ) (view : JournalView) (j : Seen)
+            → IsMade f n view j (point_of S.Store self.old).plant
+            → self.old.answered.last ≡ view.next_id - 1
+            → Recovers (point_of S.Store self.old) (point_of S.Store self.new)) }
+    {
+        self.plant.recover(alloc)?;
+        match self.plant.drive(alloc, &[Turn::Write(None)]) {
+            Ok(_) => Ok(()),
+            Err(fault) => Err(ServeError::from(fault.cause)),
+        }
+    }
+
+    /// Runs what waits in the queue; when nothing waits there, moves the shelf to the queue. Ends when nothing is
+    /// on the shelf either.
+    pub(crate) fn drain<O: Write, E: Write, K: Clock>(
+        &mut self,
+        alloc: Global,
+        out: &mut O,
+        stderr: &mut Reporter<'_, E, K>,
+    ) -> Result<(), ServeError>
+        requires rest { IsAtRest (point_of S.Store self.old) }
+        ensures drains { OnOk result (DrainsAll
+            (point_of S.Store self.old) (O.contents out.old) (log_of E.contents stderr.old)
+            (point_of S.Store self.new) (O.contents out.new) (log_of E.contents stderr.new)) }
+        ensures stops { OnErr result (DrainsSome
+            (point_of S.Store self.old) (O.contents out.old) (O.contents out.new)) }
+    {
+        for _ in 0..MAX_ROUNDS {
+            if self.engine().queued() > 0 {
+                self.answer_next(alloc, stderr, out)?;
+                continue;
+            }
+            if self.engine().shelved() == 0 {
+                return Ok(());
+            }
+            self.act(alloc, Turn::Release)?;
+        }
+        Err(ServeError::Endless)
+    }
+
+    // Answers the requests of an input, runs what is on the shelf, and sends the stored advices.
+    fn serve_to_end<C: Clock, L: Link, R: Read + Drop, O: Write, E: Write, K: Clock>(
+        &mut self,
+        rt: &C,
+        alloc: Global,
+        advisor: &mut Advisor<L>,
+        input: R,
+        out: &mut O,
+        stderr: &mut Reporter<'_, E, K>,
+    ) -> Result<StreamEnd, ServeError>
+        requires rest { IsAtRest (point_of S.Store self.old) }
+        requires empty { waits self.old.plant.running.engine ≡ [] }
+        ensures serves { IfOk result (λ end. (frames : List (List ℕ))
+            × ReadTo end (R.remaining input) frames
+            × (rounds : List Round) × RoundsFor false (requests frames) rounds
+            × (all : ServesAll (SendsAdvice L.sends L.receives L.starves (Unit {0})) rounds
+            (point_of S.Store self.old) advisor.old (O.contents out.old) (O.contents out.new))
+            × (all.end ≡ point_of S.Store self.new)
+            × Tells (lines_cut all) (passed_over frames)
+            (log_of E.contents stderr.old) (log_of E.contents stderr.new)) }
+        ensures stops { OnErr result (ServesSome
+            (SendsAdvice L.sends L.receives L.starves (Unit {0})) false (R.remaining input)
+            (point_of S.Store self.old) advisor.old (O.contents out.old) (O.contents out.new)) }
+    {
+        self.cut_traced(alloc, stderr)?;
+        let mut input = input;
+        let mut requests = Requests::new(alloc);
+        let end = requests.serve_all(rt, alloc, self, advisor, &mut input, out, stderr)?;
+        self.close(alloc, advisor, out, stderr)?;
+        Ok(end)
+    }
+
+    // Empties the queue and the shelf, and sends the stored advices.
+    fn close<L: Link, O: Write, E: Write, K: Clock>(
+        &mut self,
+        alloc: Global,
+        advisor: &mut Advisor<L>,
+        out: &mut O,
+        stderr: &mut Reporter<'_, E, K>,
+    ) -> Result<(), ServeError>
+        requires rest { IsAtRest (point_of S.Store self.old) }
+        ensures closes { OnOk result (
+            (c : Closes (SendsAdvice L.sends L.receives L.starves (Unit {0}))
+            (point_of S.Store self.old) advisor.old (O.contents out.old)
+            (point_of S.Store self.new) advisor.new (O.contents out.new))
+            × Tells c.drains.serves.lines 0
+            (log_of E.contents stderr.old) (log_of E.contents stderr.new)) }
+        ensures stops { OnErr result (DrainsSome
+            (point_of S.Store self.old) (O.contents out.old) (O.contents out.new)) }
+    {
+        self.drain(alloc, out, stderr)?;
+        send_advices(alloc, self, advisor)
+    }
+}
+
+impl<S: Alter + Drop> Switch<S> {
+    // Answers the requests of an input in batches, each run by all sessions at once, then runs what is on the
+    // shelf, and sends the stored advices. The lines of the trace are written after each batch and at the end; the
+    // numbers of the run come last.
+    fn serve_together<
+        T: Threads + Wait + Clock + Sync,
+        L: Link,
+        R: Read + Drop,
+        O: Write,
+        E: Write,
+        K: Clock,
+    >(
+        self,
+        rt: &T,
+        alloc: Global,
+        input: R,
+        advisor: &mut Advisor<L>,
+        out: &mut O,
+        stderr: &mut Reporter<'_, E, K>,
+    ) -> Result<StreamEnd, ServeError>
+        requires rest { IsAtRest (point_of S.Store self) }
+        requires empty { waits self.plant.running.engine ≡ [] }
+        ensures serves { IfOk result (λ end. (frames : List (List ℕ))
+            × ReadTo end (R.remaining input) frames
+            × (rounds : List Round) × RoundsFor true (requests frames) rounds
+            × (all : ServesAll (SendsAdvice L.sends L.receives L.starves (Unit {0})) rounds
+            (point_of S.Store self) advisor.old (O.contents out.old) (O.contents out.new))
+            × TellsAll (all_lines all) (passed_over frames) all.end
+            (log_of E.contents stderr.old) (log_of E.contents stderr.new)) }
+        ensures stops { OnErr result (ServesSome
+            (SendsAdvice L.sends L.receives L.starves (Unit {0})) true (R.remaining input)
+            (point_of S.Store self) advisor.old (O.contents out.old) (O.contents out.new)) }
+    {
+        let mut switch = self;
+        switch.cut_traced(alloc, stderr)?;
+        let mut input = input;
+        let mut requests = Requests::new(alloc);
+        let served = requests.serve_in_batches(
+            rt, alloc, switch, advisor, &mut input, out, stderr,
+        )?;
+        let (mut switch, end) = served;
+        let closed = switch.close(alloc, advisor, out, stderr);
+        let traced = stderr.trace(alloc, switch.engine());
+        switch.show(rt, alloc, stderr);
+        closed?;
+        traced?;
+        Ok(end)
+    }
+}
+
+// Prints the lines of all entries of the engine's history, as text.
+fn print<O: Write>(alloc: Global, engine: &Engine, out: &mut O) -> Result<(), ServeError>
+    ensures lines { OnOk result (Appends
+        (O.contents out.old) (O.contents out.new) (written_as Text (lines_in engine.now))) }
+    ensures beginning { AppendsBeginning
+        (O.contents out.old) (O.contents out.new) (written_as Text (lines_in engine.now)) }
+{
+    write_lines(alloc, engine, out)?;
+    out.flush().map_err(WriteError::from)?;
+    Ok(())
+}
+
+// An error of what was served is reported before one of the trace.
+fn end_of(
+    served: Result<StreamEnd, ServeError>,
+    traced: Result<(), ServeError>,
+) -> Result<StreamEnd, ServeError>
+    ensures served { IfOk result (λ end. served ≡ Ok end) }
+    ensures traced { OnOk result (traced ≡ Ok tt) }
+    ensures first { IfErr served (λ error. result ≡ Err error) }
+{
+    let end = served?;
+    traced?;
+    Ok(end)
+}
+
+// What a run takes besides the stations, as one value: if a station is not made, only one value is dropped.
+struct Over<S: Alter, R: Read, L: Link> {
+    journal: Journal<S>,
+    input: Option<R>,
+    sender: Sender<L>,
+    advices: usize,
+    sessions: usize,
+    threads: bool,
+}
+
+impl<S: Alter + Drop, R: Read + Drop, L: Link> Drop for Over<S, R, L> {
+    fn drop(self) {
+        let Over {
+            journal: _,
+            input: _,
+            sender: _,
+            advices: _,
+            sessions: _,
+            threads: _,
+        } = self;
+    }
+}
+
+impl<S: Alter + Drop, R: Read + Drop, L: Link> Over<S, R, L> {
+    // The run over the stations that were made (apart, so that its proof does not carry their making).
+    fn run<T: Threads + Wait + Clock + Sync, O: Write, E: Write, K: Clock>(
+        self,
+        rt: &T,
+        alloc: Global,
+        code: &Code,
+        stations: Vec<Station>,
+        out: &mut O,
+        stderr: &mut Reporter<'_, E, K>,
+    ) -> Result<StreamEnd, ServeError>
+        ensures ran { IfOk result (λ end. IfSome self.input (λ reader. (frames : List (List ℕ))
+            × ReadTo end (R.remaining reader) frames
+            × (rounds : List Round) × RoundsFor self.threads (requests frames) rounds
+            × (ran : Ran code.now self.sessions (seen (kept S.Store self.journal))
+            (SendsAdvice L.sends L.receives L.starves (Unit {0})) self.sender self.advices rounds
+            (O.contents out.old) (O.contents out.new))
+            × TellsRun stderr.old.words (unfinished_in ran.begins.view)
+            (all_lines ran.serves) (passed_over frames) ran.serves.end
+            (log_of E.contents stderr.old) (log_of E.contents stderr.new))) }
+        ensures printed { OnOk result (IfNone self.input (Printed code.now self.sessions
+            (seen (kept S.Store self.journal)) (O.contents out.old) (O.contents out.new))) }
+        ensures stopped { OnErr result (IsStopped
+            (SendsAdvice L.sends L.receives L.starves (Unit {0})) self.sender self.advices
+            self.threads (option_map R.remaining self.input)
+            code.now self.sessions (seen (kept S.Store self.journal))
+            (O.contents out.old) (O.contents out.new)) }
+    {
+        let Over {
+            journal,
+            input,
+            sender,
+            advices,
+            sessions,
+            threads,
+        } = self;
+        let plant = match Plant::new(alloc, code, journal, stations, sessions) {
+            Ok(plant) => plant,
+            Err((error, _, stations)) => {
+                return Err(cause_of(alloc, code, stations.as_slice(), sessions, error));
+            }
+        };
+        let first = plant.engine().opened().next_id;
+        let answered = Progress::begin(alloc, plant.engine(), first);
+        let mut switch = Switch { plant, answered };
+        let mut advisor = Advisor::new(sender, advices, first);
+        let unfinished = switch.unfinished();
+        switch.recover(alloc)?;
+        let Some(input) = input else {
+            print(alloc, switch.engine(), out)?;
+            return Ok(StreamEnd::Whole);
+        };
+        stderr.say_ready(alloc, unfinished);
+        if threads {
+            return switch.serve_together(rt, alloc, input, &mut advisor, out, stderr);
+        }
+        let served = switch.serve_to_end(rt, alloc, &mut advisor, input, out, stderr);
+        let traced = stderr.trace(alloc, switch.engine());
+        switch.show(rt, alloc, stderr);
+        end_of(served, traced)
+    }
+}
+
+// A participant that never joins, ready for a station.
+fn boxed<P: Unjoined>(alloc: Global, participant: P) -> Result<Box<Bystander<P>>, ServeError> {
+    Ok(Box::new(alloc, Bystander::new(participant))?)
+}
+
+// The station of a participant whose name is good.
+fn named(
+    alloc: Global,
+    name: &str,
+    participant: Box<dyn Participant + Send>,
+) -> Result<Station, NoMemory>
+    requires { is_name name.now ≡ true }
+    ensures named { IfOk result (λ station. name_of station ≡ name.now) }
+    ensures none_made { IfOk result (λ station. calls_of station ≡ 0) }
+{
+    match Station::new(alloc, name, participant) {
+        Ok(station) => Ok(station),
+        Err(StationError::BadName) => unreachable!(),
+        Err(StationError::OutOfMemory) => Err(NoMemory),
+    }
+}
+
+/// Recovers what the journal has unfinished. Without an input, it prints the lines of that, and does nothing more.
+/// Otherwise it answers the requests of the input as they come, then runs what is on the shelf, and sends the
+/// stored advices. Between two reads of the input it sends some of them in turn, at most as many as the setup says.
+/// An advice that may have been sent before, in this run or an earlier one, is sent as a repeat.
+///
+/// The lines of the trace of a transaction are written before the next request is offered, and the rest at the
+/// end, even if the run ends early. If the stream of frames is refused, what came before is answered, and the run
+/// then ends as it would after a whole input.
+///
+/// With threads the requests are answered in batches of those that have come, at most 256 at once; the lines
+/// of the trace are written after each batch. Those of a batch that was given up are lost.
+///
+/// If `stderr` wants the numbers of the run, they are written each time that many more requests are answered (with
+/// threads, after the batch in which this happens), and at the end. If it wants words, it is written that the run is
+/// ready, before the first read, and after each request, or each batch, what has become new of the hosts.
+///
+/// A failed write to standard error is not an error of the run: its result is as if all had been written there.
+///
+/// The switch has seven participants, and one more for each link that is queried. Before anything is done, these
+/// are refused, in this order: the first link whose name does not give a participant's name (`BadLinkName`), the
+/// first participant of the flow that the switch does not have (`NoStation`), and the first name that two links
+/// have (`DoubleStation`).
+///
+/// The stations are made here; no caller has one of them.
+pub fn run<
+    S: Alter + Drop,
+    T: Threads + Wait + Clock + Sync,
+    R: Read + Drop,
+    O: Write,
+    E: Write,
+    K: Clock,
+>(
+    rt: &T,
+    alloc: Global,
+    code: &Code,
+    journal: Journal<S>,
+    setup: Setup<SwitchLink>,
+    input: Option<R>,
+    out: &mut O,
+    stderr: &mut Reporter<'_, E, K>,
+) -> Result<StreamEnd, ServeError>
+    ensures ran { IfOk result (λ end. IfSome input (λ reader. (frames : List (List ℕ))
+        × ReadTo end (R.remaining reader) frames
+        × (rounds : List Round) × RoundsFor setup.threads (requests frames) rounds
+        × (ran : Ran code.now setup.sessions (seen (kept S.Store journal))
+        (SendsAdvice ⟦<SwitchLink as Link>⟧.sends ⟦<SwitchLink as Link>⟧.receives
+        ⟦<SwitchLink as Link>⟧.starves (Unit {0}))
+        (sender_with ⟦<SwitchLink as Link>⟧.state setup.routes setup.advised.items)
+        setup.advices rounds (O.contents out.old) (O.contents out.new))
+        × TellsRun stderr.old.words (unfinished_in ran.begins.view)
+        (all_lines ran.serves) (passed_over frames) ran.serves.end
+        (log_of E.contents stderr.old) (log_of E.contents stderr.new))) }
+    ensures printed { OnOk result (IfNone input (Printed code.now setup.sessions
+        (seen (kept S.Store journal)) (O.contents out.old) (O.contents out.new))) }
+    ensures stopped { OnErr result (IsStopped
+        (SendsAdvice ⟦<SwitchLink as Link>⟧.sends ⟦<SwitchLink as Link>⟧.receives
+        ⟦<SwitchLink as Link>⟧.starves (Unit {0}))
+        (sender_with ⟦<SwitchLink as Link>⟧.state setup.routes setup.advised.items)
+        setup.advices setup.threads (option_map R.remaining input)
+        code.now setup.sessions (seen (kept S.Store journal))
+        (O.contents out.old) (O.contents out.new)) }
+{
+    let Setup {
+        book,
+        stand_in,
+        routes,
+        queried,
+        advised,
+        advices,
+        sessions,
+        threads,
+        timed,
+    } = setup;
+    let over = Over {
+        journal,
+        input,
+        sender: sender_over(alloc, routes.as_slice(), advised)?,
+        advices,
+        sessions,
+        threads,
+    };
+    // (All at once: with a return for each, each would prove how everything else is dropped.)
+    let (Ok(check), Ok(limits), Ok(route), Ok(reverse)) = (
+        boxed(alloc, CheckFields::new(alloc)),
+        Box::new(alloc, Limits::new(alloc, book)),
+        boxed(alloc, Route::new(alloc, routes)),
+        Box::new(alloc, Reverse::new(alloc)),
+    ) else {
+        return Err(ServeError::OutOfMemory);
+    };
+    let (Ok(standin), Ok(forward), Ok(respond)) = (
+        boxed(alloc, StandIn::new(alloc, stand_in)),
+        Box::new(alloc, Forward::new(alloc)),
+        boxed(alloc, Respond::new(alloc)),
+    ) else {
+        return Err(ServeError::OutOfMemory);
+    };
+    let (Ok(check), Ok(limits), Ok(route), Ok(reverse)) = (
+        named(alloc, "check", check),
+        named(alloc, "limits", limits),
+        named(alloc, "route", route),
+        named(alloc, "reverse", reverse),
+    ) else {
+        return Err(ServeError::OutOfMemory);
+    };
+    let (Ok(standin), Ok(forward), Ok(respond)) = (
+        named(alloc, "standin", standin),
+        named(alloc, "forward", forward),
+        named(alloc, "respond", respond),
+    ) else {
+        return Err(ServeError::OutOfMemory);
+    };
+    let mut stations = vec![in alloc; check, limits, route, reverse, standin, forward, respond]?;
+    for NamedLink {
+        name,
+        link,
+        has_stand_in,
+    } in queried {
+        let query = QueryIssuer::new(alloc, link, has_stand_in);
+        let query = boxed(alloc, Timed::new(query, timed))?;
+        let station = query_name(alloc, name.as_str())?;
+        match Station::new(alloc, station.as_str(), query) {
+            Ok(station) => stations.push(station)?,
+            Err(StationError::BadName) => return Err(ServeError::BadLinkName(name)),
+            Err(StationError::OutOfMemory) => return Err(ServeError::OutOfMemory),
+        }
+    }
+    over.run(rt, alloc, code, stations, out, stderr)
+}

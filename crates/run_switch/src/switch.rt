@@ -1,0 +1,270 @@
+//! The plant of the switch, one transaction after the other.
+
+ghost use Rattle.std.specs.Prelude.{◌≡◌, ◌≤◌, ◌∷◌, List, ℕ, [], Option, IfOk, OnErr, OnOk, true};
+ghost use Rattle.std.specs.Io.KnownBytes.{Appends};
+ghost use Rattle.sw_context.specs.Pairs.{Pairs};
+ghost use Rattle.sw_frame.specs.Stream.{AreFramed};
+ghost use Rattle.tx_engine.specs.Calls.{waits};
+ghost use Rattle.tx_seats.specs.Seated.{Seated};
+ghost use Rattle.run_switch.specs.Points.{IsAtRest, IsReady, RestsGiven, all_answered, point_of};
+ghost use Rattle.run_switch.specs.Points.{responses, unanswered};
+ghost use Rattle.run_switch.specs.Rounds.{Completed, Does, IsDone, Lone, Together, Transacts};
+ghost use Rattle.run_switch.specs.Rounds.{answering};
+ghost use Rattle.run_switch.specs.Stopped.{GivesSome, Halts};
+ghost use Rattle.run_switch.specs.Traces.{Cuts, IsLive, IsOver, Reports, log_of};
+
+use crate::error::ServeError;
+use crate::given::{count_above, last_above, text_above};
+use crate::progress::Progress;
+use crate::reporter::Reporter;
+use cli_io::write_out;
+use sqlite::Alter;
+use std::alloc::Global;
+use std::io::Write;
+use std::sync::Wait;
+use std::thread::Threads;
+use std::time::Clock;
+use sw_context::Context;
+use tx_engine::Engine;
+use tx_intake::Listed;
+use tx_plant::{Outcome, Plant, Turn};
+use tx_pool::{Open, Pool};
+
+/// A history of this many entries is cut between two transactions. Contracts do not know this number, which keeps
+/// a long run small, but only a bound: half of what a history may have.
+const MANY_ENTRIES: usize = 8_192;
+
+// From how many entries on a history is cut between two transactions. With the trace or the log it is cut each time,
+// so that all lines of a transaction are written, each once, before the next one is offered.
+fn entries_kept(live: bool) -> usize
+    ensures bound { result ≤ 524288 }
+    ensures live { live ≡ true → result ≡ 1 }
+{
+    if live { 1 } else { MANY_ENTRIES }
+}
+
+/// The most requests of a batch, and the capacity of its intake.
+pub(crate) const MAX_BATCH: usize = 256;
+
+/// More steps than a transaction has: 1,000 answers and choices, then as many tolds.
+const MAX_STEPS: usize = 2_002;
+
+/// The plant of the switch over a journal, driven by session 0, except for batches. After each of its calls all
+/// entries are written, unless it is refused.
+pub(crate) struct Switch<S: Alter> {
+    pub(crate) plant: Plant<S>,
+    /// Which responses were given, and what was counted.
+    pub(crate) answered: Progress,
+}
+
+impl<S: Alter + Drop> Drop for Switch<S> {
+    fn drop(self) {
+        let Switch {
+            plant: _,
+            answered: _,
+        } = self;
+    }
+}
+
+impl<S: Alter + Drop> Switch<S> {
+    /// Runs the requests as a batch, by all sessions at once. If the batch is given up, the switch is lost with
+    /// it.
+    pub(crate) fn run_together<T: Threads + Wait + Sync>(
+        self,
+        rt: &T,
+        alloc: Global,
+        requests: Vec<Context>,
+    ) -> Result<Switch<S>, ServeError>
+        requires { IsAtRest (point_of S.Store self) }
+        ensures { IfOk result (λ switch. Together requests.items
+            (point_of S.Store self) (point_of S.Store switch)) }
+    {
+        let Switch { plant, answered } = self;
+        plant.engine_is_sound();
+        match Pool::run(rt, alloc, plant, Listed::new(requests), MAX_BATCH, &Open) {
+            Ok((plant, _, _)) => Ok(Switch { plant, answered }),
+            Err(error) => Err(ServeError::from_pool(error)),
+        }
+    }
+}
+
+// A refusal of the engine is an error.
+fn unless_refused(outcome: Outcome) -> Result<Outcome, ServeError>
+    ensures { IfOk result (λ done. (done ≡ outcome) × IsDone outcome) }
+{
+    match outcome {
+        Outcome::Refused(error) => Err(ServeError::from(error)),
+        other => Ok(other),
+    }
+}
+
+impl<S: Alter> Switch<S> {
+    /// Its engine.
+    pub(crate) fn engine(&self) -> &Engine
+        ensures { result.now ≡ self.now.plant.running.engine }
+    {
+        self.plant.engine()
+    }
+
+    /// Does a turn, and writes its entry.
+    pub(crate) fn act(&mut self, alloc: Global, turn: Turn) -> Result<Outcome, ServeError>
+        requires seated { Seated (point_of S.Store self.old).plant.core }
+        ensures does { IfOk result (λ outcome. Does turn outcome
+            (point_of S.Store self.old) (point_of S.Store self.new)) }
+        ensures seated { OnOk result (Seated (point_of S.Store self.new).plant.core) }
+    {
+        let turns = [turn, Turn::Write(None)];
+        let outcomes = match self.plant.drive(alloc, &turns) {
+            Ok(outcomes) => outcomes,
+            Err(fault) => return Err(ServeError::from(fault.cause)),
+        };
+        match outcomes.into_iter().next() {
+            Some(outcome) => unless_refused(outcome),
+            None => unreachable!(),
+        }
+    }
+
+    // Runs the transaction of the queue's first context to its end.
+    fn serve_next(&mut self, alloc: Global) -> Result<(), ServeError>
+        requires rest { IsAtRest (point_of S.Store self.old) }
+        ensures transacts { OnOk result ((own : Option Pairs) × Transacts
+            (point_of S.Store self.old) own (point_of S.Store self.new)) }
+        ensures seated { OnOk result (Seated (point_of S.Store self.new).plant.core) }
+    {
+        self.act(alloc, Turn::Take(0))?;
+        for _ in 0..MAX_STEPS {
+            if let Outcome::Idle = self.act(alloc, Turn::Step(0))? {
+                return Ok(());
+            }
+        }
+        Err(ServeError::Endless)
+    }
+
+    /// Runs the transaction of a request that came alone to its end.
+    pub(crate) fn run_alone(&mut self, alloc: Global, request: Context) -> Result<(), ServeError>
+        requires ready { IsReady (point_of S.Store self.old) }
+        ensures lone { OnOk result ((own : Option Pairs) × Lone request
+            (point_of S.Store self.old) own (point_of S.Store self.new)) }
+        ensures rests { OnOk result (RestsGiven (point_of S.Store self.new)) }
+    {
+        self.act(alloc, Turn::Offer(request))?;
+        self.serve_next(alloc)
+    }
+
+    /// Writes the responses that were not given yet, those of the transactions that ended since, and counts them.
+    /// Then the contexts of all transactions that ended are dropped, so that a long run keeps none of them.
+    pub(crate) fn give<O: Write>(&mut self, alloc: Global, out: &mut O) -> Result<(), ServeError>
+        requires rests { RestsGiven (point_of S.Store self.old) }
+        ensures gives { OnOk result ((text : List ℕ)
+            × AreFramed text (responses (unanswered (point_of S.Store self.old)))
+            × Appends (O.contents out.old) (O.contents out.new) text) }
+        ensures answered { OnOk result (point_of S.Store self.new
+            ≡ all_answered (point_of S.Store self.old)) }
+        ensures stopped { OnErr result (GivesSome (point_of S.Store self.old)
+            (O.contents out.old) (O.contents out.new)) }
+        ensures rest { OnOk result (IsAtRest (point_of S.Store self.new)) }
+    {
+        let last = self.answered.last;
+        let text = text_above(alloc, self.plant.ended(), last)?;
+        write_out(out, &text)?;
+        count_above(alloc, &mut self.answered.counts, self.plant.ended(), last)?;
+        self.answered.last = last_above(self.plant.ended(), last);
+        let _given = self.plant.take_ended(alloc);
+        Ok(())
+    }
+
+    // Cuts a history between two transactions, if it is long or its lines are wanted; these are written first.
+    // With the trace, no line is then left to write.
+    fn cut_between<E: Write, K: Clock>(
+        &mut self,
+        alloc: Global,
+        stderr: &mut Reporter<'_, E, K>,
+    ) -> Result<(), ServeError>
+        requires rest { IsAtRest (point_of S.Store self.old) }
+        ensures cuts { OnOk result (Cuts
+            (point_of S.Store self.old) (log_of E.contents stderr.old)
+            (point_of S.Store self.new) (log_of E.contents stderr.new)) }
+        ensures rest { OnOk result (IsAtRest (point_of S.Store self.new)) }
+        ensures queue { OnOk result (waits self.new.plant.running.engine
+            ≡ waits self.old.plant.running.engine) }
+        ensures live { OnOk result (IsLive (log_of E.contents stderr.old) self.new.plant.running.engine) }
+        ensures once { OnErr result (IsOver (log_of E.contents stderr.new)) }
+    {
+        let entries = entries_kept(stderr.is_live());
+        if self.engine().history().len() < entries {
+            return Ok(());
+        }
+        stderr.trace(alloc, self.engine())?;
+        match self.act(alloc, Turn::Cut) {
+            Ok(_) => Ok(()),
+            Err(error) => {
+                // Its lines are written, and none of them is written again when the run ends.
+                stderr.finish();
+                Err(error)
+            }
+        }
+    }
+
+    /// Cuts a history that is long or whose lines are wanted; these are written first. So the lines of the trace
+    /// are written before the run waits for input.
+    pub(crate) fn cut_traced<E: Write, K: Clock>(
+        &mut self,
+        alloc: Global,
+        stderr: &mut Reporter<'_, E, K>,
+    ) -> Result<(), ServeError>
+        requires rest { IsAtRest (point_of S.Store self.old) }
+        requires empty { waits self.old.plant.running.engine ≡ [] }
+        ensures cuts { OnOk result (Cuts
+            (point_of S.Store self.old) (log_of E.contents stderr.old)
+            (point_of S.Store self.new) (log_of E.contents stderr.new)) }
+        ensures ready { OnOk result (IsReady (point_of S.Store self.new)) }
+        ensures live { OnOk result (IsLive (log_of E.contents stderr.old) self.new.plant.running.engine) }
+    {
+        self.cut_between(alloc, stderr)
+    }
+
+    /// Runs the transaction of the queue's first context to its end, and writes its response; then the lines of
+    /// the trace so far, if it is wanted.
+    pub(crate) fn answer_next<O: Write, E: Write, K: Clock>(
+        &mut self,
+        alloc: Global,
+        stderr: &mut Reporter<'_, E, K>,
+        out: &mut O,
+    ) -> Result<(), ServeError>
+        requires rest { IsAtRest (point_of S.Store self.old) }
+        ensures serves { OnOk result (Reports (Completed ∷ []) 0
+            (point_of S.Store self.old) (O.contents out.old) (log_of E.contents stderr.old)
+            (point_of S.Store self.new) (O.contents out.new) (log_of E.contents stderr.new)) }
+        ensures halts { OnErr result (Halts (Completed ∷ [])
+            (point_of S.Store self.old) (O.contents out.old) (O.contents out.new)) }
+        ensures rest { OnOk result (IsAtRest (point_of S.Store self.new)) }
+        ensures live { OnOk result (IsLive (log_of E.contents stderr.old) self.new.plant.running.engine) }
+    {
+        stderr.begin();
+        self.serve_next(alloc)?;
+        self.give(alloc, out)?;
+        self.cut_between(alloc, stderr)
+    }
+
+    /// Runs the transaction of a request to its end, and writes its response; then the lines of the trace so far,
+    /// if it is wanted.
+    pub(crate) fn answer<O: Write, E: Write, K: Clock>(
+        &mut self,
+        alloc: Global,
+        request: Context,
+        stderr: &mut Reporter<'_, E, K>,
+        out: &mut O,
+    ) -> Result<(), ServeError>
+        requires ready { IsReady (point_of S.Store self.old) }
+        ensures serves { OnOk result (Reports (answering (request ∷ [])) 0
+            (point_of S.Store self.old) (O.contents out.old) (log_of E.contents stderr.old)
+            (point_of S.Store self.new) (O.contents out.new) (log_of E.contents stderr.new)) }
+        ensures halts { OnErr result (Halts (answering (request ∷ []))
+            (point_of S.Store self.old) (O.contents out.old) (O.contents out.new)) }
+        ensures ready { OnOk result (IsReady (point_of S.Store self.new)) }
+        ensures live { OnOk result (IsLive (log_of E.contents stderr.old) self.new.plant.running.engine) }
+    {
+        self.act(alloc, Turn::Offer(request))?;
+        self.answer_next(alloc, stderr, out)
+    }
+}

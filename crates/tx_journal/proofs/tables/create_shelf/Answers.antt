@@ -1,8 +1,0 @@
-use Rattle.sqlite.specs.Held.{state}
-use Rattle.tx_journal.proofs.MakeLemmas.{creates_shelf}
-use Rattle.tx_journal.proofs.tables.create_shelf.Goals as goal
-
-pub returns-clause-makes : goal.returns-clause-makes
-returns-clause-makes g c clean stage =
-    creates_shelf (state g.S.Store c.args.tx.now.conn.now) (state g.S.Store c.execute.new.self.conn.now) c.execute.result stage
-    (c.execute.ensures.runs clean stage.mode)

@@ -1,6 +1,0 @@
-use Rattle.tx_outcome.proofs.Cuts.{cut_good}
-use Rattle.tx_outcome.proofs.Words.{told_again, restored_again, no_stop_in, adds, told_way}
-use Rattle.tx_outcome.proofs.laws.clauses.Goals as goal
-
-pub returns : goal.returns
-returns c = record { told_again = told_again; recovered_again = restored_again; no_stop_in = no_stop_in; told_way = told_way; cut = cut_good; adds = adds }
