@@ -20,8 +20,8 @@ use Rattle.run_switch.specs.Advices.{AdviceStep}
 use Rattle.run_switch.specs.Ran.{Printed, Ran}
 use Rattle.run_switch.specs.Requests.{ReadTo, requests}
 use Rattle.run_switch.specs.Rounds.{Round, RoundsFor}
-use Rattle.run_switch.specs.declared.reporter.TraceForm.{TraceForm}
-use Rattle.run_switch.specs.declared.reporter.TraceForm.TheVariants as form
+use Rattle.run_switch.specs.declared.reporter.LineForm.{LineForm}
+use Rattle.run_switch.specs.declared.reporter.LineForm.TheVariants as form
 use Rattle.run_switch.specs.declared.stream.StreamEnd.TheVariants.{Whole}
 use Rattle.run_switch.specs.declared.error.ServeError.{ServeError}
 use Rattle.run_switch.specs.declared.error.ServeError.TheVariants as serve
@@ -46,7 +46,7 @@ IsConfigAt None c = c ≡ no_config
 IsConfigAt (Some path) c = ⊤
 
 -- the form of the trace's lines that the options name; with a log those as JSON have its records
-abbrev pub form_of : Bool → TraceForm → TraceForm
+abbrev pub form_of : Bool → TraceForm → LineForm
 form_of logged option.Text = form.Text
 form_of false option.Json = form.Json
 form_of true option.Json = form.JsonWithRecords

@@ -28,7 +28,7 @@ use flow_model::Flow;
 use journal_store::Journal;
 use run_reports::Words;
 use run_setup::{journal_path, log_path, recovery, setup, words_of};
-use run_switch::{RecordLog, Reporter, Setup, Stats, SwitchLink, TraceForm, run};
+use run_switch::{LineForm, RecordLog, Reporter, Setup, Stats, SwitchLink, run};
 use sqlite::Alter;
 use sqlite_std_file::File;
 use sqlite_store::FileStore;
@@ -93,16 +93,16 @@ fn code_at(alloc: Global, rt: &HostRuntime, path: &str) -> Result<Code, RunError
 }
 
 // The form of the trace's lines, by that of the options, and by whether there is a log.
-fn form_of(form: TraceForm, logged: bool) -> TraceForm
+fn form_of(form: TraceForm, logged: bool) -> LineForm
     ensures { result ≡ form_of logged form }
 {
     match form {
-        TraceForm::Text => TraceForm::Text,
+        TraceForm::Text => LineForm::Text,
         TraceForm::Json => {
             if logged {
-                TraceForm::JsonWithRecords
+                LineForm::JsonWithRecords
             } else {
-                TraceForm::Json
+                LineForm::Json
             }
         }
     }

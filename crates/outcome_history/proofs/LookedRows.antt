@@ -46,16 +46,16 @@ row_in_phase f r Undoing e fits = let w = fits.telling (rw e refl) in
     (rw (length-map r.joined (number_of f)) w.1, no_doing f r.doing w.0, rw (length-map r.joined (number_of f)) fits.members)
 
 -- what is found by number was found by name
-pub record FoundRow (f : Flow) (o : Option Row) (r : TxRow) : Type 0 where
+pub record LookedRow (f : Flow) (o : Option Row) (r : TxRow) : Type 0 where
   pub row : Row
   pub there : o ≡ Some row
   pub is : numbered f row ≡ r
 
-pub found_row : (f : Flow) (o : Option Row) (r : TxRow) → option_map (numbered f) o ≡ Some r → FoundRow f o r
+pub found_row : (f : Flow) (o : Option Row) (r : TxRow) → option_map (numbered f) o ≡ Some r → LookedRow f o r
 found_row f None r h = absurd (cc)
 found_row f (Some q) r h = record { row = q; there = refl; is = grind (arith, h) }
 
-looked_fits : (f : Flow) (w : JournalView) (id : ℕ) (r : TxRow) → IsOk w → FoundRow f (look id w.rows) r → IsInPhase r.phase r
+looked_fits : (f : Flow) (w : JournalView) (id : ℕ) (r : TxRow) → IsOk w → LookedRow f (look id w.rows) r → IsInPhase r.phase r
 looked_fits f w id r ok k = subst (λ (r : TxRow). IsInPhase r.phase r) k.is (row_in_phase f k.row k.row.phase refl (ok.rows id k.row k.there))
 
 pub view_fits : (f : Flow) (w : JournalView) → IsOk w → ViewFits (id_view f w)

@@ -19,7 +19,7 @@ use Rattle.tx_history.specs.Views.{IsOk, RowFits}
 use Rattle.tx_history.proofs.RisingKeys.{look_within}
 use Rattle.tx_history.proofs.OwnItems.{old_outcome}
 use Rattle.outcome_history.specs.Looked.{numbered, id_view, stacked, closings}
-use Rattle.outcome_history.proofs.LookedRows.{FoundRow, found_row}
+use Rattle.outcome_history.proofs.LookedRows.{LookedRow, found_row}
 
 -- those who are notified of a journalled transaction's outcome
 
@@ -131,7 +131,7 @@ covers_hold f [] past id q over h = absurd (cc)
 covers_hold f (x ∷ rows) past id q over h = covers_if f x rows past id q over (λ ids k. covers_hold f rows ids id q over k) (is_ended f (reopened f x.1))
     (x.0 == id) refl refl h
 
-covered : (f : Flow) (v : Start) (id : ℕ) (r : TxRow) → FoundRow f (look id v.view.rows) r → listed r ≡ [] → closed (shut_ids (closings f v)) id ≡ true
+covered : (f : Flow) (v : Start) (id : ℕ) (r : TxRow) → LookedRow f (look id v.view.rows) r → listed r ≡ [] → closed (shut_ids (closings f v)) id ≡ true
 covered f v id r k none = covers_hold f v.view.rows [] id k.row (nobody_over f k.row (ap listed k.is ∙ none)) k.there
 
 pub closings_shut : (f : Flow) (v : Start) → IsOk v.view → Shuts (id_view f v.view) (shut_ids (closings f v))

@@ -11,7 +11,7 @@ use Rattle.tx_plant.specs.Plant.{Seen, Whole}
 use Rattle.tx_seats.specs.Drives.{IsMade}
 use Rattle.run_switch.specs.declared.stream.StreamEnd.{StreamEnd}
 use Rattle.run_switch.specs.Advices.{AdviceStep, PlainAdvisor, begun_advisor}
-use Rattle.run_switch.specs.declared.reporter.TraceForm.TheVariants.{Text}
+use Rattle.run_switch.specs.declared.reporter.LineForm.TheVariants.{Text}
 use Rattle.run_switch.specs.Lines.{lines_in, written_as}
 use Rattle.run_switch.specs.declared.progress.Progress.{Progress}
 use Rattle.run_switch.specs.Numbers.{begun_in}

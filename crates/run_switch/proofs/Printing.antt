@@ -15,18 +15,18 @@ use Rattle.tx_history.specs.History.{Start}
 use Rattle.tx_trace.specs.Follow.{earlier, lines_given}
 use Rattle.tx_trace.specs.Lines.{at_number}
 use Rattle.tx_trace.proofs.Earlier.{earlier_all, earlier_none, nth}
-use Rattle.run_switch.specs.declared.reporter.TraceForm.{TraceForm}
+use Rattle.run_switch.specs.declared.reporter.LineForm.{LineForm}
 use Rattle.run_switch.specs.Lines.{Line, in_form, line_at, lines_of, written_as}
 
 -- the line of each entry in this form
-abbrev pub line_as : TraceForm → Flow → Start → List Event → Event → List ℕ
+abbrev pub line_as : LineForm → Flow → Start → List Event → Event → List ℕ
 line_as form f v past e = in_form form (line_at f v past e)
 
 -- the lines of a history in this form
-abbrev pub all_as : TraceForm → Flow → Start → List Event → List ℕ
+abbrev pub all_as : LineForm → Flow → Start → List Event → List ℕ
 all_as form f v past = written_as form (lines_of f v past)
 
-as_last : (form : TraceForm) (ls : List Line) (l : Line) → written_as form (ls ++ l ∷ []) ≡ written_as form ls ++ (in_form form l ++ 10 ∷ [])
+as_last : (form : LineForm) (ls : List Line) (l : Line) → written_as form (ls ++ l ∷ []) ≡ written_as form ls ++ (in_form form l ++ 10 ∷ [])
 as_last form ls l =
     flat_map-append (λ (x : Line). in_form form x ++ 10 ∷ []) ls (l ∷ [])
     ∙ ap (λ (t : List ℕ). written_as form ls ++ t) (append-nil (in_form form l ++ 10 ∷ []))
@@ -35,7 +35,7 @@ pub same_line : (x y : List ℕ) → ◌≡◌ {A = Option (List ℕ)} (Some x) 
 same_line x y e = cc
 
 -- one more line
-pub lines_next : (form : TraceForm) (f : Flow) (v : Start) (past : List Event) (n : ℕ) (text : List ℕ) → n < length past →
+pub lines_next : (form : LineForm) (f : Flow) (v : Start) (past : List Event) (n : ℕ) (text : List ℕ) → n < length past →
     at_number (line_as form f v) past (n + 1) ≡ Some text
     → all_as form f v (earlier (n + 1) past) ≡ all_as form f v (earlier n past) ++ (text ++ 10 ∷ [])
 lines_next form f v past n text lt is =
@@ -45,14 +45,14 @@ lines_next form f v past n text lt is =
     ∙ (as_last form (lines_of f v (earlier n past)) (line_at f v (earlier n past) next.event)
     ∙ ap (λ (l : List ℕ). all_as form f v (earlier n past) ++ (l ++ 10 ∷ [])) same)
 
-pub lines_all : (form : TraceForm) (f : Flow) (v : Start) (past : List Event) (n : ℕ) → length past ≤ n → all_as form f v (earlier n past) ≡ all_as form f v past
+pub lines_all : (form : LineForm) (f : Flow) (v : Start) (past : List Event) (n : ℕ) → length past ≤ n → all_as form f v (earlier n past) ≡ all_as form f v past
 lines_all form f v past n le = ap (all_as form f v) (earlier_all past n le)
 
-pub lines_none : (form : TraceForm) (f : Flow) (v : Start) (past : List Event) → all_as form f v (earlier 0 past) ≡ []
+pub lines_none : (form : LineForm) (f : Flow) (v : Start) (past : List Event) → all_as form f v (earlier 0 past) ≡ []
 lines_none form f v past = ap (all_as form f v) (earlier_none past)
 
 -- each entry has a line
-pub line_there : (form : TraceForm) (f : Flow) (v : Start) (past : List Event) (n : ℕ) → n < length past → at_number (line_as form f v) past (n + 1) ≡ None → ⊥
+pub line_there : (form : LineForm) (f : Flow) (v : Start) (past : List Event) (n : ℕ) → n < length past → at_number (line_as form f v) past (n + 1) ≡ None → ⊥
 line_there form f v past n lt none = let next = nth f v past n lt in let line = next.line (line_as form f v) in cc
 
 abbrev gives : {X : Type 0} → Option X → Result (Option X) AllocError
@@ -61,10 +61,10 @@ gives o = Ok o
 pub counted_next : {X : Type 0} (o : Option X) (x : X) (a b n : ℕ) → o ≡ Some x → a ≡ b + lines_given (gives o) → b ≡ n → a ≡ n + 1
 counted_next o x a b n is at same = at ∙ (ap (λ z. b + lines_given (gives z)) is ∙ ap (λ (k : ℕ). k + 1) same)
 
-pub first_lines : (form : TraceForm) (f : Flow) (v : Start) (past : List Event) (a : Option (List ℕ)) → Appends a a (all_as form f v (earlier 0 past))
+pub first_lines : (form : LineForm) (f : Flow) (v : Start) (past : List Event) (a : Option (List ℕ)) → Appends a a (all_as form f v (earlier 0 past))
 first_lines form f v past a = subst (Appends a a) (sym (lines_none form f v past)) (Appends-nil a)
 
-pub more_lines : {X : Type 0} (text : X → List ℕ) (form : TraceForm) (f : Flow) (v : Start) (past : List Event) (n k : ℕ) (o : Option X) (x : X)
+pub more_lines : {X : Type 0} (text : X → List ℕ) (form : LineForm) (f : Flow) (v : Start) (past : List Event) (n k : ℕ) (o : Option X) (x : X)
     (written : List ℕ) (a b c : Option (List ℕ)) → n < length past → k ≡ n → o ≡ Some x
     → option_map text o ≡ at_number (line_as form f v) past (k + 1) → written ≡ text x → Appends a b (all_as form f v (earlier n past)) →
     Appends b c (written ++ 10 ∷ []) → Appends a c (all_as form f v (earlier (n + 1) past))
@@ -74,18 +74,18 @@ more_lines text form f v past n k o x written a b c lt at is line shown first se
     let last : Appends b c (text x ++ 10 ∷ []) = subst (λ (l : List ℕ). Appends b c (l ++ 10 ∷ [])) shown second in
     subst (Appends a c) (sym (lines_next form f v past n (text x) lt here)) (Appends-trans a b c _ _ first last)
 
-pub none_missing : {X : Type 0} (text : X → List ℕ) (form : TraceForm) (f : Flow) (v : Start) (past : List Event) (n k : ℕ) (o : Option X) → n < length past →
+pub none_missing : {X : Type 0} (text : X → List ℕ) (form : LineForm) (f : Flow) (v : Start) (past : List Event) (n k : ℕ) (o : Option X) → n < length past →
     k ≡ n → o ≡ None → option_map text o ≡ at_number (line_as form f v) past (k + 1) → ⊥
 none_missing text form f v past n k o lt at is line =
     line_there form f v past n lt (ap (λ (i : ℕ). at_number (line_as form f v) past (i + 1)) (sym at) ∙ (sym line ∙ ap (option_map text) is))
 
-pub all_lines : (form : TraceForm) (f : Flow) (v : Start) (past : List Event) (n : ℕ) (a b : Option (List ℕ)) → length past ≤ n →
+pub all_lines : (form : LineForm) (f : Flow) (v : Start) (past : List Event) (n : ℕ) (a b : Option (List ℕ)) → length past ≤ n →
     Appends a b (all_as form f v (earlier n past)) → Appends a b (all_as form f v past)
 all_lines form f v past n a b le h = subst (Appends a b) (lines_all form f v past n le) h
 
 -- the lines of the first entries are a beginning of all
 
-lines_front : (form : TraceForm) (f : Flow) (v : Start) (past : List Event) (n : ℕ) →
+lines_front : (form : LineForm) (f : Flow) (v : Start) (past : List Event) (n : ℕ) →
     (rest : List ℕ) × (all_as form f v past ≡ all_as form f v (earlier n past) ++ rest)
 lines_front form f v [] n = ([], refl)
 lines_front form f v (e ∷ past) n = by_test (nat_lt n (length past + 1)) (lines_front form f v past n) where
@@ -99,12 +99,12 @@ lines_front form f v (e ∷ past) n = by_test (nat_lt n (length past + 1)) (line
       )
   by_test false ih = ([], sym (append-nil (all_as form f v (e ∷ past))))
 
-pub some_lines : (form : TraceForm) (f : Flow) (v : Start) (past : List Event) (n : ℕ) (a b : Option (List ℕ)) → Appends a b (all_as form f v (earlier n past)) →
+pub some_lines : (form : LineForm) (f : Flow) (v : Start) (past : List Event) (n : ℕ) (a b : Option (List ℕ)) → Appends a b (all_as form f v (earlier n past)) →
     AppendsBeginning a b (all_as form f v past)
 some_lines form f v past n a b h = let (rest, is) = lines_front form f v past n in (all_as form f v (earlier n past), rest, is, h)
 
 -- and so is a beginning of the next line after them
-pub part_line : {X : Type 0} (text : X → List ℕ) (form : TraceForm) (f : Flow) (v : Start) (past : List Event) (n k : ℕ) (o : Option X) (x : X)
+pub part_line : {X : Type 0} (text : X → List ℕ) (form : LineForm) (f : Flow) (v : Start) (past : List Event) (n k : ℕ) (o : Option X) (x : X)
     (written : List ℕ) (a b c : Option (List ℕ)) → n < length past → k ≡ n → o ≡ Some x
     → option_map text o ≡ at_number (line_as form f v) past (k + 1) → written ≡ text x → Appends a b (all_as form f v (earlier n past)) →
     AppendsBeginning b c (written ++ 10 ∷ []) → AppendsBeginning a c (all_as form f v past)

@@ -11,7 +11,7 @@ use Rattle.run_reports.specs.Hosts.{AreNews, names_in}
 use Rattle.run_reports.specs.Ready.{ready_lines}
 use Rattle.run_reports.specs.declared.ready.Recovered.{Recovered}
 use Rattle.run_reports.specs.declared.Words.{Words}
-use Rattle.run_switch.specs.declared.reporter.TraceForm.{TraceForm}
+use Rattle.run_switch.specs.declared.reporter.LineForm.{LineForm}
 use Rattle.run_switch.specs.Records.{Recording}
 use Rattle.run_switch.specs.Shown.{Says, SaysCounts, SaysNews, ShowsNumbers, ShowsSince, Writes, hosts_of, is_due, ready_text}
 use Rattle.run_switch.specs.Traces.{Adds, AddsSome, IsQuiet, Log, Said, Tells, Wants}
@@ -20,7 +20,7 @@ use Rattle.run_switch.proofs.Tracing.{none_wanted, quiet_none, tells_then, true_
 
 -- one write
 
-pub writes_whole : (line : List ℕ) (w : Option TraceForm) (s : Wants) (l : Bool) (k : ℕ) (t u : Option (List ℕ)) (r : Recording) → Appends t u line
+pub writes_whole : (line : List ℕ) (w : Option LineForm) (s : Wants) (l : Bool) (k : ℕ) (t u : Option (List ℕ)) (r : Recording) → Appends t u line
     → Writes line (record { wanted = w; wants = s; passed = k; lost = l; text = t; recording = r }) (record { wanted = w; wants = s; passed = k; lost = l; text = u; recording = r })
 writes_whole line w s l k t u r all = record {
   wanted = refl;
@@ -32,7 +32,7 @@ writes_whole line w s l k t u r all = record {
   recording = refl;
 }
 
-pub writes_part : (line : List ℕ) (w : Option TraceForm) (s : Wants) (l o : Bool) (k : ℕ) (t u : Option (List ℕ)) (r : Recording) → o ≡ true → AppendsBeginning t u line
+pub writes_part : (line : List ℕ) (w : Option LineForm) (s : Wants) (l o : Bool) (k : ℕ) (t u : Option (List ℕ)) (r : Recording) → o ≡ true → AppendsBeginning t u line
     → Writes line (record { wanted = w; wants = s; passed = k; lost = l; text = t; recording = r }) (record { wanted = w; wants = s; passed = k; lost = o; text = u; recording = r })
 writes_part line w s l o k t u r lost written = record {
   wanted = refl;
@@ -81,7 +81,7 @@ says_lines bytes P (Err e) a b wanted is written lost = record {
 pub hosts_is : (words : Option Words) (w : Words) → words ≡ Some w → hosts_of words ≡ names_in w.hosts
 hosts_is words w is = rw is refl
 
-pub says_news : {L E : Type 0} (bytes : L → List ℕ) (lines : Result L E) (words : Option Words) (w : Words) (f : Option TraceForm) (s : Bool) (k : ℕ) (l : Bool)
+pub says_news : {L E : Type 0} (bytes : L → List ℕ) (lines : Result L E) (words : Option Words) (w : Words) (f : Option LineForm) (s : Bool) (k : ℕ) (l : Bool)
     (t : Option (List ℕ)) (r : Recording) (b : Log) → words ≡ Some w → IfOk lines (λ x. AreNews (names_in w.hosts) (bytes x))
     → IfOk lines (λ x. Writes (bytes x) (record { wanted = f; wants = record { stats = s; words = true }; passed = k; lost = l; text = t; recording = r }) b)
     → IfErr lines (λ e. (b.lost ≡ true)
@@ -91,7 +91,7 @@ says_news bytes lines words w f s k l t r b is news written lost =
     rw is (says_lines bytes (AreNews (names_in w.hosts)) lines
     (record { wanted = f; wants = record { stats = s; words = true }; passed = k; lost = l; text = t; recording = r }) b refl news written lost)
 
-pub no_news : (words other : Option Words) (f : Option TraceForm) (s : Bool) (k : ℕ) (l : Bool) (t : Option (List ℕ)) (r : Recording) → words ≡ None →
+pub no_news : (words other : Option Words) (f : Option LineForm) (s : Bool) (k : ℕ) (l : Bool) (t : Option (List ℕ)) (r : Recording) → words ≡ None →
     other ≡ None → SaysNews (hosts_of words)
     (record { wanted = f; wants = record { stats = s; words = is_some words }; passed = k; lost = l; text = t; recording = r })
     (record { wanted = f; wants = record { stats = s; words = is_some other }; passed = k; lost = l; text = t; recording = r })

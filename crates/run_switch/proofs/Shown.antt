@@ -8,7 +8,7 @@ use Rattle.std.proofs.KnownBytes.{Appends-nil}
 use Rattle.sw_stats.specs.Line.{Numbers, stats_line}
 use Rattle.run_switch.specs.Points.{Point}
 use Rattle.run_switch.specs.Rounds.{Round}
-use Rattle.run_switch.specs.declared.reporter.TraceForm.{TraceForm}
+use Rattle.run_switch.specs.declared.reporter.LineForm.{LineForm}
 use Rattle.run_switch.specs.Lines.{Line}
 use Rattle.run_switch.specs.Records.{Recording}
 use Rattle.run_switch.specs.Shown.{ShowsNumbers, if_shown}
@@ -87,7 +87,7 @@ batch_shown xs p q a b x y z (rounds, answers, reports) s = (rounds, answers, re
 
 -- what a write tells
 
-pub not_shown : (n : Numbers) (w : Option TraceForm) (s : Wants) (l : Bool) (k : ℕ) (t : Option (List ℕ)) (r : Recording) → s.stats ≡ false →
+pub not_shown : (n : Numbers) (w : Option LineForm) (s : Wants) (l : Bool) (k : ℕ) (t : Option (List ℕ)) (r : Recording) → s.stats ≡ false →
     ShowsNumbers n (record { wanted = w; wants = s; passed = k; lost = l; text = t; recording = r }) (record { wanted = w; wants = s; passed = k; lost = l; text = t; recording = r })
 not_shown n w s l k t r not = record {
   milliseconds = 0;
@@ -100,7 +100,7 @@ not_shown n w s l k t r not = record {
   recording = refl;
 }
 
-pub shown_whole : (n : Numbers) (time : ℕ) (line : List ℕ) (w : Option TraceForm) (s : Wants) (l : Bool) (k : ℕ) (t u : Option (List ℕ)) (r : Recording) → s.stats ≡ true →
+pub shown_whole : (n : Numbers) (time : ℕ) (line : List ℕ) (w : Option LineForm) (s : Wants) (l : Bool) (k : ℕ) (t u : Option (List ℕ)) (r : Recording) → s.stats ≡ true →
     line ≡ stats_line n time → Appends t u line
     → ShowsNumbers n (record { wanted = w; wants = s; passed = k; lost = l; text = t; recording = r }) (record { wanted = w; wants = s; passed = k; lost = l; text = u; recording = r })
 shown_whole n time line w s l k t u r is same written =
@@ -117,7 +117,7 @@ shown_whole n time line w s l k t u r is same written =
       recording = refl;
     }
 
-pub shown_part : (n : Numbers) (time : ℕ) (line : List ℕ) (w : Option TraceForm) (s : Wants) (l o : Bool) (k : ℕ) (t u : Option (List ℕ)) (r : Recording) →
+pub shown_part : (n : Numbers) (time : ℕ) (line : List ℕ) (w : Option LineForm) (s : Wants) (l o : Bool) (k : ℕ) (t u : Option (List ℕ)) (r : Recording) →
     s.stats ≡ true → o ≡ true → line ≡ stats_line n time → AppendsBeginning t u line
     → ShowsNumbers n (record { wanted = w; wants = s; passed = k; lost = l; text = t; recording = r }) (record { wanted = w; wants = s; passed = k; lost = o; text = u; recording = r })
 shown_part n time line w s l o k t u r is lost same written = record {

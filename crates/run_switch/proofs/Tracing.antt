@@ -13,7 +13,7 @@ use Rattle.iso_codec.specs.declared.error.DecodeError.{DecodeError}
 use Rattle.iso_codec.specs.Reads.{read, type_of}
 use Rattle.sw_frame.specs.Feeds.{messages}
 use Rattle.cli_io.specs.Written.{AppendsBeginning}
-use Rattle.run_switch.specs.declared.reporter.TraceForm.{TraceForm}
+use Rattle.run_switch.specs.declared.reporter.LineForm.{LineForm}
 use Rattle.run_switch.specs.Lines.{Line, in_form, written_as}
 use Rattle.run_switch.specs.Records.{Recording, Records}
 use Rattle.run_switch.specs.Traces.{Adds, AddsSome, AreBegun, Counted, IsQuiet, Log, Passed, Piece, Said, Tells, Traced, Wants}
@@ -129,11 +129,11 @@ some_of w p a b quiet (first, rest, is, written) = record {
   written = written;
 }
 
-pub none_wanted : (w : Option TraceForm) → if_wanted w [] ≡ []
+pub none_wanted : (w : Option LineForm) → if_wanted w [] ≡ []
 none_wanted (Some form) = refl
 none_wanted None = refl
 
-both_wanted : (w : Option TraceForm) (xs ys : List Line) → if_wanted w (xs ++ ys) ≡ if_wanted w xs ++ if_wanted w ys
+both_wanted : (w : Option LineForm) (xs ys : List Line) → if_wanted w (xs ++ ys) ≡ if_wanted w xs ++ if_wanted w ys
 both_wanted (Some form) xs ys = flat_map-append (λ (l : Line). in_form form l ++ 10 ∷ []) xs ys
 both_wanted None xs ys = refl
 
@@ -162,13 +162,13 @@ tells_then xs ys m n a b c s t = record {
   wants = t.wants ∙ s.wants;
   count = λ h. both_counted a.passed b.passed c.passed m n s.count t.count h;
   before = λ h. s.before (t.before h);
-  adds = λ h. (let more : Adds b.wants (if_wanted a.wanted ys) n b.text c.text = subst (λ (w : Option TraceForm). Adds b.wants (if_wanted w ys) n b.text c.text)
+  adds = λ h. (let more : Adds b.wants (if_wanted a.wanted ys) n b.text c.text = subst (λ (w : Option LineForm). Adds b.wants (if_wanted w ys) n b.text c.text)
       s.wanted (t.adds h) in
       let same : Adds a.wants (if_wanted a.wanted ys) n b.text c.text = subst (λ (w : Wants). Adds w (if_wanted a.wanted ys) n b.text c.text) s.wants more in
       subst (λ (l : List ℕ). Adds a.wants l (m + n) a.text c.text) (sym (both_wanted a.wanted xs ys))
       (adds_then a.wants (if_wanted a.wanted xs) (if_wanted a.wanted ys) m n a.text b.text c.text (s.adds (t.before h)) same));
   some = (let more : AddsSome b.wants (if_wanted a.wanted ys) n b.text c.text =
-      subst (λ (w : Option TraceForm). AddsSome b.wants (if_wanted w ys) n b.text c.text) s.wanted t.some in
+      subst (λ (w : Option LineForm). AddsSome b.wants (if_wanted w ys) n b.text c.text) s.wanted t.some in
       let same : AddsSome a.wants (if_wanted a.wanted ys) n b.text c.text = subst (λ (w : Wants). AddsSome w (if_wanted a.wanted ys) n b.text c.text) s.wants
       more in
       subst (λ (l : List ℕ). AddsSome a.wants l (m + n) a.text c.text) (sym (both_wanted a.wanted xs ys))
@@ -191,7 +191,7 @@ lines_before xs ys n a b c s t = subst (λ (k : ℕ). Tells (xs ++ ys) k a c) (z
 -- one write
 
 -- all is written
-told_whole : (lines : List Line) (n : ℕ) (w : Option TraceForm) (s : Wants) (l : Bool) (k m : ℕ) (t u : Option (List ℕ)) (r q : Recording) →
+told_whole : (lines : List Line) (n : ℕ) (w : Option LineForm) (s : Wants) (l : Bool) (k m : ℕ) (t u : Option (List ℕ)) (r q : Recording) →
     (k + n < 2 ^ 64 → m ≡ k + n) → Adds s (if_wanted w lines) n t u → Records lines r q
     → Tells lines n (record { wanted = w; wants = s; passed = k; lost = l; text = t; recording = r })
     (record { wanted = w; wants = s; passed = m; lost = l; text = u; recording = q })
@@ -211,18 +211,18 @@ none_more k small = sym (add-zero k)
 one_more : (k m : ℕ) → m ≡ min (k + 1) (2 ^ 64 - 1) → k + 1 < 2 ^ 64 → m ≡ k + 1
 one_more k m is small = is ∙ min-eq_left (omega (arith, small))
 
-pub unwanted : (lines : List Line) (w : Option TraceForm) (s : Wants) (l : Bool) (k : ℕ) (t : Option (List ℕ)) (q : Recording) → w ≡ None → (r : Recording) →
+pub unwanted : (lines : List Line) (w : Option LineForm) (s : Wants) (l : Bool) (k : ℕ) (t : Option (List ℕ)) (q : Recording) → w ≡ None → (r : Recording) →
     Records lines r q → Tells lines 0 (record { wanted = w; wants = s; passed = k; lost = l; text = t; recording = r })
     (record { wanted = w; wants = s; passed = k; lost = l; text = t; recording = q })
 unwanted lines w s l k t q not r records =
-    told_whole lines 0 w s l k k t t r q (none_more k) (subst (λ (b : Option TraceForm). Adds s (if_wanted b lines) 0 t t) (sym not) (adds_none s t)) records
+    told_whole lines 0 w s l k k t t r q (none_more k) (subst (λ (b : Option LineForm). Adds s (if_wanted b lines) 0 t t) (sym not) (adds_none s t)) records
 
-pub lines_told : (lines : List Line) (form : TraceForm) (w : Option TraceForm) (s : Wants) (l : Bool) (k : ℕ) (t u : Option (List ℕ)) (q : Recording) → w ≡ Some form →
+pub lines_told : (lines : List Line) (form : LineForm) (w : Option LineForm) (s : Wants) (l : Bool) (k : ℕ) (t u : Option (List ℕ)) (q : Recording) → w ≡ Some form →
     Appends t u (written_as form lines) → (r : Recording) → Records lines r q
     → Tells lines 0 (record { wanted = w; wants = s; passed = k; lost = l; text = t; recording = r })
     (record { wanted = w; wants = s; passed = k; lost = l; text = u; recording = q })
 lines_told lines form w s l k t u q is written r records = told_whole lines 0 w s l k k t u r q (none_more k)
-    (subst (λ (b : Option TraceForm). Adds s (if_wanted b lines) 0 t u) (sym is) (record {
+    (subst (λ (b : Option LineForm). Adds s (if_wanted b lines) 0 t u) (sym is) (record {
       pieces = Traced (written_as form lines) ∷ [];
       traced = append-nil (written_as form lines);
       count = refl;
@@ -230,7 +230,7 @@ lines_told lines form w s l k t u q is written r records = told_whole lines 0 w 
       written = subst (Appends t u) (sym (append-nil (written_as form lines))) written;
     })) records
 
-pub passed_told : (number : ℕ) (cause line : List ℕ) (w : Option TraceForm) (s : Wants) (l : Bool) (k m : ℕ) (t u : Option (List ℕ)) (r : Recording) →
+pub passed_told : (number : ℕ) (cause line : List ℕ) (w : Option LineForm) (s : Wants) (l : Bool) (k m : ℕ) (t u : Option (List ℕ)) (r : Recording) →
     m ≡ min (k + 1) (2 ^ 64 - 1) → line ≡ passed_line number cause → Appends t u line
     → Tells [] 1 (record { wanted = w; wants = s; passed = k; lost = l; text = t; recording = r })
     (record { wanted = w; wants = s; passed = m; lost = l; text = u; recording = r })
@@ -248,7 +248,7 @@ passed_told number cause line w s l k m t u r more is written =
 pub true_not_false : {A : Type 0} (b : Bool) → b ≡ true → b ≡ false → A
 true_not_false b is not = absurd (let both : true ≡ false = sym is ∙ not in cc)
 
-told_some : (lines : List Line) (n : ℕ) (w : Option TraceForm) (s : Wants) (l o : Bool) (k m : ℕ) (t u : Option (List ℕ)) (r q : Recording) →
+told_some : (lines : List Line) (n : ℕ) (w : Option LineForm) (s : Wants) (l o : Bool) (k m : ℕ) (t u : Option (List ℕ)) (r q : Recording) →
     (k + n < 2 ^ 64 → m ≡ k + n) → o ≡ true → AddsSome s (if_wanted w lines) n t u → Records lines r q
     → Tells lines n (record { wanted = w; wants = s; passed = k; lost = l; text = t; recording = r })
     (record { wanted = w; wants = s; passed = m; lost = o; text = u; recording = q })
@@ -262,17 +262,17 @@ told_some lines n w s l o k m t u r q count lost some records = record {
   records = records;
 }
 
-pub lines_lost : (lines : List Line) (form : TraceForm) (w : Option TraceForm) (s : Wants) (l o : Bool) (k : ℕ) (t u : Option (List ℕ)) (q : Recording) → w ≡ Some form →
+pub lines_lost : (lines : List Line) (form : LineForm) (w : Option LineForm) (s : Wants) (l o : Bool) (k : ℕ) (t u : Option (List ℕ)) (q : Recording) → w ≡ Some form →
     o ≡ true → AppendsBeginning t u (written_as form lines) → (r : Recording) → Records lines r q
     → Tells lines 0 (record { wanted = w; wants = s; passed = k; lost = l; text = t; recording = r })
     (record { wanted = w; wants = s; passed = k; lost = o; text = u; recording = q })
 lines_lost lines form w s l o k t u q is lost written r records =
     let text : List ℕ = written_as form lines in
     let begun : AddsSome s (text ++ []) 0 t u = some_of s (Traced text) t u (quiet_traced s text) written in
-    told_some lines 0 w s l o k k t u r q (none_more k) lost (subst (λ (b : Option TraceForm). AddsSome s (if_wanted b lines) 0 t u) (sym is)
+    told_some lines 0 w s l o k k t u r q (none_more k) lost (subst (λ (b : Option LineForm). AddsSome s (if_wanted b lines) 0 t u) (sym is)
     (subst (λ (x : List ℕ). AddsSome s x 0 t u) (append-nil text) begun)) records
 
-pub passed_lost : (number : ℕ) (cause line : List ℕ) (w : Option TraceForm) (s : Wants) (l o : Bool) (k m : ℕ) (t u : Option (List ℕ)) (r : Recording) →
+pub passed_lost : (number : ℕ) (cause line : List ℕ) (w : Option LineForm) (s : Wants) (l o : Bool) (k m : ℕ) (t u : Option (List ℕ)) (r : Recording) →
     m ≡ min (k + 1) (2 ^ 64 - 1) → line ≡ passed_line number cause → o ≡ true → AppendsBeginning t u line
     → Tells [] 1 (record { wanted = w; wants = s; passed = k; lost = l; text = t; recording = r })
     (record { wanted = w; wants = s; passed = m; lost = o; text = u; recording = r })

@@ -11,7 +11,7 @@ use Rattle.tx_history.proofs.EntryCounts.{entries_length}
 use Rattle.tx_trace.specs.Follow.{earlier}
 use Rattle.tx_trace.specs.Lines.{at_number, json_text}
 use Rattle.tx_trace.proofs.Earlier.{nth}
-use Rattle.run_switch.specs.declared.reporter.TraceForm.TheVariants.{JsonWithRecords}
+use Rattle.run_switch.specs.declared.reporter.LineForm.TheVariants.{JsonWithRecords}
 use Rattle.run_switch.specs.Lines.{object_of, record_at, taken_at, with_record}
 use Rattle.run_switch.proofs.Printing.{line_as, same_line}
 use Rattle.run_switch.proofs.Recording.{at_entry, earlier_entries, some_entry, within}

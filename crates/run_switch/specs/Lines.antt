@@ -12,8 +12,8 @@ use Rattle.sw_log.specs.Line.{record_object, taken_object}
 use Rattle.sw_log.specs.declared.line.Times.{Times}
 use Rattle.sw_record.specs.Records.{record_after, record_taken}
 use Rattle.sw_record.specs.declared.record.Record.{Record}
-use Rattle.run_switch.specs.declared.reporter.TraceForm.{TraceForm}
-use Rattle.run_switch.specs.declared.reporter.TraceForm.TheVariants.{Text, Json, JsonWithRecords}
+use Rattle.run_switch.specs.declared.reporter.LineForm.{LineForm}
+use Rattle.run_switch.specs.declared.reporter.LineForm.TheVariants.{Text, Json, JsonWithRecords}
 
 -- the entry that an event is after those before it
 abbrev pub entry_at : Flow → Start → List Event → Event → Entry
@@ -60,11 +60,11 @@ with_record line None = line
 with_record line (Some object) = take (length line - 1) line ++ (codes ",\"record\":" ++ (object ++ codes "}"))
 
 -- a line in this form
-abbrev pub in_form : TraceForm → Line → List ℕ
+abbrev pub in_form : LineForm → Line → List ℕ
 in_form Text l = l.text
 in_form Json l = l.json
 in_form JsonWithRecords l = with_record l.json (object_of l.recorded l.taken)
 
 -- lines in this form, each with its line feed
-abbrev pub written_as : TraceForm → List Line → List ℕ
+abbrev pub written_as : LineForm → List Line → List ℕ
 written_as form lines = flat_map (λ l. in_form form l ++ 10 ∷ []) lines

@@ -8,7 +8,7 @@ use Rattle.tx_plant.specs.Plant.{Seen, Whole}
 use Rattle.tx_seats.specs.Drives.{IsMade}
 use Rattle.run_switch.specs.Points.{IsAtRest, IsReady, Point, world_at}
 use Rattle.run_switch.specs.Rounds.{Drains, IsEmptied, MayCut, Recovers, Round}
-use Rattle.run_switch.specs.declared.reporter.TraceForm.TheVariants.{Text}
+use Rattle.run_switch.specs.declared.reporter.LineForm.TheVariants.{Text}
 use Rattle.run_switch.specs.Lines.{Line, lines_in, written_as}
 use Rattle.run_switch.specs.Advices.{AdviceStep, PlainAdvisor, SendsAll, begun_advisor, stored_at}
 use Rattle.run_switch.specs.Legs.{Advances, Stage, lines_of, stage}

@@ -10,7 +10,7 @@ use Rattle.tx_plant.specs.Plant.{Seen}
 use Rattle.run_switch.specs.declared.stream.StreamEnd.{StreamEnd}
 use Rattle.run_switch.specs.Points.{IsReady, Point, all_answered, response_of, responses, unanswered, world_at}
 use Rattle.run_switch.specs.Rounds.{Alone, Batched, Completed, IsRetry, Lone, MayCut, Round, RoundsFor, RoundsToward, Serves, Together, Transacts}
-use Rattle.run_switch.specs.declared.reporter.TraceForm.TheVariants.{Text}
+use Rattle.run_switch.specs.declared.reporter.LineForm.TheVariants.{Text}
 use Rattle.run_switch.specs.Lines.{Line, lines_in, written_as}
 use Rattle.sw_issuers.specs.Sending.{PlainSender}
 use Rattle.run_switch.specs.Advices.{AdviceStep, PlainAdvisor, begun_advisor}

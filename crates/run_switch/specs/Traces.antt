@@ -9,7 +9,7 @@ use Rattle.iso_codec.specs.declared.error.DecodeError.{DecodeError}
 use Rattle.iso_codec.specs.Reads.{read}
 use Rattle.sw_stats.specs.Line.{Numbers, stats_line}
 use Rattle.tx_engine.specs.World.{World}
-use Rattle.run_switch.specs.declared.reporter.TraceForm.{TraceForm}
+use Rattle.run_switch.specs.declared.reporter.LineForm.{LineForm}
 use Rattle.run_switch.specs.declared.reporter.Reporter.{Reporter}
 use Rattle.run_switch.specs.Lines.{Line, written_as}
 use Rattle.run_switch.specs.Points.{Point, all_answered, responses, unanswered}
@@ -107,7 +107,7 @@ pub record AddsSome (wants : Wants) (lines : List ℕ) (passed : ℕ) (before af
 -- standard error as a run sees it: in which form the trace is wanted, if it is, what is wanted besides, how many messages were passed
 -- over, whether a write failed, and what is written, where that is known; and beside it the log
 pub record Log : Type 0 where
-  pub wanted : Option TraceForm
+  pub wanted : Option LineForm
   pub wants : Wants
   pub passed : ℕ
   pub lost : Bool
@@ -124,7 +124,7 @@ log_of contents stderr = record {
   recording = recording_of contents stderr.log;
 }
 
-abbrev pub if_wanted : Option TraceForm → List Line → List ℕ
+abbrev pub if_wanted : Option LineForm → List Line → List ℕ
 if_wanted (Some form) lines = written_as form lines
 if_wanted None lines = []
 

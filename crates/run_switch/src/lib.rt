@@ -30,7 +30,7 @@ mod with_records;
 pub use defaults::{DEFAULT_STAND_IN, default_advised, default_queried, default_routes};
 pub use error::ServeError;
 pub use record_log::RecordLog;
-pub use reporter::{Reporter, TraceForm, write_lines};
+pub use reporter::{LineForm, Reporter, write_lines};
 pub use serving::run;
 pub use setup::{NamedLink, Setup, SwitchLink};
 pub use stats::Stats;

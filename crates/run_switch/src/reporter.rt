@@ -7,7 +7,7 @@ ghost use Rattle.cli_io.specs.Written.{AppendsBeginning};
 ghost use Rattle.tx_trace.specs.Follow.{Follows, count_of, lines_given};
 ghost use Rattle.tx_trace.specs.Lines.{at_number};
 ghost use Rattle.run_switch.specs.Lines.{in_form, line_at, lines_in, written_as};
-ghost use Rattle.run_switch.specs.declared.reporter.TraceForm.TheVariants.{Text};
+ghost use Rattle.run_switch.specs.declared.reporter.LineForm.TheVariants.{Text};
 ghost use Rattle.run_switch.specs.Records.{Recording, Records};
 ghost use Rattle.run_switch.specs.Traces.{IsOver, Tells, is_live, log_of, passed_line};
 
@@ -26,7 +26,7 @@ use tx_trace::Tracer;
 
 /// The form of the trace's lines.
 #[derive(Clone, Copy)]
-pub enum TraceForm {
+pub enum LineForm {
     Text,
     /// Each line is a JSON object.
     Json,
@@ -41,7 +41,7 @@ pub enum TraceForm {
 pub struct Reporter<'a, E, K> {
     pub err: &'a mut E,
     /// In which form the lines of the trace are wanted, if they are.
-    pub trace: Option<TraceForm>,
+    pub trace: Option<LineForm>,
     /// Whether a write failed: what was to be written then is missing, or part of it is.
     pub lost: bool,
     /// The lines of numbers that are wanted.
@@ -170,7 +170,7 @@ fn next_line(
     alloc: Global,
     engine: &Engine,
     tracer: &mut Tracer,
-    form: TraceForm,
+    form: LineForm,
     number: usize,
 ) -> Result<Option<Vec<u8>>, AllocError>
     requires follows { Follows engine.now tracer.old }
@@ -184,12 +184,12 @@ fn next_line(
     ensures follows { Follows engine.now tracer.new }
 {
     match form {
-        TraceForm::Text => match tracer.next(alloc, engine)? {
+        LineForm::Text => match tracer.next(alloc, engine)? {
             Some(line) => Ok(Some(line.into_bytes())),
             None => Ok(None),
         },
-        TraceForm::Json => tracer.next_json(alloc, engine),
-        TraceForm::JsonWithRecords => next_with_record(alloc, engine, tracer, number),
+        LineForm::Json => tracer.next_json(alloc, engine),
+        LineForm::JsonWithRecords => next_with_record(alloc, engine, tracer, number),
     }
 }
 
@@ -198,7 +198,7 @@ fn next_line(
 fn write_lines_as<W: Write>(
     alloc: Global,
     engine: &Engine,
-    form: TraceForm,
+    form: LineForm,
     out: &mut W,
 ) -> Result<(), ServeError>
     ensures lines { OnOk result (Appends
@@ -225,5 +225,5 @@ pub fn write_lines<W: Write>(alloc: Global, engine: &Engine, out: &mut W) -> Res
     ensures beginning { AppendsBeginning
         (W.contents out.old) (W.contents out.new) (written_as Text (lines_in engine.now)) }
 {
-    write_lines_as(alloc, engine, TraceForm::Text, out)
+    write_lines_as(alloc, engine, LineForm::Text, out)
 }

@@ -22,7 +22,7 @@ ghost use Rattle.run_switch.specs.Stopped.{DrainsSome, IsStopped, ServesSome};
 ghost use Rattle.run_switch.specs.Shown.{TellsAll, TellsRun, unfinished_in, unfinished_of};
 ghost use Rattle.run_switch.specs.Traces.{DrainsAll, Tells, log_of, passed_over};
 ghost use Rattle.cli_io.specs.Written.{AppendsBeginning};
-ghost use Rattle.run_switch.specs.declared.reporter.TraceForm.TheVariants.{Text};
+ghost use Rattle.run_switch.specs.declared.reporter.LineForm.TheVariants.{Text};
 
 use crate::advices::{Advisor, send_advices};
 use crate::error::ServeError;

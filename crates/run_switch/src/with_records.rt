@@ -5,7 +5,7 @@ ghost use Rattle.sw_record.specs.Records.{record_after, record_taken};
 ghost use Rattle.tx_trace.specs.Follow.{Follows, count_of, lines_given};
 ghost use Rattle.tx_trace.specs.Lines.{at_number};
 ghost use Rattle.run_switch.specs.Lines.{in_form, line_at, object_of, with_record};
-ghost use Rattle.run_switch.specs.declared.reporter.TraceForm.TheVariants.{JsonWithRecords};
+ghost use Rattle.run_switch.specs.declared.reporter.LineForm.TheVariants.{JsonWithRecords};
 
 use std::alloc::{AllocError, Global};
 use sw_log::{Times, record_object, taken_object};

@@ -13,19 +13,19 @@ const RESPONSE: &[u8] = b"01100020000000800000000000TERM0001";
 
 /// What holds the keys that wait.
 #[derive(Drop)]
-enum WaitingKeys {
+enum KeyHolder {
     Mux(Mux),
     Map(HashMap<Key, u64>),
 }
 
-impl WaitingKeys {
+impl KeyHolder {
     fn request(&mut self, message: &Message, round: u64) -> Result<(), &'static str> {
         match self {
-            WaitingKeys::Mux(mux) => match mux.request(message, round) {
+            KeyHolder::Mux(mux) => match mux.request(message, round) {
                 Ok(_) => Ok(()),
                 Err(_) => Err("a request was refused"),
             },
-            WaitingKeys::Map(map) => {
+            KeyHolder::Map(map) => {
                 let Some(key) = key_of(message) else {
                     return Err("a request has no key");
                 };
@@ -40,11 +40,11 @@ impl WaitingKeys {
     // Takes a response, and hands its message back.
     fn response(&mut self, message: Message) -> Result<Message, &'static str> {
         match self {
-            WaitingKeys::Mux(mux) => match mux.response(message) {
+            KeyHolder::Mux(mux) => match mux.response(message) {
                 Response::Matched(_, message) => Ok(message),
                 Response::Unhandled(_) => Err("a response was not matched"),
             },
-            WaitingKeys::Map(map) => {
+            KeyHolder::Map(map) => {
                 let Some(key) = key_of(&message) else {
                     return Err("a response has no key");
                 };
@@ -58,7 +58,7 @@ impl WaitingKeys {
 
     // One key comes to its deadline.
     fn expire(&mut self, alloc: Global, tick: u64) -> Result<(), &'static str> {
-        let WaitingKeys::Mux(mux) = self else {
+        let KeyHolder::Mux(mux) = self else {
             return Err("a map has no deadlines");
         };
         match mux.expire(alloc, tick) {
@@ -98,7 +98,7 @@ fn messages(alloc: Global, bytes: &[u8], count: u64) -> Result<VecDeque<Message>
 
 // The message at the front goes to the back, since its key may wait again.
 fn next_request(
-    waiting: &mut WaitingKeys,
+    waiting: &mut KeyHolder,
     requests: &mut VecDeque<Message>,
     round: u64,
 ) -> Result<(), &'static str> {
@@ -113,7 +113,7 @@ fn next_request(
 }
 
 fn next_response(
-    waiting: &mut WaitingKeys,
+    waiting: &mut KeyHolder,
     responses: &mut VecDeque<Message>,
 ) -> Result<(), &'static str> {
     let Some(message) = responses.pop_front() else {
@@ -128,7 +128,7 @@ fn next_response(
 
 fn run_matched(
     alloc: Global,
-    waiting: WaitingKeys,
+    waiting: KeyHolder,
     keys: u64,
     rounds: u64,
 ) -> Result<(), &'static str> {
@@ -152,7 +152,7 @@ fn run_ticks(alloc: Global, keys: u64, rounds: u64) -> Result<(), &'static str> 
     if keys > 999_999 {
         return Err("too many keys: expected at most 999,999");
     }
-    let mut waiting = WaitingKeys::Mux(Mux::new(alloc));
+    let mut waiting = KeyHolder::Mux(Mux::new(alloc));
     let mut requests = messages(alloc, REQUEST, keys + 1)?;
     for round in 0..keys {
         next_request(&mut waiting, &mut requests, round)?;
@@ -167,8 +167,8 @@ fn run_ticks(alloc: Global, keys: u64, rounds: u64) -> Result<(), &'static str> 
 /// Lets `keys` keys wait, and one more `rounds` times.
 pub fn run(alloc: Global, what: &str, keys: u64, rounds: u64) -> Result<(), &'static str> {
     match what {
-        "mux" => run_matched(alloc, WaitingKeys::Mux(Mux::new(alloc)), keys, rounds),
-        "map" => run_matched(alloc, WaitingKeys::Map(HashMap::new(alloc)), keys, rounds),
+        "mux" => run_matched(alloc, KeyHolder::Mux(Mux::new(alloc)), keys, rounds),
+        "map" => run_matched(alloc, KeyHolder::Map(HashMap::new(alloc)), keys, rounds),
         "ticks" => run_ticks(alloc, keys, rounds),
         _ => Err("expected mux, map or ticks"),
     }

@@ -35,7 +35,7 @@ use Rattle.tx_seats.proofs.DueStands.{SameDue, nothing_new, still_asked, still_d
 use Rattle.tx_seats.proofs.Reseating.{Awaits, Begins, seated_again}
 use Rattle.tx_seats.proofs.SeatSets.{by_session, seat_within, set_here, set_there}
 use Rattle.tx_seats.proofs.SeatedEntries.{own_back}
-use Rattle.tx_seats.proofs.SessionItems.{GivesItem, gives_answered, gives_chose, gives_told, next_held, stays_held, was_waiting}
+use Rattle.tx_seats.proofs.SessionItems.{GivesReply, gives_answered, gives_chose, gives_told, next_held, stays_held, was_waiting}
 use Rattle.tx_seats.proofs.SessionsStand.{still_given, still_recovered}
 
 -- a session's seat is set, in a world where the other sessions stand as they stood
@@ -116,7 +116,7 @@ goes p s es to h z next =
 -- an item is recorded
 
 else_given : (p : Core) (e : Event) (s : ℕ) → Seated p → IsEngine (happened p.world e) → s < length p.seats →
-    GivesItem p.world.flow p.world.start p.world.past e s → OthersStand p s (happened p.world e)
+    GivesReply p.world.flow p.world.start p.world.past e s → OthersStand p s (happened p.world e)
 else_given p e s h engine lt g =
     let w = p.world in
     record {
@@ -131,7 +131,7 @@ else_given p e s h engine lt g =
 none_above : (n : ℕ) → nat_lt n 0 ≡ false
 none_above n = grind (arith, nat_tests)
 
-follows_given : (p : Core) (e : Event) (s : ℕ) → Seated p → (g : GivesItem p.world.flow p.world.start p.world.past e s) →
+follows_given : (p : Core) (e : Event) (s : ℕ) → Seated p → (g : GivesReply p.world.flow p.world.start p.world.past e s) →
     is_ended p.world.flow (state_of p.world.flow p.world.start (e ∷ p.world.past) g.id) ≡ true → Follows p s (happened p.world e)
 follows_given p e s h g over j held =
     let w = p.world in
@@ -145,7 +145,7 @@ over_by : (p q : Core) (s id : ℕ) (l : Seat) (to : World) (item : Option (ℕ 
 over_by p q s id l to None h z next k = seated_again _ q (goes p s _ to h z next) k
 over_by p q s id l to (Some item) h z next k = seated_again _ q (goes p s _ to h z next) k
 
-item_by : (p q : Core) (e : Event) (s : ℕ) (l : Seat) (r : Row) (item : Option (ℕ × WaitingContext)) (g : GivesItem p.world.flow p.world.start p.world.past e s) →
+item_by : (p q : Core) (e : Event) (s : ℕ) (l : Seat) (r : Row) (item : Option (ℕ × WaitingContext)) (g : GivesReply p.world.flow p.world.start p.world.past e s) →
     Seated p → OthersStand p s (happened p.world e) → l.id ≡ g.id → l.kept ≡ None
     → (b : Bool) → is_ended p.world.flow (state_of p.world.flow p.world.start (e ∷ p.world.past) g.id) ≡ b
     → Leaves (fate_by (Some (g.id, if b then None else Some r)) item) (left p s (fate_by (Some (g.id, if b then None else Some r)) item) l
@@ -156,7 +156,7 @@ item_by p q e s l r item g h z own none false going k =
     subst Seated (sym k) (stays p s l p.ended (happened p.world e) h z held (λ x f. absurd (cc)))
 
 item_seated : (p q : Core) (e : Event) (s : ℕ) (l : Seat) → Seated p → IsEngine (happened p.world e) → s < length p.seats →
-    (g : GivesItem p.world.flow p.world.start p.world.past e s) → l.id ≡ g.id → l.kept ≡ None
+    (g : GivesReply p.world.flow p.world.start p.world.past e s) → l.id ≡ g.id → l.kept ≡ None
     → Leaves (newest_fate (happened p.world e)) (left p s (newest_fate (happened p.world e)) l (happened p.world e)) q → Seated q
 item_seated p q e s l h engine lt g own none k =
     let f = p.world.flow in
@@ -192,7 +192,7 @@ restored_seated p q s c l h engine lt held none k =
 
 -- the reply is recorded
 
-same_id : (w : World) (s : ℕ) (l : Seat) (e : Event) (g : GivesItem w.flow w.start w.past e s) → held_id w s ≡ Some l.id → l.id ≡ g.id
+same_id : (w : World) (s : ℕ) (l : Seat) (e : Event) (g : GivesReply w.flow w.start w.past e s) → held_id w s ≡ Some l.id → l.id ≡ g.id
 same_id w s l e g held = let serves = (holds_serves w.flow w.start w.past s l.id held).0 in let given = g.serves in some_id l.id g.id (sym serves ∙ given)
   where
     some_id : (i j : ℕ) → Some i ≡ Some j → i ≡ j

@@ -4,7 +4,7 @@ use Rattle.std.specs.Prelude.{Option, option_map}
 use Rattle.std.proofs.lemmas.List.{length-take-le}
 use Rattle.flow_model.specs.declared.flow.Flow.{Flow}
 use Rattle.tx_trace.specs.Lines.{at_number, json_text}
-use Rattle.run_switch.specs.declared.reporter.TraceForm.TheVariants.{JsonWithRecords}
+use Rattle.run_switch.specs.declared.reporter.LineForm.TheVariants.{JsonWithRecords}
 use Rattle.run_switch.specs.Lines.{with_record}
 use Rattle.run_switch.proofs.Printing.{line_as}
 use Rattle.run_switch.proofs.WithRecords.{line_with_record, none_left, reaches}

@@ -7,7 +7,7 @@ use Rattle.tx_engine.specs.World.{World}
 use Rattle.journal_store.specs.Kept.{kept}
 use Rattle.tx_plant.specs.Plant.{Whole, seen, whole}
 use Rattle.tx_seats.specs.Drives.{IsMade}
-use Rattle.run_switch.specs.declared.reporter.TraceForm.TheVariants.{Text}
+use Rattle.run_switch.specs.declared.reporter.LineForm.TheVariants.{Text}
 use Rattle.run_switch.specs.Lines.{lines_in, written_as}
 use Rattle.run_switch.specs.Numbers.{begun_in}
 use Rattle.run_switch.specs.Requests.{requests}
