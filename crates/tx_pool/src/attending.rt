@@ -50,7 +50,7 @@ fn attend<K: Run, C: Caller, G: Gate, R: Wait>(
             }
             Plan::Make(call, context) => {
                 drop(locked);
-                make(rt, alloc, shared, gate, &mut session, &call, context);
+                make(rt, alloc, shared, gate, &mut session, (call, context));
                 locked = shared.locked.lock(rt);
             }
         }
@@ -58,7 +58,7 @@ fn attend<K: Run, C: Caller, G: Gate, R: Wait>(
     session
 }
 
-// Makes one call, and waits until its entry is written. The station's lock is held until the reply is
+// Makes one call, with the context of its transaction, and waits until its entry is written. The station's lock is held until the reply is
 // recorded, and the engine's is not held while the participant is called.
 fn make<K: Run, C: Caller, G: Gate, R: Wait>(
     rt: &R,
@@ -66,9 +66,9 @@ fn make<K: Run, C: Caller, G: Gate, R: Wait>(
     shared: &Shared<K, C>,
     gate: &G,
     session: &mut Session<K>,
-    call: &Call,
-    context: Context,
+    due: (Call, Context),
 ) {
+    let (call, context) = due;
     let number = usize::from(call.participant);
     let count = shared.stations.len();
     if number >= count {
@@ -77,12 +77,12 @@ fn make<K: Run, C: Caller, G: Gate, R: Wait>(
         return;
     }
     let mut station = shared.stations[count - 1 - number].lock(rt);
-    gate.enter(session.index, call);
-    let made = station.call(call, context);
-    gate.leave(session.index, call);
+    gate.enter(session.index, &call);
+    let made = station.call(&call, context);
+    gate.leave(session.index, &call);
     let mut locked = shared.locked.lock(rt);
     let _ = match made {
-        Ok((reply, after)) => locked.record(alloc, session, call, reply, after),
+        Ok((reply, after)) => locked.record(alloc, session, &call, reply, after),
         Err(NoMemory) => locked.stop(Fault::OutOfMemory),
     };
     drop(station);

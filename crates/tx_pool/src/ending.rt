@@ -2,9 +2,9 @@
 
 ghost use Rattle.std.specs.Prelude.{◌≡◌, ◌≤◌, ◌+◌, ℕ, List, [], true, drop, length, map, IfErr, IfOk};
 ghost use Rattle.std.specs.Prelude.{vec_len, vec_capacity};
-ghost use Rattle.tx_plant.specs.Core.{core};
 ghost use Rattle.tx_locked.specs.AllStations.{AllBack};
 ghost use Rattle.tx_plant.specs.Plant.{IsEngine};
+ghost use Rattle.tx_plant.specs.Wholes.{core_in, engine_in};
 ghost use Rattle.tx_pool.specs.Ended.{Ended, IsSettledSince};
 ghost use Rattle.tx_pool.specs.Feeding.{HasFed};
 ghost use Rattle.tx_locked.specs.Receipts.{all_of, count_done, count_shelved};
@@ -46,22 +46,27 @@ pub(crate) struct Lost<S: Alter, C: Caller> {
     pub(crate) stations: Vec<StationParts<C>>,
 }
 
-// Whether what the threads left agrees with the history, which had `from` entries when the run
-// began, `mark` of them written.
+// How many entries the history had when the run began, and how many of them were written.
+struct RunStart {
+    from: usize,
+    mark: usize,
+}
+
+// Whether what the threads left agrees with the history, which was this long when the run began.
 fn agree(
     engine: &Engine,
-    mark: usize,
-    from: usize,
+    began: RunStart,
     made: &[MadeCall],
     logs: &[Vec<MadeCall>],
     receipts: &[Vec<usize>],
     written: &[Entry],
 ) -> bool
-    requires mark { mark ≤ length (all_of engine.now) }
-    requires from { from ≤ length (all_of engine.now) }
-    ensures { result ≡ true → Agrees (λ v. v.items) (λ v. v.items) engine.now mark from
-        made.now logs.now receipts.now written.now }
+    requires mark { began.mark ≤ length (all_of engine.now) }
+    requires from { began.from ≤ length (all_of engine.now) }
+    ensures { result ≡ true → Agrees (λ v. v.items) (λ v. v.items) engine.now
+        began.mark began.from made.now logs.now receipts.now written.now }
 {
+    let RunStart { from, mark } = began;
     if !is_settled(engine) {
         return false;
     }
@@ -118,13 +123,13 @@ fn take_back<K: Run, O: Source>(
     requires room { K.start.world.sessions ≤ vec_capacity receipts }
     requires no_receipts { receipts.items ≡ [] }
     ensures since { IfOk result (λ r. r.is_settled ≡ true → IsSettledSince K.start
-        (core r.running.engine r.running.seats) K.given (O.given r.source) (O.ended r.source)
+        (core_in r.running) K.given (O.given r.source) (O.ended r.source)
         r.made.items) }
     ensures whole { IfOk result (λ r. r.is_settled ≡ true → K.ends_with (O.given r.source)) }
     ensures sessions { IfOk result (λ r. vec_len r.receipts ≡ K.start.world.sessions) }
     ensures longer { IfOk result (λ r.
-        length K.start.world.past ≤ length (all_of r.running.engine)) }
-    ensures engine { IfOk result (λ r. IsEngine r.running.engine) }
+        length K.start.world.past ≤ length (all_of (engine_in r.running))) }
+    ensures engine { IfOk result (λ r. IsEngine (engine_in r.running)) }
 {
     let Left {
         running,
@@ -189,14 +194,14 @@ fn finish<S: Alter + Drop, C: Caller, O: Source>(
     kept: Kept<S>,
     back: Back<C>,
 ) -> Ran<S, C, O>
-    requires { from ≤ length (all_of settled.running.engine) }
+    requires { from ≤ length (all_of (engine_in settled.running)) }
     ensures running { result.running ≡ settled.running }
     ensures source { result.source ≡ settled.source }
     ensures receipts { result.report.receipts ≡ settled.receipts }
     ensures finished { result.report.finished
-        ≡ count_done (drop from (all_of settled.running.engine)) }
+        ≡ count_done (drop from (all_of (engine_in settled.running))) }
     ensures shelved { result.report.shelved
-        ≡ count_shelved (drop from (all_of settled.running.engine)) }
+        ≡ count_shelved (drop from (all_of (engine_in settled.running))) }
     ensures journal { result.journal ≡ kept.journal }
     ensures stations { result.stations ≡ back.stations }
 {
@@ -245,14 +250,14 @@ pub(crate) fn conclude<S: Alter + Drop, K: Run, C: Caller, O: Source>(
     requires lists { (length K.counts ≡ length K.objects) × (length K.names ≡ length K.objects) }
     ensures ended { IfOk result (λ r. (got : List (List ℕ))
         × Ended K.rule K.objects K.counts K.start
-        (core r.running.engine r.running.seats) got remains.worked.kept.written.items
+        (core_in r.running) got remains.worked.kept.written.items
         (map (λ s. C.object s.participant) r.stations.items) (map (λ s. s.calls) r.stations.items)
         × HasFed K.given (O.given r.source) (O.ended r.source) got) }
     ensures whole { IfOk result (λ r. K.ends_with (O.given r.source)) }
     ensures names { IfOk result (λ r. map (λ s. s.name) r.stations.items ≡ K.names) }
     ensures kept { IfOk result (λ r. (remains.worked.kept.all_done ≡ true)
         × (r.journal ≡ remains.worked.kept.journal)) }
-    ensures reports { IfOk result (λ r. Reports (λ v. v.items) K.start.world r.running.engine
+    ensures reports { IfOk result (λ r. Reports (λ v. v.items) K.start.world (engine_in r.running)
         r.report.receipts.items r.report.finished r.report.shelved) }
     ensures lost { IfErr result (λ e. (e.journal ≡ remains.worked.kept.journal)
         × (e.stations ≡ remains.back.stations)) }
@@ -278,8 +283,7 @@ pub(crate) fn conclude<S: Alter + Drop, K: Run, C: Caller, O: Source>(
     };
     let agrees = agree(
         settled.running.engine(),
-        mark,
-        from,
+        RunStart { from, mark },
         settled.made.as_slice(),
         back.logs.as_slice(),
         settled.receipts.as_slice(),

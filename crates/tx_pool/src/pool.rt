@@ -195,8 +195,7 @@ impl Pool {
         ensures drove { IfOk result (λ r.
             Drove (rule_at (rule_of Participant-dyn) (stations_of plant))
             (map (object_of Participant-dyn) (stations_of plant))
-            (map calls_of (stations_of plant))
-            (whole_at S.Store plant)
+            (map calls_of (stations_of plant)) (whole_at S.Store plant)
             (map (object_of Participant-dyn) (stations_of r.0)) (map calls_of (stations_of r.0))
             (whole_at S.Store r.0)) }
         ensures names { IfOk result (λ r.
@@ -208,8 +207,7 @@ impl Pool {
         ensures offered { IfOk result (λ r. Offered (engine_of plant) (engine_of r.0)
             (O.given source) (O.given r.1) (O.ended r.1)) }
         ensures whole { IfOk result (λ r. O.ends_with source (O.given r.1)) }
-        ensures written { IfOk result (λ r.
-            IsWritten (engine_of plant) (kept_of S.Store plant)
+        ensures written { IfOk result (λ r. IsWritten (engine_of plant) (kept_of S.Store plant)
             → IsWritten (engine_of r.0) (kept_of S.Store r.0)) }
         ensures allowed { IfOk result (λ _. early_refusal (engine_of plant) capacity ≡ None) }
         ensures refused { IfErr result (λ e. IsRefused plant

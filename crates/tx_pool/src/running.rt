@@ -7,6 +7,7 @@ ghost use Rattle.journal_store.specs.Kept.{kept};
 ghost use Rattle.tx_plant.specs.Core.{core};
 ghost use Rattle.tx_plant.specs.Plant.{seen};
 ghost use Rattle.tx_plant.specs.Written.{IsWritten};
+ghost use Rattle.tx_plant.specs.Wholes.{core_in, engine_in};
 ghost use Rattle.tx_locked.specs.AllStations.{AreReady};
 ghost use Rattle.tx_pool.specs.Drives.{Drove};
 ghost use Rattle.tx_pool.specs.Went.{Grown, Offered, Reports};
@@ -16,7 +17,7 @@ use crate::ending::{Lost, Ran, Remains, conclude};
 use crate::gate::Gate;
 use crate::moving::{lock_stations, open_sessions, unlock_stations};
 use crate::shared::Shared;
-use crate::threads::work;
+use crate::threads::{Tasks, work};
 use journal_store::Journal;
 use sqlite::Alter;
 use std::alloc::{AllocError, Global};
@@ -94,7 +95,7 @@ fn run_in<
     blank: Blank,
     gate: &G,
 ) -> Result<Ran<S, C, O>, Lost<S, C>>
-    requires start { core task.running.engine task.running.seats ≡ K.start }
+    requires start { core_in task.running ≡ K.start }
     requires ready { AreReady K.rule K.objects K.counts K.names (λ s. C.rule s.participant)
         (λ s. C.object s.participant) (λ s. s.calls) (λ s. s.name) task.stations.items }
     requires lists { (length K.objects ≡ vec_len task.stations)
@@ -112,19 +113,19 @@ fn run_in<
         (record { core = K.start; journal = seen (kept S.Store task.journal) })
         (map (λ s. C.object s.participant) r.stations.items) (map (λ s. s.calls) r.stations.items)
         (record {
-          core = core r.running.engine r.running.seats;
+          core = core_in r.running;
           journal = seen (kept S.Store r.journal);
         })) }
     ensures names { IfOk result (λ r. map (λ s. s.name) r.stations.items ≡ K.names) }
-    ensures settled { IfOk result (λ r. IsSettled r.running.engine) }
-    ensures grown { IfOk result (λ r. Grown K.start.world r.running.engine) }
-    ensures reports { IfOk result (λ r. Reports (λ v. v.items) K.start.world r.running.engine
+    ensures settled { IfOk result (λ r. IsSettled (engine_in r.running)) }
+    ensures grown { IfOk result (λ r. Grown K.start.world (engine_in r.running)) }
+    ensures reports { IfOk result (λ r. Reports (λ v. v.items) K.start.world (engine_in r.running)
         r.report.receipts.items r.report.finished r.report.shelved) }
-    ensures offered { IfOk result (λ r. Offered K.start.world r.running.engine
+    ensures offered { IfOk result (λ r. Offered K.start.world (engine_in r.running)
         K.given (O.given r.source) (O.ended r.source)) }
     ensures whole { IfOk result (λ r. K.ends_with (O.given r.source)) }
     ensures written { IfOk result (λ r. IsWritten K.start.world (kept S.Store task.journal)
-        → IsWritten r.running.engine (kept S.Store r.journal)) }
+        → IsWritten (engine_in r.running) (kept S.Store r.journal)) }
     ensures lost { IfErr result (λ e. vec_len e.stations ≡ vec_len task.stations) }
 {
     let Work {
@@ -165,10 +166,12 @@ fn run_in<
         alloc,
         &shared,
         gate,
-        source,
-        putter,
-        rooms.sessions,
-        journal,
+        Tasks {
+            source,
+            putter,
+            sessions: rooms.sessions,
+            journal,
+        },
     );
     let Shared {
         locked,
@@ -208,26 +211,26 @@ pub(crate) fn run_parts<
         (map (λ s. C.object s.participant) task.stations.items)
         (map (λ s. s.calls) task.stations.items)
         (record {
-          core = core task.running.engine task.running.seats;
+          core = core_in task.running;
           journal = seen (kept S.Store task.journal);
         })
         (map (λ s. C.object s.participant) r.stations.items) (map (λ s. s.calls) r.stations.items)
         (record {
-          core = core r.running.engine r.running.seats;
+          core = core_in r.running;
           journal = seen (kept S.Store r.journal);
         })) }
     ensures names { IfOk result (λ r.
         map (λ s. s.name) r.stations.items ≡ map (λ s. s.name) task.stations.items) }
-    ensures settled { IfOk result (λ r. IsSettled r.running.engine) }
-    ensures grown { IfOk result (λ r. Grown task.running.engine r.running.engine) }
-    ensures reports { IfOk result (λ r. Reports (λ v. v.items) task.running.engine
-        r.running.engine r.report.receipts.items r.report.finished r.report.shelved) }
-    ensures offered { IfOk result (λ r. Offered task.running.engine r.running.engine
+    ensures settled { IfOk result (λ r. IsSettled (engine_in r.running)) }
+    ensures grown { IfOk result (λ r. Grown (engine_in task.running) (engine_in r.running)) }
+    ensures reports { IfOk result (λ r. Reports (λ v. v.items) (engine_in task.running)
+        (engine_in r.running) r.report.receipts.items r.report.finished r.report.shelved) }
+    ensures offered { IfOk result (λ r. Offered (engine_in task.running) (engine_in r.running)
         (O.given task.source) (O.given r.source) (O.ended r.source)) }
     ensures whole { IfOk result (λ r. O.ends_with task.source (O.given r.source)) }
     ensures written { IfOk result (λ r.
-        IsWritten task.running.engine (kept S.Store task.journal)
-        → IsWritten r.running.engine (kept S.Store r.journal)) }
+        IsWritten (engine_in task.running) (kept S.Store task.journal)
+        → IsWritten (engine_in r.running) (kept S.Store r.journal)) }
     ensures lost { IfErr result (λ e. vec_len e.stations ≡ vec_len task.stations) }
 {
     task.running.engine_is_sound();

@@ -28,6 +28,14 @@ pub(crate) struct Worked<S: Alter, K: Run, O: Source> {
     pub(crate) kept: Kept<S>,
 }
 
+/// What the threads of a run work on: offers, sessions, and the journal.
+pub(crate) struct Tasks<S: Alter, K: Run, O: Source> {
+    pub(crate) source: O,
+    pub(crate) putter: Putter,
+    pub(crate) sessions: Vec<Session<K>>,
+    pub(crate) journal: Journal<S>,
+}
+
 /// Runs all threads until each has ended: the feeder's, one that runs a thread for each session, and
 /// the calling one, which writes the journal. If one cannot be started, the run is given up.
 pub(crate) fn work<
@@ -37,24 +45,21 @@ pub(crate) fn work<
     C: Caller + Send,
     O: Source + Send,
     G: Gate + Sync,
->(
-    rt: &R,
-    alloc: Global,
-    shared: &Shared<K, C>,
-    gate: &G,
-    source: O,
-    putter: Putter,
-    sessions: Vec<Session<K>>,
-    journal: Journal<S>,
-) -> Worked<S, K, O>
-    requires queue { putter.intake ≡ K.intake }
-    requires none { putter.passed ≡ [] }
-    requires given { O.given source ≡ K.given }
-    requires plan { (all : List Pairs) → O.ends_with source all → K.ends_with all }
+>(rt: &R, alloc: Global, shared: &Shared<K, C>, gate: &G, tasks: Tasks<S, K, O>) -> Worked<S, K, O>
+    requires queue { tasks.putter.intake ≡ K.intake }
+    requires none { tasks.putter.passed ≡ [] }
+    requires given { O.given tasks.source ≡ K.given }
+    requires plan { (all : List Pairs) → O.ends_with tasks.source all → K.ends_with all }
     ensures kept { result.kept.all_done ≡ true
-        → Wrote (kept S.Store journal) result.kept.written.items
+        → Wrote (kept S.Store tasks.journal) result.kept.written.items
         (kept S.Store result.kept.journal) }
 {
+    let Tasks {
+        source,
+        putter,
+        sessions,
+        journal,
+    } = tasks;
     thread::scope(
         thread::scope_env(),
         rt,

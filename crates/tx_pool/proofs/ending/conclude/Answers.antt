@@ -1,8 +1,8 @@
 use Rattle.std.proofs.Common.{rules, ◌≡◌, ◌∙◌, length, map, refl, ap}
-use Rattle.tx_plant.specs.Core.{core}
 use Rattle.tx_pool.proofs.Concluding.{concluded, reported}
 use Rattle.tx_locked.proofs.Stations.{names_back}
 use Rattle.tx_pool.proofs.ending.conclude.Goals as goal
+use Rattle.tx_plant.specs.Wholes.{core_in, engine_in}
 
 pub returns-clause-ended : goal.returns-clause-ended
 returns-clause-ended g c =
@@ -15,7 +15,7 @@ returns-clause-ended g c =
     let order = c.both-all_same.ensures.one all_same in
     let agrees = c.agree-agrees.ensures (c.both-all_same.ensures.other all_same) in
     rw (f.running, f.source, f.stations) (concluded g.K.Run.rule g.K.Run.objects g.K.Run.counts g.K.Run.names (λ s. g.C.Caller.object s.participant)
-    (λ s. s.calls) (λ s. s.name) (λ v. v.items) (λ v. v.items) g.K.Run.start (core s.running.engine s.running.seats) g.K.Run.given
+    (λ s. s.calls) (λ s. s.name) (λ v. v.items) (λ v. v.items) g.K.Run.start (core_in s.running) g.K.Run.given
     (g.O.Source.given s.source) (g.O.Source.ended s.source) r.mark r.from s.made.items c.as_slice.result.now r.back.logs.items c.as_slice-2.result.now
     c.as_slice-3.result.now r.worked.kept.written.items c.as_slice-4.result.now r.back.stations.items c.as_slice.ensures.value
     c.as_slice-2.ensures.value c.as_slice-4.ensures.value c.requires.mark c.requires.lists.0 since (rw c.engine.ensures at agrees)
@@ -38,6 +38,6 @@ returns-clause-reports g c =
     let n : length s.receipts.items ≡ g.K.Run.start.world.sessions = search rules in
     let all_same = c.if-not-both.ensures.other refl in
     let agrees = c.agree-agrees.ensures (c.both-all_same.ensures.other all_same) in
-    rw (f.running, f.receipts) (reported (λ v. v.items) (λ v. v.items) g.K.Run.start.world s.running.engine r.mark r.from c.as_slice.result.now
+    rw (f.running, f.receipts) (reported (λ v. v.items) (λ v. v.items) g.K.Run.start.world (engine_in s.running) r.mark r.from c.as_slice.result.now
     c.as_slice-2.result.now s.receipts.items c.as_slice-3.result.now c.as_slice-4.result.now c.finish.result.report.finished
     c.finish.result.report.shelved c.as_slice-3.ensures.value c.requires.from n (rw c.engine.ensures at agrees) f.finished f.shelved)
