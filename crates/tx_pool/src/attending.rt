@@ -58,8 +58,9 @@ fn attend<K: Run, C: Caller, G: Gate, R: Wait>(
     session
 }
 
-// Makes one call, with the context of its transaction, and waits until its entry is written. The station's lock is held until the reply is
-// recorded, and the engine's is not held while the participant is called.
+// Makes one call, with the context of its transaction, and waits until its entry is written. The
+// station's lock is held until the reply is recorded, and the engine's is not held while the
+// participant is called.
 fn make<K: Run, C: Caller, G: Gate, R: Wait>(
     rt: &R,
     alloc: Global,
