@@ -16,7 +16,7 @@ mod program;
 mod requests;
 mod steps;
 
-use cli_io::WriteError;
+use cli_io::IoError;
 use cli_options::OptionsError;
 use cli_options::command_line::options;
 use std::alloc::Global;
@@ -32,7 +32,7 @@ fn arguments(rt: &HostRuntime, alloc: Global) -> io::Result<Vec<String>> {
 fn refuse<O: Write, E: Write>(alloc: Global, error: &OptionsError, out: &mut O, err: &mut E) -> u8 {
     let shown = match format!(in alloc; "{error}") {
         Ok(text) => program::show(error, text.as_str(), out),
-        Err(fault) => Err(WriteError::from(fault)),
+        Err(fault) => Err(IoError::from(fault)),
     };
     program::refuse(error, shown, err)
 }

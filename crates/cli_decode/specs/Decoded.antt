@@ -13,8 +13,8 @@ use Rattle.iso_codec.specs.Reads.{read}
 use Rattle.iso_codec.specs.Spelling.{hex}
 use Rattle.std.specs.Io.KnownBytes.{Appends}
 use Rattle.sw_frame.specs.Stream.{State, Stream}
-use Rattle.cli_decode.specs.declared.masking.Masking.{Masking}
-use Rattle.cli_decode.specs.declared.masking.Masking.TheVariants.{Off, On}
+use Rattle.cli_forms.specs.declared.masking.Masking.{Masking}
+use Rattle.cli_forms.specs.declared.masking.Masking.TheVariants.{Off, On}
 use Rattle.cli_decode.specs.Masks.{AgreeMessages, is_sensitive, masked_line}
 
 -- a binary value is shown as upper case hexadecimal digits, every other as it is

@@ -7,20 +7,17 @@
 //!
 //! [`push_frame`] adds the text of one frame, for callers that get their messages in another way.
 //!
-//! With [`Masking::On`] sensitive fields are masked, and [`masked_texts_hide`] says what a masked text shows:
+//! With [`Masking::On`](cli_forms::Masking) sensitive fields are masked, and [`masked_texts_hide`] says what a masked text shows:
 //! frames whose messages differ only in what is masked have the same text.
 #![tactic(auto)]
 
 mod decoder;
-mod error;
 mod laws;
 mod mask;
 mod masking;
 mod stream;
 mod text;
 
-pub use error::StreamError;
 pub use laws::masked_texts_hide;
-pub use masking::Masking;
 pub use stream::decode_stream;
 pub use text::{push_frame, push_number};

@@ -11,9 +11,7 @@
 #![tactic(auto)]
 
 mod drawing;
-mod form;
 mod nodes;
 mod paths;
 
 pub use drawing::{draw, picture};
-pub use form::GraphForm;

@@ -7,6 +7,7 @@
 //!   bytes that the reader has still to give;
 //! - [`write_whole`] and [`write_out`] add their bytes to the writer's, the latter flushes, and after an
 //!   error a beginning of the bytes was added;
+//! - what reads reports no error of a write, and what writes none of a read;
 //! - out of memory is reported as such, whether it is a reader's, a writer's or our own;
 //! - what [`Quoted`] prints of an input's bytes is printable ASCII, and shows at most 40 of them.
 #![tactic(auto)]
@@ -17,7 +18,7 @@ mod quoted;
 mod read;
 mod write;
 
-pub use error::{ReadError, WriteError};
+pub use error::{IoError, StreamErrorText};
 pub use input::{Input, MAX_READS};
 pub use quoted::{Quoted, quotations_are_short};
 pub use read::read_input;

@@ -7,13 +7,12 @@
 //! journal has rows at fault, the rows that are left out are named after the next id. Messages are
 //! shown as `decode` prints them.
 //!
-//! With [`Masking::On`](cli_decode::Masking) sensitive fields of messages are masked, and an entry of
+//! With [`Masking::On`](cli_forms::Masking) sensitive fields of messages are masked, and an entry of
 //! a context that is neither a message nor a note of the switch shows only its length.
 #![tactic(auto)]
 
 mod context;
 mod entries;
-mod form;
 mod items;
 mod journal;
 mod json;
@@ -25,5 +24,4 @@ mod text_entries;
 mod text_items;
 mod words;
 
-pub use form::{JournalForm, Style};
 pub use journal::show;

@@ -1,6 +1,6 @@
 //! In which form a journal is shown.
 
-use cli_decode::Masking;
+use crate::masking::Masking;
 
 /// Lines of text, or lines of JSON.
 #[derive(Clone, Copy)]
