@@ -32,6 +32,15 @@
 //!    that may not stand there, then the least that excludes `simulated`.
 //! 3. A host has the name of an earlier one.
 //! 4. A route has the prefix of an earlier one.
+//!
+//! # What is proved
+//!
+//! `read_config` answers a configuration exactly where the text is a configuration file of it
+//! (`IsConfigFile`): the document that `toml` parses from the text has no fault and states this
+//! configuration. Every refusal but out of memory is the first fault in the specified order, with its
+//! key and its table, and with what was found (`Refuses`). A configuration that is read is checked
+//! (`IsChecked`): its names, prefixes, paths and numbers are within their bounds, and no two hosts have
+//! one name, nor two routes one prefix.
 #![tactic(auto)]
 
 mod config;

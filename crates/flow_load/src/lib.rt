@@ -17,11 +17,13 @@
 //! participants, groups and steps. Then come the participants with their marks, the groups with their
 //! first steps, and the steps, each numbered from 0.
 //!
-//! Promised here:
-//! - [`image`] writes exactly the image of its steps.
-//! - [`load`] gives a flow's steps exactly if the bytes are the image of a checked flow, and otherwise
-//!   the first fault in one specified order. It reports out of memory only if no line by itself has a
-//!   fault, nor the version.
+//! # What is proved
+//!
+//! `image` writes the image of a code's flow (`image_of`). `load` answers a code exactly where the
+//! bytes are the image of a checked flow, and the code is that flow's (`found`, `only`). Otherwise it
+//! answers the first fault in the specified order (`exact`), out of memory aside. It reports out of
+//! memory only where no line has a fault by itself, nor the version (`last`); a fault of the lines
+//! together or of the flow may still give way to it.
 #![tactic(auto)]
 
 mod error;

@@ -16,12 +16,15 @@
 //! absent). An entry has `participant` (a string, required) and the marks `abort_aware`, `recovers`
 //! and `selector` (false if they are absent).
 //!
-//! Promised here:
-//! - [`read_flow`] gives exactly the checked flow of a text, or its first fault in the specified
-//!   order, with the key and the table that it is in.
-//! - [`print_flow`] writes a text that reads back as the same flow.
-//!
 //! Nothing is promised of [`value_at`], which finds what a message quotes; tests cover it.
+//!
+//! # What is proved
+//!
+//! `read_flow` answers a flow exactly where the text is a flow file of it (`IsFlowFile`): the document
+//! that `toml` parses from the text has no fault and states this checked flow. Every refusal but out of
+//! memory is the first fault in the specified order, with its key and its table (`Refuses`).
+//! `print_flow` of a checked flow writes a flow file of it, so `read_flow(print_flow(f))` is `f` where
+//! both answer.
 #![tactic(auto)]
 
 mod error;

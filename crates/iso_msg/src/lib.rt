@@ -11,6 +11,14 @@
 //!   laws make the list a map).
 //!
 //! How a message is spelled on the wire is the business of `iso_codec`.
+//!
+//! # What is proved
+//!
+//! `Mti::new` accepts exactly four digits. `Message::set` takes a value exactly where the table of
+//! fields does, and otherwise refuses for the first reason of FieldNotInProfile, BadLength, BadContent,
+//! out of memory last, changing nothing. `get`, `remove`, `fields` and `copy` are those of a map from
+//! numbers to values (`fields_are_a_map`), and every value that is there fits its field. The table's 53
+//! rows (name and form) are proved equal to the specified table as a whole.
 #![tactic(auto)]
 
 mod error;

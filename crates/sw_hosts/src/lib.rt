@@ -9,6 +9,24 @@
 //!
 //! What the threads and links decide, they decide by `sw_wire`. Of what passes between them, and of what comes over a
 //! wire, no contract says anything.
+//!
+//! # What is proved
+//!
+//! A host is served by threads, and no contract says what passes between threads or over a wire. The
+//! threads and links do what `sw_wire` decides.
+//!
+//! - No frame that `next_frame` takes from the outbox is too late, and an answer that a link takes from
+//!   the inbox has the key that it waits for.
+//! - A host has the times that it is given (`Host::start`), and its links and reports share these with
+//!   it (`Host::link`, `host_report`). That its threads and deadlines go by them is only tested.
+//! - What is counted is only tested, and so is that the threads and links note the signs of a host.
+//! - Where `HostLink::send` is out of memory it still waits for what it waited for; `receive` refuses
+//!   nothing. Contracts see no state of a link. `IssuerLink` keeps what the simulated issuer promises.
+//!
+//! Of the way over a host's threads (`HostWay`) contracts say only that an answer has the key that is
+//! waited for. That it opens, writes, looks and sleeps is only tested, and so is that the threads do
+//! what is decided, and when (`tests/hosts.py`): that an answer is heard, that a deadline is kept, that
+//! a closed direction is opened again.
 #![tactic(auto)]
 
 mod counters;

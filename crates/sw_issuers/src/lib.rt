@@ -9,6 +9,15 @@
 //!
 //! Whether a message reaches an issuer, and whether an issuer that accepts an advice is heard, is up
 //! to the link: no contract promises either of a link that is not simulated.
+//!
+//! # What is proved
+//!
+//! `Issuer` is the simulated issuer, a `Link`. Its relation `Sends` says which answer is added to those
+//! that wait (`answer_to`: by the last two digits of the amount; advices are accepted). `Receives` says
+//! that the first one is taken. `Sender::send` sends an advice once, over the link of its route if
+//! there is one. It answers true exactly where a message with its key and response code 00 came within
+//! eight receives (`Delivers`, `SendsAdvice`), memory refused after the send aside. `Issuer::receive`
+//! is never refused memory.
 #![tactic(auto)]
 
 mod delivery;

@@ -2,6 +2,10 @@
 -- these entries: `request` (a message's bytes), `rc` (the response code), `auth` (the approval
 -- code), `sent` and `late` (the request went to an issuer, and its answer has not come),
 -- `standin` (the switch approved by itself) and `response`.
+--
+-- - *Request in a context, noted, class, response code*: a
+--   context without `request` carries an unreadable one; a full context stays as it is; six
+--   authorization and reversal types and two network types have a class.
 use Rattle.std.specs.Prelude.{ℕ, Bool, false, ◌||◌, List, Option, Some, None, is_none, option_and_then}
 use Rattle.std.specs.Prelude.{Result, Ok, Err, if◌then◌else◌, codes}
 use Rattle.std.specs.Str.{bytes_eq}

@@ -11,6 +11,12 @@
 //!   request its response, its reversal, and the advices that issuers get later.
 //!
 //! `specs/` has each of them as a function of the message and the context.
+//!
+//! # What is proved
+//!
+//! What a request is for, why it is refused, and what is made of it: `class_in`, `fault_of`,
+//! `response_to`, `reversal_of`, `authorization_advice` and `reversal_advice` are functions of the
+//! message and the notes in its context.
 #![tactic(auto)]
 
 mod advices;

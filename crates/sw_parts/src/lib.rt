@@ -15,6 +15,22 @@
 //! outcome has no effect. Those that never join are [`Unjoined`](sw_participant::Unjoined), and
 //! [`Bystander`](sw_participant::Bystander) makes participants of them. A participant that is
 //! refused memory has changed nothing.
+//!
+//! # What is proved
+//!
+//! Each participant states for each of its calls a relation in the trade's words: `ChecksFields`,
+//! `Holds`/`committed`/`aborted` (limits), `ChecksRoute`/`chosen_group` (route), `Queries` (query),
+//! `StandsIn` (up to its amount), `committed_advice`/`aborted_advice` (reverse), `forwarded` (forward),
+//! `responded` (respond). Wherever nothing outside chooses they are functions of the request, the notes
+//! in the context, and what the participant keeps. A `Link` states relations of its own for `send` and
+//! `receive`. `Queries` says that the request is sent once, that the first message with its key within
+//! eight receives is the answer, and what is then noted. An answer is lost only where the link's
+//! receive or a call of `Memory` was refused (`Hears`, `Ends`). A participant that is refused memory
+//! has changed nothing. Those that never join state only what they prepare and select (`Unjoined`), and
+//! `Bystander` makes a participant of each.
+//!
+//! A query of a host without stand-in refuses with 91 what gets no answer (`Unanswered`); whether it
+//! has one is part of what contracts see of it (`shown_query`).
 #![tactic(auto)]
 
 mod answers;

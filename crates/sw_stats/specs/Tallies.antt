@@ -1,4 +1,8 @@
 -- The numbers of a run, as a function of the contexts that its transactions ended with.
+--
+-- - *Tally*: what was counted of contexts that transactions ended
+--   with. *Line of numbers* (`Line.antt`): its text, of a tally, the messages passed over, the
+--   advices stored and a time.
 use Rattle.std.specs.Prelude.{ℕ, ◌+◌, ◌-◌, ◌^◌, Bool, true, false, List, [], ◌∷◌, Option, Some, None, bytes_eq, codes, if◌then◌else◌, is_some, min}
 use Rattle.std.specs.Prelude.{option_and_then, unwrap_or}
 use Rattle.std.specs.Map.{lookup}

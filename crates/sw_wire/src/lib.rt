@@ -12,6 +12,40 @@
 //! Moments are microseconds of the monotonic clock. A clock is taken only to read the time ([`Moment::now`]) and to
 //! sleep for a millisecond at most ([`Naps`]). `heard` is how often something was read from a host: while it is what it
 //! was when a pause or an echo test began, the host has sent nothing since.
+//!
+//! # What is proved
+//!
+//! What is decided of the traffic with a host, over values.
+//!
+//! - Both boxes are a `Waiting`: `put` puts an item last, and `take_first` takes the first that is
+//!   looked for, and says how many before it were dropped. `Inbox::put` drops the oldest of 64
+//!   messages, and `Inbox::take` takes the first with a key. `Outbox::put` takes no frame where 64
+//!   wait, and `Outbox::next` takes the first whose deadline has not come. `key_in` is the key of the
+//!   message that bytes spell.
+//! - A direction is ordered to be opened exactly where it is closed, and the last order, if any, came a
+//!   second ago or longer (`is_ordered`).
+//! - `outgoing_of` makes of a message its frame, and the answer that is waited for, both with the
+//!   deadline that it is given (`SentAs`).
+//! - `send_over` and `receive_over` are proved of every `Way`. The first hands that frame to the way,
+//!   with the way's deadline, and waits for the answer to a message with a key exactly where the way
+//!   took its frame. The second looks until a look over the way shows something, and answers what that
+//!   look showed (`SeesLast`).
+//! - Whether a host is not asked now (`is_paused`), and what a look (`pause_by`) and unanswered echo
+//!   tests (`pause_by_tests`) change of that, are decisions over values. So is what the thread that
+//!   writes does where no frame waits (`duty`): it sleeps, writes an echo test, or gives the host up.
+//!   Where both `retry` and `echo` are set, a host from which nothing was read since its pause began is
+//!   not asked, however long that is (`tested_from`). Its next echo test is due when `retry` has gone
+//!   by since the last one (`next_test`), and a closed direction is ordered without a message, a second
+//!   after its last order (`opened_from`).
+//! - `echo_frame` is the frame of a network management request with the date and time, in UTC, of the
+//!   seconds that it is given, a STAN, and the code 301 (`IsEcho`). `came_in` distinguishes the answer
+//!   to an echo test from a message with a key and from bytes without one (`IsCame`).
+//! - `Counts::line` is the line of a host's counts (`host_line`).
+//! - What is reported of a host follows from the last sign of it (`HostState::after`): something was
+//!   read, an opening failed, a direction was closed, an answer did not come in time. A message that
+//!   was not sent is a sign only where nothing else is known. `HostState::news` is what is to be
+//!   reported where another state was reported last, and `HostState::line` its line (`IsStateLine`); of
+//!   the words for an error of the system no contract says anything.
 #![tactic(auto)]
 
 mod backlog;

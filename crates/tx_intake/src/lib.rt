@@ -3,6 +3,20 @@
 //! - A [`Source`] gives contexts one after the other; [`Listed`] is one that gives a list in order.
 //! - An [`Intake`] is a bounded queue between two threads: one holds its [`Putter`], the other its
 //!   [`Getter`]. Its one rule: what was put is what was got, followed by what the queue holds.
+//!
+//! # What is proved
+//!
+//! An intake is a bounded queue of offers between two threads. It has one rule: what was put is what
+//! was got, and then what it holds. Each step keeps the rule, whatever the other thread does meanwhile.
+//! A put adds its offer at the end of the queue (`put`), or hands it back; then at least as many offers
+//! as the capacity had been put (`full`). A get takes the oldest offer (`got`). At the end, what was
+//! got is the beginning of what was put (`order`), and `settle` answers true exactly where it is all of
+//! it (`all`, `left`). `Intake::new` refuses exactly a capacity that is not 1 to 4,096. A `Source`
+//! gives contexts; `Listed` gives those of its list, in order, and then none (`gives`). Put and get may
+//! wait for the other thread's step. No contract says that they return, that an offer came back from a
+//! full intake, or that a get of none found it empty: neither end knows what passed the other. A `put`
+//! that takes only the first offers, as many as the capacity, meets the contract, and the crate's tests
+//! refuse it.
 #![tactic(auto)]
 
 mod error;

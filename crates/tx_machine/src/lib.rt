@@ -1,16 +1,20 @@
 //! One transaction, driven by the replies to the calls that are due.
 //!
-//! Promised here, for every list of items (answers, choices, tolds) each of which was due:
-//! - [`Machine`]'s due call, phase, members, number told, saved context, tries, bound and rest are
-//!   those of the specified table (`specs/Table.antt`, `specs/Due.antt`), although it keeps a step and
-//!   a stack of selections and no list of what is to come;
-//! - an item that is not due is refused, and so is one for which memory runs out: then nothing has
-//!   changed (`specs/Contract.antt`, `TakesItem`);
-//! - a transaction has at most 1,000 answers and choices, and at most 1,000 members are notified
-//!   ([`bounded_lists`]); members, number told and saved context are those of the whole list
-//!   ([`whole_lists`]);
-//! - the journal's row of a transaction (`specs/Row.antt`) keeps its bounds, also that of a reopened
-//!   one ([`lists_keep_bounds`]).
+//! # What is proved
+//!
+//! A machine over the numbered steps of a flow. After `Machine::start`, which cannot be refused, and
+//! after each reply (`apply`, or `answered`, `chose`, `told`), it is where the specified table says
+//! (`tx_state`, `opening`, `next`). A reply is taken exactly where it is due. Otherwise it is refused
+//! as `NotDue`, before out of memory. A refused one changes nothing (`TakesItem`). `due` is the table's
+//! due call or end with the call's step, `rest` the table's places to come, `copy` is where its source
+//! is. The participants of due calls and members are the flow's. `reopened` is the machine of a
+//! transaction that the journal has. `after_items` says the same of a whole list.
+//!
+//! Laws over every lawful list: members, number notified, saved context and number of calls are those
+//! of the list itself (`whole_lists`). There are at most 1,000 answers and choices and at most 1,000
+//! members, each notified at most once (`bounded_lists`). Lists with one item more at the end, and
+//! lists that have the newest item first (`lists_extend`). The bounds of every state and of its journal
+//! row (`lists_keep_bounds`).
 #![tactic(auto)]
 
 mod error;

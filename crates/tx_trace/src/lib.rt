@@ -9,6 +9,17 @@
 //!   come;
 //! - [`step_line`] is the line of an answer, a choice or a told that leads from one state of a
 //!   transaction to the next.
+//!
+//! # What is proved
+//!
+//! What an entry shows is a value that is defined on the list of events alone, for every kind of event
+//! (`specs/Lines.antt`). So are its line of text and its JSON object (`specs/Trace.antt`, `Json.antt`).
+//! `Tracer::next` gives the next entry's line byte by byte, `next_json` its object, `line_at` the line
+//! of a later number, and `line` that of any number. No line belongs to a number without an entry. This
+//! holds of journalled transactions too, and from any start, one after a cut among them. A tracer stays
+//! the engine's when entries are added or the mark moves (`tracers_go_on`). `step_line` is the line of
+//! one answer, choice or told. `whereis` and `rest` are where the transaction of a session is, with its
+//! step, and what is still to come.
 #![tactic(auto)]
 
 mod acts;
