@@ -17,6 +17,12 @@
 //! written. A message in it is shown as `decode` prints it. Whom a recovery notifies is as the
 //! definition of histories has it (`to_tell`), from the number notified on. That a line of JSON keeps
 //! the grammar of JSON is only tested.
+//!
+//! # Decisions
+//!
+//! - **The JSON of `journal` is written by `cli_journal` itself.** Its lines are made of names, numbers
+//!   and a few strings of bytes, and the definition of their text fits a page. Alternative: the
+//!   library's `serde_json`, whose values would be built of each message first.
 #![tactic(auto)]
 
 mod context;

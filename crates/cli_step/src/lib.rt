@@ -28,6 +28,30 @@
 //! session ends at `quit`, at the end of the input, with a line feed after the last prompt, or with an
 //! error that is not of a line (`IsFaultOf`). No contract says what a refusal's text is, only that it
 //! begins with `cardswitch: `.
+//!
+//! # Decisions
+//!
+//! - **The lines are run by a crate of their own, `cli_step`, and their participants are
+//!   `sw_scripted`**: the grammar depends on no engine, and the participants on no grammar.
+//! - **One function makes the stations, the plant and runs the lines**: a function that handed stations
+//!   out would hide from contracts which participants there are.
+//! - **A refused take does not end `auto`**, which goes on with what session 0 holds; it ends its calls
+//!   at any refusal of one.
+//! - **The lines of closing entries are not printed by `stop`**; they count in `written MARK`.
+//! - **`recover` calls are printed by `auto`** beside answers, choices and tolds.
+//! - **The number of sessions is tested with the plant**, at the first line that is not a setting; a
+//!   script of settings alone is accepted whatever it says.
+//! - **A held call is shown by where the session stands** (`whereis`), not by the call: an entry's call
+//!   names its place.
+//! - **What a line prints is written at once**, `auto`'s lines together; where one ends early the lines
+//!   so far are written first.
+//! - **`retries` beside `--flow` replaces the file's**; a `flow` line beside it is malformed.
+//! - **The flow file is read before the script**, so its fault comes first.
+//! - **A fault of the flow ends the run at the first line that is not a setting**; a script of settings
+//!   alone is done with status 0.
+//! - **`step --switch` plays the switch's participants over simulated issuers, `sw_simulated`**, as one
+//!   type with a variant for each. So a flow is tried as `run` would run it, and a script needs no
+//!   replies. Alternative: boxed participants, which no function may hand out.
 #![tactic(auto)]
 
 mod actions;

@@ -7,6 +7,14 @@
 //! flow back. `steps`, `groups`, `participants` and `retries` are the flow's. `look` gives what is at a
 //! step, `find_group` the group of a name, `place` the place of the entry that a step calls or picks,
 //! `step_at` the step that calls an entry; the last two agree. `copy` gives the same code.
+//!
+//! # Decisions
+//!
+//! - **The call of an entry is defined by counting the steps before it**, not by looking for a step at
+//!   its place.
+//! - **`assemble` numbers participants through a map**, with the meaning of `flow_model`'s scans.
+//! - **`place` finds the group by its first step, then walks that group's steps**: at most 256 groups
+//!   and 513 steps. Alternative: a walk from step 0.
 #![tactic(auto)]
 
 mod assembly;

@@ -22,6 +22,12 @@
 //! would answer, without memory. `encode` answers the one spelling with upper case digits and without
 //! an empty secondary bitmap (`spelled`), of at most 9,999 bytes, so that it fits a frame. What
 //! `decode` reads of it is the message (`read_back`).
+//!
+//! # Decisions
+//!
+//! - **Bit 65 is a number outside the table**, so a third bitmap is FieldNotInProfile.
+//! - **Fields are looked at after both bitmaps**: where bit 1 is set and the second bitmap is cut off,
+//!   the message is Short, whatever the first one has. BadLength comes before a Short content.
 #![tactic(auto)]
 
 mod bitmap;

@@ -14,6 +14,11 @@
 //! (`views_fit`). Sessions serve the same transactions, which are in the same states, and the same call
 //! is due to them (`sessions_agree`, `states_agree`, `calls_agree`). The journal that a history leaves
 //! is that of the outcome law, rows and advices (`journals_agree`).
+//!
+//! # Decisions
+//!
+//! - **Histories have one mark that a context was restored, the outcome law one for each transaction**:
+//!   they agree for the transaction that is recovered, and no other has it.
 #![tactic(auto)]
 
 mod laws;

@@ -107,6 +107,39 @@
 //!   amount of the stand-in are those of the setup. The participants are boxed, and a contract of `run`
 //!   does not see what is in a box. It is tested that each link of the setup has its participant
 //!   `query_NAME`.
+//!
+//! # Decisions
+//!
+//! - **Each event is written by the turn after it**, in one call of `drive`. An offer changes nothing
+//!   in the journal; its commit is empty. Alternative: to write an offer with the take after it, one
+//!   call fewer.
+//! - **Stations are made in the function that runs them**: a function that hands a boxed participant
+//!   out hides from contracts whose it is, and the verdict refuses it.
+//! - **`run` reads until its input ends**, without the bound of the other subcommands, since it may
+//!   serve a socket.
+//! - **`recover` has the switch's participants**, as `run` has; a flow with another name is refused.
+//! - **What a run that ends with an error has written is said by rounds.** Those that were done are the
+//!   first of the rounds that it would have done. All that they give is written, and of what the next
+//!   one gives a beginning is. Its plant is not spoken of: a turn that failed leaves what
+//!   `Plant::drive` says. So `write_out` of `cli_io` loops over `write` itself, since the library's
+//!   `write_all` does not say what is written after an error. Alternative: the state of the plant too,
+//!   with a case for each turn that fails.
+//! - **The clause of `run` asks for an Ok before it asks for the input**, so that a `?` leaves nothing
+//!   to prove of the input. Alternative: the other way round, with a case for the input at each of some
+//!   twenty returns.
+//! - **The shelf is emptied after each batch** by session 0, as `run` does it at the end.
+//! - **Requests are counted where their responses are given**, by the contexts that their transactions
+//!   ended with, and the counts stand beside the id of the last one (`Progress`). So the relations of
+//!   all rounds carry them, and only three functions change them. They are counted without `--stats`
+//!   too: a switch for it would be one more case of each contract. By the figure of `decode` that is
+//!   under a microsecond a request, where a request in memory takes over fifty; it was not measured by
+//!   itself. Alternative: to count requests as they are offered, and responses as they are made, with
+//!   threads in any order.
+//! - **The code of a request is field 39 of its response**, and not the note `rc`: without `rc` it is
+//!   00 or 96, by the end of the transaction. So each response is decoded a second time.
+//! - **The line of numbers is `NAME=NUMBER`, as in logfmt**: a script splits it at spaces and `=`, and
+//!   no word has a plural. Alternative: a sentence, or JSON, which is harder to read in a terminal.
+//! - **Out of memory loses a line of numbers**, as a failed write does: numbers never end a run.
 #![tactic(auto)]
 
 mod advices;

@@ -20,6 +20,11 @@
 //! name and answer whether they did. Whatever calls were made, what a card has used and what is held
 //! for it together are never over the limit (clause `within` of `used` and `reserved`). The sums are
 //! kept, and the record `IsBook` ties them to the list.
+//!
+//! # Decisions
+//!
+//! - The book's items are listed in rising order of their ids (not in order of reservation): nothing
+//!   that is promised depends on the order, and no removal moves what comes after.
 #![tactic(auto)]
 
 mod book;

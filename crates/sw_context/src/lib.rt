@@ -13,6 +13,11 @@
 //! answers the context exactly where the bytes are its spelling, and `is_bytes` says whether they are
 //! one. `copy` equals its source, and reading what was spelled gives the context
 //! (`spellings_read_back`).
+//!
+//! # Decisions
+//!
+//! - **`from_bytes` first tests without memory, then reads.** Alternative: one pass, and looking over
+//!   again where memory is refused.
 #![tactic(auto)]
 
 mod context;

@@ -14,6 +14,11 @@
 //! and at every later feed. `read_pieces` says it of a whole list of pieces, `one_stream` that a stream
 //! has these frames and no others. `frame` gives the frame of a message of at most 9,999 bytes, and
 //! TooLong exactly over that.
+//!
+//! # Decisions
+//!
+//! - **Contexts and framers use the allocator that they were made with.** A message takes one with each
+//!   call that copies bytes.
 #![tactic(auto)]
 
 mod digits;

@@ -27,6 +27,40 @@
 //! waited for. That it opens, writes, looks and sleeps is only tested, and so is that the threads do
 //! what is decided, and when (`tests/hosts.py`): that an answer is heard, that a deadline is kept, that
 //! a closed direction is opened again.
+//!
+//! # Decisions
+//!
+//! - **The last sign of a host decides what is reported of it**, whichever direction it comes from. A
+//!   request that was not sent is a sign only of a host of which nothing else is known: it follows from
+//!   every other one.
+//! - **For contracts, a message to a host that cannot be reached is sent**, and no answer is received,
+//!   at once. So the stand-in comes without a delay, and a link refuses out of memory alone.
+//!   Alternative: a refusal of its own, for which each participant would need a case.
+//! - **A direction is opened at most once a second**, and a message waits for that up to 100
+//!   milliseconds: long enough for a host that is there, and short enough for one that is not. An
+//!   opening that waits is not ordered again.
+//! - **An unanswered echo test begins a pause too**: otherwise the next request would be sent to a host
+//!   that is known to be silent.
+//! - **Only the thread that writes sends echo tests**, and it has no clock beside its bell: it sleeps
+//!   until the bell rings or a test or its answer is due. Anything that is read counts as an answer,
+//!   since it shows that the host is there. An unanswered test closes the direction, and holds off its
+//!   next opening for a second as an order would.
+//! - **Field 7 of an echo test is made of the system's clock, in UTC**: no message has come from which
+//!   it could be taken.
+//! - **A network management response (0810) is dropped wherever it comes from**: a host is sent no
+//!   other 0800, and a link waits for none.
+//! - **An inbox holds 64 messages, and has its memory from the start.** A host that sends unasked fills
+//!   no memory, and to put a message there takes none. Where it is full the oldest message goes, since
+//!   the newest may be the answer.
+//! - **All links of a host share its inbox**, and what waits there is dropped at each send: the calls
+//!   of a run's queries and of its sender never overlap. Alternative: an inbox for each link, and a
+//!   table of who waits for which key.
+//! - **Contracts see no state of a link to a host.** Nothing can be promised of what comes over a wire,
+//!   and the query compares the key of each message itself. What is proved are the parts without
+//!   threads: the two boxes, the key of a message, when a direction is ordered.
+//! - **The clock of a link is a type parameter, and by default the runtime's.** A box of a type that is
+//!   generic in its clock has no proof, so callers box links over `HostRuntime`. For the same reason
+//!   `WritePath` and `ReadPath` are made over it where a function is generic.
 #![tactic(auto)]
 
 mod counters;

@@ -18,6 +18,12 @@
 //! there is one. It answers true exactly where a message with its key and response code 00 came within
 //! eight receives (`Delivers`, `SendsAdvice`), memory refused after the send aside. `Issuer::receive`
 //! is never refused memory.
+//!
+//! # Decisions
+//!
+//! - `Sender::send` can be out of memory before the message is sent, and none after it.
+//! - The simulated issuer and the sending of advices are a crate of their own, `sw_issuers`, above the
+//!   participants; the messages that participants make, `sw_messages`, are one below them.
 #![tactic(auto)]
 
 mod delivery;

@@ -17,6 +17,10 @@
 //! What a request is for, why it is refused, and what is made of it: `class_in`, `fault_of`,
 //! `response_to`, `reversal_of`, `authorization_advice` and `reversal_advice` are functions of the
 //! message and the notes in its context.
+//!
+//! # Decisions
+//!
+//! - An amount of 0 is invalid in every request that has field 4, of whatever class.
 #![tactic(auto)]
 
 mod advices;

@@ -22,6 +22,12 @@
 //! message's key waits, and takes it out, so a second response is `Unhandled` (`Answers`).
 //! `Mux::expire` takes out exactly the keys that are due, in order of request; `withdraw` the one
 //! named. No contract says what a call costs.
+//!
+//! # Decisions
+//!
+//! - **The numbers of a `Mux` begin again where nothing waits.** Where something always waits, it
+//!   answers `NumbersSpent` after 2^64 - 1 requests. The participants' multiplexers are empty before
+//!   each request, so their code has no such case (`unspent`).
 #![tactic(auto)]
 
 mod error;

@@ -13,6 +13,16 @@
 //! bits of an answer byte by one rule: a byte with an unknown bit is bad and has no bits, and there is
 //! no RETRY beside PREPARED. `Text`, `Bytes` and `Sequence` hold what they were made of, and a `copy`
 //! is equal.
+//!
+//! # Decisions
+//!
+//! - **`Participant: Drop`**, so that a `Box<dyn Participant + Send>` can be dropped.
+//! - **`select` answers a `Text`, `commit` and `abort` an optional `Bytes`** (`AdviceResult`), the
+//!   small types that contracts see as lists. Alternative: `String` and `Vec`, wrapped by the station.
+//! - **A refused `Station::new` drops the participant.** Alternative: it hands the box back.
+//! - **A chain keeps contexts by transaction, not by session.** A transaction begins only where it has
+//!   no context, and its context stays in the chain when it has ended, until a stop. The end of a chain
+//!   is exact; a law lets it go on from fewer contexts.
 #![tactic(auto)]
 
 mod answer;

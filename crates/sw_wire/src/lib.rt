@@ -46,6 +46,13 @@
 //!   was not sent is a sign only where nothing else is known. `HostState::news` is what is to be
 //!   reported where another state was reported last, and `HostState::line` its line (`IsStateLine`); of
 //!   the words for an error of the system no contract says anything.
+//!
+//! # Decisions
+//!
+//! - **What is decided of a host's traffic is a crate of its own, `sw_wire`**, below its threads and
+//!   what these share. Its functions are over values, so their contracts say all that they do; of what
+//!   threads share no contract says anything. Alternative: one crate, of which each change in a thread
+//!   would prove all decisions again.
 #![tactic(auto)]
 
 mod backlog;

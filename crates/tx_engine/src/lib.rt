@@ -21,6 +21,35 @@
 //! breakpoints (`cut`, `finished`). `reserve_offer` reserves memory for one more offer, `spare` says
 //! how many can be made, and `offer_reserved`, where `spare` is above 0, cannot be refused. No contract
 //! says what an operation costs.
+//!
+//! # Decisions
+//!
+//! - **What an engine keeps is a crate of its own, `tx_slots`**: a session's slot with the machine in
+//!   it, the entries and the queue, shelf and advices. It says what each is by itself; only `tx_engine`
+//!   says what they are of a history. So each crate has under a hundred functions, and an edit of a
+//!   slot is tried without the engine's proofs.
+//! - **`open` takes the code and the view by reference and copies them**, so a refused opening leaves
+//!   both with its caller. The name in `UnknownParticipant` is a copy too: it is the one refusal that
+//!   out of memory may come before.
+//! - **Breakpoints are a flag for each participant**, made at the opening, so that setting one takes no
+//!   memory beside its entry.
+//! - **A reply to a held call is accepted**: a breakpoint holds the hand-out of a call and says nothing
+//!   of its reply.
+//! - **A reply that is not due, and saved bytes that are not a context's, have no refusal.** The
+//!   machine after a reply is made on condition that the reply is due (`after_answer`), and saved bytes
+//!   are read on condition that they are a context's (`context_of`). A lawful history from a sound view
+//!   gives both, so the only refusal is out of memory. Alternative: to report such a state as out of
+//!   memory.
+//! - **`told` puts the shelved context first and takes it out again where the advice is refused
+//!   memory**, since a map has no reserve; so a refusal changes nothing.
+//! - **An `Offer` owns both copies of its context's bytes**, the history's and the queue's, so that
+//!   offering it in reserved memory takes none. What is reserved is a number beside the history: no
+//!   entry says it. Alternative: a context that is copied while it is offered, and could be refused.
+//! - **A cut copies queue, shelf and advices**, since what a history began from is kept and shown; its
+//!   breakpoints are listed numbers rising. It answers nothing: the next id is in `opened`. `InUse`
+//!   covers a transaction that is being recovered.
+//! - **`at` gives the due call whether it is written, held or neither**; `next` says which.
+//! - **An error's number stands in its documentation**, since the enum carries data in one variant.
 #![tactic(auto)]
 
 mod engine;

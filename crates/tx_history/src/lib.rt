@@ -13,6 +13,15 @@
 //! (`recovered_in_turn`). The journal is always one that may be opened again, after a stop and after a
 //! cut (`journals_are_sound`, `rows_are_bounded`, `checked_flows_fit`). `JournalView::ok` says exactly
 //! which those are; `blank` is one; copies equal their sources.
+//!
+//! # Decisions
+//!
+//! - **The row of a journalled transaction stays the view's until a member was notified**, also after
+//!   its context was restored.
+//! - **An advice replaces the one at its place; a told without advice leaves it.**
+//! - **`ok` takes no memory**, so ids in both lists are found by a search of the shelf for each of at
+//!   most 16 rows.
+//! - **Copies of entries take an allocator**, since a list of names has none of its own.
 #![tactic(auto)]
 
 mod checks;

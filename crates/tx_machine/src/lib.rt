@@ -15,6 +15,23 @@
 //! members, each notified at most once (`bounded_lists`). Lists with one item more at the end, and
 //! lists that have the newest item first (`lists_extend`). The bounds of every state and of its journal
 //! row (`lists_keep_bounds`).
+//!
+//! # Decisions
+//!
+//! - **The phase of a transaction without members stays preparing or aborting at its end.**
+//! - **Text between a selector's names is spaces and commas.** The first 16 names count, known or not;
+//!   an unknown one gives nothing, a repeated one gives its group again.
+//! - **The machine keeps the number of a step and a stack of selections**, each with the step after its
+//!   selector's and at most 16 groups still to be entered, and no list of what is to come. So a
+//!   transaction of 1,000 choices takes a stack of at most 500 selections, whatever the groups hold. It
+//!   goes on to the next due step within the call that changes it, so `due` takes no memory. The plain
+//!   model of `tests/` keeps a list of what is to come, and random scripts are run through both.
+//! - **A spot's step is defined by the flow's layout** (`call_step`), not by the machine: a selection's
+//!   is the one after its entry's call.
+//! - **A refused answer drops the context that came with it.** The caller has it still where it copied
+//!   it; `apply` copies only where an answer is due.
+//! - **One record says what becomes of an item** (`TakesItem`), for `apply`, `answered`, `chose` and
+//!   `told` alike.
 #![tactic(auto)]
 
 mod error;

@@ -20,6 +20,15 @@
 //! what that journal holds, or that a run ends where a participant or the source does not return. Nor
 //! does one say that threads run at once, that the engine's lock is free during a call, that the source
 //! is read as room becomes free, or who is next: `test_threads` tests these.
+//!
+//! # Decisions
+//!
+//! - **An offer's entry does not wake the keeper**, since no session waits for it. It is written with
+//!   the entries that follow.
+//! - **All memory that handing back needs is taken before the threads start**, so journal and stations
+//!   can always be handed back.
+//! - **Where no thread can be started the run is `Late`, out of memory**, since the threads that
+//!   started must end first.
 #![tactic(auto)]
 
 mod attending;
