@@ -10,5 +10,5 @@
 mod digits;
 mod numbers;
 
-pub use digits::decimal;
+pub use digits::{decimal, two_digits};
 pub use numbers::read_number;

@@ -39,7 +39,8 @@ pub use build::{copy_fields, put_field, put_part};
 pub use class::{Class, class_of};
 pub use faults::fault_of;
 pub use notes::{
-    APPROVAL, CODE, LATE, REQUEST, RESPONSE, SENT, STAND_IN, class_in, note, note_code, request_in,
+    APPROVAL, CODE, LATE, REQUEST, RESPONSE, SENT, STAND_IN, class_in, is_stand_in, note,
+    note_code, request_in,
 };
 pub use response::{response_to, response_type};
 pub use response_code::{ResponseCode, is_approved};
