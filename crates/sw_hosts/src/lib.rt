@@ -15,13 +15,12 @@
 //! A host is served by threads, and no contract says what passes between threads or over a wire. The
 //! threads and links do what `sw_wire` decides.
 //!
-//! - No frame that `next_frame` takes from the outbox is too late, and an answer that a link takes from
-//!   the inbox has the key that it waits for.
+//! - No frame that `next_frame` takes from the outbox is too late, and an answer that a link takes has
+//!   the key that it waits for.
 //! - A host has the times that it is given (`Host::start`), and its links and reports share these with
 //!   it (`Host::link`, `host_report`). That its threads and deadlines go by them is only tested.
 //! - What is counted is only tested, and so is that the threads and links note the signs of a host.
-//! - Where `HostLink::send` is out of memory it still waits for what it waited for; `receive` refuses
-//!   nothing. Contracts see no state of a link. `IssuerLink` keeps what the simulated issuer promises.
+//! - After `HostLink::send` was out of memory nothing is waited for; `receive` refuses nothing. Contracts see no state of a link. `IssuerLink` keeps what the simulated issuer promises.
 //!
 //! Of the way over a host's threads (`HostWay`) contracts say only that an answer has the key that is
 //! waited for. That it opens, writes, looks and sleeps is only tested, and so is that the threads do
@@ -49,12 +48,16 @@
 //!   it could be taken.
 //! - **A network management response (0810) is dropped wherever it comes from**: a host is sent no
 //!   other 0800, and a link waits for none.
-//! - **An inbox holds 64 messages, and has its memory from the start.** A host that sends unasked fills
-//!   no memory, and to put a message there takes none. Where it is full the oldest message goes, since
-//!   the newest may be the answer.
-//! - **All links of a host share its inbox**, and what waits there is dropped at each send: the calls
-//!   of a run's queries and of its sender never overlap. Alternative: an inbox for each link, and a
-//!   table of who waits for which key.
+//! - **An answer is kept only for a request that waits**, and its memory is there from the start. A host
+//!   that sends unasked fills no memory, and what comes late is counted at once.
+//! - **An answer has to have its request's card, amount, and date and time of transmission**, as far as
+//!   it has these fields (2, 4 and 7). Two acquirers may have one terminal and STAN, and then the late
+//!   answer for one card has the key of the other's request. A host that returns none of these fields
+//!   cannot be checked. Alternative: the key alone, as `QMUX` compares it.
+//! - **A request waits for the one with its key to be answered or given up**, before its own timeout
+//!   begins. Alternative: to refuse it, and to stand in for a host that is there.
+//! - **A link looks each millisecond**, and needs no handle to wait with. Alternative: a wake-up for each
+//!   answer, for which the calls of participants would have to take a handle.
 //! - **Contracts see no state of a link to a host.** Nothing can be promised of what comes over a wire,
 //!   and the query compares the key of each message itself. What is proved are the parts without
 //!   threads: the two boxes, the key of a message, when a direction is ordered.

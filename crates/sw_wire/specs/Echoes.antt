@@ -1,5 +1,5 @@
 -- Echo tests: network management requests with fields 7 (month, day, hour, minute and second, in UTC), 11 and 70.
-use Rattle.std.specs.Prelude.{◌≡◌, ℕ, ◌+◌, ◌/◌, ◌%◌, pos, List, [], ◌∷◌, ◌++◌, Some, codes}
+use Rattle.std.specs.Prelude.{◌≡◌, ℕ, ◌/◌, ◌%◌, pos, List, [], ◌++◌, Some, codes}
 use Rattle.jiff_core.specs.Date.{epoch_day}
 use Rattle.jiff_core.specs.declared.civil.date.Date.{Date}
 use Rattle.iso_codec.specs.Spelling.{spelling}

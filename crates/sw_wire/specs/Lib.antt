@@ -12,6 +12,7 @@
 --   test is due. *Echo* (`Echoes.antt`): the frame of an echo test. *Came* (`Comings.antt`): an
 --   answer to one, a message by its key, or neither. *Sends over, receives over, sees last*
 --   (`Ways.antt`): what is done over a way to a host, whatever way that is.
+pub mod Answers
 pub mod Boxes
 pub mod Comings
 pub mod Directions
