@@ -60,4 +60,4 @@ pub use error::FlowTomlError;
 pub use find::value_at;
 pub use keys::{Key, TablePath};
 pub use print::print_flow;
-pub use read::{are_tables, read_flow};
+pub use read::read_flow;

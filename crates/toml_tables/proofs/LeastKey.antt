@@ -1,5 +1,5 @@
 -- The keys of a table ascend, so the first key that passes a test is the least that does.
--- for: faults::unknown_key
+-- for: unknown::unknown_key
 use Rattle.std.proofs.Common.{◌≡◌, ℕ, Bool, true, false, inl, inr, List, [], ◌∷◌, Option, Some, None, String, Global, Less, string_bytes, refl, ap, ◌∙◌, subst}
 use Rattle.std.proofs.Common.{if◌then◌else◌}
 use Rattle.std.specs.String.{string_cmp}
@@ -13,8 +13,7 @@ use Rattle.std.proofs.lemmas.Cmp.{nat_list_cmp_total}
 use Rattle.std.proofs.lemmas.Option.{none-some, same_Some}
 use Rattle.toml.specs.View.{members_view}
 use Rattle.toml.proofs.Views.{Entry}
-use Rattle.cli_config.specs.Faults.{least_key}
-use Rattle.flow_toml.specs.Faults.{lesser}
+use Rattle.toml_tables.specs.Unknown.{least_key, lesser}
 
 -- not before, by the bytes
 abbrev IsFrom : List ℕ → List ℕ → Type 0
