@@ -1,4 +1,10 @@
 -- What `decode` prints.
+--
+-- decode.
+--
+-- `frame_text` is the paragraph of one frame: `message_text` of the message that its bytes read
+-- as, or `refused_text`. `stream_text` is that of all frames, numbered from 1, and of the end:
+-- nothing, a bad length, or the bytes of a frame that the stream does not finish.
 use Rattle.std.specs.Prelude.{◌≡◌, ℕ, ◌+◌, ◌||◌, not, Bool, true, false, List, [], ◌∷◌, ◌++◌, length, Option, Some, Result, Ok, Err, IfSome, codes}
 use Rattle.std.specs.Prelude.{if◌then◌else◌, ◌==◌}
 use Rattle.std.specs.Fmt.{decimal}

@@ -19,7 +19,7 @@ use std::io::Write;
 use sw_participant::Station;
 use sw_scripted::Scripted;
 use tx_engine::{Engine, EngineError};
-use tx_plant::{Outcome, Plant, PlantError, Turn};
+use tx_plant::{Outcome, Plant, PlantError, PlantParts, Turn};
 use tx_trace::line;
 
 /// How often something is tried again: a test refuses one request for memory, or all from one on.
@@ -206,7 +206,11 @@ fn drive_all<W: Write>(
                 if drive_rest(alloc, &mut plant, turns, &mut done, out)? {
                     return Ok(());
                 }
-                let (_, left, back) = plant.parts();
+                let PlantParts {
+                    running: _,
+                    journal: left,
+                    stations: back,
+                } = plant.into_parts();
                 stations = back;
                 left
             }

@@ -12,14 +12,18 @@ use std::alloc::Global;
 use std::io::Write;
 use sw_participant::Station;
 use sw_scripted::Scripted;
-use tx_plant::Plant;
+use tx_plant::{Plant, PlantParts};
 
 /// More calls than any run makes.
 const MOST_CALLS: u64 = 100_000;
 
 // Writes the calls of a plant's stations, and gives its journal back.
 fn end<S: Alter + Drop, W: Write>(plant: Plant<S>, out: &mut W) -> Result<Journal<S>, TestError> {
-    let (_, journal, stations) = plant.parts();
+    let PlantParts {
+        running: _,
+        journal,
+        stations,
+    } = plant.into_parts();
     write_calls(stations.as_slice(), out)?;
     Ok(journal)
 }

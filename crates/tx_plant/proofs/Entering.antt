@@ -1,5 +1,5 @@
 -- The record of a call that was made elsewhere.
--- for: enter::enter_seated, enter::enter, running::Running::enter
+-- for: enter::enter_seated, running::Running::enter
 use Rattle.std.proofs.Common.{◌≡◌, ℕ, ◌<◌, Bool, true, false, Result, IfOk, OnErr, List, [], ◌∷◌, length, get_or, slice_set, Option, Some, None, Ok, Err, refl}
 use Rattle.std.proofs.Common.{sym, ap, subst, ◌∙◌, inr}
 use Rattle.std.specs.Prelude.{is_none, is_some, not}

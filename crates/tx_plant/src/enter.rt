@@ -11,10 +11,12 @@ ghost use Rattle.tx_engine.specs.Calls.{answers, next_of, next_refusal, reply_re
 ghost use Rattle.tx_engine.specs.declared.error.EngineError.TheVariants.{OutOfMemory};
 ghost use Rattle.tx_engine.specs.Replies.{kind_of};
 ghost use Rattle.tx_plant.specs.Steps.{event_of};
-ghost use Rattle.tx_plant.specs.Core.{core, ended_by, left_by, newest_fate};
+ghost use Rattle.tx_plant.specs.Core.{ended_by, left_by, newest_fate};
 ghost use Rattle.tx_plant.specs.Entered.{Entered, enter_refusal, is_due as is_due_of, is_free_for};
 ghost use Rattle.tx_plant.specs.Entered.{same_call, seat_with};
+ghost use Rattle.tx_plant.specs.Wholes.{core_in};
 
+use crate::running::Running;
 use crate::seat::{Seat, Seats, newest_fate};
 use crate::serve::record;
 use crate::step::{leave_seat, reserve, unreserve};
@@ -90,38 +92,31 @@ fn put_seat(seats: &mut Seats, s: usize, left: Option<Seat>) -> Context
     seat.context
 }
 
-// The transaction goes on with this context, or ends.
+// The transaction in this seat, which has its new context, goes on or ends.
 fn enter_seated(
     alloc: Global,
     engine: &mut Engine,
     ended: &mut BTreeMap<u64, Context>,
-    id: u64,
     s: usize,
     reply: &Reply,
-    after: Context,
+    seat: Seat,
 ) -> Result<(usize, Option<Seat>), EngineError>
     requires { reply_refusal (kind_of reply.now) engine.old s ≡ None }
     ensures recorded { IfOk result (λ r.
-        Recorded engine.old (event_of s reply.now after) r.0 engine.new) }
-    ensures left { IfOk result (λ r. r.1 ≡ left_by (newest_fate engine.new) (seat_with id after)) }
+        Recorded engine.old (event_of s reply.now seat.context) r.0 engine.new) }
+    ensures left { IfOk result (λ r. r.1 ≡ left_by (newest_fate engine.new) seat) }
     ensures ended_by { OnOk result (ended.new.entries
-        ≡ ended_by (newest_fate engine.new) (seat_with id after) ended.old.entries) }
+        ≡ ended_by (newest_fate engine.new) seat ended.old.entries) }
     ensures engine { OnErr result (engine.new ≡ engine.old) }
     ensures ended { OnErr result (ended.new.entries ≡ ended.old.entries) }
     ensures memory { IfErr result (λ e. e ≡ OutOfMemory) }
 {
+    let id = seat.id;
     let Ok(put) = reserve(alloc, ended, id) else {
         return Err(EngineError::OutOfMemory);
     };
-    match record(alloc, engine, s, reply, &after) {
-        Ok(number) => {
-            let seat = Seat {
-                id,
-                context: after,
-                kept: None,
-            };
-            Ok((number, leave_seat(ended, seat, newest_fate(engine), put)))
-        }
+    match record(alloc, engine, s, reply, &seat.context) {
+        Ok(number) => Ok((number, leave_seat(ended, seat, newest_fate(engine), put))),
         Err(error) => {
             unreserve(ended, id, put);
             Err(error)
@@ -129,47 +124,60 @@ fn enter_seated(
     }
 }
 
-/// Records the reply to a call that was due to the session and was made, with the context that it
-/// left, and hands back the context before it.
-pub(crate) fn enter(
-    alloc: Global,
-    engine: &mut Engine,
-    seats: &mut Seats,
-    s: usize,
-    call: &Call,
-    reply: &Reply,
-    after: Context,
-) -> Result<(usize, Context), EngineError>
-    requires { length seats.old.by_session.items ≡ engine.old.sessions }
-    ensures entered { IfOk result
-        (λ r. Entered (core engine.old seats.old) s call.now reply.now r.1
-        after r.0 (core engine.new seats.new)) }
-    ensures kept { OnErr result (core engine.new seats.new ≡ core engine.old seats.old) }
-    ensures allowed { OnOk result
-        (enter_refusal (core engine.old seats.old) s call.now reply.now ≡ None) }
-    ensures refused { IfErr result (λ e. Some e
-        ≡ or_else (enter_refusal (core engine.old seats.old) s call.now reply.now)
-        (Some OutOfMemory)) }
-    ensures next { seats.new.next_id ≡ seats.old.next_id }
-{
-    if !suits(reply, call.act) {
-        return Err(EngineError::NotDue);
+impl Running {
+    /// Records the reply to a call that was due to the session and was made elsewhere, with the
+    /// context that it left; hands back the entry's number and the context before the call.
+    /// Refuses `NotDue` if the reply is not of the call's kind, if the call is not due to the
+    /// session, and if the session's seat is not of that transaction or keeps a reply; then
+    /// `HistoryFull`, and `OutOfMemory` last.
+    pub fn enter(
+        &mut self,
+        alloc: Global,
+        s: usize,
+        call: &Call,
+        reply: &Reply,
+        after: Context,
+    ) -> Result<(usize, Context), EngineError>
+        ensures entered { IfOk result (λ r. Entered (core_in self.old) s
+            call.now reply.now r.1 after r.0 (core_in self.new)) }
+        ensures kept { OnErr result (core_in self.new ≡ core_in self.old) }
+        ensures allowed { OnOk result
+            (enter_refusal (core_in self.old) s call.now reply.now ≡ None) }
+        ensures refused { IfErr result (λ e. Some e
+            ≡ or_else (enter_refusal (core_in self.old) s call.now reply.now)
+            (Some OutOfMemory)) }
+    {
+        if !suits(reply, call.act) {
+            return Err(EngineError::NotDue);
+        }
+        if !is_due(&self.engine, s, call) {
+            return Err(EngineError::NotDue);
+        }
+        if !is_seated(&self.seats, s, call.id) {
+            return Err(EngineError::NotDue);
+        }
+        if self.engine.is_full() {
+            return Err(EngineError::HistoryFull);
+        }
+        let seat = Seat {
+            id: call.id,
+            context: after,
+            kept: None,
+        };
+        let (number, left) = enter_seated(
+            alloc,
+            &mut self.engine,
+            &mut self.seats.ended,
+            s,
+            reply,
+            seat,
+        )?;
+        let gone = left.is_none();
+        let before = put_seat(&mut self.seats, s, left);
+        if gone {
+            self.seats.reseat(&self.engine);
+            return Ok((number, before));
+        }
+        Ok((number, before))
     }
-    if !is_due(engine, s, call) {
-        return Err(EngineError::NotDue);
-    }
-    if !is_seated(seats, s, call.id) {
-        return Err(EngineError::NotDue);
-    }
-    if engine.is_full() {
-        return Err(EngineError::HistoryFull);
-    }
-    let (number, left) = enter_seated(alloc, engine, &mut seats.ended, call.id, s, reply, after)?;
-    let gone = left.is_none();
-    let before = put_seat(seats, s, left);
-    if gone {
-        seats.reseat(engine);
-        return Ok((number, before));
-    }
-    Ok((number, before))
 }

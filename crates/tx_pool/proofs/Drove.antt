@@ -22,8 +22,8 @@ use Rattle.tx_plant.specs.Recovered.{recovered}
 use Rattle.tx_plant.specs.Steps.{Moved, Serves, Works, told_of}
 use Rattle.tx_plant.specs.Core.{Core, newest_fate}
 use Rattle.tx_plant.specs.Entered.{Entered, seat_with}
-use Rattle.tx_plant.specs.Plant.{Drives, GoesOn, IsClean, IsEngine, Seen, StaysFailed, Whole, Writes as IsWrite, count_of, late}
-use Rattle.tx_plant.proofs.Driving.{Turns, took, turn_take, turn_step, turn_write, turn_logged, stepped_keeps}
+use Rattle.tx_plant.specs.Plant.{Drives, GoesOn, IsClean, IsEngine, Seen, StaysFailed, TurnsTo, Whole, Writes as IsWrite, count_of, late}
+use Rattle.tx_plant.proofs.Driving.{took, turn_take, turn_step, turn_write, turn_logged, stepped_keeps}
 use Rattle.tx_plant.proofs.Entering.{entered_stepped}
 use Rattle.tx_plant.proofs.Looping.{driven_more, drives_none}
 use Rattle.tx_plant.proofs.Stepping.{led_served}
@@ -50,7 +50,7 @@ Leads (d ∷ ds) j k = Leads ds j k
 
 drives_more : (rule : ℕ → Rule) (os : List (List ℕ)) (cs : List ℕ) (turns : List Turn) (outs : List Outcome) (t : Turn) (o : Outcome) (p : Whole)
     (ps : List (List ℕ)) (ds : List ℕ) (q : Whole) (qs : List (List ℕ)) (es : List ℕ) (r : Whole)
-    → Drives rule os cs turns outs p ps ds q → Turns rule ps ds t (Ok o) q qs es r → GoesOn t q r →
+    → Drives rule os cs turns outs p ps ds q → TurnsTo rule ps ds t (Ok o) q qs es r → GoesOn t q r →
     Drives rule os cs (turns ++ t ∷ []) (outs ++ o ∷ []) p qs es r
 drives_more rule os cs turns outs t o p ps ds q qs es r (m, d, l, c) (n, tu, k, b) go = (
   m ++ n,
@@ -63,7 +63,7 @@ drives_more rule os cs turns outs t o p ps ds q qs es r (m, d, l, c) (n, tu, k, 
 )
 
 drove_more : (rule : ℕ → Rule) (os : List (List ℕ)) (cs : List ℕ) (t : Turn) (o : Outcome) (p : Whole) (ps : List (List ℕ)) (ds : List ℕ) (q : Whole)
-    (qs : List (List ℕ)) (es : List ℕ) (r : Whole) → Drove rule os cs p ps ds q → Turns rule ps ds t (Ok o) q qs es r → GoesOn t q r →
+    (qs : List (List ℕ)) (es : List ℕ) (r : Whole) → Drove rule os cs p ps ds q → TurnsTo rule ps ds t (Ok o) q qs es r → GoesOn t q r →
     length r.core.seats ≡ r.core.world.sessions → Drove rule os cs p qs es r
 drove_more rule os cs t o p ps ds q qs es r d tu go h = record {
   turns = d.turns ++ t ∷ [];
@@ -96,7 +96,7 @@ seated_there (x ∷ xs) (suc s) l h = let i = seated_there xs s l h in omega (ar
 
 entered_turns : (rule : ℕ → Rule) (os : List (List ℕ)) (cs : List ℕ) (p q : Core) (j : Seen) (s n : ℕ) (m : MadeCall) (ps : List (List ℕ)) (ds : List ℕ) →
     Entered p s m.call m.reply m.before m.after n q → Makes rule os m.before m.call m.reply ps m.after → ds ≡ counted cs m.call.participant
-    → Turns rule os cs (turn.Step s) (Ok (outcome.Accepted n)) (record { core = p; journal = j }) ps ds (record { core = q; journal = j })
+    → TurnsTo rule os cs (turn.Step s) (Ok (outcome.Accepted n)) (record { core = p; journal = j }) ps ds (record { core = q; journal = j })
 entered_turns rule os cs p q j s n m ps ds e makes count =
     let place = outcome_place m.call.act (told_of p.world m.call.id) in
     let moved : List Moved = Called m.call place m.reply ∷ [] in
@@ -118,7 +118,7 @@ min_within : (a b : ℕ) → a ≤ b → min a b ≡ a
 min_within a b h = omega (arith, h)
 
 writes_turns : (rule : ℕ → Rule) (os : List (List ℕ)) (cs : List ℕ) (p q : Core) (j k : Seen) (b : List Entry) → Marks b p q → WritesTo j b k
-    → Turns rule os cs (turn.Write (Some (length b))) (Ok (outcome.Written (p.world.mark + length b))) (record { core = p; journal = j }) os cs
+    → TurnsTo rule os cs (turn.Write (Some (length b))) (Ok (outcome.Written (p.world.mark + length b))) (record { core = p; journal = j }) os cs
     (record { core = q; journal = k })
 writes_turns rule os cs p q j k b m w =
     let n = p.world.mark + length b in
@@ -130,7 +130,7 @@ writes_turns rule os cs p q j k b m w =
       w.ok,
       λ clean. w.tables clean ∙ ap (λ z. all_made (changes_of z) j.tables) (m.batch ∙ ap (λ z. take z (late p.world)) (sym count)),
     ) in
-    subst (λ (z : Core). Turns rule os cs (turn.Write (Some (length b))) (Ok (outcome.Written n)) (record { core = p; journal = j }) os cs
+    subst (λ (z : Core). TurnsTo rule os cs (turn.Write (Some (length b))) (Ok (outcome.Written n)) (record { core = p; journal = j }) os cs
     (record { core = z; journal = k })) (sym m.core) (turn_write rule os cs (turn.Write (Some (length b))) (Some (length b)) p to p.seats p.waiting
     p.ended j k (Ok (outcome.Written n)) (Ok (outcome.Written n)) refl refl refl write)
 
@@ -165,7 +165,7 @@ drove rule os cs (Offers b n ∷ ss) p q j k ps ds c h (w, ran, (allowed, rec, e
     let one = turn_logged rule ps ds (turn.Offer x) w q.world w.seats w.waiting w.ended k (Ok (outcome.Accepted n)) (Ok (outcome.Accepted n)) refl refl
     (allowed, recorded) refl in
     drove_more rule os cs (turn.Offer x) (outcome.Accepted n) (record { core = p; journal = j }) ps ds (record { core = w; journal = k }) ps ds
-    (record { core = q; journal = k }) d (subst (λ (z : Core). Turns rule ps ds (turn.Offer x) (Ok (outcome.Accepted n))
+    (record { core = q; journal = k }) d (subst (λ (z : Core). TurnsTo rule ps ds (turn.Offer x) (Ok (outcome.Accepted n))
     (record { core = w; journal = k }) ps ds (record { core = z; journal = k })) (sym e) one) (still_goes (turn.Offer x) w q k engine)
     (ap (λ (z : Core). length z.seats) e ∙ (d.seats ∙ sym (ap (λ (z : World). z.sessions) recorded.history)))
 drove rule os cs (Takes s n id x ∷ ss) p q j k ps ds c h (w, ran, taken, engine) leads linked =

@@ -8,6 +8,8 @@ use Rattle.sw_participant.specs.Chains.{Rule, rule_at}
 use Rattle.sw_base.specs.Refusals.{first_of, refused_if}
 use Rattle.tx_plant.specs.Plant.{Whole}
 use Rattle.tx_plant.specs.declared.plant.Plant.{Plant}
+use Rattle.tx_plant.specs.declared.plant.PlantParts.{PlantParts}
+use Rattle.tx_plant.specs.Wholes.{plant_parts}
 use Rattle.tx_pool.specs.Drives.{Drove}
 use Rattle.tx_pool.specs.declared.refusal.Early.{Early}
 use Rattle.tx_pool.specs.declared.refusal.Early.TheVariants.{BadCapacity, BreakSet, InUse, OutOfMemory}
@@ -63,7 +65,7 @@ early_memory BreakSet r h n = absurd (cc)
 early_memory InUse r h n = absurd (cc)
 
 -- a plant is its parts
-pub same_plant : {S : Type 0} {I : Type 0} {D : I → Type 0} (p : Plant S I D) (q : Plant S I D) → p.running ≡ q.running → p.journal ≡ q.journal →
-    p.stations ≡ q.stations → p ≡ q
-same_plant p q a b c = ap (λ x. record p { running = x }) a ∙ (ap (λ x. record p { running = q.running; journal = x }) b
-    ∙ ap (λ x. record q { stations = x }) c)
+pub same_plant : {S : Type 0} {I : Type 0} {D : I → Type 0} (p : Plant S I D) (q : Plant S I D) → plant_parts p ≡ plant_parts q → p ≡ q
+same_plant {S} {I} {D} p q e = ap whole e where
+  whole : PlantParts S I D → Plant S I D
+  whole x = record { running = x.running; journal = x.journal; stations = x.stations }

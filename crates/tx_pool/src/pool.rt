@@ -3,9 +3,9 @@
 ghost use Rattle.std.specs.Prelude.{◌≡◌, ◌≤◌, [], None, IfErr, IfOk, MatchResult, map, vec_len, vec_capacity};
 ghost use Rattle.sw_participant.specs.Chains.{rule_at};
 ghost use Rattle.sw_participant.specs.Stations.{name_of, calls_of, object_of, rule_of};
-ghost use Rattle.journal_store.specs.Kept.{kept};
-ghost use Rattle.tx_plant.specs.Plant.{IsEngine, whole_of};
+ghost use Rattle.tx_plant.specs.Plant.{IsEngine};
 ghost use Rattle.tx_plant.specs.Written.{IsWritten};
+ghost use Rattle.tx_plant.specs.Wholes.{engine_of, kept_of, plant_parts, stations_of, whole_at};
 ghost use Rattle.tx_pool.specs.Drives.{Drove};
 ghost use Rattle.tx_pool.specs.Early.{IsRefused, early_refusal};
 ghost use Rattle.tx_locked.specs.Settled.{IsSettled};
@@ -24,7 +24,7 @@ use sw_participant::{Participant, Station};
 use tx_engine::Engine;
 use tx_intake::{Getter, Intake, IntakeError, Putter, Source};
 use tx_locked::StationParts;
-use tx_plant::Plant;
+use tx_plant::{Plant, PlantParts};
 
 type Boxed = Box<dyn Participant + Send>;
 
@@ -133,12 +133,12 @@ fn plant_of<S: Alter + Drop, O: Source>(
 ) -> (Plant<S>, O, Report)
     requires room { vec_len ran.stations ≤ vec_capacity stations }
     requires empty { stations.items ≡ [] }
-    ensures running { result.0.running ≡ ran.running }
-    ensures journal { result.0.journal ≡ ran.journal }
-    ensures participants { map (λ s. s.participant) result.0.stations.items
+    ensures running { (plant_parts result.0).running ≡ ran.running }
+    ensures journal { (plant_parts result.0).journal ≡ ran.journal }
+    ensures participants { map (λ s. s.participant) (stations_of result.0)
         ≡ map (λ s. s.participant) ran.stations.items }
-    ensures names { map name_of result.0.stations.items ≡ map (λ s. s.name) ran.stations.items }
-    ensures calls { map calls_of result.0.stations.items ≡ map (λ s. s.calls) ran.stations.items }
+    ensures names { map name_of (stations_of result.0) ≡ map (λ s. s.name) ran.stations.items }
+    ensures calls { map calls_of (stations_of result.0) ≡ map (λ s. s.calls) ran.stations.items }
     ensures source { result.1 ≡ ran.source }
     ensures report { result.2 ≡ ran.report }
 {
@@ -150,11 +150,12 @@ fn plant_of<S: Alter + Drop, O: Source>(
         report,
     } = ran;
     let stations = put_together(parts, stations);
-    (
-        Plant::from_running(running, journal, stations),
-        source,
-        report,
-    )
+    let plant = Plant::from_parts(PlantParts {
+        running,
+        journal,
+        stations,
+    });
+    (plant, source, report)
 }
 
 // What a run that was given up leaves.
@@ -190,34 +191,38 @@ impl Pool {
         capacity: usize,
         gate: &G,
     ) -> Result<(Plant<S>, O, Report), PoolError<S>>
-        requires engine { IsEngine plant.running.engine }
+        requires engine { IsEngine (engine_of plant) }
         ensures drove { IfOk result (λ r.
-            Drove (rule_at (rule_of Participant-dyn) plant.stations.items)
-            (map (object_of Participant-dyn) plant.stations.items)
-            (map calls_of plant.stations.items)
-            (whole_of plant.running.engine plant.running.seats (kept S.Store plant.journal))
-            (map (object_of Participant-dyn) r.0.stations.items) (map calls_of r.0.stations.items)
-            (whole_of r.0.running.engine r.0.running.seats (kept S.Store r.0.journal))) }
+            Drove (rule_at (rule_of Participant-dyn) (stations_of plant))
+            (map (object_of Participant-dyn) (stations_of plant))
+            (map calls_of (stations_of plant))
+            (whole_at S.Store plant)
+            (map (object_of Participant-dyn) (stations_of r.0)) (map calls_of (stations_of r.0))
+            (whole_at S.Store r.0)) }
         ensures names { IfOk result (λ r.
-            map name_of r.0.stations.items ≡ map name_of plant.stations.items) }
-        ensures settled { IfOk result (λ r. IsSettled r.0.running.engine) }
-        ensures grown { IfOk result (λ r. Grown plant.running.engine r.0.running.engine) }
-        ensures reports { IfOk result (λ r. Reports (λ v. v.items) plant.running.engine
-            r.0.running.engine r.2.receipts.items r.2.finished r.2.shelved) }
-        ensures offered { IfOk result (λ r. Offered plant.running.engine r.0.running.engine
+            map name_of (stations_of r.0) ≡ map name_of (stations_of plant)) }
+        ensures settled { IfOk result (λ r. IsSettled (engine_of r.0)) }
+        ensures grown { IfOk result (λ r. Grown (engine_of plant) (engine_of r.0)) }
+        ensures reports { IfOk result (λ r. Reports (λ v. v.items) (engine_of plant)
+            (engine_of r.0) r.2.receipts.items r.2.finished r.2.shelved) }
+        ensures offered { IfOk result (λ r. Offered (engine_of plant) (engine_of r.0)
             (O.given source) (O.given r.1) (O.ended r.1)) }
         ensures whole { IfOk result (λ r. O.ends_with source (O.given r.1)) }
         ensures written { IfOk result (λ r.
-            IsWritten plant.running.engine (kept S.Store plant.journal)
-            → IsWritten r.0.running.engine (kept S.Store r.0.journal)) }
-        ensures allowed { IfOk result (λ _. early_refusal plant.running.engine capacity ≡ None) }
+            IsWritten (engine_of plant) (kept_of S.Store plant)
+            → IsWritten (engine_of r.0) (kept_of S.Store r.0)) }
+        ensures allowed { IfOk result (λ _. early_refusal (engine_of plant) capacity ≡ None) }
         ensures refused { IfErr result (λ e. IsRefused plant
-            (early_refusal plant.running.engine capacity) e) }
+            (early_refusal (engine_of plant) capacity) e) }
     {
         if let Err(cause) = allow(plant.engine(), capacity) {
             return Err(PoolError::Early(plant, cause));
         }
-        let (running, journal, stations) = plant.into_running();
+        let PlantParts {
+            running,
+            journal,
+            stations,
+        } = plant.into_parts();
         let Needs {
             intake,
             putter,
@@ -227,7 +232,11 @@ impl Pool {
         } = match make_needs(alloc, capacity, stations.len()) {
             Ok(needs) => needs,
             Err(cause) => {
-                let plant = Plant::from_running(running, journal, stations);
+                let plant = Plant::from_parts(PlantParts {
+                    running,
+                    journal,
+                    stations,
+                });
                 return Err(PoolError::Early(plant, cause));
             }
         };

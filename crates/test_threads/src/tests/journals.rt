@@ -52,7 +52,7 @@ fn the_row_of_a_transaction_that_is_preparing(rt: HostRuntime) -> Result<(), Fai
         1,
     )?;
     assert!(rt; plant.drive(alloc, &turns(alloc)).is_ok());
-    let (_, mut journal, _) = plant.parts();
+    let mut journal = plant.into_parts().journal;
     let view = journal.view(alloc)?;
     assert!(rt; view.next_id == 2);
     assert!(rt; view.shelf.as_slice().is_empty() && view.advices.as_slice().is_empty());
@@ -91,7 +91,7 @@ fn refuses<S: Alter + Drop, R: Runtime>(rt: &R, conn: Connection<S>) -> Result<b
     };
     assert_eq!(rt; error, JournalError::Store(Cause::Refused));
     assert_eq!(rt; cause_of(alloc, &mut plant), Err(JournalError::Failed));
-    let (_, mut journal, _) = plant.parts();
+    let mut journal = plant.into_parts().journal;
     assert!(rt; matches!(journal.view(alloc), Err(JournalError::Failed)));
     assert!(rt; matches!(journal.write(&[]), Err(JournalError::Failed)));
     Ok(true)

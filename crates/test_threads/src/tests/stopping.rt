@@ -10,7 +10,7 @@ use sw_participant::Station;
 use tx_history::JournalView;
 use tx_intake::Listed;
 use tx_machine::Phase;
-use tx_plant::Plant;
+use tx_plant::{Plant, PlantParts};
 use tx_pool::{Fault, Late, Open, Pool, PoolError, Report};
 
 /// More calls of the disks than any run makes.
@@ -58,7 +58,7 @@ fn life_of<S: Alter + Drop, R: Runtime>(
 ) -> Result<(Life, Journal<S>), Fail> {
     match ran {
         Ok((plant, _source, _report)) => {
-            let (_code, journal, _stations) = plant.parts();
+            let journal = plant.into_parts().journal;
             Ok((Life::Done, journal))
         }
         Err(PoolError::Late(late)) => {
@@ -135,7 +135,11 @@ fn run_again<S: Alter + Drop, R: Runtime>(
     assert!(rt; plant.recover(alloc).is_ok());
     let (plant, _, report) = run(rt, plant, listed(alloc, 1)?, 4, &Open)?;
     assert!(rt; report.finished == 1);
-    let (_, journal, stations) = plant.parts();
+    let PlantParts {
+        running: _,
+        journal,
+        stations,
+    } = plant.into_parts();
     let recovered = match written {
         Some(count) => CALLS_OF_RECOVERY.get(count as usize).copied().unwrap_or(0),
         None => 0,
