@@ -4,9 +4,9 @@ ghost use Rattle.std.specs.Prelude.{All, ◌≡◌, ◌+◌, ◌≤◌, ◌<◌,
 ghost use Rattle.sw_context.specs.Pairs.{Pairs};
 ghost use Rattle.sw_participant.specs.Chains.{Began};
 ghost use Rattle.journal_tables.specs.Small.{IsEntrySmall};
-ghost use Rattle.tx_plant.specs.Core.{core};
 ghost use Rattle.tx_plant.specs.Turns.{Taken};
 ghost use Rattle.tx_plant.specs.Plant.{IsEngine};
+ghost use Rattle.tx_plant.specs.Wholes.{core_in, engine_in};
 ghost use Rattle.tx_locked.specs.Since.{Since, locked_seen};
 
 use crate::copies::copies;
@@ -56,26 +56,26 @@ pub struct Locked<K: Run> {
 
 impl<K: Run> Model for Locked<K> {
     ghost use Rattle.std.specs.Prelude.{◌≡◌};
-    ghost use Rattle.tx_plant.specs.Core.{core};
+    ghost use Rattle.tx_plant.specs.Wholes.{core_in};
     ghost use Rattle.tx_locked.specs.Since.{Since, LockedSeen, locked_seen};
 
     ghost Value = { LockedSeen };
 
-    ghost view = { λ l. locked_seen (core l.running.engine l.running.seats)
+    ghost view = { λ l. locked_seen (core_in l.running)
         l.getter.passed l.book.total l.made.items };
 
-    ghost invariant = { λ l. Since K.start (core l.running.engine l.running.seats)
+    ghost invariant = { λ l. Since K.start (core_in l.running)
         l.getter.passed l.book.total l.made.items × (l.getter.intake ≡ K.intake) };
 }
 
 // The session takes the queue's first context.
 fn take(running: &mut Running, alloc: Global, session: usize) -> Result<usize, Fault>
     ensures taken { IfOk result (λ n. (id : ℕ) × (x : Pairs)
-        × Taken (core running.old.engine running.old.seats) session n (Began id x ∷ [])
-        (core running.new.engine running.new.seats)) }
-    ensures kept { OnErr result (core running.new.engine running.new.seats
-        ≡ core running.old.engine running.old.seats) }
-    ensures engine { IsEngine running.new.engine }
+        × Taken (core_in running.old) session n (Began id x ∷ [])
+        (core_in running.new)) }
+    ensures kept { OnErr result (core_in running.new
+        ≡ core_in running.old) }
+    ensures engine { IsEngine (engine_in running.new) }
 {
     let taken = running.take(alloc, session);
     running.engine_is_sound();
@@ -95,7 +95,7 @@ fn mismatch(running: &Running) -> Fault {
 impl<K: Run> Locked<K> {
     /// What is under the lock when the run begins.
     pub fn new(alloc: Global, running: Running, getter: Getter, book: Book<K>) -> Locked<K>
-        requires start { core running.engine running.seats ≡ K.start }
+        requires start { core_in running ≡ K.start }
         requires queue { getter.intake ≡ K.intake }
         requires got { getter.passed ≡ [] }
         requires book { book.total ≡ 0 }
@@ -116,7 +116,7 @@ impl<K: Run> Locked<K> {
 
     /// Its parts, when the run has ended.
     pub fn into_parts(self) -> Left<K>
-        ensures since { Since K.start (core result.running.engine result.running.seats)
+        ensures since { Since K.start (core_in result.running)
             result.getter.passed result.book.total result.made.items }
         ensures queue { result.getter.intake ≡ K.intake }
     {
