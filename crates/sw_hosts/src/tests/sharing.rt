@@ -9,7 +9,7 @@ use std::test::Fail;
 use std::thread;
 use std::time::Duration;
 use sw_parts::Link;
-use sw_wire::HostTimes;
+use sw_wire::{DirectionState, HostTimes};
 
 /// Requests of two acquirers with one terminal and STAN (fields 2, 11 and 41), and the responses to them.
 const OF_ONE: &[u8] = b"01004020000000800000164000000000000002000042TERM0001";
@@ -31,6 +31,17 @@ fn answers_with(wired: &mut Wired, response: &[u8]) -> Result<(), Fail> {
     wired.responses.write_all(b"0052")?;
     wired.responses.write_all(response)?;
     Ok(())
+}
+
+// Whether the direction from the host is closed within ten seconds.
+fn closes(rt: HostRuntime, wired: &Wired) -> bool {
+    for _ in 0..10_000 {
+        if wired.host.shared.from.state() == DirectionState::Closed {
+            return true;
+        }
+        thread::sleep(&rt, Duration::from_millis(1));
+    }
+    false
 }
 
 #[test]
@@ -116,7 +127,7 @@ fn a_closing_ends_all_waits(rt: HostRuntime) -> Result<(), Fail> {
     second.send(NEXT_REQUEST)?;
     thread::sleep(&rt, Duration::from_millis(1_100));
     wired.responses.write_all(b"no length")?;
-    thread::sleep(&rt, Duration::from_millis(200));
+    assert!(rt; closes(rt, &wired));
     third.send(REQUEST)?;
     wired.answers(RESPONSE)?;
     assert!(rt; hears(&mut third, RESPONSE)?);
