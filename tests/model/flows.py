@@ -1,6 +1,6 @@
 """Flows: what is checked, how they are assembled, and what images and flow files state.
 
-docs/use/FORMATS.md and docs/proof/DEFINITIONS.md have the rules in words.
+docs/use/FORMATS.md and the heads of crates/flow_model/specs have the rules in words.
 """
 
 import re

@@ -1,6 +1,6 @@
 """The specified table of a transaction, over a list of what is still to come, and its trace.
 
-docs/proof/DEFINITIONS.md has the table, docs/use/TRACE.md the lines.
+crates/tx_machine/specs/Table.antt has the table, docs/use/TRACE.md the lines.
 """
 
 import re

@@ -1,12 +1,12 @@
 -- Journals that were not shown whole.
 -- for: looking::look_into, looking::print_rows
-use Rattle.std.proofs.Common.{◌≡◌, ℕ, List, Option, None, Some, ap, inl, inr, refl, subst}
+use Rattle.std.proofs.Common.{◌≡◌, ℕ, List, Option, None, Some, inl, inr, refl, subst}
 use Rattle.std.specs.Io.KnownBytes.{Appends}
-use Rattle.cli_journal.specs.declared.form.Style.{Style}
 use Rattle.cli_journal.specs.Shown.{journal_in}
 use Rattle.cli_io.specs.Written.{AppendsBeginning}
-use Rattle.cli_io.specs.declared.error.WriteError.{WriteError}
-use Rattle.cli_io.specs.declared.error.WriteError.TheVariants as write
+use Rattle.cli_io.specs.Errors.{IsOfWriting}
+use Rattle.cli_io.specs.declared.error.IoError.{IoError}
+use Rattle.cli_io.specs.declared.error.IoError.TheVariants as io
 use Rattle.cli_options.specs.declared.choice.JournalOptions.{JournalOptions}
 use Rattle.journal_rows.specs.declared.error.BadRow.{BadRow}
 use Rattle.journal_copy.specs.declared.found.FoundJournal.{FoundJournal}
@@ -14,9 +14,9 @@ use Rattle.journal_copy.specs.declared.rest.Rest.{Rest}
 use Rattle.tx_history.specs.declared.journal.JournalView.{JournalView}
 use Rattle.journal_store.specs.declared.error.JournalError.{JournalError}
 use Rattle.journal_store.specs.declared.error.JournalError.TheVariants as journal
-use Rattle.cardswitch.specs.Errors.{error_of_write}
+use Rattle.cardswitch.specs.Errors.{error_of_io}
 use Rattle.cardswitch.specs.Looking.{IsFoundFault, IsLookFault, IsLooked, IsRowFault, IsRowReported, IsSight}
-use Rattle.cardswitch.specs.Looking.{error_of_row, seen_text, shown_text, style_by}
+use Rattle.cardswitch.specs.Looking.{error_of_row, seen_text, shown_text}
 use Rattle.cardswitch.specs.declared.looking.Sight.{Sight}
 use Rattle.cardswitch.specs.declared.looking.Sight.TheVariants.{Beside, Whole}
 use Rattle.cardswitch.specs.declared.error.RunError.{RunError}
@@ -49,10 +49,12 @@ not_found o before (error.Input e) h = absurd h
 not_found o before (error.Text e) h = absurd h
 
 -- writing failed
-pub unwritten : (o : JournalOptions) (before after : Option (List ℕ)) (s : Sight) (e : WriteError) → IsSight s
-    → AppendsBeginning before after (seen_text o s) → IsLookFault o before after (error_of_write e)
-unwritten o before after s write.OutOfMemory sight beginning = inr (s, sight, beginning)
-unwritten o before after s (write.Failed f) sight beginning = (s, sight, beginning)
+pub unwritten : (o : JournalOptions) (before after : Option (List ℕ)) (s : Sight) (e : IoError) → IsOfWriting e
+    → IsSight s → AppendsBeginning before after (seen_text o s) → IsLookFault o before after (error_of_io e)
+unwritten o before after s io.OutOfMemory writing sight beginning = inr (s, sight, beginning)
+unwritten o before after s (io.Write f) writing sight beginning = (s, sight, beginning)
+unwritten o before after s (io.Read f) writing sight beginning = absurd writing
+unwritten o before after s io.TooManyReads writing sight beginning = absurd writing
 
 -- all was written, of a journal without a row at fault
 pub whole : (o : JournalOptions) (before after : Option (List ℕ)) (s : Sight) (found : FoundJournal) → s ≡ Whole found → IsSight s
@@ -72,7 +74,7 @@ beside o path before after s bad rest same is sight written =
 
 -- ---- what is printed, by the options
 
-pub shown : (o : JournalOptions) (layout : ℕ) (out : List BadRow) (view : JournalView) (style : Style) → style ≡ style_by o →
-    journal_in style layout out view ≡ shown_text o layout out view
+pub shown : (o : JournalOptions) (layout : ℕ) (out : List BadRow) (view : JournalView) →
+    journal_in o.style layout out view ≡ shown_text o layout out view
 unfolding shown_text
-shown o layout out view style is = ap (λ (s : Style). journal_in s layout out view) is
+shown o layout out view = refl

@@ -8,6 +8,7 @@ use Rattle.run_switch.specs.Links.{switch_routes}
 use Rattle.cli_step.specs.declared.cast.Cast.TheVariants.{Switch}
 use Rattle.cli_step.specs.Prompts.{IsFaultOf, IsPrompted, SomeIsMade}
 use Rattle.cli_step.specs.Runs.{Grows, IsRun}
+use Rattle.cli_io.specs.declared.error.IoError.TheVariants as io
 use Rattle.cli_step.specs.declared.error.StepError.{StepError}
 use Rattle.cli_step.specs.declared.error.StepError.TheVariants as step
 use Rattle.sw_simulated.specs.declared.setup.SimulatedSetup.{SimulatedSetup}
@@ -31,9 +32,10 @@ script_error before after (step.Script e) grown = (tt, grown)
 script_error before after (step.Plant n e) grown = (tt, grown)
 script_error before after (step.NoParticipant name) grown = (tt, grown)
 script_error before after (step.Journal n e) grown = (tt, grown)
-script_error before after (step.Read e) grown = grown
-script_error before after (step.Write e) grown = grown
-script_error before after step.OutOfMemory grown = grown
+script_error before after (step.Io (io.Read e)) grown = grown
+script_error before after (step.Io io.TooManyReads) grown = grown
+script_error before after (step.Io (io.Write e)) grown = grown
+script_error before after (step.Io io.OutOfMemory) grown = grown
 
 pub stepped : (path : Option (Bor (List ℕ))) (file : Result (Option Flow) RunError) (unread before after : Option (List ℕ)) (r : Result (Unit {0}) RunError)
     → IfOk file (IsFileFlow path) → IfErr file (λ e. (r ≡ Err e) × (after ≡ before))
@@ -118,9 +120,10 @@ session_error (step.Script e) fault = absurd fault
 session_error (step.Plant n e) fault = fault
 session_error (step.NoParticipant name) fault = tt
 session_error (step.Journal n e) fault = tt
-session_error (step.Read e) fault = tt
-session_error (step.Write e) fault = tt
-session_error step.OutOfMemory fault = tt
+session_error (step.Io (io.Read e)) fault = tt
+session_error (step.Io io.TooManyReads) fault = tt
+session_error (step.Io (io.Write e)) fault = tt
+session_error (step.Io io.OutOfMemory) fault = tt
 
 pub prompted : (path : Option (Bor (List ℕ))) (file : Result (Option Flow) RunError) (unread out err out_after err_after : Option (List ℕ))
     (r : Result (Unit {0}) RunError)

@@ -1,13 +1,12 @@
 -- What a subcommand has done, by the status with which it ends.
-use Rattle.std.specs.Prelude.{◌≡◌, ◌==◌, ⊤, ℕ, Bool, true, false, IfSome, List, Option, Result, Ok, Err, if◌then◌else◌}
+use Rattle.std.specs.Prelude.{◌≡◌, ◌==◌, ⊤, ℕ, true, false, IfSome, List, Option, Result, Ok, Err, if◌then◌else◌}
 use Rattle.std.specs.Io.KnownBytes.{Appends}
 use Rattle.sqlite_trees.specs.declared.store.Store.{Ghosts}
 use Rattle.flow_model.specs.Check.{IsChecked}
 use Rattle.flow_model.specs.declared.flow.Flow.{Flow}
 use Rattle.cli_io.specs.Written.{AppendsBeginning}
-use Rattle.cli_io.specs.declared.error.WriteError.{WriteError}
-use Rattle.cli_decode.specs.declared.masking.Masking.{Masking}
-use Rattle.cli_decode.specs.declared.masking.Masking.TheVariants.{Off, On}
+use Rattle.cli_io.specs.declared.error.IoError.{IoError}
+use Rattle.cli_forms.specs.declared.masking.Masking.{Masking}
 use Rattle.cli_decode.specs.Decoded.{IsDecodedStream}
 use Rattle.cli_encode.specs.Refusals.{IsRefusal}
 use Rattle.cli_encode.specs.Texts.{IsEncoded}
@@ -19,18 +18,13 @@ use Rattle.cli_options.specs.declared.choice.Options.TheVariants.{Asm, Check, De
 use Rattle.cli_options.specs.declared.choice.Options.TheVariants.{Recover, Run, Step}
 use Rattle.cli_options.specs.declared.error.OptionsError.{OptionsError}
 use Rattle.cardswitch.specs.Checking.{IsCheckDone, IsCheckFault}
-use Rattle.cardswitch.specs.Errors.{error_of_write, run_status}
+use Rattle.cardswitch.specs.Errors.{error_of_io, run_status}
 use Rattle.cardswitch.specs.Drawings.{IsDrawFault, IsDrawn}
 use Rattle.cardswitch.specs.Looking.{IsLookFault, IsLooked}
 use Rattle.cardswitch.specs.Runs.{Answered, IsRecoverFault, IsRunFault, Recovered}
 use Rattle.cardswitch.specs.Steps.{IsStepFaultBy, IsSteppedBy}
 use Rattle.cardswitch.specs.declared.error.RunError.{RunError}
 use Rattle.cardswitch.specs.declared.error.RunError.TheVariants as error
-
--- `--mask` masks
-abbrev pub masking_of : Bool → Masking
-masking_of true = On
-masking_of false = Off
 
 -- the bytes that were to be read are the text of messages, and their frames are written
 abbrev pub IsEncodedText : Option (List ℕ) → Option (List ℕ) → Option (List ℕ) → Type 0
@@ -47,8 +41,8 @@ IsDone files (Check o) unread written written_now = IsCheckDone o × (written_no
 IsDone files (Journal o) unread written written_now = IsLooked o written written_now
 IsDone files Asm unread written written_now = IsAssembled unread written written_now
 IsDone files ListImage unread written written_now = IsListed unread written written_now
-IsDone files (Graph flow dot) unread written written_now = IsDrawn dot written written_now
-IsDone files (Decode mask) unread written written_now = IsDecodedStream (masking_of mask) unread written written_now false
+IsDone files (Graph flow form) unread written written_now = IsDrawn form written written_now
+IsDone files (Decode masking) unread written written_now = IsDecodedStream masking unread written written_now false
 IsDone files Encode unread written written_now = IsEncodedText unread written written_now
 
 -- why a flow file from standard input is refused: it has the fault that is reported, and nothing is written
@@ -68,12 +62,12 @@ IsListError unread written written_now error.OutOfMemory = ⊤
 IsListError unread written written_now _ = ⊥
 
 -- why a stream is refused: its text is written, and something of it is refused
-abbrev pub IsDecodeError : Bool → Option (List ℕ) → Option (List ℕ) → Option (List ℕ) → RunError → Type 0
-IsDecodeError mask unread written written_now error.Refused = IsDecodedStream (masking_of mask) unread written written_now true
-IsDecodeError mask unread written written_now (error.Read e) = ⊤
-IsDecodeError mask unread written written_now (error.Write e) = ⊤
-IsDecodeError mask unread written written_now error.OutOfMemory = ⊤
-IsDecodeError mask unread written written_now _ = ⊥
+abbrev pub IsDecodeError : Masking → Option (List ℕ) → Option (List ℕ) → Option (List ℕ) → RunError → Type 0
+IsDecodeError masking unread written written_now error.Refused = IsDecodedStream masking unread written written_now true
+IsDecodeError masking unread written written_now (error.Read e) = ⊤
+IsDecodeError masking unread written written_now (error.Write e) = ⊤
+IsDecodeError masking unread written written_now error.OutOfMemory = ⊤
+IsDecodeError masking unread written written_now _ = ⊥
 
 -- why a text is refused: it is not a text of messages, and the frames before the refused line are written
 abbrev pub IsEncodeFault : Option (List ℕ) → Option (List ℕ) → Option (List ℕ) → RunError → Type 0
@@ -93,8 +87,8 @@ IsErrorOf (Check o) unread written written_now e = IsCheckFault o e × (written_
 IsErrorOf (Journal o) unread written written_now e = IsLookFault o written written_now e
 IsErrorOf Asm unread written written_now e = IsAsmError unread written written_now e
 IsErrorOf ListImage unread written written_now e = IsListError unread written written_now e
-IsErrorOf (Graph flow dot) unread written written_now e = IsDrawFault dot flow.now written written_now e
-IsErrorOf (Decode mask) unread written written_now e = IsDecodeError mask unread written written_now e
+IsErrorOf (Graph flow form) unread written written_now e = IsDrawFault form flow.now written written_now e
+IsErrorOf (Decode masking) unread written written_now e = IsDecodeError masking unread written written_now e
 IsErrorOf Encode unread written written_now e = IsEncodeFault unread written written_now e
 
 -- a run reports messages that it passes over, and writes its trace, and is done all the same; so is a session at a prompt, which
@@ -110,15 +104,15 @@ IsFailed o unread written written_now status =
     (e : RunError) × (status ≡ run_status e) × IsErrorOf o unread written written_now e
 
 -- the status of help and of the version, by what became of writing them: 0, or that of the failed write
-abbrev pub shown_status : Result Unit WriteError → ℕ
+abbrev pub shown_status : Result Unit IoError → ℕ
 shown_status (Ok done) = 0
-shown_status (Err fault) = run_status (error_of_write fault)
+shown_status (Err fault) = run_status (error_of_io fault)
 
 -- the status of words that give no options; `shown` is what became of writing help or the version
-abbrev pub refused_status : OptionsError → Result Unit WriteError → ℕ
+abbrev pub refused_status : OptionsError → Result Unit IoError → ℕ
 refused_status e shown = if status_of e == 0 then shown_status shown else status_of e
 
 -- help or the version is written, or after a failed write a beginning of it
-abbrev pub IsShown : List ℕ → Option (List ℕ) → Option (List ℕ) → Result Unit WriteError → Type 0
+abbrev pub IsShown : List ℕ → Option (List ℕ) → Option (List ℕ) → Result Unit IoError → Type 0
 IsShown text written written_now (Ok done) = Appends written written_now text
 IsShown text written written_now (Err fault) = AppendsBeginning written written_now text

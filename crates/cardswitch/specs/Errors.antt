@@ -2,16 +2,12 @@
 use Rattle.std.specs.Prelude.{ℕ, List}
 use Rattle.cli_check.specs.declared.error.CheckError.{CheckError}
 use Rattle.cli_check.specs.declared.error.CheckError.TheVariants as check
-use Rattle.cli_decode.specs.declared.error.StreamError.{StreamError}
-use Rattle.cli_decode.specs.declared.error.StreamError.TheVariants as stream
 use Rattle.cli_encode.specs.declared.error.EncodeError.{EncodeError}
 use Rattle.cli_encode.specs.declared.error.EncodeError.TheVariants as encode
 use Rattle.cli_flows.specs.declared.error.FlowsError.{FlowsError}
 use Rattle.cli_flows.specs.declared.error.FlowsError.TheVariants as flows
-use Rattle.cli_io.specs.declared.error.ReadError.{ReadError}
-use Rattle.cli_io.specs.declared.error.ReadError.TheVariants as read
-use Rattle.cli_io.specs.declared.error.WriteError.{WriteError}
-use Rattle.cli_io.specs.declared.error.WriteError.TheVariants as write
+use Rattle.cli_io.specs.declared.error.IoError.{IoError}
+use Rattle.cli_io.specs.declared.error.IoError.TheVariants as io
 use Rattle.run_setup.specs.declared.error.SetupError.{SetupError}
 use Rattle.run_setup.specs.declared.error.SetupError.TheVariants as setup
 use Rattle.cli_step.specs.declared.error.StepError.{StepError}
@@ -40,18 +36,13 @@ error_at path (Serve (serve.Engine cause)) = Engine path cause
 error_at path e = e
 
 -- what the errors of the parts become: out of memory is reported as such, and every other error is carried over
-abbrev pub error_of_read : ReadError → RunError
-error_of_read read.OutOfMemory = OutOfMemory
-error_of_read e = Read e
-
-abbrev pub error_of_write : WriteError → RunError
-error_of_write write.OutOfMemory = OutOfMemory
-error_of_write e = Write e
+abbrev pub error_of_io : IoError → RunError
+error_of_io io.OutOfMemory = OutOfMemory
+error_of_io (io.Write e) = Write e
+error_of_io e = Read e
 
 abbrev pub error_of_step : StepError → RunError
-error_of_step (step.Read e) = Read e
-error_of_step (step.Write e) = Write e
-error_of_step step.OutOfMemory = OutOfMemory
+error_of_step (step.Io e) = error_of_io e
 error_of_step e = Step e
 
 abbrev pub error_of_serve : ServeError → RunError
@@ -66,19 +57,10 @@ abbrev pub error_of_check : CheckError → RunError
 error_of_check check.OutOfMemory = OutOfMemory
 error_of_check e = SetUp e
 
-abbrev pub error_of_stream : StreamError → RunError
-error_of_stream (stream.Read e) = Read e
-error_of_stream (stream.Write e) = Write e
-error_of_stream stream.OutOfMemory = OutOfMemory
-
 abbrev pub error_of_encode : EncodeError → RunError
 error_of_encode (encode.Text e) = Text e
-error_of_encode (encode.Read e) = Read e
-error_of_encode (encode.Write e) = Write e
-error_of_encode encode.OutOfMemory = OutOfMemory
+error_of_encode (encode.Io e) = error_of_io e
 
 abbrev pub error_of_flows : FlowsError → RunError
-error_of_flows (flows.Read e) = Read e
-error_of_flows (flows.Write e) = Write e
-error_of_flows flows.OutOfMemory = OutOfMemory
+error_of_flows (flows.Io e) = error_of_io e
 error_of_flows e = Input e

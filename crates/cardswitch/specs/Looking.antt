@@ -1,5 +1,5 @@
 -- What `journal` has done, and why it ends early. What a file holds no clause can say, nor that its bytes are of one moment.
-use Rattle.std.specs.Prelude.{◌≡◌, ◌⊎◌, ⊤, ℕ, Bool, true, false, List, [], Option, Some, None}
+use Rattle.std.specs.Prelude.{◌≡◌, ◌⊎◌, ⊤, ℕ, List, [], Option, Some, None}
 use Rattle.std.specs.Io.KnownBytes.{Appends}
 use Rattle.tx_history.specs.declared.journal.JournalView.{JournalView}
 use Rattle.journal_store.specs.declared.error.JournalError.{JournalError}
@@ -9,11 +9,6 @@ use Rattle.journal_copy.specs.Copied.{HoldsFault, HoldsJournal, image_of}
 use Rattle.journal_copy.specs.Rest.{IsSomeRest}
 use Rattle.journal_copy.specs.declared.rest.Rest.{Rest}
 use Rattle.cli_io.specs.Written.{AppendsBeginning}
-use Rattle.cli_decode.specs.declared.masking.Masking.{Masking}
-use Rattle.cli_decode.specs.declared.masking.Masking.TheVariants.{Off, On}
-use Rattle.cli_journal.specs.declared.form.JournalForm.{JournalForm}
-use Rattle.cli_journal.specs.declared.form.JournalForm.TheVariants.{Json, Text}
-use Rattle.cli_journal.specs.declared.form.Style.{Style}
 use Rattle.cli_journal.specs.Shown.{journal_in}
 use Rattle.cli_options.specs.declared.choice.JournalOptions.{JournalOptions}
 use Rattle.cardswitch.specs.declared.error.RunError.{RunError}
@@ -21,22 +16,9 @@ use Rattle.cardswitch.specs.declared.looking.Sight.{Sight}
 use Rattle.cardswitch.specs.declared.looking.Sight.TheVariants.{Beside, Whole}
 use Rattle.cardswitch.specs.declared.error.RunError.TheVariants as error
 
--- everything is masked, except with `--clear`
-abbrev pub masking_by : Bool → Masking
-masking_by true = Off
-masking_by false = On
-
--- lines of JSON with `--json`, otherwise of text
-abbrev pub form_by : Bool → JournalForm
-form_by true = Json
-form_by false = Text
-
-abbrev pub style_by : JournalOptions → Style
-style_by o = record { form = form_by o.json; masking = masking_by o.clear }
-
 -- what is printed of a journal without these rows at fault
 unfoldable pub shown_text : JournalOptions → ℕ → List BadRow → JournalView → List ℕ
-shown_text o layout out view = journal_in (style_by o) layout out view
+shown_text o layout out view = journal_in o.style layout out view
 
 -- the layout and the view of the journal that the bytes of a file and of its log hold
 pub record IsCopied (layout : ℕ) (view : JournalView) : Type 0 where

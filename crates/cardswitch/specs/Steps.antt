@@ -36,9 +36,7 @@ IsStepped path unread before after = (file : Option Flow) × IsFileFlow path fil
 
 -- a script, its plant or its journal is refused; failed reads and writes and out of memory have errors of their own
 abbrev pub IsScriptCause : StepError → Type 0
-IsScriptCause (script.Read e) = ⊥
-IsScriptCause (script.Write e) = ⊥
-IsScriptCause script.OutOfMemory = ⊥
+IsScriptCause (script.Io e) = ⊥
 IsScriptCause _ = ⊤
 
 -- why a script was not run to its end; what was written before stands, and after it what its lines printed till then

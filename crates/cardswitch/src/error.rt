@@ -1,16 +1,14 @@
 //! Why a run of the program ends early, and with which exit status.
 ghost use Rattle.std.specs.Prelude.{◌≡◌};
-ghost use Rattle.cardswitch.specs.Errors.{error_of_check, error_of_encode, error_of_flows, error_of_read};
-ghost use Rattle.cardswitch.specs.Errors.{error_of_serve, error_of_setup, error_of_step, error_of_stream};
-ghost use Rattle.cardswitch.specs.Errors.{error_of_write};
+ghost use Rattle.cardswitch.specs.Errors.{error_of_check, error_of_encode, error_of_flows, error_of_io};
+ghost use Rattle.cardswitch.specs.Errors.{error_of_serve, error_of_setup, error_of_step};
 ghost use Rattle.cardswitch.specs.Errors.{error_at, run_status};
 ghost use Rattle.cardswitch.specs.declared.error.RunError.TheVariants.{OutOfMemory};
 
 use cli_check::CheckError;
-use cli_decode::StreamError;
 use cli_encode::{EncodeError, TextError};
 use cli_flows::FlowsError;
-use cli_io::{ReadError, WriteError};
+use cli_io::IoError;
 use cli_step::StepError;
 use journal_store::JournalError;
 use run_setup::{ConfigFileError, SetupError};
@@ -46,8 +44,8 @@ pub enum JournalFault {
     #[error("changed while it was read; try again")]
     Changed,
     /// It could not be read to its end.
-    #[error("cannot read: {0}")]
-    Read(ReadError),
+    #[error("{0}")]
+    Read(IoError),
 }
 
 // By hand: a person is shown the same text, and a derived `fmt` is slow to prove.
@@ -61,11 +59,11 @@ impl fmt::Debug for JournalFault {
 #[derive(Drop, Error)]
 pub enum RunError {
     /// The input could not be read to its end.
-    #[error("standard input: cannot read: {0}")]
-    Read(ReadError),
+    #[error("standard input: {0}")]
+    Read(IoError),
     /// The output could not be written.
     #[error("standard output: cannot write: {0}")]
-    Write(WriteError),
+    Write(io::Error),
     /// A line of the script, its flow or its plant is refused, or its journal refused. The lines before
     /// it have run.
     #[error("{0}")]
@@ -169,24 +167,14 @@ impl<T: Drop> From<AllocFailed<T>> for RunError {
     }
 }
 
-impl From<ReadError> for RunError {
-    ghost from_gives = { λ e f. f ≡ error_of_read e };
+impl From<IoError> for RunError {
+    ghost from_gives = { λ e f. f ≡ error_of_io e };
 
-    fn from(error: ReadError) -> RunError {
+    fn from(error: IoError) -> RunError {
         match error {
-            ReadError::OutOfMemory => RunError::OutOfMemory,
+            IoError::OutOfMemory => RunError::OutOfMemory,
+            IoError::Write(error) => RunError::Write(error),
             other => RunError::Read(other),
-        }
-    }
-}
-
-impl From<WriteError> for RunError {
-    ghost from_gives = { λ e f. f ≡ error_of_write e };
-
-    fn from(error: WriteError) -> RunError {
-        match error {
-            WriteError::OutOfMemory => RunError::OutOfMemory,
-            other => RunError::Write(other),
         }
     }
 }
@@ -196,22 +184,8 @@ impl From<StepError> for RunError {
 
     fn from(error: StepError) -> RunError {
         match error {
-            StepError::Read(error) => RunError::Read(error),
-            StepError::Write(error) => RunError::Write(error),
-            StepError::OutOfMemory => RunError::OutOfMemory,
+            StepError::Io(error) => RunError::from(error),
             other => RunError::Step(other),
-        }
-    }
-}
-
-impl From<StreamError> for RunError {
-    ghost from_gives = { λ e f. f ≡ error_of_stream e };
-
-    fn from(error: StreamError) -> RunError {
-        match error {
-            StreamError::Read(error) => RunError::Read(error),
-            StreamError::Write(error) => RunError::Write(error),
-            StreamError::OutOfMemory => RunError::OutOfMemory,
         }
     }
 }
@@ -222,9 +196,7 @@ impl From<EncodeError> for RunError {
     fn from(error: EncodeError) -> RunError {
         match error {
             EncodeError::Text(error) => RunError::Text(error),
-            EncodeError::Read(error) => RunError::Read(error),
-            EncodeError::Write(error) => RunError::Write(error),
-            EncodeError::OutOfMemory => RunError::OutOfMemory,
+            EncodeError::Io(error) => RunError::from(error),
         }
     }
 }
@@ -234,9 +206,7 @@ impl From<FlowsError> for RunError {
 
     fn from(error: FlowsError) -> RunError {
         match error {
-            FlowsError::Read(error) => RunError::Read(error),
-            FlowsError::Write(error) => RunError::Write(error),
-            FlowsError::OutOfMemory => RunError::OutOfMemory,
+            FlowsError::Io(error) => RunError::from(error),
             other => RunError::Input(other),
         }
     }

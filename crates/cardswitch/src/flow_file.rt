@@ -7,6 +7,7 @@ ghost use Rattle.cardswitch.specs.Runs.{IsConfigAt, IsConfigFault, IsFlowFault};
 use crate::error::RunError;
 use cli_config::Config;
 use cli_flows::{FlowsError, open_flow};
+use cli_io::IoError;
 use flow_model::Flow;
 use run_setup::{ConfigFileError, config_at};
 use std::alloc::Global;
@@ -20,7 +21,7 @@ pub fn flow_at<F: Files>(alloc: Global, files: &F, path: &str) -> Result<Flow, R
 {
     match open_flow(alloc, files, path) {
         Ok(flow) => Ok(flow),
-        Err(FlowsError::OutOfMemory) => Err(RunError::OutOfMemory),
+        Err(FlowsError::Io(IoError::OutOfMemory)) => Err(RunError::OutOfMemory),
         Err(cause) => Err(RunError::FlowFile {
             path: Text::from_str(alloc, path)?,
             cause,
@@ -35,7 +36,7 @@ pub fn config_for(alloc: Global, rt: &HostRuntime, path: Option<&str>) -> Result
 {
     let cause = match config_at(alloc, rt, path) {
         Ok(config) => return Ok(config),
-        Err(ConfigFileError::OutOfMemory) => return Err(RunError::OutOfMemory),
+        Err(ConfigFileError::Io(IoError::OutOfMemory)) => return Err(RunError::OutOfMemory),
         Err(cause) => cause,
     };
     // Without a path there is no file, and no error.

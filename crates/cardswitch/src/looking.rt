@@ -2,17 +2,16 @@
 
 ghost use Rattle.std.specs.Prelude.{◌≡◌, IfErr, IfOk, OnOk};
 ghost use Rattle.std.specs.Io.KnownBytes.{Appends};
+ghost use Rattle.cli_io.specs.Errors.{IsOfWriting};
 ghost use Rattle.cli_io.specs.Written.{AppendsBeginning};
 ghost use Rattle.journal_copy.specs.Found.{IfBadRow, IfRest};
 ghost use Rattle.cardswitch.specs.Looking.{IsCopyFault, IsFoundFault, IsLookFault, IsLooked, IsSight};
-ghost use Rattle.cardswitch.specs.Looking.{error_of_row, form_by, masking_by, seen_text};
-ghost use Rattle.cardswitch.specs.Looking.{shown_text, style_by};
+ghost use Rattle.cardswitch.specs.Looking.{error_of_row, seen_text, shown_text};
 
 use crate::error::{JournalFault, RunError};
 use crate::journals::refusal;
-use cli_decode::Masking;
-use cli_io::WriteError;
-use cli_journal::{JournalForm, Style, show};
+use cli_io::IoError;
+use cli_journal::show;
 use cli_options::choice::JournalOptions;
 use journal_copy::{CopyError, FoundJournal, LookError, Rest, copy_files, look};
 use journal_rows::BadRow;
@@ -23,40 +22,15 @@ use std::io::Write;
 use sw_participant::Text;
 use tx_history::JournalView;
 
-fn masking_by(clear: bool) -> Masking
-    ensures { result ≡ masking_by clear }
-{
-    if clear { Masking::Off } else { Masking::On }
-}
-
-fn form_by(json: bool) -> JournalForm
-    ensures { result ≡ form_by json }
-{
-    if json {
-        JournalForm::Json
-    } else {
-        JournalForm::Text
-    }
-}
-
-fn style_by(options: &JournalOptions<'_>) -> Style
-    ensures { result ≡ style_by options.now }
-{
-    Style {
-        form: form_by(options.json),
-        masking: masking_by(options.clear),
-    }
-}
-
 // The error of a file that was not copied.
 fn uncopied(alloc: Global, path: &str, error: CopyError) -> RunError
     ensures { IsFoundFault path.now result }
 {
     match error {
         CopyError::Open(error) => refusal(alloc, path, JournalFault::Open(error)),
-        CopyError::Read(error) => refusal(alloc, path, JournalFault::Read(error)),
         CopyError::Changed => refusal(alloc, path, JournalFault::Changed),
-        CopyError::OutOfMemory => RunError::OutOfMemory,
+        CopyError::Io(IoError::OutOfMemory) => RunError::OutOfMemory,
+        CopyError::Io(error) => refusal(alloc, path, JournalFault::Read(error)),
     }
 }
 
@@ -118,14 +92,14 @@ fn print_rows<O: Write>(
     left_out: &[BadRow],
     view: &JournalView,
     out: &mut O,
-) -> Result<(), WriteError>
+) -> Result<(), IoError>
     ensures written { OnOk result (Appends (O.contents out.old) (O.contents out.new)
         (shown_text options.now layout left_out.now view.now)) }
+    ensures writing { IfErr result IsOfWriting }
     ensures beginning { AppendsBeginning (O.contents out.old) (O.contents out.new)
         (shown_text options.now layout left_out.now view.now) }
 {
-    let style = style_by(options);
-    show(alloc, style, layout, left_out, view, out)
+    show(alloc, options.style, layout, left_out, view, out)
 }
 
 // Writes what is printed of a journal.
@@ -134,9 +108,10 @@ fn print<O: Write>(
     options: &JournalOptions<'_>,
     sight: &Sight,
     out: &mut O,
-) -> Result<(), WriteError>
+) -> Result<(), IoError>
     ensures written { OnOk result (Appends (O.contents out.old) (O.contents out.new)
         (seen_text options.now sight.now)) }
+    ensures writing { IfErr result IsOfWriting }
     ensures beginning { AppendsBeginning (O.contents out.old) (O.contents out.new)
         (seen_text options.now sight.now) }
 {

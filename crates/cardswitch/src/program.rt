@@ -4,8 +4,8 @@ ghost use Rattle.std.specs.Io.KnownBytes.{Keeps};
 ghost use Rattle.std.specs.IoError.{error_kind};
 ghost use Rattle.cardswitch.specs.Done.{IsAsmError, IsDecodeError, IsDone, IsEncodeFault, IsEncodedText};
 ghost use Rattle.cardswitch.specs.Done.{IsErrorOf, IsFailed, IsListError, IsQuiet, IsShown};
-ghost use Rattle.cardswitch.specs.Done.{masking_of, refused_status};
-ghost use Rattle.cardswitch.specs.Drawings.{IsDrawFault, IsDrawn, form_of};
+ghost use Rattle.cardswitch.specs.Done.{refused_status};
+ghost use Rattle.cardswitch.specs.Drawings.{IsDrawFault, IsDrawn};
 ghost use Rattle.cardswitch.specs.Errors.{run_status};
 ghost use Rattle.cli_decode.specs.Decoded.{IsDecodedStream};
 ghost use Rattle.cli_flows.specs.Subcommands.{IsAssembled, IsListed};
@@ -17,10 +17,11 @@ use crate::flow_file::flow_at;
 use crate::looking::look_into;
 use crate::requests::{answer_requests, recover};
 use crate::steps::step;
-use cli_decode::{Masking, decode_stream};
+use cli_decode::decode_stream;
 use cli_encode::encode_stream;
-use cli_graph::{GraphForm, draw};
-use cli_io::{Input, WriteError, write_out};
+use cli_forms::{GraphForm, Masking};
+use cli_graph::draw;
+use cli_io::{Input, IoError, write_out};
 use cli_options::OptionsError;
 use cli_options::choice::Options;
 use sqlite_std_file::File;
@@ -91,50 +92,34 @@ fn list<R: Read + Drop, O: Write>(alloc: Global, input: R, out: &mut O) -> Resul
     Ok(cli_flows::list(alloc, input, out)?)
 }
 
-fn form_of(dot: bool) -> GraphForm
-    ensures { result ≡ form_of dot }
-{
-    if dot {
-        GraphForm::Dot
-    } else {
-        GraphForm::Mermaid
-    }
-}
-
 // Writes the picture of the flow in the flow file at a path; after an error, a beginning of it.
 fn graph<O: Write>(
     alloc: Global,
     rt: &HostRuntime,
     path: &str,
-    dot: bool,
+    form: GraphForm,
     out: &mut O,
 ) -> Result<(), RunError>
-    ensures drawn { OnOk result (IsDrawn dot (O.contents out.old) (O.contents out.new)) }
-    ensures failed { IfErr result (IsDrawFault dot path.now
+    ensures drawn { OnOk result (IsDrawn form (O.contents out.old) (O.contents out.new)) }
+    ensures failed { IfErr result (IsDrawFault form path.now
         (O.contents out.old) (O.contents out.new)) }
 {
     let flow = flow_at(alloc, rt, path)?;
-    Ok(draw(alloc, form_of(dot), &flow, out)?)
-}
-
-fn masking_of(mask: bool) -> Masking
-    ensures { result ≡ masking_of mask }
-{
-    if mask { Masking::On } else { Masking::Off }
+    Ok(draw(alloc, form, &flow, out)?)
 }
 
 fn decode<R: Read + Drop, O: Write>(
     alloc: Global,
-    mask: bool,
+    masking: Masking,
     input: R,
     out: &mut O,
 ) -> Result<(), RunError>
-    ensures done { OnOk result (IsDecodedStream (masking_of mask)
+    ensures done { OnOk result (IsDecodedStream masking
         (R.remaining input) (O.contents out.old) (O.contents out.new) false) }
-    ensures failed { IfErr result (IsDecodeError mask
+    ensures failed { IfErr result (IsDecodeError masking
         (R.remaining input) (O.contents out.old) (O.contents out.new)) }
 {
-    if decode_stream(alloc, masking_of(mask), &mut Input::new(input), out)? {
+    if decode_stream(alloc, masking, &mut Input::new(input), out)? {
         return Err(RunError::Refused);
     }
     Ok(())
@@ -173,8 +158,8 @@ fn run_subcommand<
         Options::Step(options) => step(alloc, rt, options, input, out, err),
         Options::Asm => asm(alloc, input, out),
         Options::List => list(alloc, input, out),
-        Options::Graph { flow, dot } => graph(alloc, rt, flow, *dot, out),
-        Options::Decode { mask } => decode(alloc, *mask, input, out),
+        Options::Graph { flow, form } => graph(alloc, rt, flow, *form, out),
+        Options::Decode { masking } => decode(alloc, *masking, input, out),
         Options::Encode => encode(alloc, input, out),
         Options::Recover(options) => recover(threads, alloc, rt, options, out),
         Options::Journal(options) => look_into(alloc, rt, options, out),
@@ -185,10 +170,11 @@ fn run_subcommand<
 
 /// Writes help or the version to `out`, if the words of the command line ask for one: `text`, which is the text of
 /// the error. After a failed write, a beginning of it is written. If the words are refused, nothing is written.
-pub fn show<O: Write>(error: &OptionsError, text: &str, out: &mut O) -> Result<(), WriteError>
+pub fn show<O: Write>(error: &OptionsError, text: &str, out: &mut O) -> Result<(), IoError>
     ensures asked { status_of error.now ≡ 0
         → IsShown text.now (O.contents out.old) (O.contents out.new) result }
     ensures unasked { status_of error.now ≢ 0 → result ≡ Ok tt }
+    ensures writing { IfErr result IsOfWriting }
     ensures kept { status_of error.now ≢ 0 → Keeps (O.contents out.old) (O.contents out.new) }
 {
     if error.use_stderr() {
@@ -200,7 +186,7 @@ pub fn show<O: Write>(error: &OptionsError, text: &str, out: &mut O) -> Result<(
 /// Gives the exit status for words that give no options. For help and the version that is 0, or, if `shown` is a
 /// failed write, the status of that, and its text goes to `err`. If the words are refused, the reason goes to
 /// `err`.
-pub fn refuse<E: Write>(error: &OptionsError, shown: Result<(), WriteError>, err: &mut E) -> u8
+pub fn refuse<E: Write>(error: &OptionsError, shown: Result<(), IoError>, err: &mut E) -> u8
     ensures status { result ≡ refused_status error.now shown }
     ensures quiet { result ≡ 0 → Keeps (E.contents err.old) (E.contents err.new) }
 {

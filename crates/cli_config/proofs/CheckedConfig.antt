@@ -14,8 +14,9 @@ use Rattle.cli_config.specs.declared.keys.Section.TheVariants as section
 use Rattle.cli_config.specs.declared.keys.TablePath.{TablePath}
 use Rattle.cli_config.specs.declared.keys.Key.TheVariants as key
 use Rattle.cli_config.specs.declared.keys.Want.TheVariants as want
-use Rattle.cli_config.specs.Keys.{keys_of, sections}
-use Rattle.cli_config.specs.Tables.{number_at, tables_if, tables_of, text_at, value_at}
+use Rattle.cli_config.specs.Keys.{keys_of, sections, spelling}
+use Rattle.cli_config.specs.Tables.{number_at, tables_if, tables_of, value_at}
+use Rattle.toml_tables.specs.Tables.{text_at}
 use Rattle.cli_config.specs.Faults.{bad, bad_in, double, double_of, excludes_in, fault_in, first_fault, missing, missing_in, section_fault, table_fault}
 use Rattle.cli_config.specs.Faults.{unknown}
 use Rattle.cli_config.specs.ConfigFile.{config_of, host_of, limits_in, route_of, run_in, times_of, wire_by}
@@ -69,7 +70,7 @@ module _ (n : ℕ) (ms : Members) where
       (is_fit host_path ms key.From b.1.0) in
       let to = text_fits want.Path paths_are_texts (value_at key.To ms) (is_there host_path ms key.To m.1.1.1.1.1.1.1.0 refl apart)
       (is_fit host_path ms key.To b.1.1.1.1.1.1.1.0) in (
-        (long_enough (text_at key.To ms) to, long_enough (text_at key.From ms) from),
+        (long_enough (text_at (spelling key.To) ms) to, long_enough (text_at (spelling key.From) ms) from),
         times_checked b,
       )
   wire_checked (Some (boolean x)) is m b = tt
@@ -86,7 +87,7 @@ module _ (n : ℕ) (ms : Members) where
       let b = none_bad host_path ms h in
       let name = text_fits (want.Name 26) (names_are_texts 26) (value_at key.Name ms) (is_there host_path ms key.Name m.1.1.0 refl refl)
       (is_fit host_path ms key.Name b.1.1.0) in
-      (name_parts 26 (text_at key.Name ms) name, wire_checked (value_at key.Simulated ms) refl m b)
+      (name_parts 26 (text_at (spelling key.Name) ms) name, wire_checked (value_at key.Simulated ms) refl m b)
 
   abbrev route_path : TablePath
   route_path = record { section = section.Route; number = n }
@@ -99,7 +100,7 @@ module _ (n : ℕ) (ms : Members) where
       (is_fit route_path ms key.Group b.0) in
       let prefix = text_fits (want.Digits 19) (digits_are_texts 19) (value_at key.Prefix ms) (is_there route_path ms key.Prefix m.1.0 refl refl)
       (is_fit route_path ms key.Prefix b.1.0) in
-      (digits_parts 19 (text_at key.Prefix ms) prefix, (name_parts 32 (text_at key.Group ms) group).0)
+      (digits_parts 19 (text_at (spelling key.Prefix) ms) prefix, (name_parts 32 (text_at (spelling key.Group) ms) group).0)
 
 -- each table is read as something checked
 all_checked : {B : Type 0} (p : Section) (of : Members → B) (Good : B → Type 0) → ((n : ℕ) (ms : Members) → fault_in p n ms ≡ None → Good (of ms)) →
@@ -111,13 +112,13 @@ all_checked p of Good good n (ms ∷ mss) h = (
   all_checked p of Good good (n + 1) mss (right_none (fault_in p n ms) (first_at (fault_in p) (n + 1) mss) h),
 )
 
-names_of_hosts : (mss : List Members) → map (λ (h : Host). h.name) (map host_of mss) ≡ map (text_at key.Name) mss
+names_of_hosts : (mss : List Members) → map (λ (h : Host). h.name) (map host_of mss) ≡ map (text_at (spelling key.Name)) mss
 names_of_hosts [] = refl
-names_of_hosts (ms ∷ mss) = ap (λ (ns : List (List ℕ)). text_at key.Name ms ∷ ns) (names_of_hosts mss)
+names_of_hosts (ms ∷ mss) = ap (λ (ns : List (List ℕ)). text_at (spelling key.Name) ms ∷ ns) (names_of_hosts mss)
 
-prefixes_of_routes : (mss : List Members) → map (λ (r : Route). r.prefix) (map route_of mss) ≡ map (text_at key.Prefix) mss
+prefixes_of_routes : (mss : List Members) → map (λ (r : Route). r.prefix) (map route_of mss) ≡ map (text_at (spelling key.Prefix)) mss
 prefixes_of_routes [] = refl
-prefixes_of_routes (ms ∷ mss) = ap (λ (ns : List (List ℕ)). text_at key.Prefix ms ∷ ns) (prefixes_of_routes mss)
+prefixes_of_routes (ms ∷ mss) = ap (λ (ns : List (List ℕ)). text_at (spelling key.Prefix) ms ∷ ns) (prefixes_of_routes mss)
 
 hosts_checked : (mss : List Members) → first_at (fault_in section.Host) 0 mss ≡ None → first_at (double section.Host key.Name mss) 0 mss ≡ None →
     AreHosts (map host_of mss)

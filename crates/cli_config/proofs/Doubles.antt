@@ -10,9 +10,10 @@ use Rattle.sw_base.proofs.Unrefused.{left_none, right_none}
 use Rattle.toml.specs.Data.{Members}
 use Rattle.cli_config.specs.declared.keys.Section.{Section}
 use Rattle.cli_config.specs.declared.keys.Key.{Key}
-use Rattle.cli_config.specs.Tables.{text_at}
+use Rattle.toml_tables.specs.Tables.{text_at}
 use Rattle.cli_config.specs.Faults.{double, is_taken}
 use Rattle.cli_config.proofs.NoFault.{not_refused}
+use Rattle.cli_config.specs.Keys.{spelling}
 
 all_both : {X : Type 0} (P Q : X → Type 0) (xs : List X) → AllByRecursion P xs → AllByRecursion Q xs → AllByRecursion (λ x. P x × Q x) xs
 all_both P Q [] p q = tt
@@ -40,10 +41,10 @@ none_passes test (x ∷ xs) h = (or_first (test x) (list_any test xs) h, none_pa
 
 module _ (p : Section) (k : Key) where
   abbrev IsApart : List Members → Members → Type 0
-  IsApart rest x = AllByRecursion (λ y. bytes_eq (text_at k x) y ≡ false) (map (text_at k) rest)
+  IsApart rest x = AllByRecursion (λ y. bytes_eq (text_at (spelling k) x) y ≡ false) (map (text_at (spelling k)) rest)
 
   apart : (front rest : List Members) → first_at (double p k (front ++ rest)) (length front) rest ≡ None →
-      AllByRecursion (IsApart rest) front × IsDistinct bytes_eq (map (text_at k) rest)
+      AllByRecursion (IsApart rest) front × IsDistinct bytes_eq (map (text_at (spelling k)) rest)
   unfolding IsDistinct
   apart front [] h = (all_tt front, tt)
     where
@@ -52,17 +53,17 @@ module _ (p : Section) (k : Key) where
       all_tt (x ∷ xs) = (tt, all_tt xs)
   apart front (y ∷ ys) h =
       let free = not_refused _ _ (left_none _ _ h) in
-      let here : list_any (λ x. bytes_eq (text_at k x) (text_at k y)) front ≡ false =
-      ap (λ (xs : List Members). is_taken xs k (text_at k y)) (sym (take-append_seam front (y ∷ ys))) ∙ free in
+      let here : list_any (λ x. bytes_eq (text_at (spelling k) x) (text_at (spelling k) y)) front ≡ false =
+      ap (λ (xs : List Members). is_taken xs k (text_at (spelling k) y)) (sym (take-append_seam front (y ∷ ys))) ∙ free in
       let later : first_at (double p k ((front ++ y ∷ []) ++ ys)) (length (front ++ y ∷ [])) ys ≡ None =
       ap (λ (all : List Members). first_at (double p k all) (length (front ++ y ∷ [])) ys) (append_assoc front (y ∷ []) ys)
       ∙ ap (λ (n : ℕ). first_at (double p k (front ++ y ∷ ys)) n ys) (length_push front y)
       ∙ right_none _ _ h in
       let (rest, distinct) = apart (front ++ y ∷ []) ys later in (
-        all_both (λ x. bytes_eq (text_at k x) (text_at k y) ≡ false) (IsApart ys) front (none_passes (λ x. bytes_eq (text_at k x) (text_at k y)) front here)
-            (all_front (IsApart ys) front y rest),
+        all_both (λ x. bytes_eq (text_at (spelling k) x) (text_at (spelling k) y) ≡ false) (IsApart ys) front
+            (none_passes (λ x. bytes_eq (text_at (spelling k) x) (text_at (spelling k) y)) front here) (all_front (IsApart ys) front y rest),
         (all_last (IsApart ys) front y rest, distinct),
       )
 
-  pub texts_are_distinct : (mss : List Members) → first_at (double p k mss) 0 mss ≡ None → IsDistinct bytes_eq (map (text_at k) mss)
+  pub texts_are_distinct : (mss : List Members) → first_at (double p k mss) 0 mss ≡ None → IsDistinct bytes_eq (map (text_at (spelling k)) mss)
   texts_are_distinct mss h = (apart [] mss h).1

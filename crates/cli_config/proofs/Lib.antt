@@ -1,5 +1,4 @@
 mod CheckedConfig
 mod Doubles
 mod EarlierTables
-mod LeastKey
 mod NoFault

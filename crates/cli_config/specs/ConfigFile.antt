@@ -17,12 +17,14 @@ use Rattle.cli_config.specs.declared.error.TableError.{TableError}
 use Rattle.cli_config.specs.declared.keys.Section.TheVariants as section
 use Rattle.cli_config.specs.declared.keys.Key.{Key}
 use Rattle.cli_config.specs.declared.keys.Key.TheVariants as key
-use Rattle.cli_config.specs.Tables.{flag_at, names_at, number_at, table_at, tables_of, text_at, value_at}
+use Rattle.cli_config.specs.Tables.{names_at, number_at, tables_of, value_at}
+use Rattle.toml_tables.specs.Tables.{flag_at, table_at, text_at}
 use Rattle.cli_config.specs.Faults.{first_fault}
+use Rattle.cli_config.specs.Keys.{spelling}
 
 -- a text at a key, if there is one
 abbrev pub text_if : Key → Members → Option (List ℕ)
-text_if k ms = option_map (λ d. text_at k ms) (value_at k ms)
+text_if k ms = option_map (λ d. text_at (spelling k) ms) (value_at k ms)
 
 -- if the file does not say, a query waits ten seconds, a host that did not answer is asked again at once, and there are no
 -- echo tests
@@ -34,7 +36,7 @@ times_of ms = record {
 }
 
 abbrev pub streams_of : Members → Wire
-streams_of ms = wire.Streams (text_at key.To ms) (text_at key.From ms) (times_of ms)
+streams_of ms = wire.Streams (text_at (spelling key.To) ms) (text_at (spelling key.From) ms) (times_of ms)
 
 -- how a host without a fault is reached, by what stands at `simulated`: true, or "silent"
 abbrev pub wire_by : Option Data → Members → Wire
@@ -47,10 +49,10 @@ wire_of ms = wire_by (value_at key.Simulated ms) ms
 
 -- a host has a stand-in unless the file says that it has none
 abbrev pub host_of : Members → host.Host
-host_of ms = record { name = text_at key.Name ms; wire = wire_of ms; has_stand_in = unwrap_or (flag_at key.HasStandIn ms) true }
+host_of ms = record { name = text_at (spelling key.Name) ms; wire = wire_of ms; has_stand_in = unwrap_or (flag_at (spelling key.HasStandIn) ms) true }
 
 abbrev pub route_of : Members → route.Route
-route_of ms = record { prefix = text_at key.Prefix ms; group = text_at key.Group ms }
+route_of ms = record { prefix = text_at (spelling key.Prefix) ms; group = text_at (spelling key.Group) ms }
 
 abbrev pub limits_in : Option Members → limits.Limits
 limits_in None = record { per_card = None; stand_in = None }
@@ -64,14 +66,14 @@ run_in (Some ms) = record {
   sessions = number_at key.Sessions ms;
   journal = text_if key.Journal ms;
   log = text_if key.Log ms;
-  threads = flag_at key.Threads ms;
+  threads = flag_at (spelling key.Threads) ms;
 }
 
 abbrev pub limits_of : Members → limits.Limits
-limits_of top = limits_in (table_at key.Limits top)
+limits_of top = limits_in (table_at (spelling key.Limits) top)
 
 abbrev pub run_of : Members → run.RunTable
-run_of top = run_in (table_at key.Run top)
+run_of top = run_in (table_at (spelling key.Run) top)
 
 -- the hosts and the routes, if the file has their key
 abbrev pub hosts_of : Members → Option (List host.Host)

@@ -6,7 +6,7 @@ use Rattle.std.specs.List.{list_all, list_any}
 use Rattle.std.specs.Str.{bytes_eq}
 use Rattle.sw_base.specs.Refusals.{first_at, first_of, or_else, refused_if}
 use Rattle.sw_context.specs.Names.{is_name}
-use Rattle.toml.specs.Data.{Data, string, integer, float, boolean, datetime, array, table, Items, no_items, item, Members, no_members, member}
+use Rattle.toml.specs.Data.{Data, string, integer, float, boolean, datetime, array, table, Items, no_items, item, Members}
 use Rattle.toml.specs.Text.{are_tables}
 use Rattle.cli_config.specs.declared.error.TableError.{TableError}
 use Rattle.cli_config.specs.declared.error.TableError.TheVariants.{Unknown, Missing, BadValue, Excludes, Double}
@@ -20,8 +20,9 @@ use Rattle.cli_config.specs.declared.keys.Key.TheVariants as key
 use Rattle.cli_config.specs.declared.keys.Want.{Want}
 use Rattle.cli_config.specs.declared.keys.Want.TheVariants as want
 use Rattle.cli_config.specs.Keys.{excluded, is_required, keys_of, sections, spelling, wants}
-use Rattle.cli_config.specs.Tables.{tables_of, text_at, value_at}
-use Rattle.flow_toml.specs.Faults.{lesser}
+use Rattle.cli_config.specs.Tables.{tables_of, value_at}
+use Rattle.toml_tables.specs.Tables.{text_at}
+use Rattle.toml_tables.specs.Unknown.{unknown_key}
 
 -- Which values may stand where a thing is wanted: which texts, integers, flags and arrays.
 abbrev pub fits_text : Want → List ℕ → Bool
@@ -76,18 +77,6 @@ found_of (datetime t) = found.Date
 found_of (array ds) = found.Array
 found_of (table ms) = found.Table
 
-abbrev pub is_known : Section → List ℕ → Bool
-is_known p name = list_any (λ k. bytes_eq (spelling k) name) (keys_of p)
-
--- the least of the keys that pass a test
-abbrev pub least_key : (List ℕ → Bool) → Members → Option (List ℕ)
-least_key passes no_members = None
-least_key passes (member name d ms) = if passes name then Some (lesser name (least_key passes ms)) else least_key passes ms
-
--- the least of the keys that the table does not know
-abbrev pub unknown_key : Section → Members → Option (List ℕ)
-unknown_key p ms = least_key (λ name. not (is_known p name)) ms
-
 abbrev pub stands : Members → Key → Bool
 stands ms k = is_some (value_at k ms)
 
@@ -128,7 +117,7 @@ abbrev pub excludes_in : TablePath → Members → Option TableError
 excludes_in p ms = first_of (map (excludes p ms) (keys_of p.section))
 
 abbrev pub unknown : TablePath → Members → Option TableError
-unknown p ms = option_map (λ name. Unknown name p) (unknown_key p.section ms)
+unknown p ms = option_map (λ name. Unknown name p) (unknown_key spelling (keys_of p.section) ms)
 
 -- A table by itself, without the tables in it: the least unknown key, then the least missing one, then the
 -- least with a bad value, then the least that excludes another.
@@ -144,11 +133,12 @@ section_fault top p = first_at (fault_in p) 0 (tables_of p top)
 
 -- one of the tables has the text at a key
 abbrev pub is_taken : List Members → Key → List ℕ → Bool
-is_taken tables k text = list_any (λ ms. bytes_eq (text_at k ms) text) tables
+is_taken tables k text = list_any (λ ms. bytes_eq (text_at (spelling k) ms) text) tables
 
 -- a table whose text at a key an earlier one has
 abbrev pub double : Section → Key → List Members → ℕ → Members → Option TableError
-double p k tables n ms = refused_if (is_taken (take n tables) k (text_at k ms)) (Double k (record { section = p; number = n }) (text_at k ms))
+double p k tables n ms =
+    refused_if (is_taken (take n tables) k (text_at (spelling k) ms)) (Double k (record { section = p; number = n }) (text_at (spelling k) ms))
 
 abbrev pub double_of : Section → Key → Members → Option TableError
 double_of p k top = first_at (double p k (tables_of p top)) 0 (tables_of p top)

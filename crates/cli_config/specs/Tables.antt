@@ -1,22 +1,13 @@
 -- The tables of a document, and what stands in them.
-use Rattle.std.specs.Prelude.{ℕ, ℤ, pos, negsuc, Bool, List, [], ◌∷◌, map, String, Option, Some, None, unwrap_or, option_and_then, option_map}
-use Rattle.std.specs.Borrow.{Bor}
-use Rattle.std.specs.BTreeMap.{BTreeMap}
-use Rattle.std.specs.declared.alloc.Global.{Global}
-use Rattle.toml.specs.Data.{Data, string, array, table, Items, no_items, item, Members, get_member, as_str, as_bool, as_integer, as_table}
-use Rattle.toml.specs.View.{table_view}
-use Rattle.toml.specs.declared.value.Value.{Value}
+use Rattle.std.specs.Prelude.{ℕ, ℤ, pos, negsuc, List, [], ◌∷◌, Option, Some, None, option_and_then, option_map}
+use Rattle.toml.specs.Data.{Data, string, array, table, Items, no_items, item, Members, get_member, as_integer}
 use Rattle.cli_config.specs.declared.keys.Section.{Section}
 use Rattle.cli_config.specs.declared.keys.Key.{Key}
 use Rattle.cli_config.specs.Keys.{key_of, spelling}
-pub use Rattle.flow_toml.specs.FlowFile.{tables_in}
+use Rattle.toml_tables.specs.Tables.{tables_in}
 
 abbrev pub value_at : Key → Members → Option Data
 value_at k ms = get_member (spelling k) ms
-
--- What stands at a key of a table without a fault. (Other tables have a value here too, which is never read.)
-abbrev pub text_at : Key → Members → List ℕ
-text_at k ms = unwrap_or (option_and_then as_str (value_at k ms)) []
 
 abbrev pub whole : ℤ → Option ℕ
 whole (pos n) = Some n
@@ -24,9 +15,6 @@ whole (negsuc n) = None
 
 abbrev pub number_at : Key → Members → Option ℕ
 number_at k ms = option_and_then whole (option_and_then as_integer (value_at k ms))
-
-abbrev pub flag_at : Key → Members → Option Bool
-flag_at k ms = option_and_then as_bool (value_at k ms)
 
 abbrev pub names_in : Items → List (List ℕ)
 names_in no_items = []
@@ -40,9 +28,6 @@ names_below d = []
 -- the texts of an array, if the key has a value
 abbrev pub names_at : Key → Members → Option (List (List ℕ))
 names_at k ms = option_map names_below (value_at k ms)
-
-abbrev pub table_at : Key → Members → Option Members
-table_at k ms = option_and_then as_table (value_at k ms)
 
 -- the tables of an array, or a table by itself
 abbrev pub tables_below : Data → List Members
@@ -64,7 +49,3 @@ tables_under (Some k) top = tables_at k top
 -- the tables of a section of a document, in its order
 abbrev pub tables_of : Section → Members → List Members
 tables_of p top = tables_under (key_of p) top
-
--- what some tables hold
-abbrev pub views : List (Bor (BTreeMap (String Global) Value)) → List Members
-views ts = map (λ t. table_view t.now) ts

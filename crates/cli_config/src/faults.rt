@@ -7,18 +7,18 @@ ghost use Rattle.sw_base.specs.Refusals.{first_at, first_of};
 ghost use Rattle.toml.specs.Text.{are_tables};
 ghost use Rattle.toml.specs.View.{view, table_view, array_view};
 ghost use Rattle.cli_config.specs.Keys as keys;
-ghost use Rattle.cli_config.specs.Tables.{views};
+ghost use Rattle.toml_tables.specs.Tables.{views};
 ghost use Rattle.cli_config.specs.Faults as spec;
 
 use crate::error::{FoundValue, TableError};
 use crate::keys::{Key, Section, TablePath, Want};
-use crate::look::{tables_of, text_at, value_at};
-use flow_toml::are_tables;
+use crate::look::tables_of;
 use std::alloc::{AllocError, Global};
 use sw_context::is_name;
 use sw_participant::Text;
 use toml::value::Array;
 use toml::{Table, Value};
+use toml_tables::{are_tables, text_at, unknown_key, value_at};
 
 fn are_digits(text: &str) -> bool
     ensures { result ≡ list_all is_ascii_digit text.now }
@@ -116,25 +116,6 @@ fn found(alloc: Global, value: &Value) -> Result<FoundValue, AllocError>
     }
 }
 
-fn is_known(section: Section, name: &str) -> bool
-    ensures { result ≡ spec.is_known section name.now }
-{
-    section.keys().iter().any(|key| key.as_str() == name)
-}
-
-// A table's keys ascend, so the first is the least.
-fn unknown_key(section: Section, table: &Table) -> Option<&String>
-    ensures { option_map (λ k. string_bytes k.now) result
-        ≡ spec.unknown_key section (table_view table.now) }
-{
-    for (name, _value) in table.iter() {
-        if !is_known(section, name.as_str()) {
-            return Some(name);
-        }
-    }
-    None
-}
-
 fn stands(table: &Table, key: Key) -> bool
     ensures { result ≡ spec.stands (table_view table.now) key }
 {
@@ -206,7 +187,7 @@ fn excludes(path: TablePath, table: &Table) -> Option<TableError>
 fn unknown(alloc: Global, path: TablePath, table: &Table) -> Result<Option<TableError>, AllocError>
     ensures { IfOk result (λ f. f ≡ spec.unknown path (table_view table.now)) }
 {
-    match unknown_key(path.section, table) {
+    match unknown_key(path.section.keys(), table) {
         Some(name) => {
             let name = Text::from_str(alloc, name.as_str())?;
             Ok(Some(TableError::Unknown(name, path)))

@@ -3,6 +3,7 @@
 ghost use Rattle.std.specs.Prelude.{◌≡◌};
 ghost use Rattle.cli_config.specs.Keys as spec;
 
+use std::convert::AsStr;
 use std::fmt;
 
 /// A section of a configuration file: its tables of one kind.
@@ -136,36 +137,6 @@ impl Section {
 }
 
 impl Key {
-    /// The key as a file spells it.
-    pub fn as_str(self) -> &'static str
-        ensures { result.now ≡ spec.spelling self }
-    {
-        match self {
-            Key::Host => "host",
-            Key::Limits => "limits",
-            Key::Route => "route",
-            Key::Run => "run",
-            Key::EchoS => "echo_s",
-            Key::From => "from",
-            Key::Name => "name",
-            Key::RetryMs => "retry_ms",
-            Key::Simulated => "simulated",
-            Key::HasStandIn => "standin",
-            Key::TimeoutMs => "timeout_ms",
-            Key::To => "to",
-            Key::Group => "group",
-            Key::Prefix => "prefix",
-            Key::PerCard => "per_card",
-            Key::StandIn => "stand_in",
-            Key::Advices => "advices",
-            Key::Allow => "allow",
-            Key::Journal => "journal",
-            Key::Log => "log",
-            Key::Sessions => "sessions",
-            Key::Threads => "threads",
-        }
-    }
-
     /// What values it may have.
     pub fn wants(self) -> Want
         ensures { result ≡ spec.wants self }
@@ -209,6 +180,40 @@ impl Key {
                 Key::Simulated,
             ),
             _ => None,
+        }
+    }
+}
+
+/// A key lends its spelling in a file.
+impl AsStr for Key {
+    ghost use Rattle.cli_config.specs.Keys.{spelling};
+
+    ghost text = { spelling };
+
+    fn as_str(&self) -> &str {
+        match self {
+            Key::Host => "host",
+            Key::Limits => "limits",
+            Key::Route => "route",
+            Key::Run => "run",
+            Key::EchoS => "echo_s",
+            Key::From => "from",
+            Key::Name => "name",
+            Key::RetryMs => "retry_ms",
+            Key::Simulated => "simulated",
+            Key::HasStandIn => "standin",
+            Key::TimeoutMs => "timeout_ms",
+            Key::To => "to",
+            Key::Group => "group",
+            Key::Prefix => "prefix",
+            Key::PerCard => "per_card",
+            Key::StandIn => "stand_in",
+            Key::Advices => "advices",
+            Key::Allow => "allow",
+            Key::Journal => "journal",
+            Key::Log => "log",
+            Key::Sessions => "sessions",
+            Key::Threads => "threads",
         }
     }
 }

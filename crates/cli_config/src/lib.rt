@@ -32,6 +32,29 @@
 //!    that may not stand there, then the least that excludes `simulated`.
 //! 3. A host has the name of an earlier one.
 //! 4. A route has the prefix of an earlier one.
+//!
+//! # What is proved
+//!
+//! `read_config` answers a configuration exactly where the text is a configuration file of it
+//! (`IsConfigFile`): the document that `toml` parses from the text has no fault and states this
+//! configuration. Every refusal but out of memory is the first fault in the specified order, with its
+//! key and its table, and with what was found (`Refuses`). A configuration that is read is checked
+//! (`IsChecked`): its names, prefixes, paths and numbers are within their bounds, and no two hosts have
+//! one name, nor two routes one prefix.
+//!
+//! # Decisions
+//!
+//! - **What the file leaves out is `None`**, so the program's own defaults stand in one place, the
+//!   program. Only the times of a host have their defaults here, since a host that is reached by
+//!   streams always has them.
+//! - **A value of the wrong kind and one out of range are one fault**, a bad value: a message says what
+//!   is expected, which has both.
+//! - **All tables are tested by themselves before names and prefixes are compared**, so a double is
+//!   found among good names alone.
+//! - **A search for a double compares each table with those before it**, n × n steps: a configuration
+//!   has few hosts and routes.
+//! - **A fault carries what was found** (a string, an integer or a boolean; of other values the kind),
+//!   so that no second parse is needed to quote it.
 #![tactic(auto)]
 
 mod config;

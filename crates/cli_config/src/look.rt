@@ -1,9 +1,8 @@
 //! What stands in the tables of a document.
 
 ghost use Rattle.std.specs.Prelude.{◌≡◌, Some, option_map, option_copied, [], ◌∷◌, IfOk, find};
-ghost use Rattle.toml.specs.Data.{get_member};
 ghost use Rattle.toml.specs.View.{view, table_view, array_view};
-ghost use Rattle.cli_config.specs.Keys.{spelling};
+ghost use Rattle.toml_tables.specs.Tables.{views};
 ghost use Rattle.cli_config.specs.Tables as spec;
 
 use crate::keys::{Key, Section};
@@ -11,26 +10,7 @@ use std::alloc::{AllocError, Global};
 use sw_participant::{Sequence, Text};
 use toml::value::Array;
 use toml::{Table, Value};
-
-/// The value at a key.
-pub(crate) fn value_at(table: &Table, key: Key) -> Option<&Value>
-    ensures { option_map (λ v. view v.now) result ≡ spec.value_at key (table_view table.now) }
-{
-    table.get(key.as_str())
-}
-
-/// The string at a key, or an empty one if there is no string.
-pub(crate) fn text_at(table: &Table, key: Key) -> &str
-    ensures { result.now ≡ spec.text_at key (table_view table.now) }
-{
-    match value_at(table, key) {
-        Some(value) => match value.as_str() {
-            Some(text) => text,
-            None => "",
-        },
-        None => "",
-    }
-}
+use toml_tables::{tables_in, value_at};
 
 fn whole(number: i64) -> Option<u64>
     ensures { result ≡ spec.whole number }
@@ -90,49 +70,16 @@ pub(crate) fn names_at(
     }
 }
 
-/// The flag at a key.
-pub(crate) fn flag_at(table: &Table, key: Key) -> Option<bool>
-    ensures { result ≡ spec.flag_at key (table_view table.now) }
-{
-    match value_at(table, key) {
-        Some(value) => value.as_bool(),
-        None => None,
-    }
-}
-
-/// The table at a key.
-pub(crate) fn table_at(table: &Table, key: Key) -> Option<&Table>
-    ensures { option_map (λ t. table_view t.now) result
-        ≡ spec.table_at key (table_view table.now) }
-{
-    match value_at(table, key) {
-        Some(value) => value.as_table(),
-        None => None,
-    }
-}
-
 fn one(alloc: Global, table: &Table) -> Result<Vec<&Table>, AllocError>
-    ensures { IfOk result (λ ts. spec.views ts.items ≡ table_view table.now ∷ []) }
+    ensures { IfOk result (λ ts. views ts.items ≡ table_view table.now ∷ []) }
 {
     let mut tables = Vec::new(alloc);
     tables.push(table)?;
     Ok(tables)
 }
 
-fn tables_in(alloc: Global, array: &Array) -> Result<Vec<&Table>, AllocError>
-    ensures { IfOk result (λ ts. spec.views ts.items ≡ spec.tables_in (array_view array.now)) }
-{
-    let mut tables = Vec::new(alloc);
-    for value in array {
-        if let Some(table) = value.as_table() {
-            tables.push(table)?;
-        }
-    }
-    Ok(tables)
-}
-
 fn tables_below(alloc: Global, value: &Value) -> Result<Vec<&Table>, AllocError>
-    ensures { IfOk result (λ ts. spec.views ts.items ≡ spec.tables_below (view value.now)) }
+    ensures { IfOk result (λ ts. views ts.items ≡ spec.tables_below (view value.now)) }
 {
     if let Some(table) = value.as_table() {
         return one(alloc, table);
@@ -144,7 +91,7 @@ fn tables_below(alloc: Global, value: &Value) -> Result<Vec<&Table>, AllocError>
 }
 
 fn tables_at(alloc: Global, top: &Table, key: Key) -> Result<Vec<&Table>, AllocError>
-    ensures { IfOk result (λ ts. spec.views ts.items ≡ spec.tables_at key (table_view top.now)) }
+    ensures { IfOk result (λ ts. views ts.items ≡ spec.tables_at key (table_view top.now)) }
 {
     match value_at(top, key) {
         Some(value) => tables_below(alloc, value),
@@ -159,7 +106,7 @@ pub(crate) fn tables_of(
     top: &Table,
 ) -> Result<Vec<&Table>, AllocError>
     ensures { IfOk result (λ ts.
-        spec.views ts.items ≡ spec.tables_of section (table_view top.now)) }
+        views ts.items ≡ spec.tables_of section (table_view top.now)) }
 {
     match section.key() {
         Some(key) => tables_at(alloc, top, key),

@@ -2,7 +2,8 @@
 
 ghost use Rattle.std.specs.Prelude.{◌≡◌, map, option_map, IfOk, IfErr};
 ghost use Rattle.toml.specs.View.{table_view};
-ghost use Rattle.cli_config.specs.Tables.{text_at, views};
+ghost use Rattle.toml_tables.specs.Tables.{text_at, views};
+ghost use Rattle.cli_config.specs.Keys.{spelling};
 ghost use Rattle.cli_config.specs.Checked.{IsChecked};
 ghost use Rattle.cli_config.specs.ConfigFile as spec;
 
@@ -10,16 +11,17 @@ use crate::config::{Config, Host, Limits, Route, RunTable, Wire, WireTimes};
 use crate::error::ConfigError;
 use crate::faults::first_fault;
 use crate::keys::{Key, Section};
-use crate::look::{flag_at, names_at, number_at, table_at, tables_of, text_at, value_at};
+use crate::look::{names_at, number_at, tables_of};
 use std::alloc::{AllocError, Global};
 use sw_participant::{Sequence, Text};
 use toml::{Table, Value};
+use toml_tables::{flag_at, table_at, text_at, value_at};
 
 /// How long a query waits for its answer if the file does not say, in milliseconds.
 const TIMEOUT_MS: u64 = 10_000;
 
 fn text_of(alloc: Global, table: &Table, key: Key) -> Result<Text, AllocError>
-    ensures { IfOk result (λ t. t ≡ text_at key (table_view table.now)) }
+    ensures { IfOk result (λ t. t ≡ text_at (spelling key) (table_view table.now)) }
 {
     Text::from_str(alloc, text_at(table, key))
 }

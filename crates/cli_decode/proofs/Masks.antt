@@ -8,7 +8,7 @@ use Rattle.iso_mask.proofs.Masks.{number_same}
 use Rattle.iso_mask.specs.Masks.{masked_number}
 use Rattle.iso_msg.specs.Table.{form_of}
 use Rattle.iso_msg.specs.Messages.{Fields, PlainMessage}
-use Rattle.cli_decode.specs.declared.masking.Masking.TheVariants.{On}
+use Rattle.cli_forms.specs.declared.masking.Masking.TheVariants.{On}
 use Rattle.cli_decode.specs.Decoded.{MaskedTextsHide, frame_text, line_of, outcome_text, shown_line, view_text}
 use Rattle.cli_decode.specs.Masks.{AgreeFields, AgreeMessages, AgreesAs, is_hidden, masked_length}
 

@@ -16,7 +16,7 @@ use Rattle.iso_codec.specs.Reads.{◌>>=◌, GivesMessage, text_at, content_is, 
 use Rattle.iso_codec.proofs.FrontReads.{Front, ended, then_fields, front_read}
 use Rattle.cli_decode.specs.Decoded.{line_by, shown_line, view_text}
 use Rattle.cli_decode.specs.Printing.{paragraph_of, with_field, with_fields, with_message}
-use Rattle.cli_decode.specs.declared.masking.Masking.{Masking}
+use Rattle.cli_forms.specs.declared.masking.Masking.{Masking}
 
 module _ (k : Masking) where
   abbrev Part : Type 0

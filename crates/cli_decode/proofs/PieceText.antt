@@ -12,7 +12,7 @@ use Rattle.sw_frame.specs.Feeds.{messages}
 use Rattle.cli_decode.specs.declared.decoder.Decoder.{Decoder}
 use Rattle.cli_decode.specs.Decoded.{frames_text, is_refused}
 use Rattle.cli_decode.specs.Progress.{IsDecoded}
-use Rattle.cli_decode.specs.declared.masking.Masking.{Masking}
+use Rattle.cli_forms.specs.declared.masking.Masking.{Masking}
 
 -- three texts, one after the other
 pub appended : (old first second new a b e : List ℕ) → first ≡ old ++ a → second ≡ first ++ b → new ≡ second ++ e → new ≡ old ++ (a ++ (b ++ e))

@@ -12,7 +12,7 @@ use Rattle.cli_decode.specs.declared.decoder.Decoder.{Decoder}
 use Rattle.cli_decode.specs.Decoded.{frames_text, frame_text, end_text, is_cut, stream_text, has_refusal}
 use Rattle.cli_decode.specs.Progress.{IsSoFar}
 use Rattle.cli_decode.specs.Steps.{DecodesPiece}
-use Rattle.cli_decode.specs.declared.masking.Masking.{Masking}
+use Rattle.cli_forms.specs.declared.masking.Masking.{Masking}
 
 pub take_short : (n : ℕ) (old new : List ℕ) → length old ≡ 65536 → length new ≡ length old → n ≤ length new → length (take n new) ≤ 65536
 take_short n old new long same within = let e : length (take n new) ≡ n = length-take-le n new within in omega arith

@@ -1,4 +1,10 @@
 -- What `decode` prints.
+--
+-- decode.
+--
+-- `frame_text` is the paragraph of one frame: `message_text` of the message that its bytes read
+-- as, or `refused_text`. `stream_text` is that of all frames, numbered from 1, and of the end:
+-- nothing, a bad length, or the bytes of a frame that the stream does not finish.
 use Rattle.std.specs.Prelude.{◌≡◌, ℕ, ◌+◌, ◌||◌, not, Bool, true, false, List, [], ◌∷◌, ◌++◌, length, Option, Some, Result, Ok, Err, IfSome, codes}
 use Rattle.std.specs.Prelude.{if◌then◌else◌, ◌==◌}
 use Rattle.std.specs.Fmt.{decimal}
@@ -13,8 +19,8 @@ use Rattle.iso_codec.specs.Reads.{read}
 use Rattle.iso_codec.specs.Spelling.{hex}
 use Rattle.std.specs.Io.KnownBytes.{Appends}
 use Rattle.sw_frame.specs.Stream.{State, Stream}
-use Rattle.cli_decode.specs.declared.masking.Masking.{Masking}
-use Rattle.cli_decode.specs.declared.masking.Masking.TheVariants.{Off, On}
+use Rattle.cli_forms.specs.declared.masking.Masking.{Masking}
+use Rattle.cli_forms.specs.declared.masking.Masking.TheVariants.{Off, On}
 use Rattle.cli_decode.specs.Masks.{AgreeMessages, is_sensitive, masked_line}
 
 -- a binary value is shown as upper case hexadecimal digits, every other as it is

@@ -2,5 +2,4 @@ pub mod Masks
 pub mod Decoded
 pub mod Progress
 pub mod Steps
-pub mod Errors
 pub mod Printing

@@ -6,7 +6,7 @@ use Rattle.iso_codec.specs.declared.error.DecodeError.{DecodeError}
 use Rattle.iso_codec.specs.declared.error.DecodeError.TheVariants.{FieldNotInProfile, Trailing}
 use Rattle.iso_codec.specs.Reads.{◌>>=◌, text_at, content_is, front_at, read}
 use Rattle.cli_decode.specs.Decoded.{line_by, view_text}
-use Rattle.cli_decode.specs.declared.masking.Masking.{Masking}
+use Rattle.cli_forms.specs.declared.masking.Masking.{Masking}
 
 -- a text with the line of a value that the field takes, and the bytes after it
 abbrev pub with_value : Masking → FieldForm → List ℕ → ℕ → List ℕ × List ℕ → Result (List ℕ × List ℕ) DecodeError

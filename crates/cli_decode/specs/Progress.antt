@@ -4,7 +4,7 @@ use Rattle.std.specs.List.{list_any}
 use Rattle.std.specs.Io.KnownBytes.{Consumes, Appends}
 use Rattle.sw_frame.specs.Stream.{Stream}
 use Rattle.cli_decode.specs.declared.decoder.Decoder.{Decoder}
-use Rattle.cli_decode.specs.declared.masking.Masking.{Masking}
+use Rattle.cli_forms.specs.declared.masking.Masking.{Masking}
 use Rattle.cli_decode.specs.Decoded.{frames_text, is_refused}
 
 -- after these bytes, which begin with these frames

@@ -2,7 +2,7 @@
 use Rattle.std.specs.Prelude.{◌≡◌, ℕ, ◌+◌, ◌^◌, ◌<◌, ◌⊎◌, Bool, true, false, List, [], ◌++◌, length, Option}
 use Rattle.std.specs.Io.KnownBytes.{IsAtEnd, Appends}
 use Rattle.cli_decode.specs.declared.decoder.Decoder.{Decoder}
-use Rattle.cli_decode.specs.declared.masking.Masking.{Masking}
+use Rattle.cli_forms.specs.declared.masking.Masking.{Masking}
 use Rattle.cli_decode.specs.Decoded.{frames_text}
 use Rattle.cli_decode.specs.Progress.{IsDecoded, IsSoFar}
 

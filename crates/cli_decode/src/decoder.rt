@@ -6,8 +6,8 @@ ghost use Rattle.sw_frame.specs.Stream.{blank};
 ghost use Rattle.sw_frame.specs.Feeds.{messages as messages_of};
 ghost use Rattle.cli_decode.specs.Decoded.{cut_text, end_text, frames_text, is_cut, is_refused};
 
-use crate::masking::Masking;
 use crate::text::{push_frame, push_number};
+use cli_forms::Masking;
 use std::alloc::{AllocError, Global};
 use sw_frame::{FrameError, Framer};
 

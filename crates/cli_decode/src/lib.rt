@@ -7,20 +7,35 @@
 //!
 //! [`push_frame`] adds the text of one frame, for callers that get their messages in another way.
 //!
-//! With [`Masking::On`] sensitive fields are masked, and [`masked_texts_hide`] says what a masked text shows:
+//! With [`Masking::On`](cli_forms::Masking) sensitive fields are masked, and [`masked_texts_hide`] says what a masked text shows:
 //! frames whose messages differ only in what is masked have the same text.
+//!
+//! # What is proved
+//!
+//! What `decode_stream` writes for the bytes that its reader gives, where these are known, is the text
+//! of `specs/Decoded.antt` for the frames of these bytes, however they came in pieces. It answers
+//! whether anything was refused; TooManyReads only where the reads are spent.
+//!
+//! With `Masking::On` the text is the same but for the lines of sensitive fields (`masked_line`).
+//! Frames of messages that differ in what is masked alone have the same text (`masked_texts_hide`). Of
+//! field 2 the first six digits, the last four and the length show, or the length alone where it has
+//! fewer than eleven digits. Of fields 35, 45, 52, 55, 64 and 128 the length shows.
+//!
+//! # Decisions
+//!
+//! - **`decode` prints the bare name of a refusal** (`Short`, `BadLength`, ..); `message N` counts
+//!   refused messages too. Fewer than four bytes at the end are Truncated, whatever they are; K counts
+//!   all bytes after the last frame. After a bad length nothing more is read.
+//! - **A stream of which anything is refused ends with status 1** and one line on standard error.
 #![tactic(auto)]
 
 mod decoder;
-mod error;
 mod laws;
 mod mask;
 mod masking;
 mod stream;
 mod text;
 
-pub use error::StreamError;
 pub use laws::masked_texts_hide;
-pub use masking::Masking;
 pub use stream::decode_stream;
 pub use text::{push_frame, push_number};

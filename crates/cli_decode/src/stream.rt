@@ -2,20 +2,26 @@
 
 ghost use Rattle.std.specs.Prelude.{◌≡◌, ◌<◌, ◌||◌, length, IfErr, IfOk, OnOk};
 ghost use Rattle.std.specs.Io.KnownBytes.{Appends};
-ghost use Rattle.cli_io.specs.Inputs.{reads_made, unread};
+ghost use Rattle.cli_io.specs.Errors.{IsOfWriting};
+ghost use Rattle.cli_io.specs.Inputs.{IsSpentAt, reads_made, unread};
 ghost use Rattle.cli_decode.specs.Decoded.{IsDecodedStream, end_text, is_cut};
-ghost use Rattle.cli_decode.specs.Errors.{IsReadToSpent};
 ghost use Rattle.cli_decode.specs.Steps.{DecodingGoesOn, PrintsPiece};
 
 use crate::decoder::Decoder;
-use crate::error::StreamError;
-use crate::masking::Masking;
-use cli_io::{Input, WriteError, write_out};
+use cli_forms::Masking;
+use cli_io::{Input, IoError, write_out};
 use std::alloc::Global;
 use std::io::{Read, Write};
 
 /// How many bytes are read at once. Their text mostly takes less than one and a half times as many.
 const PIECE: usize = 65_536;
+
+fn write_text<W: Write>(out: &mut W, text: &[u8]) -> Result<(), IoError>
+    ensures written { OnOk result (Appends (W.contents out.old) (W.contents out.new) text.now) }
+    ensures writing { IfErr result IsOfWriting }
+{
+    out.write_all(text).map_err(IoError::from_write)
+}
 
 // Writes the texts of the messages that a piece completes.
 fn print_piece<W: Write>(
@@ -24,13 +30,15 @@ fn print_piece<W: Write>(
     decoder: &mut Decoder,
     piece: &[u8],
     out: &mut W,
-) -> Result<(), WriteError>
-    ensures { OnOk result (PrintsPiece masking decoder.old piece.now decoder.new
+) -> Result<(), IoError>
+    ensures printed { OnOk result (PrintsPiece masking decoder.old piece.now decoder.new
         (W.contents out.old) (W.contents out.new)) }
+    ensures writing { IfErr result IsOfWriting }
 {
     let mut text = Vec::with_capacity(alloc, PIECE + PIECE / 2)?;
     decoder.piece(alloc, masking, piece, &mut text)?;
-    Ok(out.write_all(text.as_slice())?)
+    write_text(out, text.as_slice())?;
+    Ok(())
 }
 
 // Reads a piece, and writes the texts of the messages that it completes. Answers whether more may
@@ -42,7 +50,7 @@ fn decode_piece<R: Read, W: Write>(
     decoder: &mut Decoder,
     buf: &mut [u8],
     out: &mut W,
-) -> Result<bool, StreamError>
+) -> Result<bool, IoError>
     requires { length buf.old ≡ 65536 }
     ensures goes_on { IfOk result (DecodingGoesOn masking
         (record {
@@ -58,7 +66,7 @@ fn decode_piece<R: Read, W: Write>(
           decoder = decoder.new;
         })) }
     ensures counted { IfOk result (λ more. reads_made input.old < reads_made input.new) }
-    ensures too_many { IfErr result (IsReadToSpent (reads_made input.new)) }
+    ensures too_many { IfErr result (IsSpentAt (reads_made input.new)) }
 {
     let count = input.read_piece(buf)?;
     if count == 0 {
@@ -68,10 +76,11 @@ fn decode_piece<R: Read, W: Write>(
     Ok(!decoder.failed())
 }
 
-fn finish<W: Write>(alloc: Global, decoder: &Decoder, out: &mut W) -> Result<bool, WriteError>
+fn finish<W: Write>(alloc: Global, decoder: &Decoder, out: &mut W) -> Result<bool, IoError>
     ensures text { OnOk result (Appends (W.contents out.old) (W.contents out.new)
         (end_text decoder.now.framer)) }
     ensures refused { IfOk result (λ b. b ≡ (decoder.now.refused || is_cut decoder.now.framer)) }
+    ensures writing { IfErr result IsOfWriting }
 {
     let mut text = Vec::new(alloc);
     let refused = decoder.finish(&mut text)?;
@@ -89,17 +98,18 @@ pub fn decode_stream<R: Read, W: Write>(
     masking: Masking,
     input: &mut Input<R>,
     out: &mut W,
-) -> Result<bool, StreamError>
+) -> Result<bool, IoError>
     ensures text { IfOk result (IsDecodedStream masking (unread R.remaining input.old)
         (W.contents out.old) (W.contents out.new)) }
-    ensures too_many { IfErr result (IsReadToSpent (reads_made input.new)) }
+    ensures too_many { IfErr result (IsSpentAt (reads_made input.new)) }
 {
     let mut decoder = Decoder::new(alloc);
     let mut buf = [0u8; PIECE];
     loop {
         let more = decode_piece(alloc, masking, input, &mut decoder, &mut buf, out)?;
         if !more {
-            return Ok(finish(alloc, &decoder, out)?);
+            let refused = finish(alloc, &decoder, out)?;
+            return Ok(refused);
         }
     }
 }

@@ -10,7 +10,8 @@ ghost use Rattle.cli_decode.specs.Printing.{paragraph_of, with_field, with_field
 ghost use Rattle.cli_decode.specs.Printing.{with_form, with_message, with_value};
 
 use crate::mask::push_masked;
-use crate::masking::{Masking, is_sensitive};
+use crate::masking::is_sensitive;
+use cli_forms::Masking;
 use iso_codec::{
     DecodeError, Numbers, check_content, push_hex, read_binary, read_front, read_variable, split,
 };

@@ -9,7 +9,7 @@ use Rattle.iso_codec.specs.Spelling.{spelling}
 use Rattle.iso_codec.proofs.Encoding.{merged_is, written}
 use Rattle.iso_codec.proofs.MessageReads.{read_again}
 use Rattle.sw_frame.specs.Stream.{AreFramed, Ends, State, blank}
-use Rattle.cli_decode.specs.declared.masking.Masking.TheVariants.{Off}
+use Rattle.cli_forms.specs.declared.masking.Masking.TheVariants.{Off}
 use Rattle.cli_decode.specs.Decoded.{frame_text, frames_text, message_text, outcome_text, stream_text}
 use Rattle.cli_encode.specs.declared.encoder.Stage.TheVariants.{Between, Headed}
 use Rattle.cli_encode.specs.Lines.{PlainLine, text_of_lines}

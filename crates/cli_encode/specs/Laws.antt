@@ -4,7 +4,7 @@ use Rattle.std.specs.List.{All}
 use Rattle.iso_msg.specs.Messages.{PlainMessage, IsMessage}
 use Rattle.iso_codec.specs.Spelling.{spelling}
 use Rattle.sw_frame.specs.Stream.{Stream, blank}
-use Rattle.cli_decode.specs.declared.masking.Masking.TheVariants.{Off}
+use Rattle.cli_forms.specs.declared.masking.Masking.TheVariants.{Off}
 use Rattle.cli_decode.specs.Decoded.{stream_text}
 use Rattle.cli_encode.specs.Texts.{AreFramesOf, messages_text}
 

@@ -1,12 +1,10 @@
 //! Why a text is not encoded to its end.
 
 ghost use Rattle.std.specs.Prelude.{◌≡◌};
-ghost use Rattle.cli_encode.specs.Errors.{error_of_read, error_of_write};
-ghost use Rattle.cli_encode.specs.declared.error.EncodeError.TheVariants.{OutOfMemory, Text};
+ghost use Rattle.cli_encode.specs.declared.error.EncodeError.TheVariants.{Io, Text};
 
-use cli_io::{Quoted, ReadError, WriteError};
+use cli_io::{IoError, Quoted, StreamErrorText};
 use iso_msg::{ExpectedValue, FieldForm, FieldLabel, form_at};
-use std::alloc::AllocError;
 use std::fmt;
 use thiserror::Error;
 
@@ -147,15 +145,10 @@ pub enum EncodeError {
     /// A line is refused. The frames of the messages before it are written.
     #[error("{0}")]
     Text(TextError),
-    /// The input could not be read to its end. Nothing is written.
-    #[error("standard input: cannot read: {0}")]
-    Read(ReadError),
-    /// The frames could not be written.
-    #[error("standard output: cannot write: {0}")]
-    Write(WriteError),
-    /// No memory was left.
-    #[error("out of memory")]
-    OutOfMemory,
+    /// The input could not be read to its end, and nothing is written; or the frames could not be written, or no
+    /// memory was left.
+    #[error("{}", StreamErrorText(.0))]
+    Io(IoError),
 }
 
 // A person is shown the same text.
@@ -165,33 +158,11 @@ impl fmt::Debug for EncodeError {
     }
 }
 
-impl From<ReadError> for EncodeError {
-    ghost from_gives = { λ e f. f ≡ error_of_read e };
+impl From<IoError> for EncodeError {
+    ghost from_gives = { λ e f. f ≡ Io e };
 
-    fn from(error: ReadError) -> EncodeError {
-        match error {
-            ReadError::OutOfMemory => EncodeError::OutOfMemory,
-            other => EncodeError::Read(other),
-        }
-    }
-}
-
-impl From<WriteError> for EncodeError {
-    ghost from_gives = { λ e f. f ≡ error_of_write e };
-
-    fn from(error: WriteError) -> EncodeError {
-        match error {
-            WriteError::OutOfMemory => EncodeError::OutOfMemory,
-            other => EncodeError::Write(other),
-        }
-    }
-}
-
-impl From<AllocError> for EncodeError {
-    ghost from_gives = { λ _ f. f ≡ OutOfMemory };
-
-    fn from(_error: AllocError) -> EncodeError {
-        EncodeError::OutOfMemory
+    fn from(error: IoError) -> EncodeError {
+        EncodeError::Io(error)
     }
 }
 

@@ -5,6 +5,19 @@
 //! spelled as `iso_codec` writes it. A text is refused only if it is the text of no messages, or if memory, a read
 //! or a write fails. A refusal names the first line that is not allowed where it is, and the frames of the
 //! messages that end before it are written. [`texts_are_decoded`] says that `decode` prints the text again.
+//!
+//! # What is proved
+//!
+//! Of a text whose bytes are known, where `encode_stream` answers, there are valid messages whose text,
+//! as `decode` prints it, is these bytes, and what is written is their frames, each in the spelling of
+//! `iso_codec::encode` (`encoded`). A refusal of the text (`refused`) says that it is the text of no
+//! messages. So the text of messages is refused only where memory, a read or a write fails. The refusal
+//! gives the number of the first line at fault: the lines before it begin the text of messages, and
+//! with it they do not (`IsRefusal`). The frames of the messages that end before it are written. What
+//! the refusal's text says of the line is only tested. Three laws: what `decode` prints of the frames
+//! of a text is that text (`texts_are_decoded`). A text has one list of messages (`texts_are_one`).
+//! Where each frame of a stream has the spelling that is written, what `decode` prints of the stream is
+//! a text, and its frames are these (`frames_are_encoded`).
 #![tactic(auto)]
 
 mod cut;

@@ -8,7 +8,7 @@ ghost use Rattle.cli_encode.specs.Texts.{IsEncoded};
 use crate::encoder::Encoder;
 use crate::error::EncodeError;
 use crate::text::read_text;
-use cli_io::{Input, read_input, write_out};
+use cli_io::{Input, IoError, read_input, write_out};
 use std::alloc::Global;
 use std::io::{Read, Write};
 
@@ -29,7 +29,7 @@ pub fn encode_stream<R: Read, W: Write>(
 {
     let text = read_input(alloc, input)?;
     let mut encoder = Encoder::new(alloc);
-    let refusal = read_text(alloc, &mut encoder, &text)?;
+    let refusal = read_text(alloc, &mut encoder, &text).map_err(IoError::from)?;
     write_out(out, &encoder.frames)?;
     match refusal {
         None => Ok(()),

@@ -1,14 +1,14 @@
 //! Why a flow file or an image is refused.
 
 ghost use Rattle.std.specs.Prelude.{◌≡◌};
-ghost use Rattle.cli_flows.specs.Errors.{IsErrorOfFile, IsErrorOfImage, error_of_read, error_of_write};
-ghost use Rattle.cli_flows.specs.declared.error.FlowsError.TheVariants.{NotText, OutOfMemory};
+ghost use Rattle.cli_flows.specs.Errors.{IsErrorOfFile, IsErrorOfImage};
+ghost use Rattle.cli_flows.specs.declared.error.FlowsError.TheVariants.{Io, NotText};
 
 use crate::found::{found, line_at, refused_in};
-use cli_io::{Quoted, ReadError, WriteError};
+use cli_io::{IoError, Quoted};
 use flow_load::LoadError;
 use flow_toml::FlowTomlError;
-use std::alloc::{AllocError, AllocFailed, Global};
+use std::alloc::Global;
 use std::str::Utf8Error;
 use std::{fmt, io};
 use thiserror::Error;
@@ -17,15 +17,12 @@ use thiserror::Error;
 /// there and what was found, but not the file.
 #[derive(Drop, Error)]
 pub enum FlowsError {
-    /// No memory was left.
-    #[error("out of memory")]
-    OutOfMemory,
     /// There is no such file, or it may not be opened.
     #[error("cannot open: {0}")]
     Open(io::Error),
-    /// It could not be read to its end.
-    #[error("cannot read: {0}")]
-    Read(ReadError),
+    /// It could not be read to its end, the output could not be written, or no memory was left.
+    #[error("{0}")]
+    Io(IoError),
     /// A flow file is not text.
     #[error("{0}; expected a flow file in UTF-8")]
     NotText(Utf8Error),
@@ -35,9 +32,6 @@ pub enum FlowsError {
     /// Bytes are not an image; with the line that is refused.
     #[error("{}{}", .0, found(.1))]
     Image(LoadError, Option<Quoted>),
-    /// The output could not be written.
-    #[error("standard output: cannot write: {0}")]
-    Write(WriteError),
 }
 
 // By hand: a person is shown the same text, and a derived `fmt` is slow to prove.
@@ -53,7 +47,7 @@ impl FlowsError {
         ensures { IsErrorOfFile error result }
     {
         if let FlowTomlError::OutOfMemory = error {
-            return FlowsError::OutOfMemory;
+            return FlowsError::Io(IoError::OutOfMemory);
         }
         let found = refused_in(alloc, &error, text);
         FlowsError::File(error, found)
@@ -64,31 +58,17 @@ impl FlowsError {
         ensures { IsErrorOfImage error result }
     {
         match error {
-            LoadError::OutOfMemory => FlowsError::OutOfMemory,
+            LoadError::OutOfMemory => FlowsError::Io(IoError::OutOfMemory),
             other => FlowsError::Image(other, line_at(bytes, other)),
         }
     }
 }
 
-impl From<ReadError> for FlowsError {
-    ghost from_gives = { λ e f. f ≡ error_of_read e };
+impl From<IoError> for FlowsError {
+    ghost from_gives = { λ e f. f ≡ Io e };
 
-    fn from(error: ReadError) -> FlowsError {
-        match error {
-            ReadError::OutOfMemory => FlowsError::OutOfMemory,
-            other => FlowsError::Read(other),
-        }
-    }
-}
-
-impl From<WriteError> for FlowsError {
-    ghost from_gives = { λ e f. f ≡ error_of_write e };
-
-    fn from(error: WriteError) -> FlowsError {
-        match error {
-            WriteError::OutOfMemory => FlowsError::OutOfMemory,
-            other => FlowsError::Write(other),
-        }
+    fn from(error: IoError) -> FlowsError {
+        FlowsError::Io(error)
     }
 }
 
@@ -97,21 +77,5 @@ impl From<Utf8Error> for FlowsError {
 
     fn from(error: Utf8Error) -> FlowsError {
         FlowsError::NotText(error)
-    }
-}
-
-impl From<AllocError> for FlowsError {
-    ghost from_gives = { λ _ f. f ≡ OutOfMemory };
-
-    fn from(_error: AllocError) -> FlowsError {
-        FlowsError::OutOfMemory
-    }
-}
-
-impl<T: Drop> From<AllocFailed<T>> for FlowsError {
-    ghost from_gives = { λ _ f. f ≡ OutOfMemory };
-
-    fn from(_error: AllocFailed<T>) -> FlowsError {
-        FlowsError::OutOfMemory
     }
 }

@@ -2,18 +2,29 @@
 
 ghost use Rattle.std.specs.Prelude.{◌≡◌, IfErr, IfOk, OnOk, Some, string_bytes};
 ghost use Rattle.flow_load.specs.Image.{image_of};
+ghost use Rattle.flow_model.specs.Check.{IsChecked};
 ghost use Rattle.flow_toml.specs.FlowFile.{IsFlowFile};
 ghost use Rattle.cli_flows.specs.Errors.{IsImageRefusal, IsUnwritten, RefusesFile, RefusesImage};
 ghost use Rattle.cli_flows.specs.Subcommands.{IsAssembled, IsListed, IsListedOf};
 
 use crate::error::FlowsError;
 use crate::file::read_flow_from;
-use cli_io::{Input, read_input, write_out};
+use cli_io::{Input, IoError, read_input, write_out};
 use flow_asm::{Code, assemble};
 use flow_load::{image, load};
+use flow_model::Flow;
 use flow_toml::print_flow;
-use std::alloc::{AllocError, Global};
+use std::alloc::Global;
 use std::io::{Read, Write};
+
+// The image of a flow's steps.
+fn image_bytes(alloc: Global, flow: &Flow) -> Result<Vec<u8>, IoError>
+    requires { IsChecked flow.now }
+    ensures { IfOk result (λ bytes. bytes.items ≡ image_of flow.now) }
+{
+    let code = assemble(alloc, flow)?;
+    Ok(image(alloc, &code)?)
+}
 
 /// Reads a flow file and writes the image of its steps. If the file is refused, nothing is written.
 pub fn asm<R: Read + Drop, W: Write>(alloc: Global, input: R, out: &mut W) -> Result<(), FlowsError>
@@ -23,8 +34,7 @@ pub fn asm<R: Read + Drop, W: Write>(alloc: Global, input: R, out: &mut W) -> Re
     ensures unwritten { IfErr result (IsUnwritten (W.contents out.old) (W.contents out.new)) }
 {
     let flow = read_flow_from(alloc, input)?;
-    let code = assemble(alloc, &flow)?;
-    let bytes = image(alloc, &code)?;
+    let bytes = image_bytes(alloc, &flow)?;
     write_out(out, bytes.as_slice())?;
     Ok(())
 }
@@ -41,11 +51,11 @@ fn load_bytes(alloc: Global, bytes: &[u8]) -> Result<Code, FlowsError>
 }
 
 // The flow file of the flow that some steps were assembled from.
-fn flow_file(alloc: Global, code: &Code) -> Result<String, AllocError>
+fn flow_file(alloc: Global, code: &Code) -> Result<String, IoError>
     ensures { IfOk result (λ text. IsFlowFile code.now (string_bytes text)) }
 {
     let flow = flow_asm::list(alloc, code)?;
-    print_flow(alloc, &flow)
+    Ok(print_flow(alloc, &flow)?)
 }
 
 // Writes the flow file of an image.

@@ -1,12 +1,12 @@
 //! Flow files and images at the edge of the program: the subcommands `asm` and `list`, and the flow
 //! of a flow file.
 //!
-//! Promised here:
-//! - if [`asm`] succeeds, the bytes that its reader gave are a flow file, and what it wrote is the
-//!   image of that flow;
-//! - if [`list`] succeeds, the bytes that its reader gave are the image of a flow, and what it wrote
-//!   is a flow file of that flow;
-//! - if either refuses its bytes, they have the fault that is reported, and nothing is written.
+//! # What is proved
+//!
+//! Where `asm` is done, the bytes that it read are a flow file, and what it wrote is the image of that
+//! flow (`IsAssembled`). Where `list` is done, the bytes are the image of a flow, and what it wrote is
+//! a flow file of it (`IsListed`). Where either refuses its bytes they have the fault that is reported,
+//! and nothing is written. `open_flow` gives a checked flow; no contract says what a file holds.
 #![tactic(auto)]
 
 mod error;

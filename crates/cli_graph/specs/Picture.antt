@@ -6,8 +6,8 @@ use Rattle.sw_participant.specs.declared.kind.Kind.{Kind}
 use Rattle.flow_model.specs.declared.flow.Flow.{Flow}
 use Rattle.flow_model.specs.declared.flow.Group.{Group}
 use Rattle.flow_model.specs.declared.flow.Entry.{Entry}
-use Rattle.cli_graph.specs.declared.form.GraphForm.{GraphForm}
-use Rattle.cli_graph.specs.declared.form.GraphForm.TheVariants.{Mermaid, Dot}
+use Rattle.cli_forms.specs.declared.graph.GraphForm.{GraphForm}
+use Rattle.cli_forms.specs.declared.graph.GraphForm.TheVariants.{Mermaid, Dot}
 
 abbrev pub Text : Type 0
 Text = List ℕ

@@ -1,14 +1,15 @@
 //! The picture of a flow.
 
-ghost use Rattle.std.specs.Prelude.{◌≡◌, Some, IfOk, OnOk};
+ghost use Rattle.std.specs.Prelude.{◌≡◌, Some, IfErr, IfOk, OnOk};
 ghost use Rattle.std.specs.Io.KnownBytes.{Appends};
+ghost use Rattle.cli_io.specs.Errors.{IsOfWriting};
 ghost use Rattle.cli_io.specs.Written.{AppendsBeginning};
 ghost use Rattle.cli_graph.specs.Picture as spec;
 
-use crate::form::GraphForm;
 use crate::nodes::GroupBoxes;
 use crate::paths::AllPaths;
-use cli_io::{WriteError, write_out};
+use cli_forms::GraphForm;
+use cli_io::{IoError, write_out};
 use flow_model::Flow;
 use std::alloc::{AllocError, Global};
 use std::fmt;
@@ -56,9 +57,10 @@ pub fn draw<W: Write>(
     form: GraphForm,
     flow: &Flow,
     out: &mut W,
-) -> Result<(), WriteError>
+) -> Result<(), IoError>
     ensures written { OnOk result (Appends (W.contents out.old) (W.contents out.new)
         (spec.picture_of form flow.now)) }
+    ensures writing { IfErr result IsOfWriting }
     ensures beginning { AppendsBeginning (W.contents out.old) (W.contents out.new)
         (spec.picture_of form flow.now) }
 {

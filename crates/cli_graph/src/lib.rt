@@ -8,12 +8,15 @@
 //!
 //! Promised here: [`picture`] gives exactly the text that `specs/Picture.antt` has for the flow, in which each
 //! group and each entry has one line, in the flow's order; [`draw`] writes it to an output.
+//!
+//! # What is proved
+//!
+//! `picture` gives exactly the text of a flow's picture, for Mermaid or for Graphviz: a line for each
+//! group and each entry, in the flow's order, and the arrows of each group (`specs/Picture.antt`).
 #![tactic(auto)]
 
 mod drawing;
-mod form;
 mod nodes;
 mod paths;
 
 pub use drawing::{draw, picture};
-pub use form::GraphForm;

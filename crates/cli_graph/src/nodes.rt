@@ -3,7 +3,7 @@
 ghost use Rattle.std.specs.Prelude.{◌≡◌, Some};
 ghost use Rattle.cli_graph.specs.Picture as spec;
 
-use crate::form::GraphForm;
+use cli_forms::GraphForm;
 use flow_model::{Entry, Group};
 use std::fmt;
 use sw_participant::Kind;

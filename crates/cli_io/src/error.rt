@@ -1,73 +1,80 @@
 //! Why a reading or a writing ended early.
 ghost use Rattle.std.specs.Prelude.{◌≡◌};
 ghost use Rattle.cli_io.specs.Errors.{IsReadErrorOf, IsWriteErrorOf};
-ghost use Rattle.cli_io.specs.declared.error.ReadError.TheVariants as read;
-ghost use Rattle.cli_io.specs.declared.error.WriteError.TheVariants as write;
+ghost use Rattle.cli_io.specs.declared.error.IoError.TheVariants.{OutOfMemory};
 
-use std::alloc::AllocError;
+use std::alloc::{AllocError, AllocFailed};
+use std::fmt;
 use std::io::{self, ErrorKind};
 use thiserror::Error;
 
-/// Why a reading ended before its input did. What was read before stays valid.
+/// Why a reading ended before its input did, or a writing before all was written and flushed. What was read
+/// before stays valid, and a beginning of what was to be written was written: none of it, some, or all.
 #[derive(Debug, Drop, Error)]
-pub enum ReadError {
+pub enum IoError {
     /// A read of the input failed.
-    #[error("{0}")]
-    Failed(io::Error),
+    #[error("cannot read: {0}")]
+    Read(io::Error),
     /// The input did not end within the reads that it is given.
-    #[error("it did not end within 1048576 reads")]
+    #[error("cannot read: it did not end within 1048576 reads")]
     TooManyReads,
-    /// No memory was left.
-    #[error("out of memory")]
-    OutOfMemory,
-}
-
-impl From<io::Error> for ReadError {
-    ghost from_gives = { IsReadErrorOf };
-
-    fn from(error: io::Error) -> ReadError {
-        match error.kind() {
-            ErrorKind::OutOfMemory => ReadError::OutOfMemory,
-            _ => ReadError::Failed(error),
-        }
-    }
-}
-
-impl From<AllocError> for ReadError {
-    ghost from_gives = { λ _ e. e ≡ read.OutOfMemory };
-
-    fn from(_error: AllocError) -> ReadError {
-        ReadError::OutOfMemory
-    }
-}
-
-/// Why bytes were not written, or not flushed. A beginning of them was written: none of them, some,
-/// or all.
-#[derive(Debug, Drop, Error)]
-pub enum WriteError {
     /// A write or a flush of the output failed.
-    #[error("{0}")]
-    Failed(io::Error),
+    #[error("cannot write: {0}")]
+    Write(io::Error),
     /// No memory was left.
     #[error("out of memory")]
     OutOfMemory,
 }
 
-impl From<io::Error> for WriteError {
-    ghost from_gives = { IsWriteErrorOf };
-
-    fn from(error: io::Error) -> WriteError {
+impl IoError {
+    /// The error of a read.
+    pub fn from_read(error: io::Error) -> IoError
+        ensures { IsReadErrorOf error result }
+    {
         match error.kind() {
-            ErrorKind::OutOfMemory => WriteError::OutOfMemory,
-            _ => WriteError::Failed(error),
+            ErrorKind::OutOfMemory => IoError::OutOfMemory,
+            _ => IoError::Read(error),
+        }
+    }
+
+    /// The error of a write or a flush.
+    pub fn from_write(error: io::Error) -> IoError
+        ensures { IsWriteErrorOf error result }
+    {
+        match error.kind() {
+            ErrorKind::OutOfMemory => IoError::OutOfMemory,
+            _ => IoError::Write(error),
         }
     }
 }
 
-impl From<AllocError> for WriteError {
-    ghost from_gives = { λ _ e. e ≡ write.OutOfMemory };
+impl From<AllocError> for IoError {
+    ghost from_gives = { λ _ e. e ≡ OutOfMemory };
 
-    fn from(_error: AllocError) -> WriteError {
-        WriteError::OutOfMemory
+    fn from(_error: AllocError) -> IoError {
+        IoError::OutOfMemory
+    }
+}
+
+impl<T: Drop> From<AllocFailed<T>> for IoError {
+    ghost from_gives = { λ _ e. e ≡ OutOfMemory };
+
+    fn from(_error: AllocFailed<T>) -> IoError {
+        IoError::OutOfMemory
+    }
+}
+
+/// An error of the standard input or the standard output, whose text says which of the two.
+#[derive(Clone, Copy)]
+pub struct StreamErrorText<'a>(pub &'a IoError);
+
+impl fmt::Display for StreamErrorText<'_> {
+    fn fmt<W: fmt::Write>(&self, f: &mut fmt::Formatter<W>) -> fmt::Result {
+        let error = self.0;
+        match error {
+            IoError::Read(_) | IoError::TooManyReads => write!(f, "standard input: {error}"),
+            IoError::Write(_) => write!(f, "standard output: {error}"),
+            IoError::OutOfMemory => write!(f, "{error}"),
+        }
     }
 }

@@ -1,7 +1,7 @@
 //! An input, read piece by piece with a bounded number of reads.
 ghost use Rattle.std.specs.Prelude.{◌≤◌};
 
-use crate::error::ReadError;
+use crate::error::IoError;
 use std::io::{self, ErrorKind, Read};
 
 /// How many reads an input is given. One that has not ended by then may never end.
@@ -19,8 +19,9 @@ impl<R: Read> Input<R> {
     ghost use Rattle.std.specs.Prelude.{◌≡◌, ◌≤◌, ◌<◌, ◌+◌, Err, IfErr, IfOk, length, take};
     ghost use Rattle.std.specs.Io.{ReadsAtMost};
     ghost use Rattle.std.specs.Io.KnownBytes.{Consumes, IsAtEnd, ReadConsumes};
+    ghost use Rattle.cli_io.specs.Errors.{IsOfReading};
     ghost use Rattle.cli_io.specs.Inputs.{IsSpentAt, reads_made, unread};
-    ghost use Rattle.cli_io.specs.declared.error.ReadError.TheVariants.{TooManyReads};
+    ghost use Rattle.cli_io.specs.declared.error.IoError.TheVariants.{TooManyReads};
 
     /// An input of which nothing is read yet.
     pub fn new(reader: R) -> Input<R>
@@ -47,13 +48,14 @@ impl<R: Read> Input<R> {
     ///
     /// `TooManyReads` is reported at once if the reads are used up; what was read before stays
     /// valid.
-    pub fn read_piece(&mut self, buf: &mut [u8]) -> Result<usize, ReadError>
+    pub fn read_piece(&mut self, buf: &mut [u8]) -> Result<usize, IoError>
         requires { 0 < length buf.old }
         ensures piece { IfOk result (λ n. Consumes (unread R.remaining self.old)
             (unread R.remaining self.new) (take n buf.new)) }
         ensures bound { IfOk result (λ n. n ≤ length buf.new) }
         ensures end { IfOk result (λ n. n ≡ 0 → IsAtEnd (unread R.remaining self.new)) }
         ensures counted { IfOk result (λ n. reads_made self.old < reads_made self.new) }
+        ensures reading { IfErr result IsOfReading }
         ensures too_many { IfErr result (IsSpentAt (reads_made self.new)) }
         ensures spent { reads_made self.old ≡ 1048576 → result ≡ Err TooManyReads }
     {
@@ -62,11 +64,11 @@ impl<R: Read> Input<R> {
                 Ok(count) => return Ok(count),
                 Err(error) => {
                     if error.kind() != ErrorKind::Interrupted {
-                        return Err(ReadError::from(error));
+                        return Err(IoError::from_read(error));
                     }
                 }
             }
         }
-        Err(ReadError::TooManyReads)
+        Err(IoError::TooManyReads)
     }
 }

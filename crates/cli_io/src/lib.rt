@@ -1,14 +1,13 @@
 //! Reading with a bounded number of reads, writing, and bytes as a message shows them.
 //!
-//! Promised here:
-//! - an [`Input`] counts every read of its reader and makes at most 1,048,576, and reports
-//!   `TooManyReads` only if it has made them all;
-//! - a piece is the next bytes of the reader, empty only at its end, and [`read_input`] gives all
-//!   bytes that the reader has still to give;
-//! - [`write_whole`] and [`write_out`] add their bytes to the writer's, the latter flushes, and after an
-//!   error a beginning of the bytes was added;
-//! - out of memory is reported as such, whether it is a reader's, a writer's or our own;
-//! - what [`Quoted`] prints of an input's bytes is printable ASCII, and shows at most 40 of them.
+//! # What is proved
+//!
+//! An input counts every read of its reader; a piece is the next bytes of the reader, empty only at its
+//! end. `read_input` gives all bytes of its reader, where these are known, and TooManyReads only where
+//! 1,048,576 reads were made (`too_many`). `write_whole` and `write_out` add their bytes whole, and
+//! after an error a beginning of them. What reads answers no error of a write, and what writes none of a
+//! read (`reading`, `writing`). What `Quoted` prints of an input is printable ASCII, and shows at most
+//! 40 bytes of it.
 #![tactic(auto)]
 
 mod error;
@@ -17,7 +16,7 @@ mod quoted;
 mod read;
 mod write;
 
-pub use error::{ReadError, WriteError};
+pub use error::{IoError, StreamErrorText};
 pub use input::{Input, MAX_READS};
 pub use quoted::{Quoted, quotations_are_short};
 pub use read::read_input;

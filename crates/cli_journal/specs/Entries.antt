@@ -1,8 +1,8 @@
 -- What both forms show of the entries of a context.
 use Rattle.std.specs.Prelude.{ℕ, ◌||◌, Bool, true, false, List, codes, if◌then◌else◌}
 use Rattle.std.specs.Str.{bytes_eq}
-use Rattle.cli_decode.specs.declared.masking.Masking.{Masking}
-use Rattle.cli_decode.specs.declared.masking.Masking.TheVariants.{Off, On}
+use Rattle.cli_forms.specs.declared.masking.Masking.{Masking}
+use Rattle.cli_forms.specs.declared.masking.Masking.TheVariants.{Off, On}
 
 abbrev pub Text : Type 0
 Text = List ℕ

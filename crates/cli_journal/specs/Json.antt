@@ -5,7 +5,7 @@ use Rattle.iso_codec.specs.Spelling.{hex}
 use Rattle.tx_history.specs.declared.journal.Row.{Row}
 use Rattle.tx_history.specs.declared.journal.WaitingContext.{WaitingContext}
 use Rattle.tx_history.specs.History.{is_committing}
-use Rattle.cli_decode.specs.declared.masking.Masking.{Masking}
+use Rattle.cli_forms.specs.declared.masking.Masking.{Masking}
 use Rattle.cli_decode.specs.Decoded.{frame_text}
 use Rattle.sw_json.specs.Json.{is_printable, number, opening, strings, text}
 use Rattle.cli_journal.specs.declared.owner.Owner.{Owner}

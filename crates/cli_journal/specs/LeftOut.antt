@@ -4,8 +4,8 @@ use Rattle.std.specs.Fmt.{signed_decimal}
 use Rattle.journal_rows.specs.declared.error.BadRow.{BadRow}
 use Rattle.journal_rows.specs.declared.error.JournalTable.{JournalTable}
 use Rattle.journal_rows.specs.declared.error.JournalTable.TheVariants.{Advice, Joined, Member, Meta, Part, Shelf, Tx}
-use Rattle.cli_journal.specs.declared.form.JournalForm.{JournalForm}
-use Rattle.cli_journal.specs.declared.form.JournalForm.TheVariants as form
+use Rattle.cli_forms.specs.declared.journal.JournalForm.{JournalForm}
+use Rattle.cli_forms.specs.declared.journal.JournalForm.TheVariants as form
 use Rattle.cli_journal.specs.Entries.{Text}
 
 -- a table as the error of a bad row names it

@@ -6,12 +6,12 @@ use Rattle.sw_json.specs.Contexts.{context_at}
 use Rattle.tx_history.specs.declared.journal.JournalView.{JournalView}
 use Rattle.tx_history.specs.declared.journal.Row.{Row}
 use Rattle.tx_history.specs.declared.journal.WaitingContext.{WaitingContext}
-use Rattle.cli_decode.specs.declared.masking.Masking.{Masking}
+use Rattle.cli_forms.specs.declared.masking.Masking.{Masking}
 use Rattle.cli_decode.specs.Decoded.{frame_text}
 use Rattle.journal_rows.specs.declared.error.BadRow.{BadRow}
-use Rattle.cli_journal.specs.declared.form.JournalForm.{JournalForm}
-use Rattle.cli_journal.specs.declared.form.JournalForm.TheVariants as form
-use Rattle.cli_journal.specs.declared.form.Style.{Style}
+use Rattle.cli_forms.specs.declared.journal.JournalForm.{JournalForm}
+use Rattle.cli_forms.specs.declared.journal.JournalForm.TheVariants as form
+use Rattle.cli_forms.specs.declared.journal.Style.{Style}
 use Rattle.cli_journal.specs.declared.owner.Owner.{Owner}
 use Rattle.cli_journal.specs.declared.owner.Owner.TheVariants.{Transaction, Shelf}
 use Rattle.cli_journal.specs.Entries.{Text}

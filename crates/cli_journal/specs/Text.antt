@@ -7,7 +7,7 @@ use Rattle.tx_machine.specs.declared.values.Phase.{Phase}
 use Rattle.tx_history.specs.declared.journal.Row.{Row}
 use Rattle.tx_history.specs.declared.journal.WaitingContext.{WaitingContext}
 use Rattle.tx_history.specs.History.{is_committing, to_tell}
-use Rattle.cli_decode.specs.declared.masking.Masking.{Masking}
+use Rattle.cli_forms.specs.declared.masking.Masking.{Masking}
 use Rattle.cli_decode.specs.Decoded.{frame_text}
 use Rattle.sw_json.specs.Json.{is_printable}
 use Rattle.cli_journal.specs.Entries.{Text, is_masked, is_message}

@@ -4,9 +4,9 @@ ghost use Rattle.std.specs.Prelude.{◌≡◌, ◌++◌, OnOk};
 ghost use Rattle.std.specs.List.{flat_map};
 ghost use Rattle.cli_journal.specs.Shown as spec;
 
-use crate::form::{JournalForm, Style};
 use crate::owner::Owner;
 use crate::{json_entries, text_entries};
+use cli_forms::{JournalForm, Style};
 use std::alloc::{AllocError, Global};
 use sw_context::{Context, ContextError};
 

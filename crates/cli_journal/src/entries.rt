@@ -6,7 +6,8 @@ ghost use Rattle.cli_decode.specs.Decoded.{frame_text};
 ghost use Rattle.sw_json.specs.Json as json;
 ghost use Rattle.cli_journal.specs.Entries as spec;
 
-use cli_decode::{Masking, push_frame};
+use cli_decode::push_frame;
+use cli_forms::Masking;
 use std::alloc::{AllocError, Global};
 use sw_json::is_printable;
 

@@ -1,18 +1,19 @@
 //! A whole journal, in either form.
 
-ghost use Rattle.std.specs.Prelude.{◌≡◌, ◌++◌, OnOk, IfOk};
+ghost use Rattle.std.specs.Prelude.{◌≡◌, ◌++◌, OnOk, IfErr, IfOk};
 ghost use Rattle.std.specs.List.{flat_map};
 ghost use Rattle.std.specs.Io.KnownBytes.{Appends};
+ghost use Rattle.cli_io.specs.Errors.{IsOfWriting};
 ghost use Rattle.cli_io.specs.Written.{AppendsBeginning};
 ghost use Rattle.cli_journal.specs.Shown as spec;
 
 use crate::context::push_context;
 use crate::entries::message_text;
-use crate::form::{JournalForm, Style};
 use crate::left_out::push_left_out;
 use crate::owner::Owner;
 use crate::{json_items, text_items};
-use cli_io::{WriteError, write_out};
+use cli_forms::{JournalForm, Style};
+use cli_io::{IoError, write_out};
 use journal_rows::BadRow;
 use std::alloc::{AllocError, Global};
 use std::io::Write;
@@ -205,9 +206,10 @@ pub fn show<W: Write>(
     left_out: &[BadRow],
     view: &JournalView,
     out: &mut W,
-) -> Result<(), WriteError>
+) -> Result<(), IoError>
     ensures written { OnOk result (Appends (W.contents out.old) (W.contents out.new)
         (spec.journal_in style layout left_out.now view.now)) }
+    ensures writing { IfErr result IsOfWriting }
     ensures beginning { AppendsBeginning (W.contents out.old) (W.contents out.new)
         (spec.journal_in style layout left_out.now view.now) }
 {

@@ -5,7 +5,7 @@ ghost use Rattle.cli_journal.specs.Json as spec;
 
 use crate::entries::{is_masked, is_message, is_text, message_text};
 use crate::owner::Owner;
-use cli_decode::Masking;
+use cli_forms::Masking;
 use iso_codec::push_hex;
 use std::alloc::{AllocError, Global};
 use sw_json::{push_number_member, push_opening, push_text_member};

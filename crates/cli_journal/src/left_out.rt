@@ -4,7 +4,7 @@ ghost use Rattle.std.specs.Prelude.{◌≡◌, ◌++◌, OnOk};
 ghost use Rattle.std.specs.List.{flat_map};
 ghost use Rattle.cli_journal.specs.LeftOut as spec;
 
-use crate::form::JournalForm;
+use cli_forms::JournalForm;
 use journal_rows::{BadRow, JournalTable};
 use std::alloc::{AllocError, Global};
 

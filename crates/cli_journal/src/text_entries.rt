@@ -4,7 +4,8 @@ ghost use Rattle.std.specs.Prelude.{◌≡◌, ◌++◌, OnOk};
 ghost use Rattle.cli_journal.specs.Text as spec;
 
 use crate::entries::{is_masked, is_message, is_text, message_text};
-use cli_decode::{Masking, push_number};
+use cli_decode::push_number;
+use cli_forms::Masking;
 use iso_codec::push_hex;
 use std::alloc::{AllocError, Global};
 

@@ -4,8 +4,8 @@ use Rattle.std.specs.Io.KnownBytes.{prepend_known}
 use Rattle.std.specs.List.{after_first}
 use Rattle.cli_lines.specs.Feeds.{first_line, has_line_feed, is_line_feed}
 use Rattle.cli_io.specs.Inputs.{reads_made, unread}
-use Rattle.cli_io.specs.declared.error.ReadError.{ReadError}
-use Rattle.cli_io.specs.declared.error.ReadError.TheVariants.{TooManyReads}
+use Rattle.cli_io.specs.declared.error.IoError.{IoError}
+use Rattle.cli_io.specs.declared.error.IoError.TheVariants.{TooManyReads}
 use Rattle.cli_lines.specs.Pieces.{left}
 use Rattle.cli_lines.specs.declared.lines.Lines.{Lines}
 
@@ -31,7 +31,7 @@ room lines = 4096 * (1048576 - lines.pieces) + length (left lines.piece)
 
 -- that there were too many reads is reported once all the reads that an input may make were made, or as many
 -- pieces were read
-abbrev pub IsSpent : {R : Type 0} → Lines R → ReadError → Type 0
+abbrev pub IsSpent : {R : Type 0} → Lines R → IoError → Type 0
 IsSpent lines TooManyReads = (reads_for lines ≡ 1048576) ⊎ (lines.pieces ≡ 1048576)
 IsSpent lines _ = ⊤
 

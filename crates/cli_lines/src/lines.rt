@@ -2,7 +2,7 @@
 ghost use Rattle.std.specs.Prelude.{◌+◌, ◌*◌, ◌≤◌, drop, length};
 
 use crate::piece::Piece;
-use cli_io::{Input, MAX_READS, ReadError};
+use cli_io::{Input, IoError, MAX_READS};
 use std::alloc::Global;
 use std::io::Read;
 
@@ -28,6 +28,7 @@ impl<R: Read> Lines<R> {
     ghost use Rattle.std.specs.Prelude.{IfErr, IfOk, IfSome, MatchOption};
     ghost use Rattle.std.specs.Prelude.{length, option_map};
     ghost use Rattle.std.specs.Io.KnownBytes.{Keeps, IsAtEnd};
+    ghost use Rattle.cli_io.specs.Errors.{IsOfReading};
     ghost use Rattle.cli_io.specs.Inputs.{unread};
     ghost use Rattle.cli_lines.specs.Lines.{IsNextLine, IsSpent, has_line, lines_given};
     ghost use Rattle.cli_lines.specs.Lines.{reads_for, room, to_come};
@@ -55,7 +56,7 @@ impl<R: Read> Lines<R> {
     }
 
     // Reads the next piece, when nothing is left of the last one; whether there is one.
-    fn read_more(&mut self, alloc: Global) -> Result<bool, ReadError>
+    fn read_more(&mut self, alloc: Global) -> Result<bool, IoError>
         requires { left self.old.piece ≡ [] }
         ensures same { IfOk result (λ _. Keeps (to_come R.remaining self.old)
             (to_come R.remaining self.new)) }
@@ -64,10 +65,11 @@ impl<R: Read> Lines<R> {
         ensures count { lines_given self.new ≡ lines_given self.old }
         ensures pieces { IfOk result (λ _. self.new.pieces ≡ self.old.pieces + 1) }
         ensures few { length (left self.new.piece) ≤ 4096 }
+        ensures reading { IfErr result IsOfReading }
         ensures too_many { IfErr result (IsSpent self.new) }
     {
         if self.pieces == MAX_READS {
-            return Err(ReadError::TooManyReads);
+            return Err(IoError::TooManyReads);
         }
         let mut bytes = [0u8; PIECE];
         let count = self.input.read_piece(&mut bytes)?;
@@ -99,7 +101,7 @@ impl<R: Read> Lines<R> {
     /// that was read already is given without a read.
     ///
     /// After an error the line that was begun is lost.
-    pub fn next(&mut self, alloc: Global) -> Result<Option<Vec<u8>>, ReadError>
+    pub fn next(&mut self, alloc: Global) -> Result<Option<Vec<u8>>, IoError>
         ensures next { IfOk result (λ o. IsNextLine (to_come R.remaining self.old)
             (to_come R.remaining self.new) (option_map (λ line. line.items) o)) }
         ensures some { IfOk result (λ o. IfSome o (λ line. line.items ≢ [])) }
@@ -112,6 +114,7 @@ impl<R: Read> Lines<R> {
             room self.new + length line.items ≤ room self.old)) }
         ensures small { room self.old ≤ 2 ^ 32 }
         ensures at_once { has_line self.old ≡ true → reads_for self.new ≡ reads_for self.old }
+        ensures reading { IfErr result IsOfReading }
         ensures too_many { IfErr result (IsSpent self.new) }
     {
         let mut line = Vec::new(alloc);

@@ -1,10 +1,16 @@
 -- The command line of `cardswitch`: its subcommands as a table, and what words mean by it. clap's
 -- contracts say what a parse by such a table gives.
-use Rattle.std.specs.Prelude.{◌≡◌, ◌^◌, ℕ, Bool, true, false, List, [], ◌∷◌, Option, Some, None, bytes_eq, codes, option_and_then, option_map, nat_lt, ◌||◌}
+use Rattle.std.specs.Prelude.{◌≡◌, ◌^◌, ℕ, Bool, true, false, List, [], ◌∷◌, Option, Some, None, bytes_eq, codes, option_and_then, option_map, nat_lt, not, ◌||◌}
 use Rattle.std.specs.Prelude.{if◌then◌else◌}
 use Rattle.std.specs.Option.{option_map_or}
 use Rattle.sw_base.specs.Spelling.{number_spelled}
 use Rattle.std.specs.Borrow.{Bor}
+use Rattle.cli_forms.specs.declared.graph.GraphForm.{GraphForm}
+use Rattle.cli_forms.specs.declared.graph.GraphForm.TheVariants.{Dot, Mermaid}
+use Rattle.cli_forms.specs.declared.journal.JournalForm.{JournalForm}
+use Rattle.cli_forms.specs.declared.journal.JournalForm.TheVariants as journal
+use Rattle.cli_forms.specs.declared.masking.Masking.{Masking}
+use Rattle.cli_forms.specs.declared.masking.Masking.TheVariants as masking
 use Rattle.clap.specs.Words.{App, Row, Rule, Text, app_of, first_of, new_app, new_rule, subcommand_of, with_rule, with_subcommand}
 use Rattle.clap.specs.declared.builder.Command.{Command}
 use Rattle.clap.specs.declared.builder.Command.TheViews.{out-Command}
@@ -127,6 +133,20 @@ number_in (Some word) = option_map Some (option_and_then bounded (number_spelled
 abbrev pub is_set : Option Text → Bool
 is_set text = option_map_or (λ t. bytes_eq t (codes "true")) text false
 
+-- the language of a picture, by whether `--dot` was given
+abbrev pub graph_form : Bool → GraphForm
+graph_form true = Dot
+graph_form false = Mermaid
+
+-- the form of a journal, by whether `--json` was given
+abbrev pub journal_form : Bool → JournalForm
+journal_form true = journal.Json
+journal_form false = journal.Text
+
+abbrev pub masking_of : Bool → Masking
+masking_of true = masking.On
+masking_of false = masking.Off
+
 -- the form of the trace that a value of `--trace` names; without the option there is no trace
 abbrev pub trace_in : Option Text → Option (Option TraceForm)
 trace_in None = Some None
@@ -173,8 +193,8 @@ pub record AreRecoverOptions (rows : List Row) (o : RecoverOptions) : Type 0 whe
 -- the same of `journal`
 pub record AreJournalOptions (rows : List Row) (o : JournalOptions) : Type 0 where
   pub path : Some o.path.now ≡ first_of (codes "path") rows
-  pub json : o.json ≡ is_set (first_of (codes "json") rows)
-  pub clear : o.clear ≡ is_set (first_of (codes "clear") rows)
+  pub form : o.style.form ≡ journal_form (is_set (first_of (codes "json") rows))
+  pub masking : o.style.masking ≡ masking_of (not (is_set (first_of (codes "clear") rows)))
 
 -- the same of `check`
 pub record AreCheckOptions (rows : List Row) (o : CheckOptions) : Type 0 where
@@ -186,9 +206,9 @@ abbrev pub AreOptionsAt : Text → List Row → Options → Type 0
 AreOptionsAt name rows (Step o) = (name ≡ codes "step") × AreStepOptions rows o
 AreOptionsAt name rows Asm = name ≡ codes "asm"
 AreOptionsAt name rows ListImage = name ≡ codes "list"
-AreOptionsAt name rows (Graph flow dot) =
-    (name ≡ codes "graph") × (Some flow.now ≡ first_of (codes "flow") rows) × (dot ≡ is_set (first_of (codes "dot") rows))
-AreOptionsAt name rows (Decode mask) = (name ≡ codes "decode") × (mask ≡ is_set (first_of (codes "mask") rows))
+AreOptionsAt name rows (Graph flow form) =
+    (name ≡ codes "graph") × (Some flow.now ≡ first_of (codes "flow") rows) × (form ≡ graph_form (is_set (first_of (codes "dot") rows)))
+AreOptionsAt name rows (Decode masking) = (name ≡ codes "decode") × (masking ≡ masking_of (is_set (first_of (codes "mask") rows)))
 AreOptionsAt name rows Encode = name ≡ codes "encode"
 AreOptionsAt name rows (Recover o) = (name ≡ codes "recover") × AreRecoverOptions rows o
 AreOptionsAt name rows (Journal o) = (name ≡ codes "journal") × AreJournalOptions rows o

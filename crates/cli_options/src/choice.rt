@@ -3,6 +3,8 @@
 ghost use Rattle.std.specs.Prelude.{◌≡◌};
 ghost use Rattle.cli_options.specs.CommandLine.{at_terminal};
 
+use cli_forms::{GraphForm, Masking, Style};
+
 /// A subcommand with what it was given.
 #[derive(Clone, Copy)]
 pub enum Options<'a> {
@@ -14,10 +16,10 @@ pub enum Options<'a> {
     List,
     /// `graph`: prints a picture of the flow in the flow file at a path, for Mermaid, or with `--dot` for
     /// Graphviz.
-    Graph { flow: &'a str, dot: bool },
+    Graph { flow: &'a str, form: GraphForm },
     /// `decode`: prints the fields of the messages in frames from standard input, with `--mask` without what
     /// sensitive fields hold.
-    Decode { mask: bool },
+    Decode { masking: Masking },
     /// `encode`: writes the frames of the messages whose text, as `decode` prints it, comes from standard input.
     Encode,
     /// `recover`: finishes what a journal has unfinished, by the flow of the flow file at a path, and
@@ -81,10 +83,8 @@ pub struct RecoverOptions<'a> {
 pub struct JournalOptions<'a> {
     /// The path of the journal's file.
     pub path: &'a str,
-    /// Whether lines of JSON are printed.
-    pub json: bool,
-    /// Whether nothing is masked.
-    pub clear: bool,
+    /// In which form it is printed: with `--json` in lines of JSON, and with `--clear` unmasked.
+    pub style: Style,
 }
 
 /// What `check` is given.

@@ -2,7 +2,8 @@
 ghost use Rattle.std.specs.Prelude.{◌≡◌, IfErr, IfOk, None, OnOk, Some, codes, map};
 ghost use Rattle.clap.specs.Words.{first_of, found_of, rows_of};
 ghost use Rattle.cli_options.specs.CommandLine.{AreOptionsAt, AreOptionsOf, AreRunOptions};
-ghost use Rattle.cli_options.specs.CommandLine.{is_set, number_in, stats_in, text_of, trace_in};
+ghost use Rattle.cli_options.specs.CommandLine.{graph_form, is_set, journal_form, masking_of, number_in};
+ghost use Rattle.cli_options.specs.CommandLine.{stats_in, text_of, trace_in};
 ghost use Rattle.cli_options.specs.Refusal.{IsAccepted, IsBadForm, IsBadNumber, IsRefusalAt};
 ghost use Rattle.cli_options.specs.Refusal.{IsRefusalOf, IsRunRefusal};
 
@@ -13,6 +14,7 @@ use crate::choice::{
 use crate::error::OptionsError;
 use crate::table::switch_command;
 use clap::ArgMatches;
+use cli_forms::{GraphForm, JournalForm, Masking, Style};
 use cli_io::Quoted;
 use std::alloc::Global;
 use std::convert::AsStr;
@@ -54,6 +56,35 @@ fn is_set(text: Option<&str>) -> bool
         Some(text) => text == "true",
         None => false,
     }
+}
+
+/// The language of a picture, by whether `--dot` was given.
+fn graph_form(dot: bool) -> GraphForm
+    ensures { result ≡ graph_form dot }
+{
+    if dot {
+        GraphForm::Dot
+    } else {
+        GraphForm::Mermaid
+    }
+}
+
+/// The form of a journal, by whether `--json` was given.
+fn journal_form(json: bool) -> JournalForm
+    ensures { result ≡ journal_form json }
+{
+    if json {
+        JournalForm::Json
+    } else {
+        JournalForm::Text
+    }
+}
+
+/// Whether sensitive fields are masked.
+fn masking_of(is_masked: bool) -> Masking
+    ensures { result ≡ masking_of is_masked }
+{
+    if is_masked { Masking::On } else { Masking::Off }
 }
 
 /// The number of the option `--name`; `None` if it was not given.
@@ -145,12 +176,12 @@ fn options_at<'a>(name: &str, found: &ArgMatches<'a>) -> Result<Options<'a>, Opt
         "graph" => match text_at(found, "flow") {
             Some(flow) => Ok(Options::Graph {
                 flow,
-                dot: is_set(text_at(found, "dot")),
+                form: graph_form(is_set(text_at(found, "dot"))),
             }),
             None => Err(OptionsError::NoSubcommand),
         },
         "decode" => Ok(Options::Decode {
-            mask: is_set(text_at(found, "mask")),
+            masking: masking_of(is_set(text_at(found, "mask"))),
         }),
         "encode" => Ok(Options::Encode),
         "recover" => match (text_at(found, "flow"), text_at(found, "journal")) {
@@ -164,8 +195,10 @@ fn options_at<'a>(name: &str, found: &ArgMatches<'a>) -> Result<Options<'a>, Opt
         "journal" => match text_at(found, "path") {
             Some(path) => Ok(Options::Journal(JournalOptions {
                 path,
-                json: is_set(text_at(found, "json")),
-                clear: is_set(text_at(found, "clear")),
+                style: Style {
+                    form: journal_form(is_set(text_at(found, "json"))),
+                    masking: masking_of(!is_set(text_at(found, "clear"))),
+                },
             })),
             None => Err(OptionsError::NoSubcommand),
         },

@@ -17,6 +17,7 @@ use Rattle.cli_step.specs.Errors.{at_line, error_of_script}
 use Rattle.cli_step.specs.Runs.{Acts, AreLines, IsCause, IsFailed, IsLeft, IsLineFailed, IsUnwritten, IsWriting, Means, Plays, Ran, RunsLine, Stopped}
 use Rattle.cli_step.specs.declared.error.ActionError.{ActionError}
 use Rattle.cli_step.specs.declared.error.ActionError.TheVariants as act
+use Rattle.cli_io.specs.declared.error.IoError.TheVariants as io
 use Rattle.cli_step.specs.declared.error.StepError.{StepError}
 use Rattle.cli_step.specs.declared.error.StepError.TheVariants as error
 
@@ -96,9 +97,10 @@ refused_there s left new p w before after e ran next = record {
 
 writing_cause : (e : StepError) (lines : ℕ) (rest : List ℕ) (before after : Bytes) (text more : Text) → IsWriting e
     → IsCause e lines rest before after text more
-writing_cause (error.Write e) lines rest before after text more w = tt
-writing_cause error.OutOfMemory lines rest before after text more w = tt
-writing_cause (error.Read e) lines rest before after text more w = absurd w
+writing_cause (error.Io (io.Write e)) lines rest before after text more w = tt
+writing_cause (error.Io io.OutOfMemory) lines rest before after text more w = tt
+writing_cause (error.Io (io.Read e)) lines rest before after text more w = absurd w
+writing_cause (error.Io io.TooManyReads) lines rest before after text more w = absurd w
 writing_cause (error.Script e) lines rest before after text more w = absurd w
 writing_cause (error.Plant n e) lines rest before after text more w = absurd w
 writing_cause (error.NoParticipant name) lines rest before after text more w = absurd w

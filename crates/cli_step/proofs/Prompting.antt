@@ -6,10 +6,6 @@ use Rattle.std.specs.Bool.{⊤}
 use Rattle.std.specs.Borrow.{Bor}
 use Rattle.std.specs.Io.KnownBytes.{Appends}
 use Rattle.cli_io.specs.Written.{AppendsBeginning}
-use Rattle.cli_io.specs.declared.error.ReadError.{ReadError}
-use Rattle.cli_io.specs.declared.error.ReadError.TheVariants as read
-use Rattle.cli_io.specs.declared.error.WriteError.{WriteError}
-use Rattle.cli_io.specs.declared.error.WriteError.TheVariants as write
 use Rattle.cli_lines.specs.Lines.{IsNextLine}
 use Rattle.cli_script.specs.Grammar.{meaning_of}
 use Rattle.cli_script.specs.Heads.{IsPlacedSetting}
@@ -27,7 +23,7 @@ use Rattle.tx_plant.specs.declared.turn.PlantError.TheVariants as plant
 use Rattle.tx_trace.specs.Trace.{Text}
 use Rattle.cli_step.proofs.Joining.{Known, if_some}
 use Rattle.cli_step.specs.Doing.{Point, world_of}
-use Rattle.cli_step.specs.Errors.{at_line, error_of_read, error_of_write}
+use Rattle.cli_step.specs.Errors.{at_line}
 use Rattle.cli_step.specs.Prompts.{ActsOrShows, Answers, AnswersBy, AnswersTyped, AreFirst, HasBadSessions, HeadAnswers, HeadPrompted, HeadTalks, HeadTyped}
 use Rattle.cli_step.specs.Prompts.{IsFaultOf, IsHeadLine, IsHeadLineBy, IsPrompted, IsReported, IsRunOrReported, Leaves, OpenedAt, Prompted, Scene}
 use Rattle.cli_step.specs.Prompts.{Heading, Talked, TalkedOver, Talks, heading, is_of_sessions, saved_session, scene}
@@ -46,19 +42,8 @@ use Rattle.cli_step.specs.declared.error.StepError.TheVariants as error
 
 -- faults
 
-pub write_fault : (Made : Type 0) (e : WriteError) → IsFaultOf Made (error_of_write e)
-write_fault Made write.OutOfMemory = tt
-write_fault Made (write.Failed f) = tt
-
-pub read_fault : (Made : Type 0) (e : ReadError) → IsFaultOf Made (error_of_read e)
-read_fault Made read.OutOfMemory = tt
-read_fault Made read.TooManyReads = tt
-read_fault Made (read.Failed f) = tt
-
 pub writing_fault : (Made : Type 0) (e : StepError) → IsWriting e → IsFaultOf Made e
-writing_fault Made (error.Write e) w = tt
-writing_fault Made error.OutOfMemory w = tt
-writing_fault Made (error.Read e) w = absurd w
+writing_fault Made (error.Io e) w = tt
 writing_fault Made (error.Script e) w = absurd w
 writing_fault Made (error.Plant n e) w = absurd w
 writing_fault Made (error.NoParticipant name) w = absurd w
@@ -91,9 +76,7 @@ fault_more f (error.Script e) h = absurd h
 fault_more f (error.Plant n e) h = λ is. f (h is)
 fault_more f (error.NoParticipant name) h = tt
 fault_more f (error.Journal n e) h = tt
-fault_more f (error.Read e) h = tt
-fault_more f (error.Write e) h = tt
-fault_more f error.OutOfMemory h = tt
+fault_more f (error.Io e) h = tt
 
 pub line_fault : (a : Action) (p : Point) (before after : Known) (n : ℕ) (e : StepError) → IsLineFailed a p before after n e
     → IsFaultOf ⊤ e

@@ -4,16 +4,7 @@ use Rattle.std.proofs.Common.{◌∙◌, ℕ, List, Option, length, take, ap, su
 use Rattle.std.proofs.Math.Seq.{take-append_seam}
 use Rattle.std.specs.Io.KnownBytes.{Appends}
 use Rattle.cli_io.specs.Written.{AppendsBeginning}
-use Rattle.cli_io.specs.declared.error.WriteError.{WriteError}
-use Rattle.cli_io.specs.declared.error.WriteError.TheVariants as write
-use Rattle.cli_step.specs.Errors.{error_of_write}
-use Rattle.cli_step.specs.Runs.{IsWriting}
 
 pub counted : (a b : Option (List ℕ)) (text : List ℕ) → AppendsBeginning a b text → (count : ℕ) × Appends a b (take count text)
 counted a b text (first, rest, joined, written) =
     (length first, subst (Appends a b) (sym (ap (take (length first)) joined ∙ take-append_seam first rest)) written)
-
--- a failed write is the output's
-pub is_writing : (e : WriteError) → IsWriting (error_of_write e)
-is_writing write.OutOfMemory = tt
-is_writing (write.Failed f) = tt

@@ -1,6 +1,8 @@
 -- The run of a script: what its lines do to a plant, one after the other, and what they print.
 use Rattle.std.specs.Prelude.{◌≡◌, ◌≢◌, ◌⊎◌, ⊤, ℕ, ◌+◌, false, List, [], ◌∷◌, ◌++◌, length, take, Option, Some, None, Result, Ok, Err}
 use Rattle.std.specs.Io.KnownBytes.{Appends, Keeps}
+use Rattle.cli_io.specs.Errors.{IsOfWriting}
+use Rattle.cli_io.specs.declared.error.IoError.TheVariants as io
 use Rattle.cli_script.specs.Grammar.{meaning_of}
 use Rattle.flow_model.specs.Places.{parts_of}
 use Rattle.flow_model.specs.declared.flow.Flow.{Flow}
@@ -69,8 +71,7 @@ pub record Ran (script left : Actions) (p : Point) (before : Option (List ℕ)) 
 
 -- the output failed
 abbrev pub IsWriting : StepError → Type 0
-IsWriting (error.Write e) = ⊤
-IsWriting error.OutOfMemory = ⊤
+IsWriting (error.Io e) = IsOfWriting e
 IsWriting e = ⊥
 
 -- why a line's text is not reported as written: the output failed, with a beginning of it written, or the line was not done
@@ -114,9 +115,9 @@ IsCause (error.Script e) lines rest before after text more =
 IsCause (error.Plant n e) lines rest before after text more = (n ≡ lines + 1) × IsFailed rest more × Appends before after (text ++ more)
 IsCause (error.NoParticipant name) lines rest before after text more = ⊥
 IsCause (error.Journal n e) lines rest before after text more = (n ≡ lines + 1) × IsFailed rest more × Appends before after (text ++ more)
-IsCause (error.Read e) lines rest before after text more = Appends before after text
-IsCause (error.Write e) lines rest before after text more = ⊤
-IsCause error.OutOfMemory lines rest before after text more = ⊤
+IsCause (error.Io (io.Write e)) lines rest before after text more = ⊤
+IsCause (error.Io io.OutOfMemory) lines rest before after text more = ⊤
+IsCause (error.Io _) lines rest before after text more = Appends before after text
 
 -- a run ended early: what was written is a beginning of the texts of its lines
 pub record Stopped (script : Actions) (p : Point) (before : Option (List ℕ)) (e : StepError) (after : Option (List ℕ)) : Type 0 where

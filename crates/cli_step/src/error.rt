@@ -1,11 +1,12 @@
 //! Why the run of a script ends early.
 
 ghost use Rattle.std.specs.Prelude.{◌≡◌};
-ghost use Rattle.cli_step.specs.Errors.{at_line, error_of_read, error_of_script, error_of_write};
+ghost use Rattle.cli_step.specs.Errors.{at_line, error_of_script};
 ghost use Rattle.cli_step.specs.declared.error.ActionError.TheVariants as act;
-ghost use Rattle.cli_step.specs.declared.error.StepError.TheVariants.{OutOfMemory};
+ghost use Rattle.cli_io.specs.declared.error.IoError.TheVariants.{OutOfMemory};
+ghost use Rattle.cli_step.specs.declared.error.StepError.TheVariants.{Io};
 
-use cli_io::{ReadError, WriteError};
+use cli_io::{IoError, StreamErrorText};
 use cli_script::ScriptError;
 use journal_store::JournalError;
 use std::alloc::{AllocError, AllocFailed};
@@ -29,15 +30,9 @@ pub enum StepError {
     /// The journal refused.
     #[error("line {line}: the journal refused: {cause}")]
     Journal { line: usize, cause: JournalError },
-    /// The next line could not be read.
-    #[error("standard input: cannot read: {0}")]
-    Read(ReadError),
-    /// The output could not be written.
-    #[error("standard output: cannot write: {0}")]
-    Write(WriteError),
-    /// No memory was left.
-    #[error("out of memory")]
-    OutOfMemory,
+    /// The next line could not be read, the output could not be written, or no memory was left.
+    #[error("{}", StreamErrorText(.0))]
+    Io(IoError),
 }
 
 /// Why a line was not run.
@@ -53,8 +48,8 @@ impl ActionError {
         ensures { result ≡ at_line line self }
     {
         match self {
-            ActionError::OutOfMemory => StepError::OutOfMemory,
-            ActionError::Plant(PlantError::OutOfMemory) => StepError::OutOfMemory,
+            ActionError::OutOfMemory => StepError::Io(IoError::OutOfMemory),
+            ActionError::Plant(PlantError::OutOfMemory) => StepError::Io(IoError::OutOfMemory),
             ActionError::Plant(PlantError::Journal(cause)) => StepError::Journal { line, cause },
             ActionError::Plant(cause) => StepError::Plant { line, cause },
         }
@@ -86,18 +81,18 @@ impl From<NoMemory> for ActionError {
 }
 
 impl From<AllocError> for StepError {
-    ghost from_gives = { λ _ s. s ≡ OutOfMemory };
+    ghost from_gives = { λ _ s. s ≡ Io OutOfMemory };
 
     fn from(_error: AllocError) -> StepError {
-        StepError::OutOfMemory
+        StepError::Io(IoError::OutOfMemory)
     }
 }
 
 impl<T: Drop> From<AllocFailed<T>> for StepError {
-    ghost from_gives = { λ _ s. s ≡ OutOfMemory };
+    ghost from_gives = { λ _ s. s ≡ Io OutOfMemory };
 
     fn from(_error: AllocFailed<T>) -> StepError {
-        StepError::OutOfMemory
+        StepError::Io(IoError::OutOfMemory)
     }
 }
 
@@ -106,30 +101,16 @@ impl From<ScriptError> for StepError {
 
     fn from(error: ScriptError) -> StepError {
         match error {
-            ScriptError::OutOfMemory => StepError::OutOfMemory,
+            ScriptError::OutOfMemory => StepError::Io(IoError::OutOfMemory),
             other => StepError::Script(other),
         }
     }
 }
 
-impl From<ReadError> for StepError {
-    ghost from_gives = { λ e s. s ≡ error_of_read e };
+impl From<IoError> for StepError {
+    ghost from_gives = { λ e s. s ≡ Io e };
 
-    fn from(error: ReadError) -> StepError {
-        match error {
-            ReadError::OutOfMemory => StepError::OutOfMemory,
-            other => StepError::Read(other),
-        }
-    }
-}
-
-impl From<WriteError> for StepError {
-    ghost from_gives = { λ e s. s ≡ error_of_write e };
-
-    fn from(error: WriteError) -> StepError {
-        match error {
-            WriteError::OutOfMemory => StepError::OutOfMemory,
-            other => StepError::Write(other),
-        }
+    fn from(error: IoError) -> StepError {
+        StepError::Io(error)
     }
 }

@@ -5,6 +5,7 @@ ghost use Rattle.cli_lines.specs.Lines.{room, to_come};
 ghost use Rattle.cli_script.specs.Heads.{HeadOf, IsNoSetting, IsPlacedSetting};
 
 use crate::error::StepError;
+use cli_io::IoError;
 use cli_lines::Lines;
 use cli_script::{ScriptError, next_setting};
 use std::alloc::Global;
@@ -17,7 +18,7 @@ fn is_setting(alloc: Global, has_file: bool, line: &[u8]) -> Result<bool, StepEr
 {
     match next_setting(alloc, has_file, 0, line) {
         Ok(next) => Ok(next.is_some()),
-        Err(ScriptError::OutOfMemory) => Err(StepError::OutOfMemory),
+        Err(ScriptError::OutOfMemory) => Err(StepError::Io(IoError::OutOfMemory)),
         Err(_) => Ok(false),
     }
 }

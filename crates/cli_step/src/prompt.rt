@@ -19,7 +19,7 @@ use crate::prompt_words::{PromptWord, prompt_word_at, prompt_word_text};
 use crate::script::run_line;
 use crate::shown::readable_line;
 use crate::typed::{Typed, keep};
-use cli_io::{write_out, write_whole};
+use cli_io::{IoError, write_out, write_whole};
 use cli_lines::Lines;
 use cli_script::{Action, Actions, LineError, ScriptError};
 use sqlite::Alter;
@@ -153,7 +153,7 @@ pub fn refusal(error: ScriptError) -> Result<ScriptError, StepError>
     ensures head_fault { IfErr result (IsFaultOf SomeIsMade) }
 {
     match error {
-        ScriptError::OutOfMemory => Err(StepError::OutOfMemory),
+        ScriptError::OutOfMemory => Err(StepError::Io(IoError::OutOfMemory)),
         refusal => Ok(refusal),
     }
 }

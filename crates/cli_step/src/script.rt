@@ -15,7 +15,7 @@ use crate::actions::run_action;
 use crate::cast::{Cast, own_participant};
 use crate::error::{ActionError, StepError};
 use crate::head::read_head;
-use cli_io::{Quoted, WriteError, write_whole};
+use cli_io::{IoError, Quoted, write_whole};
 use cli_lines::Lines;
 use cli_script::{Action, Actions, LineError, Script, ScriptError, open_script};
 use flow_asm::{Code, assemble};
@@ -35,7 +35,7 @@ fn flush<W: Write>(out: &mut W) -> Result<(), StepError>
     ensures kept { Keeps (W.contents out.old) (W.contents out.new) }
     ensures refused { IfErr result IsWriting }
 {
-    Ok(out.flush().map_err(WriteError::from)?)
+    Ok(out.flush().map_err(IoError::from_write)?)
 }
 
 // Writes what the line of this number printed, and says whether it ran.

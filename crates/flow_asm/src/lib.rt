@@ -1,11 +1,20 @@
 //! Flows as numbered steps: what a transaction machine runs and an image writes down.
 //!
-//! Promised here:
-//! - [`assemble`] gives the steps of a checked flow, and [`list`] gives the flow of the steps back:
-//!   contracts see a [`Code`] as the flow that it was assembled from.
-//! - [`place`] and [`step_at`] agree: the call of an entry is the step whose place the entry is, and
-//!   a selector's pick is the step after its call.
-//! - [`Code::look`] says what a step is, and [`Code::find_group`] finds a group by its name.
+//! # What is proved
+//!
+//! A `Code` is always the assembly of a checked flow, and contracts see it as that flow. `assemble`
+//! gives the code of its flow and `list` the flow of a code, so listing what was assembled gives the
+//! flow back. `steps`, `groups`, `participants` and `retries` are the flow's. `look` gives what is at a
+//! step, `find_group` the group of a name, `place` the place of the entry that a step calls or picks,
+//! `step_at` the step that calls an entry; the last two agree. `copy` gives the same code.
+//!
+//! # Decisions
+//!
+//! - **The call of an entry is defined by counting the steps before it**, not by looking for a step at
+//!   its place.
+//! - **`assemble` numbers participants through a map**, with the meaning of `flow_model`'s scans.
+//! - **`place` finds the group by its first step, then walks that group's steps**: at most 256 groups
+//!   and 513 steps. Alternative: a walk from step 0.
 #![tactic(auto)]
 
 mod assembly;

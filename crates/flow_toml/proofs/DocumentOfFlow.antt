@@ -11,7 +11,8 @@ use Rattle.toml.specs.View.{items_of}
 use Rattle.toml.specs.Text.{are_tables}
 use Rattle.toml.specs.Parse.{parse_document}
 use Rattle.flow_toml.specs.Reads.{each}
-use Rattle.flow_toml.specs.FlowFile.{entry_of, group_of, tables_in, retries_of, reading, IsFlowFile}
+use Rattle.flow_toml.specs.FlowFile.{entry_of, group_of, retries_of, reading, IsFlowFile}
+use Rattle.toml_tables.specs.Tables.{tables_in}
 use Rattle.flow_toml.specs.Document.{entry_data, entry_members, group_data, group_members, document_of}
 use Rattle.flow_model.proofs.ParticipantBounds.{few_retries}
 

@@ -6,7 +6,7 @@ use Rattle.std.proofs.lemmas.Option.{same_Some}
 use Rattle.toml.specs.Data.{Data, Items, Members, array, as_table, boolean, datetime, float, integer, item, string, table}
 use Rattle.toml.specs.View.{items_view, view}
 use Rattle.toml.specs.declared.value.Value.{Value}
-use Rattle.flow_toml.specs.FlowFile.{tables_in}
+use Rattle.toml_tables.specs.Tables.{tables_in}
 use Rattle.flow_toml.specs.declared.error.FlowTomlError.{FlowTomlError}
 use Rattle.flow_toml.specs.declared.error.FlowTomlError.TheVariants.{OutOfMemory, Toml, Missing, WrongKind, Unknown, Flow}
 use Rattle.flow_toml.specs.Reads.{◌>>=◌, Fails, each}

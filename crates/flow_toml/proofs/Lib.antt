@@ -1,4 +1,3 @@
 mod ItemLoop
 mod TableInserts
 mod DocumentOfFlow
-mod LeastKeys

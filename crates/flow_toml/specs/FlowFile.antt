@@ -6,8 +6,9 @@ use Rattle.flow_model.specs.declared.flow.Group as group
 use Rattle.flow_model.specs.declared.flow.Entry as entry
 use Rattle.flow_model.specs.declared.error.FlowError.{FlowError}
 use Rattle.flow_model.specs.Check.{first_fault}
-use Rattle.toml.specs.Data.{table, Items, no_items, item, Members, get_member, as_str, as_bool, as_integer, as_array}
+use Rattle.toml.specs.Data.{Items, Members, get_member, as_integer, as_array}
 use Rattle.toml.specs.Parse.{parse_document}
+use Rattle.toml_tables.specs.Tables.{flag_at, tables_in, text_at}
 use Rattle.toml.specs.Errors.{IsWithin}
 use Rattle.flow_toml.specs.declared.error.FlowTomlError.{FlowTomlError}
 use Rattle.flow_toml.specs.declared.error.FlowTomlError.TheVariants.{OutOfMemory, Toml, Flow}
@@ -22,16 +23,8 @@ use Rattle.sw_base.specs.Refusals.{refused}
 
 -- What stands at a key of a table without a fault: the default if it is absent. (Other tables have
 -- a value here too, which is never read.)
-abbrev pub text_at : Key → Members → List ℕ
-text_at k ms = unwrap_or (option_and_then as_str (get_member (spelling k) ms)) []
-
-abbrev pub flag_at : Key → Members → Bool
-flag_at k ms = unwrap_or (option_and_then as_bool (get_member (spelling k) ms)) false
-
-abbrev pub tables_in : Items → List Members
-tables_in no_items = []
-tables_in (item (table ms) ds) = ms ∷ tables_in ds
-tables_in (item d ds) = tables_in ds
+abbrev pub mark_at : Key → Members → Bool
+mark_at k ms = unwrap_or (flag_at (spelling k) ms) false
 
 abbrev pub tables_of : Option Items → List Members
 tables_of None = []
@@ -52,8 +45,8 @@ retries_at ms = retries_of (option_and_then as_integer (get_member (spelling key
 -- each table: its own first fault, then those of the tables in it, in order
 abbrev pub entry_at : TablePath → Members → Result entry.Entry FlowTomlError
 entry_at p ms = refused (table_fault p ms) >>= λ _. Ok (record {
-  participant = text_at key.Participant ms;
-  kind = record { selector = flag_at key.Selector ms; abort_aware = flag_at key.AbortAware ms; recovers = flag_at key.Recovers ms };
+  participant = text_at (spelling key.Participant) ms;
+  kind = record { selector = mark_at key.Selector ms; abort_aware = mark_at key.AbortAware ms; recovers = mark_at key.Recovers ms };
 })
 
 abbrev pub entry_of : ℕ → ℕ → Members → Result entry.Entry FlowTomlError
@@ -67,7 +60,7 @@ entries_at g ms = each (entry_of g) 0 (tables_at key.Entry ms)
 
 abbrev pub group_of : ℕ → Members → Result group.Group FlowTomlError
 group_of g ms = refused (table_fault (path.Group g) ms) >>= λ _. each (entry_of g) 0 (tables_at key.Entry ms) >>= λ es. Ok (record {
-  name = text_at key.Name ms;
+  name = text_at (spelling key.Name) ms;
   entries = es;
 })
 

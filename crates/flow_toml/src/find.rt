@@ -2,6 +2,7 @@
 
 use crate::keys::{Key, TablePath};
 use std::alloc::{AllocError, Global};
+use std::convert::AsStr;
 use toml::{Table, Value};
 
 // The table of this number in the array at a key.

@@ -3,6 +3,7 @@
 ghost use Rattle.std.specs.Prelude.{◌≡◌};
 ghost use Rattle.flow_toml.specs.Keys as spec;
 
+use std::convert::AsStr;
 use std::fmt;
 
 /// A table of a flow file. Groups, and the entries of a group, are numbered from 0.
@@ -56,22 +57,6 @@ pub(crate) fn keys_of(path: TablePath) -> &'static [Key]
 }
 
 impl Key {
-    /// The key as a file spells it.
-    pub fn as_str(self) -> &'static str
-        ensures { result.now ≡ spec.spelling self }
-    {
-        match self {
-            Key::Group => "group",
-            Key::Retries => "retries",
-            Key::Entry => "entry",
-            Key::Name => "name",
-            Key::AbortAware => "abort_aware",
-            Key::Participant => "participant",
-            Key::Recovers => "recovers",
-            Key::Selector => "selector",
-        }
-    }
-
     /// Whether its table must have it.
     pub(crate) fn is_required(self) -> bool
         ensures { result ≡ spec.is_required self }
@@ -88,6 +73,26 @@ impl Key {
             Key::Name | Key::Participant => Want::Text,
             Key::Retries => Want::Integer,
             Key::AbortAware | Key::Recovers | Key::Selector => Want::Flag,
+        }
+    }
+}
+
+/// A key lends its spelling in a file.
+impl AsStr for Key {
+    ghost use Rattle.flow_toml.specs.Keys.{spelling};
+
+    ghost text = { spelling };
+
+    fn as_str(&self) -> &str {
+        match self {
+            Key::Group => "group",
+            Key::Retries => "retries",
+            Key::Entry => "entry",
+            Key::Name => "name",
+            Key::AbortAware => "abort_aware",
+            Key::Participant => "participant",
+            Key::Recovers => "recovers",
+            Key::Selector => "selector",
         }
     }
 }

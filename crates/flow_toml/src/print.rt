@@ -12,6 +12,7 @@ ghost use Rattle.flow_toml.specs.Document.{Puts, ReadsBack, document_of, entry_d
 use crate::keys::Key;
 use flow_model::{Entry, Flow, Group};
 use std::alloc::{AllocError, Global};
+use std::convert::AsStr;
 use toml::value::Array;
 use toml::{Table, Value};
 

@@ -1,10 +1,9 @@
 //! From a text to the flow that it states.
 
-ghost use Rattle.std.specs.Prelude.{◌≡◌, Some, find, option_map, string_bytes, IfOk, IfErr};
+ghost use Rattle.std.specs.Prelude.{◌≡◌, Some, find, IfOk, IfErr};
 ghost use Rattle.flow_model.specs.Check.{IsChecked};
-ghost use Rattle.toml.specs.Data.{get_member};
-ghost use Rattle.toml.specs.Text.{are_tables};
 ghost use Rattle.toml.specs.View.{view, table_view, array_view};
+ghost use Rattle.toml_tables.specs.Tables.{text_at};
 ghost use Rattle.flow_toml.specs.Reads.{GivesFlow, each};
 ghost use Rattle.sw_base.specs.Refusals.{refused};
 ghost use Rattle.flow_toml.specs.Keys as keys;
@@ -19,25 +18,7 @@ use std::alloc::{AllocError, Global};
 use sw_participant::{Kind, Sequence, Text};
 use toml::value::Array;
 use toml::{Table, Value};
-
-fn member(table: &Table, key: Key) -> Option<&Value>
-    ensures { option_map (λ v. view v.now) result
-        ≡ get_member (keys.spelling key) (table_view table.now) }
-{
-    table.get(key.as_str())
-}
-
-/// Whether each item of an array is a table, as in an array that is written `[[KEY]]`.
-pub fn are_tables(array: &Array) -> bool
-    ensures { result ≡ are_tables (array_view array.now) }
-{
-    for item in array {
-        if !item.is_table() {
-            return false;
-        }
-    }
-    true
-}
+use toml_tables::{are_tables, flag_at, text_at, unknown_key, value_at};
 
 fn fits(want: Want, value: &Value) -> bool
     ensures { result ≡ faults.fits want (view value.now) }
@@ -53,44 +34,19 @@ fn fits(want: Want, value: &Value) -> bool
     }
 }
 
-fn is_known(path: TablePath, name: &str) -> bool
-    ensures { result ≡ faults.is_known path name.now }
-{
-    let keys = keys_of(path);
-    for key in keys {
-        if name == key.as_str() {
-            return true;
-        }
-    }
-    false
-}
-
 fn is_missing(table: &Table, key: Key) -> bool
     ensures { result ≡ faults.is_missing (table_view table.now) key }
 {
-    key.is_required() && member(table, key).is_none()
+    key.is_required() && value_at(table, key).is_none()
 }
 
 fn is_wrong(table: &Table, key: Key) -> bool
     ensures { result ≡ faults.is_wrong (table_view table.now) key }
 {
-    match member(table, key) {
+    match value_at(table, key) {
         Some(value) => !fits(key.wants(), value),
         None => false,
     }
-}
-
-// A table's keys ascend, so the first is the least.
-fn unknown_key(path: TablePath, table: &Table) -> Option<&String>
-    ensures { option_map (λ k. string_bytes k.now) result
-        ≡ faults.unknown_key path (table_view table.now) }
-{
-    for (name, _value) in table.iter() {
-        if !is_known(path, name.as_str()) {
-            return Some(name);
-        }
-    }
-    None
 }
 
 fn missing_key(path: TablePath, table: &Table) -> Option<Key>
@@ -121,7 +77,7 @@ fn wrong_key(path: TablePath, table: &Table) -> Option<Key>
 fn check_table(alloc: Global, path: TablePath, table: &Table) -> Result<(), FlowTomlError>
     ensures { GivesFlow (λ u. u) result (refused (faults.table_fault path (table_view table.now))) }
 {
-    if let Some(name) = unknown_key(path, table) {
+    if let Some(name) = unknown_key(keys_of(path), table) {
         let name = Text::from_str(alloc, name.as_str())?;
         return Err(FlowTomlError::Unknown(name, path));
     }
@@ -134,28 +90,16 @@ fn check_table(alloc: Global, path: TablePath, table: &Table) -> Result<(), Flow
     }
 }
 
-fn text_at(alloc: Global, table: &Table, key: Key) -> Result<Text, AllocError>
-    ensures { IfOk result (λ t. t ≡ spec.text_at key (table_view table.now)) }
+fn text_of(alloc: Global, table: &Table, key: Key) -> Result<Text, AllocError>
+    ensures { IfOk result (λ t. t ≡ text_at (keys.spelling key) (table_view table.now)) }
 {
-    match member(table, key) {
-        Some(value) => match value.as_str() {
-            Some(text) => Text::from_str(alloc, text),
-            None => Text::from_str(alloc, ""),
-        },
-        None => Text::from_str(alloc, ""),
-    }
+    Text::from_str(alloc, text_at(table, key))
 }
 
-fn flag_at(table: &Table, key: Key) -> bool
-    ensures { result ≡ spec.flag_at key (table_view table.now) }
+fn mark_at(table: &Table, key: Key) -> bool
+    ensures { result ≡ spec.mark_at key (table_view table.now) }
 {
-    match member(table, key) {
-        Some(value) => match value.as_bool() {
-            Some(flag) => flag,
-            None => false,
-        },
-        None => false,
-    }
+    flag_at(table, key).unwrap_or(false)
 }
 
 // 101, which no checked flow has, represents each integer out of range.
@@ -172,7 +116,7 @@ fn in_range(retries: i64) -> u8
 fn retries_at(table: &Table) -> u8
     ensures { result ≡ spec.retries_at (table_view table.now) }
 {
-    match member(table, Key::Retries) {
+    match value_at(table, Key::Retries) {
         Some(value) => match value.as_integer() {
             Some(retries) => in_range(retries),
             None => 0,
@@ -185,11 +129,11 @@ fn read_entry(alloc: Global, path: TablePath, table: &Table) -> Result<Entry, Fl
     ensures { GivesFlow (λ e. e) result (spec.entry_at path (table_view table.now)) }
 {
     check_table(alloc, path, table)?;
-    let participant = text_at(alloc, table, Key::Participant)?;
+    let participant = text_of(alloc, table, Key::Participant)?;
     let kind = Kind {
-        selector: flag_at(table, Key::Selector),
-        abort_aware: flag_at(table, Key::AbortAware),
-        recovers: flag_at(table, Key::Recovers),
+        selector: mark_at(table, Key::Selector),
+        abort_aware: mark_at(table, Key::AbortAware),
+        recovers: mark_at(table, Key::Recovers),
     };
     Ok(Entry { participant, kind })
 }
@@ -210,7 +154,7 @@ fn read_entries(alloc: Global, group: usize, array: &Array) -> Result<Vec<Entry>
 fn entries_at(alloc: Global, group: usize, table: &Table) -> Result<Vec<Entry>, FlowTomlError>
     ensures { GivesFlow (λ es. es.items) result (spec.entries_at group (table_view table.now)) }
 {
-    match member(table, Key::Entry) {
+    match value_at(table, Key::Entry) {
         Some(value) => match value.as_array() {
             Some(array) => read_entries(alloc, group, array),
             None => Ok(Vec::new(alloc)),
@@ -224,7 +168,7 @@ fn read_group(alloc: Global, number: usize, table: &Table) -> Result<Group, Flow
 {
     check_table(alloc, TablePath::Group(number), table)?;
     let entries = entries_at(alloc, number, table)?;
-    let name = text_at(alloc, table, Key::Name)?;
+    let name = text_of(alloc, table, Key::Name)?;
     Ok(Group {
         name,
         entries: Sequence::new(entries),
@@ -246,7 +190,7 @@ fn read_groups(alloc: Global, array: &Array) -> Result<Vec<Group>, FlowTomlError
 fn groups_at(alloc: Global, table: &Table) -> Result<Vec<Group>, FlowTomlError>
     ensures { GivesFlow (λ gs. gs.items) result (spec.groups_at (table_view table.now)) }
 {
-    match member(table, Key::Group) {
+    match value_at(table, Key::Group) {
         Some(value) => match value.as_array() {
             Some(array) => read_groups(alloc, array),
             None => Ok(Vec::new(alloc)),

@@ -9,11 +9,11 @@ use Rattle.iso_msg.specs.Table.{form_of}
 use Rattle.iso_msg.proofs.FieldTable.{form_number}
 use Rattle.iso_codec.specs.declared.error.DecodeError.TheVariants.{BadBitmap}
 use Rattle.iso_codec.specs.Digits.{hex_value, both, bit, nibble, bits_at}
-use Rattle.iso_codec.proofs.ResultSteps.{ok_is, bind_ok, chosen, or_ok, Taken, part_ok, part_again}
+use Rattle.iso_codec.proofs.ResultSteps.{ok_is, bind_ok, or_ok, Taken, part_ok, part_again}
 use Rattle.iso_msg.specs.Messages.{Fields, numbers_of}
 use Rattle.iso_codec.specs.Grammar.{SpellsValue, SpellsFields, SpellsNumbers}
 use Rattle.iso_codec.specs.Reads.{◌>>=◌, or_fault, part, bitmap_at, bitmaps_at, starts_with_1, field_numbers}
-use Rattle.iso_msg.proofs.Bools.{some_is}
+use Rattle.iso_msg.proofs.Bools.{chosen, some_is}
 
 -- rising numbers from low on and below high
 abbrev pub Between : ℕ → ℕ → List ℕ → Type 0

@@ -4,7 +4,7 @@ use Rattle.std.proofs.Common.{◌≡◌, ◌-◌, ◌&&◌, leb, inl, inr, ℕ, 
 use Rattle.std.proofs.Common.{Ok, Err, refl, sym, ap, subst, ◌∙◌, append_assoc, arith}
 use Rattle.std.proofs.lemmas.Bool.{ltb-false, le-ltb, lt-ltb, leb-true}
 use Rattle.std.specs.List.{list_all}
-use Rattle.iso_msg.proofs.Bools.{and_both, some_is}
+use Rattle.iso_msg.proofs.Bools.{chosen, and_both, some_is}
 use Rattle.iso_msg.specs.declared.table.FieldForm.{FieldForm}
 use Rattle.iso_msg.specs.declared.table.FieldForm.TheVariants.{Fixed, Variable, Binary}
 use Rattle.iso_msg.specs.declared.table.Content.{Content}
@@ -13,7 +13,7 @@ use Rattle.iso_codec.specs.declared.error.DecodeError.{DecodeError}
 use Rattle.iso_codec.specs.declared.error.DecodeError.TheVariants.{BadLength, BadContent, FieldNotInProfile}
 use Rattle.iso_codec.specs.Digits.{octets, both, hex_value}
 use Rattle.sw_base.specs.Digits.{number_of}
-use Rattle.iso_codec.proofs.ResultSteps.{chosen, ok_is, bind_ok, guard_if, guard_then, or_ok, part_ok, part_again}
+use Rattle.iso_codec.proofs.ResultSteps.{ok_is, bind_ok, guard_if, guard_then, or_ok, part_ok, part_again}
 use Rattle.iso_msg.specs.Messages.{Fields, numbers_of}
 use Rattle.iso_msg.specs.Values.{takes, has_content, is_byte}
 use Rattle.iso_codec.specs.Grammar.{SpellsValue, SpellsFields}

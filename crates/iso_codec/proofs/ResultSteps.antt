@@ -34,10 +34,6 @@ pub or_ok : {A : Type 0} (o : Option A) (d : DecodeError) (y : A) → or_fault o
 or_ok None d y e = absurd cc
 or_ok (Some x) d y e = cc
 
-pub chosen : {A : Type 0} (b : Bool) (x y z : A) → cond b x y ≡ z → ((b ≡ true) × (x ≡ z)) ⊎ ((b ≡ false) × (y ≡ z))
-chosen true x y z e = inl (refl, e)
-chosen false x y z e = inr (refl, e)
-
 -- this many bytes that were taken from the front
 pub record Taken (k : ℕ) (bytes front rest : List ℕ) : Type 0 where
   pub whole : bytes ≡ front ++ rest

@@ -13,6 +13,21 @@
 //!   has at most 9,999 bytes.
 //! - `read_front`, `split`, `read_variable`, `read_binary` and `check_content` are the steps of the same
 //!   reading, for a caller that keeps no message: what each of them returns is that step of `read`.
+//!
+//! # What is proved
+//!
+//! `decode` answers a message exactly where the grammar relates it to the bytes (`found`, `only`), and
+//! otherwise the first fault from the left in the order of reading (`first_fault`); OutOfMemory only of
+//! bytes that are a message (`memory_last`). `type_in` answers the type of the message that `decode`
+//! would answer, without memory. `encode` answers the one spelling with upper case digits and without
+//! an empty secondary bitmap (`spelled`), of at most 9,999 bytes, so that it fits a frame. What
+//! `decode` reads of it is the message (`read_back`).
+//!
+//! # Decisions
+//!
+//! - **Bit 65 is a number outside the table**, so a third bitmap is FieldNotInProfile.
+//! - **Fields are looked at after both bitmaps**: where bit 1 is set and the second bitmap is cut off,
+//!   the message is Short, whatever the first one has. BadLength comes before a Short content.
 #![tactic(auto)]
 
 mod bitmap;

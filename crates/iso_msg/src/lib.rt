@@ -11,6 +11,23 @@
 //!   laws make the list a map).
 //!
 //! How a message is spelled on the wire is the business of `iso_codec`.
+//!
+//! # What is proved
+//!
+//! `Mti::new` accepts exactly four digits. `Message::set` takes a value exactly where the table of
+//! fields does, and otherwise refuses for the first reason of FieldNotInProfile, BadLength, BadContent,
+//! out of memory last, changing nothing. `get`, `remove`, `fields` and `copy` are those of a map from
+//! numbers to values (`fields_are_a_map`), and every value that is there fits its field. The table's 53
+//! rows (name and form) are proved equal to the specified table as a whole.
+//!
+//! # Decisions
+//!
+//! - **Field names are an enum**, since a clause cannot name a static that holds references. Fields 60
+//!   to 63 share a name, and 64 and 128 do. Alternative: texts in the table, unproved.
+//! - **A message is a rising list of numbers with values**, with the laws of a map proved of it,
+//!   because grammar and bitmaps need the list. Alternative: std's finite map.
+//! - **A field whose number is above the others goes after them without a search**, which is what
+//!   decoding does of each. Alternative: a binary search and an insertion for each field.
 #![tactic(auto)]
 
 mod error;

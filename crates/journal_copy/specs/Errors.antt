@@ -1,18 +1,10 @@
 -- What the errors of the parts become: out of memory is reported as such.
 use Rattle.std.specs.Prelude.{None}
-use Rattle.cli_io.specs.declared.error.ReadError.{ReadError}
-use Rattle.cli_io.specs.declared.error.ReadError.TheVariants as read
 use Rattle.journal_store.specs.declared.error.Cause.TheVariants.{Memory}
 use Rattle.journal_store.specs.declared.error.JournalError.{JournalError}
 use Rattle.journal_store.specs.declared.error.JournalError.TheVariants as journal
-use Rattle.journal_copy.specs.declared.error.CopyError.{CopyError}
-use Rattle.journal_copy.specs.declared.error.CopyError.TheVariants as copy
 use Rattle.journal_copy.specs.declared.error.LookError.{LookError}
 use Rattle.journal_copy.specs.declared.error.LookError.TheVariants.{BadRow, NotAJournal, OutOfMemory}
-
-abbrev pub error_of_read : ReadError → CopyError
-error_of_read read.OutOfMemory = copy.OutOfMemory
-error_of_read e = copy.Read e
 
 -- another database is refused as a file that is not a journal
 abbrev pub error_of_journal : JournalError → LookError

@@ -1,15 +1,15 @@
 //! Why there is no copy of a journal, or nothing in it to show.
 
 ghost use Rattle.std.specs.Prelude.{◌≡◌};
-ghost use Rattle.journal_copy.specs.Errors.{error_of_journal, error_of_read};
-ghost use Rattle.journal_copy.specs.declared.error.CopyError.TheVariants as copy;
+ghost use Rattle.journal_copy.specs.Errors.{error_of_journal};
+ghost use Rattle.journal_copy.specs.declared.error.CopyError.TheVariants.{Io};
 ghost use Rattle.journal_copy.specs.declared.error.LookError.TheVariants as look;
 
 use crate::rest::Rest;
-use cli_io::ReadError;
+use cli_io::IoError;
 use journal_rows::BadRow;
 use journal_store::{Cause, JournalError};
-use std::alloc::{AllocError, AllocFailed};
+use std::alloc::AllocError;
 use std::{fmt, io};
 use thiserror::Error;
 
@@ -19,15 +19,12 @@ pub enum CopyError {
     /// There is no such file, or it may not be opened.
     #[error("cannot open: {0}")]
     Open(io::Error),
-    /// It could not be read to its end.
-    #[error("cannot read: {0}")]
-    Read(ReadError),
+    /// It could not be read to its end, or no memory was left.
+    #[error("{0}")]
+    Io(IoError),
     /// Its log was begun anew while it was read, at every try.
     #[error("changed while it was read; try again")]
     Changed,
-    /// No memory was left.
-    #[error("out of memory")]
-    OutOfMemory,
 }
 
 // By hand: a person is shown the same text, and a derived `fmt` is slow to prove.
@@ -37,30 +34,11 @@ impl fmt::Debug for CopyError {
     }
 }
 
-impl From<ReadError> for CopyError {
-    ghost from_gives = { λ e f. f ≡ error_of_read e };
+impl From<IoError> for CopyError {
+    ghost from_gives = { λ e f. f ≡ Io e };
 
-    fn from(error: ReadError) -> CopyError {
-        match error {
-            ReadError::OutOfMemory => CopyError::OutOfMemory,
-            other => CopyError::Read(other),
-        }
-    }
-}
-
-impl<T: Drop> From<AllocFailed<T>> for CopyError {
-    ghost from_gives = { λ _ f. f ≡ copy.OutOfMemory };
-
-    fn from(_error: AllocFailed<T>) -> CopyError {
-        CopyError::OutOfMemory
-    }
-}
-
-impl From<AllocError> for CopyError {
-    ghost from_gives = { λ _ f. f ≡ copy.OutOfMemory };
-
-    fn from(_error: AllocError) -> CopyError {
-        CopyError::OutOfMemory
+    fn from(error: IoError) -> CopyError {
+        CopyError::Io(error)
     }
 }
 

@@ -1,7 +1,7 @@
 //! The bytes of a journal's files.
 
 use crate::error::CopyError;
-use cli_io::{Input, read_input};
+use cli_io::{Input, IoError, read_input};
 use std::alloc::Global;
 use std::fs::{File, Files};
 use std::io::ErrorKind;
@@ -76,7 +76,7 @@ fn copy_once<F: Files>(
 /// written, and no lock is taken: if a program that writes to them begins the log anew while they are
 /// read, they are read again, up to ten times in all.
 pub fn copy_files<F: Files>(alloc: Global, files: &F, path: &str) -> Result<Copy, CopyError> {
-    let log_path = format!(in alloc; "{path}-wal")?;
+    let log_path = format!(in alloc; "{path}-wal").map_err(IoError::from)?;
     for _ in 0..TRIES {
         if let Some(copy) = copy_once(alloc, files, path, log_path.as_str())? {
             return Ok(copy);

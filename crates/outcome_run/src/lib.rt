@@ -4,6 +4,13 @@
 //! (`outcome_plant`) with what runs promise of themselves:
 //! - every run keeps the outcome law, and is a life of a plant ([`runs_keep_the_law`]);
 //! - what the threads of a pool did is one call of `drive` ([`runs_are_drives`]).
+//!
+//! # What is proved
+//!
+//! Laws of runs, which no program stands on. Each run that ends without an error is a life of a plant
+//! as `outcome_plant` speaks of them, so the outcome law holds of all its calls and of the journal that
+//! it leaves (`runs_keep_the_law`), over links of any type. What the threads of a pool did is one call
+//! of `drive` (`runs_are_drives`).
 #![tactic(auto)]
 
 mod laws;

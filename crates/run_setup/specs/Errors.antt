@@ -1,26 +1,21 @@
 -- Why a configuration file is not taken. Out of memory is reported as such, and every other error is carried over.
 use Rattle.std.specs.Prelude.{⊤, ℕ, List, Option, IfSome}
 use Rattle.std.specs.Str.{IsUtf8}
-use Rattle.cli_io.specs.declared.error.ReadError.{ReadError}
-use Rattle.cli_io.specs.declared.error.ReadError.TheVariants as read
+use Rattle.cli_io.specs.declared.error.IoError.TheVariants as io
 use Rattle.cli_config.specs.ConfigFile.{IsConfigFile, Refuses}
 use Rattle.cli_config.specs.declared.config.Config.{Config}
 use Rattle.cli_config.specs.declared.error.ConfigError.{ConfigError}
 use Rattle.cli_config.specs.declared.error.ConfigError.TheVariants as config
 use Rattle.run_setup.specs.declared.error.ConfigFileError.{ConfigFileError}
-use Rattle.run_setup.specs.declared.error.ConfigFileError.TheVariants.{Config as InConfig, NotText, Open, OutOfMemory, Read}
-
-abbrev pub error_of_read : ReadError → ConfigFileError
-error_of_read read.OutOfMemory = OutOfMemory
-error_of_read e = Read e
+use Rattle.run_setup.specs.declared.error.ConfigFileError.TheVariants.{Config as InConfig, Io, NotText, Open}
 
 abbrev pub error_of_config : ConfigError → ConfigFileError
-error_of_config config.OutOfMemory = OutOfMemory
+error_of_config config.OutOfMemory = Io io.OutOfMemory
 error_of_config e = InConfig e
 
 -- what a refusal says of the bytes of a file; nothing where memory ran out
 abbrev pub RefusesBytes : List ℕ → ConfigFileError → Type 0
-RefusesBytes bytes OutOfMemory = ⊤
+RefusesBytes bytes (Io io.OutOfMemory) = ⊤
 RefusesBytes bytes (NotText e) = ¬ (IsUtf8 bytes)
 RefusesBytes bytes (InConfig e) = Refuses bytes e
 RefusesBytes bytes _ = ⊥

@@ -1,4 +1,8 @@
 -- What a run is set up with: the options of the command line come first, then the configuration, then the program's own values.
+--
+-- `setup_of` is what a run is set up with, by its options and its configuration: book, routes,
+-- links, the stand-in's amount, advices between two reads, sessions, threads. `IsSetUp` says that
+-- a run is set up so, with a limit that a book may have.
 use Rattle.std.specs.Prelude.{◌≡◌, ◌<◌, ◌≤◌, ⊤, ℕ, Bool, true, false, ◌||◌, List, [], ◌∷◌, map, Option, None, is_some, unwrap_or, codes}
 use Rattle.std.specs.Option.{option_map_or, option_or}
 use Rattle.sw_parts.specs.Queries.{shown_query}

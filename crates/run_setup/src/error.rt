@@ -1,12 +1,12 @@
 //! Why nothing is set up.
 
 ghost use Rattle.std.specs.Prelude.{◌≡◌};
-ghost use Rattle.run_setup.specs.Errors.{error_of_config, error_of_read};
-ghost use Rattle.run_setup.specs.declared.error.ConfigFileError.TheVariants.{NotText};
+ghost use Rattle.run_setup.specs.Errors.{error_of_config};
+ghost use Rattle.run_setup.specs.declared.error.ConfigFileError.TheVariants.{Io, NotText};
 ghost use Rattle.run_setup.specs.declared.error.SetupError.TheVariants.{OutOfMemory};
 
 use cli_config::ConfigError;
-use cli_io::ReadError;
+use cli_io::IoError;
 use std::alloc::{AllocError, AllocFailed};
 use std::str::Utf8Error;
 use std::{fmt, io};
@@ -16,15 +16,12 @@ use thiserror::Error;
 /// found, and not the file.
 #[derive(Drop, Error)]
 pub enum ConfigFileError {
-    /// No memory was left.
-    #[error("out of memory")]
-    OutOfMemory,
     /// There is no such file, or it may not be opened.
     #[error("cannot open: {0}")]
     Open(io::Error),
-    /// It could not be read to its end.
-    #[error("cannot read: {0}")]
-    Read(ReadError),
+    /// It could not be read to its end, or no memory was left.
+    #[error("{0}")]
+    Io(IoError),
     /// It is not text.
     #[error("{0}; expected a configuration file in UTF-8")]
     NotText(Utf8Error),
@@ -40,14 +37,11 @@ impl fmt::Debug for ConfigFileError {
     }
 }
 
-impl From<ReadError> for ConfigFileError {
-    ghost from_gives = { λ e f. f ≡ error_of_read e };
+impl From<IoError> for ConfigFileError {
+    ghost from_gives = { λ e f. f ≡ Io e };
 
-    fn from(error: ReadError) -> ConfigFileError {
-        match error {
-            ReadError::OutOfMemory => ConfigFileError::OutOfMemory,
-            other => ConfigFileError::Read(other),
-        }
+    fn from(error: IoError) -> ConfigFileError {
+        ConfigFileError::Io(error)
     }
 }
 
@@ -56,7 +50,7 @@ impl From<ConfigError> for ConfigFileError {
 
     fn from(error: ConfigError) -> ConfigFileError {
         match error {
-            ConfigError::OutOfMemory => ConfigFileError::OutOfMemory,
+            ConfigError::OutOfMemory => ConfigFileError::Io(IoError::OutOfMemory),
             other => ConfigFileError::Config(other),
         }
     }

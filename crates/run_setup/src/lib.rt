@@ -10,6 +10,21 @@
 //! - [`routes`] are those of a run.
 //! - [`words_of`] is what a run reports in words: what it is ready with, and its hosts that are reached by streams.
 //! - [`journal_path`] is the path of the journal, if it is in a file.
+//!
+//! # What is proved
+//!
+//! `setup` gives what a run is set up with (`setup_of`). For limit, sessions and threads the options of
+//! the command line come first, then the configuration, then the program's own; for routes, hosts,
+//! stand-in and the advices between two reads the configuration, then the program's own. A new book has
+//! that limit, at most 999,999,999,999,999 minor units, and nothing in it. Each host has a link for
+//! queries and one for advices: to a new simulated issuer, to a silent one, or to the host's threads,
+//! of which contracts know nothing. A limit over the greatest is `BadLimit`. `recovery` gives the same
+//! routes, stand-in and names of participants, over links that nothing is sent on (`recovery_of`).
+//! Without a path `config_at` gives the configuration that states nothing, and no error. Of a file's
+//! bytes that are known it gives exactly the configuration, or a fault that they have; no contract
+//! knows the bytes of a file. That a host's threads use its paths and its times is only tested
+//! (`tests/hosts.py`). `words_of` has the flow's path, the journal's, the sessions, the names of all
+//! hosts, and those that are reached by streams, in the order of the configuration (`IsWordsOf`).
 #![tactic(auto)]
 
 mod error;

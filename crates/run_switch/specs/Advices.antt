@@ -1,4 +1,10 @@
 -- The stored advices are sent.
+--
+-- - *Sends all* (`Advices.antt`): each advice of a list sent once, and acknowledged where it was
+--   accepted, and only there. *Is repeat*: an advice of a transaction of an earlier run, or one
+--   that comes no later than the newest one that was sent in this run. *Going on*: the stored
+--   advices after the one that was sent last, or all of them if none comes after it. *Between*:
+--   the first of these are sent, at most the number that is set, and the history may be cut.
 use Rattle.std.specs.Prelude.{◌≡◌, ℕ, Bool, true, false, cond, ◌==◌, ◌&&◌, ◌||◌, nat_le, nat_lt, List, [], ◌∷◌, take, Option, Some, None}
 use Rattle.std.specs.BTreeMap.Range.{entries_between}
 use Rattle.std.specs.declared.ops.Bound.TheVariants.{Excluded, Unbounded}

@@ -4,10 +4,8 @@ use Rattle.flow_model.specs.declared.flow.Flow.{Flow}
 use Rattle.flow_model.specs.declared.numbering.Part.{Part}
 use Rattle.flow_model.specs.Places.{parts_of}
 use Rattle.sw_seating.specs.declared.seating.SeatingError.TheVariants as seating
-use Rattle.cli_io.specs.declared.error.ReadError.{ReadError}
-use Rattle.cli_io.specs.declared.error.ReadError.TheVariants as read
-use Rattle.cli_io.specs.declared.error.WriteError.{WriteError}
-use Rattle.cli_io.specs.declared.error.WriteError.TheVariants as write
+use Rattle.cli_io.specs.declared.error.IoError.{IoError}
+use Rattle.cli_io.specs.declared.error.IoError.TheVariants as io
 use Rattle.tx_engine.specs.declared.error.EngineError.{EngineError}
 use Rattle.tx_engine.specs.declared.error.EngineError.TheVariants as engine
 use Rattle.tx_plant.specs.declared.turn.PlantError.{PlantError}
@@ -19,8 +17,8 @@ use Rattle.tx_pool.specs.declared.refusal.Early.TheVariants as early
 use Rattle.tx_pool.specs.declared.refusal.PoolError.{PoolError}
 use Rattle.tx_pool.specs.declared.refusal.PoolError.TheVariants as pool
 use Rattle.run_switch.specs.declared.error.ServeError.{ServeError}
-use Rattle.run_switch.specs.declared.error.ServeError.TheVariants.{BadLength as BadFrameLength, BadSessions, DoubleStation, Engine, Journal, Mismatch, NoStation}
-use Rattle.run_switch.specs.declared.error.ServeError.TheVariants.{OutOfMemory, Pool, Read, Seating, Truncated as TruncatedFrame, Write}
+use Rattle.run_switch.specs.declared.error.ServeError.TheVariants.{BadLength as BadFrameLength, BadSessions, DoubleStation, Engine, Io, Journal, Mismatch}
+use Rattle.run_switch.specs.declared.error.ServeError.TheVariants.{NoStation, OutOfMemory, Pool, Seating, Truncated as TruncatedFrame}
 use Rattle.run_switch.specs.declared.stream.StreamEnd.{StreamEnd}
 use Rattle.run_switch.specs.declared.stream.StreamEnd.TheVariants.{Whole, BadLength, Truncated, Unread}
 
@@ -29,13 +27,9 @@ abbrev pub error_of_engine : EngineError → ServeError
 error_of_engine engine.OutOfMemory = OutOfMemory
 error_of_engine e = Engine e
 
-abbrev pub error_of_read : ReadError → ServeError
-error_of_read read.OutOfMemory = OutOfMemory
-error_of_read e = Read e
-
-abbrev pub error_of_write : WriteError → ServeError
-error_of_write write.OutOfMemory = OutOfMemory
-error_of_write e = Write e
+abbrev pub error_of_io : IoError → ServeError
+error_of_io io.OutOfMemory = OutOfMemory
+error_of_io e = Io e
 
 -- a journal's out of memory is carried over too: it is the journal that refused
 abbrev pub error_of_plant : PlantError → ServeError
@@ -70,7 +64,7 @@ abbrev pub result_of : StreamEnd → Result (Unit {0}) ServeError
 result_of Whole = Ok tt
 result_of (BadLength n) = Err (BadFrameLength n)
 result_of (Truncated n) = Err (TruncatedFrame n)
-result_of (Unread e) = Err (error_of_read e)
+result_of (Unread e) = Err (error_of_io e)
 
 -- why a batch was not run, or was given up
 abbrev pub error_of_fault : Fault → ServeError

@@ -1,4 +1,8 @@
 -- What a run does until its input has ended: it answers requests, and sends stored advices between two reads.
+--
+-- - *Legs* (`Legs.antt`): rounds, and then advices that are sent, one after the other.
+--   *Advances*: legs, and then the last rounds. *Stage*: a switch, what sends its advices, and
+--   what an output holds.
 use Rattle.std.specs.Prelude.{◌≡◌, ℕ, Bool, List, [], ◌∷◌, ◌++◌, Option}
 use Rattle.run_switch.specs.Advices.{AdviceStep, Between, PlainAdvisor}
 use Rattle.run_switch.specs.Lines.{Line}

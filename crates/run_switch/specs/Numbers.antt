@@ -1,4 +1,9 @@
 -- The numbers of a run at a point.
+--
+-- - *Numbers at* a point (`Numbers.antt`): its tally, and the advices given since the run began.
+--   *Shows* (`Shown.antt`): where their line is wanted it was written, or a beginning of it where
+--   a write failed; *shows since*: where it is due; *tells all*: all of the trace, and the
+--   numbers of the end last.
 use Rattle.std.specs.Prelude.{ℕ, ◌+◌, ◌-◌, ◌^◌, length, min}
 use Rattle.sw_stats.specs.Line.{Numbers}
 use Rattle.sw_stats.specs.Tallies.{no_tally}

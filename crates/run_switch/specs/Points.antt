@@ -1,4 +1,11 @@
 -- A switch between two calls of its plant, and the responses that it has to give.
+--
+-- - *Point*: a plant, and what was given: the id of the last
+--   transaction whose response was, the tally of those that were answered, and how many advices
+--   were found. *Unanswered*: the contexts of transactions that ended above that id; *response*:
+--   the entry of that name. *At rest*: no session holds a transaction, all is written, and no
+--   response is left to give. *Ready*: at rest, the queue empty, nothing to recover, the history
+--   not long.
 use Rattle.std.specs.Prelude.{◌≡◌, ◌<◌, ℕ, Bool, false, List, [], ◌∷◌, length, nat_le, Option, Some, None, codes}
 use Rattle.std.specs.Ordering.{nat_cmp}
 use Rattle.std.specs.BTreeMap.{insert_entry}

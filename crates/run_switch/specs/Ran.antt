@@ -1,4 +1,7 @@
 -- A whole run.
+--
+-- - *Begins, serves all, ran, printed* (`Ran.antt`): the making and recovery of a run; all that
+--   follows; both; a run without an input.
 use Rattle.std.specs.Prelude.{ℕ, List, ◌++◌, Option}
 use Rattle.std.specs.Io.KnownBytes.{Appends}
 use Rattle.flow_model.specs.declared.flow.Flow.{Flow}

@@ -1,4 +1,8 @@
 -- The requests that a run reads.
+--
+-- - *Readable, requests* (`Requests.antt`): the messages of a list that can be read; the contexts
+--   they are offered in. *Reads*: the bytes taken from an input, whose frames these are, and what
+--   a framer keeps. *Ends as*: how a stream ended, by its framer and what is left of the input.
 use Rattle.std.specs.Prelude.{◌≡◌, ◌<◌, ℕ, ⊤, true, false, List, [], ◌∷◌, ◌++◌, length, map, Option, Result, Ok, Err, codes}
 use Rattle.std.specs.Io.KnownBytes.{Consumes, IsAtEnd}
 use Rattle.sw_context.specs.Pairs.{Pairs}

@@ -1,4 +1,16 @@
 -- What a switch does: recoveries, requests offered, transactions run to their end, batches run, the shelf released.
+--
+-- - *Recovers, transacts, completes, drains* (`Rounds.antt`): a recovery; one transaction from
+--   its take to its end; the same with its response given and a long history cut; the queue and
+--   the shelf emptied. *Round*: a request offered, a transaction completed, the shelf released, a
+--   batch run, a request alone run, or the history cut; *goes*: rounds one after the other, with
+--   the bytes that they give. Each is a list of calls of `drive`, as `tx_seats` has them.
+-- - *Together* (`Rounds.antt`): a batch of requests, offered in their order and run by all
+--   sessions until nothing is left to do. *Runs*: the same with the responses of all that ended.
+--   *Finishes*: what comes after, which is the responses, the shelf, and a cut that may be made.
+-- - *Rounds for* some requests: each offered and completed before the next; or, with threads, in
+--   batches of 2 to 256 and alone, in their order. *Rounds toward* them: the same, where the last
+--   ones were not reached.
 use Rattle.std.specs.Prelude.{◌≡◌, ◌≤◌, ◌⊎◌, ℕ, ◌+◌, ⊤, Bool, true, false, List, [], ◌∷◌, ◌++◌, length, map, drop, Option, None}
 use Rattle.std.specs.Io.KnownBytes.{Appends}
 use Rattle.std.specs.List.{AllByRecursion}

@@ -17,7 +17,7 @@ use crate::error::ServeError;
 use crate::reporter::Reporter;
 use crate::stream::{PIECE, Piece, Requests, StreamEnd, request_in};
 use crate::switch::{MAX_BATCH, Switch};
-use cli_io::ReadError;
+use cli_io::IoError;
 use sqlite::Alter;
 use std::alloc::Global;
 use std::io::{Read, Write};
@@ -230,6 +230,6 @@ impl Requests {
             }
             send_between(alloc, &mut switch, advisor, stderr)?;
         }
-        Ok((switch, StreamEnd::Unread(ReadError::TooManyReads)))
+        Ok((switch, StreamEnd::Unread(IoError::TooManyReads)))
     }
 }

@@ -1,11 +1,11 @@
 //! Why a run ends early.
 
 ghost use Rattle.std.specs.Prelude.{◌≡◌};
-ghost use Rattle.run_switch.specs.Errors.{error_of_engine, error_of_plant, error_of_read};
-ghost use Rattle.run_switch.specs.Errors.{IsOfPool, error_of_fault, error_of_write};
+ghost use Rattle.run_switch.specs.Errors.{error_of_engine, error_of_io, error_of_plant};
+ghost use Rattle.run_switch.specs.Errors.{IsOfPool, error_of_fault};
 ghost use Rattle.run_switch.specs.declared.error.ServeError.TheVariants as serve;
 
-use cli_io::{ReadError, WriteError};
+use cli_io::{IoError, StreamErrorText};
 use journal_store::JournalError;
 use sqlite::Alter;
 use std::alloc::{AllocError, AllocFailed};
@@ -46,12 +46,9 @@ pub enum ServeError {
     /// The journal refused, also for out of memory.
     #[error("{0}")]
     Journal(JournalError),
-    /// The input could not be read to its end.
-    #[error("standard input: cannot read: {0}")]
-    Read(ReadError),
-    /// The output could not be written.
-    #[error("standard output: cannot write: {0}")]
-    Write(WriteError),
+    /// The input could not be read to its end, or the output could not be written.
+    #[error("{}", StreamErrorText(.0))]
+    Io(IoError),
     /// Where the frame of this number would begin, from 1, there are no four digits of length.
     #[error("standard input: frame {0}: bad length; expected four digits; cardswitch decode shows the frames before it")]
     BadLength(u64),
@@ -97,24 +94,13 @@ impl From<JournalError> for ServeError {
     }
 }
 
-impl From<ReadError> for ServeError {
-    ghost from_gives = { λ e f. f ≡ error_of_read e };
+impl From<IoError> for ServeError {
+    ghost from_gives = { λ e f. f ≡ error_of_io e };
 
-    fn from(error: ReadError) -> ServeError {
+    fn from(error: IoError) -> ServeError {
         match error {
-            ReadError::OutOfMemory => ServeError::OutOfMemory,
-            other => ServeError::Read(other),
-        }
-    }
-}
-
-impl From<WriteError> for ServeError {
-    ghost from_gives = { λ e f. f ≡ error_of_write e };
-
-    fn from(error: WriteError) -> ServeError {
-        match error {
-            WriteError::OutOfMemory => ServeError::OutOfMemory,
-            other => ServeError::Write(other),
+            IoError::OutOfMemory => ServeError::OutOfMemory,
+            other => ServeError::Io(other),
         }
     }
 }

@@ -131,7 +131,7 @@ impl<'a, E: Write, K: Clock> RecordLog<'a, E, K> {
         let times = self.times();
         match write_records(alloc, engine, times, self.out) {
             Ok(()) => Ok(()),
-            Err(ServeError::Write(_)) => {
+            Err(ServeError::Io(_)) => {
                 self.lost = true;
                 Ok(())
             }

@@ -15,7 +15,7 @@ use crate::error::ServeError;
 use crate::record_log::RecordLog;
 use crate::stats::Stats;
 use crate::with_records::next_with_record;
-use cli_io::{WriteError, write_whole};
+use cli_io::{IoError, write_whole};
 use iso_codec::DecodeError;
 use run_reports::Words;
 use std::alloc::{AllocError, Global};
@@ -119,7 +119,7 @@ impl<'a, E: Write, K: Clock> Reporter<'a, E, K> {
         };
         match write_lines_as(alloc, engine, form, self.err) {
             Ok(()) => Ok(()),
-            Err(ServeError::Write(_)) => {
+            Err(ServeError::Io(_)) => {
                 self.lost = true;
                 Ok(())
             }
@@ -155,7 +155,7 @@ impl<'a, E: Write, K: Clock> Reporter<'a, E, K> {
     }
 }
 
-fn write_line<W: Write>(out: &mut W, line: &[u8]) -> Result<(), WriteError>
+fn write_line<W: Write>(out: &mut W, line: &[u8]) -> Result<(), IoError>
     ensures written { OnOk result (Appends (W.contents out.old) (W.contents out.new)
         (line.now ++ 10 ∷ [])) }
     ensures beginning { AppendsBeginning (W.contents out.old) (W.contents out.new)

@@ -33,7 +33,7 @@ use crate::setup::{NamedLink, Setup, SwitchLink, query_name, sender_over};
 use crate::stream::{Requests, StreamEnd};
 use crate::switch::Switch;
 use crate::unsuited::cause_of;
-use cli_io::WriteError;
+use cli_io::IoError;
 use flow_asm::Code;
 use journal_store::Journal;
 use run_reports::Recovered;
@@ -217,7 +217,7 @@ fn print<O: Write>(alloc: Global, engine: &Engine, out: &mut O) -> Result<(), Se
         (O.contents out.old) (O.contents out.new) (written_as Text (lines_in engine.now)) }
 {
     write_lines(alloc, engine, out)?;
-    out.flush().map_err(WriteError::from)?;
+    out.flush().map_err(IoError::from_write)?;
     Ok(())
 }
 

@@ -3,7 +3,7 @@
 ghost use Rattle.std.specs.Prelude.{◌≡◌, ◌<◌, ℕ, false, List, [], IfNone, IfOk, IfSome, OnErr, OnOk, Option, Some};
 ghost use Rattle.std.specs.Prelude.{◌+◌, length, map, min, option_to_list};
 ghost use Rattle.std.specs.Io.KnownBytes.{IsAtEnd};
-ghost use Rattle.cli_io.specs.declared.error.ReadError.{ReadError};
+ghost use Rattle.cli_io.specs.declared.error.IoError.{IoError};
 ghost use Rattle.sw_frame.specs.Feeds.{messages};
 ghost use Rattle.sw_frame.specs.Stream.{blank};
 ghost use Rattle.iso_codec.specs.Reads.{read};
@@ -21,7 +21,7 @@ use crate::advices::{Advisor, send_between};
 use crate::error::ServeError;
 use crate::reporter::Reporter;
 use crate::switch::Switch;
-use cli_io::ReadError;
+use cli_io::IoError;
 use iso_codec::{DecodeError, decode, type_in};
 use sqlite::Alter;
 use std::alloc::Global;
@@ -44,7 +44,7 @@ pub enum StreamEnd {
     /// Within a frame, of which this many bytes came.
     Truncated(usize),
     /// It could not be read any further.
-    Unread(ReadError),
+    Unread(IoError),
 }
 
 impl StreamEnd {
@@ -325,17 +325,17 @@ impl Requests {
             }
             send_between(alloc, switch, advisor, stderr)?;
         }
-        Ok(StreamEnd::Unread(ReadError::TooManyReads))
+        Ok(StreamEnd::Unread(IoError::TooManyReads))
     }
 }
 
 // A read failed. Out of memory ends the run, any other error the stream.
 fn unread(alloc: Global, error: io::Error) -> Result<Piece, ServeError>
     ensures none { IfOk result (λ piece. messages piece.messages.items ≡ []) }
-    ensures unread { IfOk result (λ piece. (e : ReadError) × (piece.end ≡ Some (Unread e))) }
+    ensures unread { IfOk result (λ piece. (e : IoError) × (piece.end ≡ Some (Unread e))) }
 {
-    match ReadError::from(error) {
-        ReadError::OutOfMemory => Err(ServeError::OutOfMemory),
+    match IoError::from_read(error) {
+        IoError::OutOfMemory => Err(ServeError::OutOfMemory),
         other => Ok(Piece {
             messages: Vec::new(alloc),
             end: Some(StreamEnd::Unread(other)),

@@ -1,4 +1,9 @@
 -- The way of a request through a flow: the participants that prepare it, one after the other.
+--
+-- - *Way, stop, sound way*: the participants that prepare a
+--   request, one after the other; check before the query, and the stand-in after it. *Approves*
+--   (`Parts.antt`): a host that answered 00, or a stand-in that decided. *Way through a flow*
+--   (`Flows.antt`): main, with the group that a route picks after `route`.
 use Rattle.std.specs.Prelude.{◌≡◌, ◌⊎◌, ◌<◌, ℕ, Bool, true, false, not, List, [], ◌∷◌, ◌++◌, length, Some, None, codes, if◌then◌else◌}
 use Rattle.iso_msg.specs.Messages.{PlainMessage, value_at}
 use Rattle.sw_context.specs.Pairs.{Pairs, find}

@@ -1,3 +1,4 @@
 mod ReadNumbers
 pub mod Unrefused
 pub mod Options
+pub mod Lists

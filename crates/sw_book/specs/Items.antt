@@ -1,4 +1,8 @@
 -- A book: what the cards have spent, and what is held for open transactions.
+--
+-- - *Used, reserved*: the sums over a card's used and open items.
+--   *Settled, released, reversed*: the list after one item went from open to used, was taken out,
+--   went from used to reversed.
 use Rattle.std.specs.Prelude.{◌≡◌, ℕ, ◌+◌, ◌≤◌, Bool, true, false, ◌||◌, nat_lt, List, [], ◌∷◌}
 use Rattle.std.specs.Prelude.{Option, Some, None, is_some, if◌then◌else◌}
 use Rattle.std.specs.Map.{lookup, remove_entry, set_value}

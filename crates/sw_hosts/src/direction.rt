@@ -16,6 +16,8 @@ pub struct Direction {
     ordered: SharedMoment,
     /// How often it was rung.
     bell: AtomicU64,
+    /// How often it was closed.
+    closings: AtomicU64,
 }
 
 impl Direction {
@@ -25,6 +27,7 @@ impl Direction {
             state: AtomicU64::new(DirectionState::Closed.word()),
             ordered: SharedMoment::new(),
             bell: AtomicU64::new(0),
+            closings: AtomicU64::new(0),
         }
     }
 
@@ -33,9 +36,25 @@ impl Direction {
         DirectionState::of_word(self.state.load(Ordering::SeqCst))
     }
 
-    /// Sets its state; only its thread does so.
-    pub fn set(&self, state: DirectionState) {
+    /// Notes that it was opened; only its thread does so.
+    pub fn opened(&self) {
+        self.set(DirectionState::Open);
+    }
+
+    /// Notes that it was closed, or was not opened; only its thread does so. It is counted first, so that whoever sees
+    /// it open again sees that it was closed.
+    pub fn closed(&self) {
+        self.closings.fetch_add(1, Ordering::SeqCst);
+        self.set(DirectionState::Closed);
+    }
+
+    fn set(&self, state: DirectionState) {
         self.state.store(state.word(), Ordering::SeqCst);
+    }
+
+    /// How often it was closed.
+    pub fn closings(&self) -> u64 {
+        self.closings.load(Ordering::SeqCst)
     }
 
     /// Orders the direction to be opened, if it is closed and the last order came at least a second ago. Returns

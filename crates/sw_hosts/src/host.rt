@@ -66,8 +66,7 @@ impl Host {
         Ok(Host { alloc, shared })
     }
 
-    /// A link to the host. All links of a host share its directions and its inbox, so only one of them
-    /// may wait for an answer at a time: what the others wait for is dropped as late.
+    /// A link to the host. All links of a host share its directions, and each may wait for an answer of its own.
     pub fn link<C: Clock + Drop>(&self, clock: C) -> Result<HostLink<C>, AllocError>
         ensures { IfOk result (λ link. arc_value link.way.shared ≡ arc_value self.now.shared) }
     {

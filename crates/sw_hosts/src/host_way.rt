@@ -11,7 +11,9 @@ use std::alloc::AllocError;
 use std::sync::{Arc, Mutex, MutexGuard};
 use std::time::{Clock, Duration};
 use sw_mux::Key;
-use sw_wire::{Awaited, DirectionState, Frame, HostSign, Look, Moment, Naps, Way, is_closed};
+use sw_wire::{
+    Awaited, DirectionState, Expected, Frame, HostSign, Look, Moment, Naps, Sent, Way, is_closed,
+};
 
 /// How long a message that has a direction opened waits for it, in milliseconds.
 const OPENING: u64 = 100;
@@ -32,6 +34,14 @@ impl<C: Clock + Drop> Drop for HostWay<C> {
             clock: _,
             shared: _,
         } = self;
+    }
+}
+
+// The key of a request.
+fn key_of(expected: &Option<Expected>) -> Option<Key> {
+    match expected {
+        Some(expected) => Some(expected.key),
+        None => None,
     }
 }
 
@@ -65,10 +75,43 @@ impl<C: Clock + Drop> HostWay<C> {
         Ok(HostReport::new(Arc::try_clone(&self.shared)?))
     }
 
-    // Drops what is still in the inbox: nobody waits for it any more.
-    fn drop_late(&self) {
-        if let Some(mut inbox) = locked(&self.clock, &self.shared.inbox) {
-            let count = inbox.clear();
+    // Has a request wait for its answer, unless one with its key is under way, or too many wait; then it comes back.
+    fn expect(&self, expected: Expected) -> Result<(), Expected> {
+        match locked(&self.clock, &self.shared.answers) {
+            Some(mut answers) => answers.expect(expected),
+            None => Err(expected),
+        }
+    }
+
+    // Likewise, after the requests with its key, for as long as one of them may take; whether it waits now.
+    fn await_turn(&self, expected: Expected) -> bool {
+        let deadline = Moment::now(&self.clock).after(self.shared.times.timeout);
+        let mut naps = Naps::new();
+        let mut expected = expected;
+        for _ in 0..u64::MAX {
+            expected = match self.expect(expected) {
+                Ok(()) => return true,
+                Err(expected) => expected,
+            };
+            if Moment::now(&self.clock).is_past(deadline) {
+                return false;
+            }
+            naps.sleep(&self.clock);
+        }
+        false
+    }
+
+    // A request that is not sent waits no more.
+    fn give_up(&self, key: Option<Key>) {
+        if let Some(key) = key {
+            self.forget(&key);
+        }
+    }
+
+    /// Has the request with the key wait no more. An answer that came for it is late.
+    pub fn forget(&self, key: &Key) {
+        if let Some(mut answers) = locked(&self.clock, &self.shared.answers) {
+            let count = answers.forget(key);
             self.shared.counters.add_late(count);
         }
     }
@@ -108,48 +151,58 @@ impl<C: Clock + Drop> HostWay<C> {
         is_put
     }
 
-    // The first message with the key that is in the inbox; those before it are late.
+    // The answer with the key, if it has come.
     fn find(&self, key: &Key) -> Option<Vec<u8>>
         ensures { IfSome result (λ v. key_in v.items ≡ Some key.now.bytes) }
     {
-        let found = locked(&self.clock, &self.shared.inbox)?.take(key);
-        self.shared.counters.add_late(found.dropped);
-        Some(found.item?.into_bytes())
+        let answer = locked(&self.clock, &self.shared.answers)?.take(key);
+        Some(answer?.into_bytes())
     }
 
-    // A look before the deadline.
-    fn look_now(&self, key: &Key) -> Look
-        ensures { IfSome (answer_in result) (λ v. key_in v.items ≡ Some key.now.bytes) }
+    // A look before the deadline. What the host sent before a direction closed is there by then.
+    fn look_now(&self, awaited: &Awaited) -> Look
+        ensures { IfSome (answer_in result) (λ v. key_in v.items ≡ Some awaited.now.key.bytes) }
     {
-        let is_closed = is_closed(self.shared.to.state(), self.shared.from.state());
-        Look::of(is_closed, self.find(key))
+        let shared = &self.shared;
+        let is_closed = is_closed(shared.to.state(), shared.from.state())
+            || awaited.sent.has_closed(shared.seen());
+        Look::of(is_closed, self.find(&awaited.key))
     }
 }
 
 impl<C: Clock + Drop> Way for HostWay<C> {
-    ghost dates = { λ way deadline. ⊤ };
+    ghost enters = { λ way expected deadline. ⊤ };
 
-    ghost takes = { λ way frame taken. ⊤ };
+    ghost takes = { λ way key frame sent. ⊤ };
 
     ghost shows = { λ way awaited number look. ⊤ };
 
-    fn deadline(&self) -> Moment {
-        Moment::now(&self.clock).after(self.shared.times.timeout)
-    }
-
-    fn send(&self, frame: Frame) -> bool {
-        self.drop_late();
+    fn enter(&self, expected: Option<Expected>) -> Option<Moment> {
+        let key = key_of(&expected);
+        if let Some(expected) = expected
+            && !self.await_turn(expected)
+        {
+            self.shared.counters.add_dropped(1);
+            return None;
+        }
         let now = Moment::now(&self.clock);
         if self.shared.is_paused(now) {
             self.shared.counters.add_unasked();
-            return false;
+            self.give_up(key);
+            return None;
         }
         self.open(now);
-        let is_taken = self.hand_over(frame);
-        if !is_taken {
-            self.shared.counters.add_dropped(1);
+        Some(now.after(self.shared.times.timeout))
+    }
+
+    fn send(&self, key: Option<Key>, frame: Frame) -> Option<Sent> {
+        let seen = self.shared.seen();
+        if self.hand_over(frame) {
+            return Some(seen);
         }
-        is_taken
+        self.shared.counters.add_dropped(1);
+        self.give_up(key);
+        None
     }
 
     fn look(&self, awaited: &Awaited, _number: u64) -> Look {
@@ -157,9 +210,12 @@ impl<C: Clock + Drop> Way for HostWay<C> {
         let look = if now.is_past(awaited.deadline) {
             Look::Late
         } else {
-            self.look_now(&awaited.key)
+            self.look_now(awaited)
         };
-        self.shared.note(&look, now);
+        self.shared.note(&look, &awaited.sent, now);
+        if look.is_over() {
+            self.forget(&awaited.key);
+        }
         look
     }
 

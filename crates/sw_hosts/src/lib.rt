@@ -9,6 +9,61 @@
 //!
 //! What the threads and links decide, they decide by `sw_wire`. Of what passes between them, and of what comes over a
 //! wire, no contract says anything.
+//!
+//! # What is proved
+//!
+//! A host is served by threads, and no contract says what passes between threads or over a wire. The
+//! threads and links do what `sw_wire` decides.
+//!
+//! - No frame that `next_frame` takes from the outbox is too late, and an answer that a link takes has
+//!   the key that it waits for.
+//! - A host has the times that it is given (`Host::start`), and its links and reports share these with
+//!   it (`Host::link`, `host_report`). That its threads and deadlines go by them is only tested.
+//! - What is counted is only tested, and so is that the threads and links note the signs of a host.
+//! - After `HostLink::send` was out of memory nothing is waited for; `receive` refuses nothing. Contracts see no state of a link. `IssuerLink` keeps what the simulated issuer promises.
+//!
+//! Of the way over a host's threads (`HostWay`) contracts say only that an answer has the key that is
+//! waited for. That it opens, writes, looks and sleeps is only tested, and so is that the threads do
+//! what is decided, and when (`tests/hosts.py`): that an answer is heard, that a deadline is kept, that
+//! a closed direction is opened again.
+//!
+//! # Decisions
+//!
+//! - **The last sign of a host decides what is reported of it**, whichever direction it comes from. A
+//!   request that was not sent is a sign only of a host of which nothing else is known: it follows from
+//!   every other one.
+//! - **For contracts, a message to a host that cannot be reached is sent**, and no answer is received,
+//!   at once. So the stand-in comes without a delay, and a link refuses out of memory alone.
+//!   Alternative: a refusal of its own, for which each participant would need a case.
+//! - **A direction is opened at most once a second**, and a message waits for that up to 100
+//!   milliseconds: long enough for a host that is there, and short enough for one that is not. An
+//!   opening that waits is not ordered again.
+//! - **An unanswered echo test begins a pause too**: otherwise the next request would be sent to a host
+//!   that is known to be silent.
+//! - **Only the thread that writes sends echo tests**, and it has no clock beside its bell: it sleeps
+//!   until the bell rings or a test or its answer is due. Anything that is read counts as an answer,
+//!   since it shows that the host is there. An unanswered test closes the direction, and holds off its
+//!   next opening for a second as an order would.
+//! - **Field 7 of an echo test is made of the system's clock, in UTC**: no message has come from which
+//!   it could be taken.
+//! - **A network management response (0810) is dropped wherever it comes from**: a host is sent no
+//!   other 0800, and a link waits for none.
+//! - **An answer is kept only for a request that waits**, and its memory is there from the start. A host
+//!   that sends unasked fills no memory, and what comes late is counted at once.
+//! - **An answer has to have its request's card, amount, and date and time of transmission**, as far as
+//!   it has these fields (2, 4 and 7). Two acquirers may have one terminal and STAN, and then the late
+//!   answer for one card has the key of the other's request. A host that returns none of these fields
+//!   cannot be checked. Alternative: the key alone, as `QMUX` compares it.
+//! - **A request waits for the one with its key to be answered or given up**, before its own timeout
+//!   begins. Alternative: to refuse it, and to stand in for a host that is there.
+//! - **A link looks each millisecond**, and needs no handle to wait with. Alternative: a wake-up for each
+//!   answer, for which the calls of participants would have to take a handle.
+//! - **Contracts see no state of a link to a host.** Nothing can be promised of what comes over a wire,
+//!   and the query compares the key of each message itself. What is proved are the parts without
+//!   threads: the two boxes, the key of a message, when a direction is ordered.
+//! - **The clock of a link is a type parameter, and by default the runtime's.** A box of a type that is
+//!   generic in its clock has no proof, so callers box links over `HostRuntime`. For the same reason
+//!   `WritePath` and `ReadPath` are made over it where a function is generic.
 #![tactic(auto)]
 
 mod counters;

@@ -1,6 +1,6 @@
 //! A link to a host.
 
-ghost use Rattle.std.specs.Prelude.{◌≡◌, [], IfOk, IfSome, OnOk, OnErr};
+ghost use Rattle.std.specs.Prelude.{◌≡◌, [], IfOk, IfSome, None, OnOk, OnErr};
 ghost use Rattle.std.specs.Arc.{arc_value};
 ghost use Rattle.sw_wire.specs.Ways.{AnswersTo, KeyedFor};
 
@@ -20,9 +20,10 @@ use sw_wire::{Awaited, receive_over, send_over};
 /// - `send` refuses out of memory before anything is sent, and then nothing has changed. If the host cannot
 ///   be reached, or is paused, it returns `Ok`, and the message has reached nobody. If a direction is
 ///   closed it has it opened, at most once a second, and waits up to 100 milliseconds for it.
-/// - `receive` returns the first message with the key of the message that was sent last. It returns `None`
-///   at once if that message reached nobody or has no key, once a direction is closed, and from the
-///   deadline on, which is the host's timeout after the sending. It takes no memory.
+/// - `receive` returns the answer to the message that was sent last: the first message with its key whose card,
+///   amount, and date and time of transmission are not others. It returns `None` at once if that message reached
+///   nobody or has no key, or its answer was returned; once a direction was closed since; and from the deadline on,
+///   which is the host's timeout after the sending. It takes no memory.
 ///
 /// Contracts see no state of a link: nothing can be promised of what comes over a wire, and the
 /// receiver compares the key again.
@@ -61,20 +62,25 @@ impl<C: Clock + Drop> HostLink<C> {
         self.way.host_report()
     }
 
-    // Sends a message, and notes what is waited for from now on.
+    // Sends a message, and notes what is waited for from now on. The answer that nobody took until now is late.
     fn send_message(&mut self, message: &[u8]) -> Result<(), NoMemory>
         ensures waits { OnOk result (KeyedFor message.now self.new.awaited) }
-        ensures kept { OnErr result (self.new.awaited ≡ self.old.awaited) }
+        ensures none { OnErr result (self.new.awaited ≡ None) }
     {
+        if let Some(awaited) = self.awaited.take() {
+            self.way.forget(&awaited.key);
+        }
         self.awaited = send_over(&self.way, self.alloc, message)?;
         Ok(())
     }
 
-    // The answer to the message that was sent last, if it comes in time.
-    fn await_answer(&self) -> Option<Vec<u8>>
-        ensures { IfSome result (λ v. AnswersTo self.now.awaited v.items) }
+    // The answer to the message that was sent last, if it comes in time. It is not waited for again.
+    fn await_answer(&mut self) -> Option<Vec<u8>>
+        ensures answer { IfSome result (λ v. AnswersTo self.old.awaited v.items) }
+        ensures none { self.new.awaited ≡ None }
     {
-        receive_over(&self.way, self.awaited)
+        let awaited = self.awaited.take();
+        receive_over(&self.way, awaited)
     }
 }
 

@@ -11,8 +11,8 @@ use std::alloc::{AllocError, Global};
 use std::sync::atomic::{AtomicU64, Ordering};
 use std::sync::{Mutex, Wait};
 use sw_wire::{
-    Came, Frame, HostSign, HostTimes, Inbox, Look, Moment, Outbox, PauseChange, came_in, is_paused,
-    pause_by, pause_by_tests, tested_from,
+    Answers, Came, Frame, HostSign, HostTimes, Look, Moment, Outbox, PauseChange, Sent, came_in,
+    is_paused, pause_by, pause_by_tests, tested_from,
 };
 
 /// What the threads of a host and its links share. A lock is held for a few steps only, and never
@@ -23,7 +23,7 @@ pub struct Shared {
     pub to: Direction,
     /// The direction from the host; its thread reads.
     pub from: Direction,
-    pub inbox: Mutex<Inbox>,
+    pub answers: Mutex<Answers>,
     pub outbox: Mutex<Outbox>,
     pub counters: Counters,
     /// What was last seen of the host.
@@ -31,6 +31,8 @@ pub struct Shared {
     pause: SharedPause,
     /// How often something was read from the host.
     heard: AtomicU64,
+    /// How many answers were kept.
+    answered: AtomicU64,
 }
 
 // Written out, so that no caller proves again how its parts are dropped.
@@ -40,18 +42,19 @@ impl Drop for Shared {
             times: _,
             to: _,
             from: _,
-            inbox: _,
+            answers: _,
             outbox: _,
             counters: _,
             state: _,
             pause: _,
             heard: _,
+            answered: _,
         } = self;
     }
 }
 
 impl Shared {
-    /// With both directions closed, and both boxes empty.
+    /// With both directions closed, no request that waits, and nothing to be written.
     pub fn new(alloc: Global, times: HostTimes) -> Result<Shared, AllocError>
         ensures { IfOk result (λ shared. shared.times ≡ times) }
     {
@@ -59,12 +62,13 @@ impl Shared {
             times,
             to: Direction::new(),
             from: Direction::new(),
-            inbox: Mutex::new(Inbox::new(alloc)?),
+            answers: Mutex::new(Answers::new(alloc)?),
             outbox: Mutex::new(Outbox::new(alloc)?),
             counters: Counters::new(),
             state: SharedState::new(),
             pause: SharedPause::new(),
             heard: AtomicU64::new(0),
+            answered: AtomicU64::new(0),
         })
     }
 
@@ -90,12 +94,14 @@ impl Shared {
         }
     }
 
-    /// Notes what a look for an answer showed.
-    pub fn note(&self, look: &Look, now: Moment) {
+    /// Notes what a look for an answer to a request showed, when `sent` had been seen as that was handed over.
+    pub fn note(&self, look: &Look, sent: &Sent, now: Moment) {
         if let Some(sign) = HostSign::of_look(look) {
             self.state.note(sign);
         }
-        self.change_pause(pause_by(look, now, self.heard(), self.times.retry));
+        let answers = self.answered() != sent.answered;
+        let retry = self.times.retry;
+        self.change_pause(pause_by(look, answers, now, self.heard(), retry));
     }
 
     /// Notes that this many echo tests were not answered in time, when something had been read from the host
@@ -124,6 +130,20 @@ impl Shared {
         self.heard.load(Ordering::SeqCst)
     }
 
+    // How many answers were kept.
+    fn answered(&self) -> u64 {
+        self.answered.load(Ordering::SeqCst)
+    }
+
+    /// What has been seen of the host.
+    pub fn seen(&self) -> Sent {
+        Sent {
+            closed_to: self.to.closings(),
+            closed_from: self.from.closings(),
+            answered: self.answered(),
+        }
+    }
+
     /// The next frame to be written; those that are too late are dropped.
     pub fn next_frame<R: Wait>(&self, rt: &R, now: Moment) -> Option<Frame>
         ensures { IfSome result (λ frame. IsTrue (is_timely now.micros frame)) }
@@ -139,12 +159,15 @@ impl Shared {
         self.counters.add_dropped(count);
     }
 
-    /// Puts a message that came into the inbox, if it has a key. The answer to an echo test is dropped.
+    /// Keeps a message that came for the request that it answers. The answer to an echo test is dropped, and what
+    /// answers no request that waits is counted.
     pub fn deliver<R: Wait>(&self, rt: &R, alloc: Global, bytes: Vec<u8>) {
         match came_in(alloc, bytes) {
             Ok(Came::Echo) => {}
-            Ok(Came::Keyed(received)) => {
-                if self.inbox.lock(rt).put(received) {
+            Ok(Came::Keyed(message, received)) => {
+                if self.answers.lock(rt).put(&message, received) {
+                    self.answered.fetch_add(1, Ordering::SeqCst);
+                } else {
                     self.counters.add_late(1);
                 }
             }

@@ -3,6 +3,7 @@
 mod hearing;
 mod reaching;
 mod reporting;
+mod sharing;
 mod stations;
 mod watching;
 mod wires;

@@ -35,12 +35,12 @@ impl<R: Wait + Clock> HostThread<'_, R> {
             match opener.open() {
                 Ok(writer) => {
                     watch.opened(Moment::now(self.rt));
-                    self.shared.to.set(DirectionState::Open);
+                    self.shared.to.opened();
                     self.write_frames(&mut watch, writer);
                 }
                 Err(error) => self.shared.state.note(HostSign::of_error(&error)),
             }
-            self.shared.to.set(DirectionState::Closed);
+            self.shared.to.closed();
             self.shared.drop_frames(self.rt);
         }
     }
@@ -171,14 +171,14 @@ impl<R: Wait> HostThread<'_, R> {
             self.shared.from.await_order(self.rt);
             let sign = match opener.open() {
                 Ok(reader) => {
-                    self.shared.from.set(DirectionState::Open);
+                    self.shared.from.opened();
                     self.read_messages(reader);
                     HostSign::Closed
                 }
                 Err(error) => HostSign::of_error(&error),
             };
             self.shared.state.note(sign);
-            self.shared.from.set(DirectionState::Closed);
+            self.shared.from.closed();
         }
     }
 

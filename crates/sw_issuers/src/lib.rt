@@ -9,6 +9,21 @@
 //!
 //! Whether a message reaches an issuer, and whether an issuer that accepts an advice is heard, is up
 //! to the link: no contract promises either of a link that is not simulated.
+//!
+//! # What is proved
+//!
+//! `Issuer` is the simulated issuer, a `Link`. Its relation `Sends` says which answer is added to those
+//! that wait (`answer_to`: by the last two digits of the amount; advices are accepted). `Receives` says
+//! that the first one is taken. `Sender::send` sends an advice once, over the link of its route if
+//! there is one. It answers true exactly where a message with its key and response code 00 came within
+//! eight receives (`Delivers`, `SendsAdvice`), memory refused after the send aside. `Issuer::receive`
+//! is never refused memory.
+//!
+//! # Decisions
+//!
+//! - `Sender::send` can be out of memory before the message is sent, and none after it.
+//! - The simulated issuer and the sending of advices are a crate of their own, `sw_issuers`, above the
+//!   participants; the messages that participants make, `sw_messages`, are one below them.
 #![tactic(auto)]
 
 mod delivery;

@@ -1,9 +1,10 @@
 //! What lines of JSON are made of, and what they say about a context.
 //!
-//! Promised here, byte by byte, by the definitions in `specs/Json.antt` and `specs/Contexts.antt`:
-//! - [`push_string`] and the members ([`push_text_member`], [`push_number_member`], [`push_flag_member`],
-//!   [`push_texts_member`]) add JSON to a text; a string is ASCII, whatever bytes it is made of;
-//! - [`note_in`] is the value under a name in the context that bytes spell.
+//! # What is proved
+//!
+//! A string and the members of an object are the bytes that `specs/Json.antt` specifies. `note_in` is
+//! the value under a name in the context that bytes spell. Bytes that spell no context have no such
+//! value (`specs/Contexts.antt`).
 #![tactic(auto)]
 
 mod members;

@@ -1,10 +1,8 @@
 -- A moment as a text, in UTC (ISO 8601, extended format, with milliseconds).
 use Rattle.std.specs.Prelude.{◌≡◌, ℕ, ◌+◌, ◌/◌, ◌%◌, pos, List, [], ◌∷◌, ◌++◌, codes, unsigned_abs}
 use Rattle.jiff_core.specs.Date.{epoch_day}
+use Rattle.sw_base.specs.Digits.{two_digits}
 use Rattle.jiff_core.specs.declared.civil.date.Date.{Date}
-
-abbrev pub two_digits : ℕ → List ℕ
-two_digits n = (48 + n / 10) ∷ (48 + n % 10) ∷ []
 
 abbrev pub three_digits : ℕ → List ℕ
 three_digits n = (48 + n / 100) ∷ (48 + n / 10 % 10) ∷ (48 + n % 10) ∷ []

@@ -3,9 +3,10 @@
 ghost use Rattle.std.specs.Prelude.{◌≡◌, ◌/◌, ◌%◌, ◌<◌, pos};
 ghost use Rattle.jiff_core.specs.Date.{epoch_day};
 ghost use Rattle.sw_log.specs.Moments.{IsMoment, clock_text, date_text, four_digits};
-ghost use Rattle.sw_log.specs.Moments.{three_digits, two_digits};
+ghost use Rattle.sw_log.specs.Moments.{three_digits};
 
 use jiff_core::civil::Date;
+use sw_base::two_digits;
 
 /// The milliseconds of a day.
 const DAY: u64 = 86_400_000;
@@ -21,13 +22,6 @@ fn date_of(milliseconds: u64) -> Date
         unreachable!()
     };
     date
-}
-
-fn two_digits(number: u8) -> [u8; 2]
-    requires { number < 100 }
-    ensures { result ≡ two_digits number }
-{
-    [b'0' + number / 10, b'0' + number % 10]
 }
 
 fn three_digits(number: u16) -> [u8; 3]

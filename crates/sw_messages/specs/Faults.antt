@@ -1,4 +1,8 @@
 -- Why a message is not a valid request of the switch, as a function of the message alone.
+--
+-- - *Fault of a request*: the first of format error, invalid
+--   card, invalid amount; an unreadable request is a format error, one of another type an invalid
+--   transaction.
 use Rattle.std.specs.Prelude.{ℕ, Bool, false, ◌==◌, not, nat_lt, List, [], ◌∷◌, length}
 use Rattle.std.specs.Prelude.{Option, Some, None, is_some}
 use Rattle.std.specs.List.{list_all}

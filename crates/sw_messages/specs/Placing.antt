@@ -1,4 +1,7 @@
 -- Values put into a message, and parts put into a text.
+--
+-- - *Placed, copied*: a value put where its field takes it;
+--   the fields of these numbers that are there.
 use Rattle.std.specs.Prelude.{ℕ, List, [], ◌∷◌, ◌++◌, length, take, drop}
 use Rattle.std.specs.Prelude.{Option, Some, None, is_none, if◌then◌else◌}
 use Rattle.iso_msg.specs.Messages.{Fields, value_at, with_value}

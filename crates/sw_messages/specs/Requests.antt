@@ -2,7 +2,11 @@
 -- these entries: `request` (a message's bytes), `rc` (the response code), `auth` (the approval
 -- code), `sent` and `late` (the request went to an issuer, and its answer has not come),
 -- `standin` (the switch approved by itself) and `response`.
-use Rattle.std.specs.Prelude.{ℕ, Bool, false, ◌||◌, List, Option, Some, None, is_none, option_and_then}
+--
+-- - *Request in a context, noted, class, response code*: a
+--   context without `request` carries an unreadable one; a full context stays as it is; six
+--   authorization and reversal types and two network types have a class.
+use Rattle.std.specs.Prelude.{ℕ, Bool, false, ◌||◌, List, Option, Some, None, is_none, option_and_then, is_some}
 use Rattle.std.specs.Prelude.{Result, Ok, Err, if◌then◌else◌, codes}
 use Rattle.std.specs.Str.{bytes_eq}
 use Rattle.iso_msg.specs.Messages.{PlainMessage}
@@ -75,3 +79,7 @@ coded code x = noted x (codes "rc") (digits_of code)
 abbrev pub is_approved : Option (List ℕ) → Bool
 is_approved None = false
 is_approved (Some code) = bytes_eq code (codes "00")
+
+-- the switch approved by itself
+abbrev pub is_stand_in : Pairs → Bool
+is_stand_in x = is_some (find (codes "standin") x)

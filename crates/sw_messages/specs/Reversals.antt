@@ -1,4 +1,8 @@
 -- The reversal of a request.
+--
+-- - *Original data elements, reversal of a request*;
+--   *authorization advice, reversal advice* (`Advices.antt`); *response to a request, its type*
+--   (`Responses.antt`).
 use Rattle.std.specs.Prelude.{ℕ, ◌-◌, List, [], ◌∷◌, ◌++◌, length, replicate, codes}
 use Rattle.std.specs.Prelude.{Option, Some, None}
 use Rattle.iso_msg.specs.Messages.{PlainMessage, value_at}

@@ -11,6 +11,16 @@
 //!   request its response, its reversal, and the advices that issuers get later.
 //!
 //! `specs/` has each of them as a function of the message and the context.
+//!
+//! # What is proved
+//!
+//! What a request is for, why it is refused, and what is made of it: `class_in`, `fault_of`,
+//! `response_to`, `reversal_of`, `authorization_advice` and `reversal_advice` are functions of the
+//! message and the notes in its context.
+//!
+//! # Decisions
+//!
+//! - An amount of 0 is invalid in every request that has field 4, of whatever class.
 #![tactic(auto)]
 
 mod advices;
@@ -29,7 +39,8 @@ pub use build::{copy_fields, put_field, put_part};
 pub use class::{Class, class_of};
 pub use faults::fault_of;
 pub use notes::{
-    APPROVAL, CODE, LATE, REQUEST, RESPONSE, SENT, STAND_IN, class_in, note, note_code, request_in,
+    APPROVAL, CODE, LATE, REQUEST, RESPONSE, SENT, STAND_IN, class_in, is_stand_in, note,
+    note_code, request_in,
 };
 pub use response::{response_to, response_type};
 pub use response_code::{ResponseCode, is_approved};

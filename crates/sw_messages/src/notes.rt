@@ -1,7 +1,7 @@
 //! What is read from a context and noted in it.
 
 ghost use Rattle.std.specs.Prelude.{◌≡◌, IfOk, OnOk, OnErr};
-ghost use Rattle.sw_messages.specs.Requests.{class_in, request_in, noted, coded};
+ghost use Rattle.sw_messages.specs.Requests.{class_in, coded, is_stand_in, noted, request_in};
 
 use crate::class::{Class, class_of};
 use crate::response_code::ResponseCode;
@@ -44,6 +44,13 @@ pub fn request_in(alloc: Global, context: &Context) -> Result<Option<Message>, N
         Err(DecodeError::OutOfMemory) => Err(NoMemory),
         Err(_) => Ok(None),
     }
+}
+
+/// Whether the switch approved the context's request in the issuer's place.
+pub fn is_stand_in(context: &Context) -> bool
+    ensures { result ≡ is_stand_in context.now }
+{
+    context.get(STAND_IN).is_some()
 }
 
 /// What the request that a context carries is for, if it is readable and the switch takes its type. It takes no

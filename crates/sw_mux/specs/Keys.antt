@@ -1,4 +1,9 @@
 -- The key of a message: what its request and its response have in common.
+--
+-- - *Key of a message*: the first three digits of the message type,
+--   field 41, and field 11. The third digit is as a request has it (1 as 0, 3 as 2, 5 as 4).
+--   Field 41 is without outer spaces, padded left with `0` to 16. A message without 41 or 11 has
+--   none.
 use Rattle.std.specs.Prelude.{ℕ, ◌-◌, ◌==◌, List, [], ◌∷◌, ◌++◌, length, take, reverse, replicate}
 use Rattle.std.specs.Prelude.{Option, Some, None, if◌then◌else◌, slice_index}
 use Rattle.iso_msg.specs.Messages.{PlainMessage, value_at}

@@ -1,4 +1,7 @@
 -- The requests that wait.
+--
+-- - *Waiting, due, later*: the list of keys with deadlines; the
+--   filter of those that are due; the others.
 use Rattle.std.specs.Prelude.{◌≡◌, ℕ, Bool, false, not, nat_le, List, [], ◌∷◌, map, filter}
 use Rattle.std.specs.Prelude.{Option, Some, None, is_some, ⊤}
 use Rattle.std.specs.Map.{lookup, remove_entry}

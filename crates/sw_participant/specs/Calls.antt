@@ -1,4 +1,12 @@
 -- What one call of a participant did, by the relations that the participant states.
+--
+-- Participants and stations.
+--
+-- A participant states what contracts see of it, a list of numbers that shows what it keeps (its
+-- object), and a relation for each call. `PerformsCall` is one call: its act names the relation,
+-- and a reply of another kind performs nothing. `shown` shows a value that has a code as numbers,
+-- no two values alike. Of a station contracts see its type of participant, name, count and object
+-- (`type_of`, `name_of`, `calls_of`, `object_of`); `rule_of` is its participant's `PerformsCall`.
 use Rattle.std.specs.Prelude.{◌≡◌, ℕ, List}
 use Rattle.sw_context.specs.Pairs.{Pairs}
 use Rattle.sw_participant.specs.declared.participant.Participant.{Ghosts}

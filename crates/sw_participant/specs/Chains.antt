@@ -1,5 +1,17 @@
 -- Chains of calls: what happened to the stations of a plant, in order, so that their objects join from start to end,
 -- and the contexts of each transaction.
+--
+-- Chains of calls.
+--
+-- A chain is a list of chain items: a transaction began with a context, a participant was called,
+-- everything but the stations stopped. `Chain` says that the items lead from objects and contexts
+-- to others. Each call is one by its participant's rule (`Makes` is one call). It has the object
+-- that its station's last call left, and the context that its transaction's last call left. A
+-- transaction begins only where it has no context, and starts from the one that it began with.
+-- After a stop contexts begin anew with the recovered ones. `outcome_place` is the place of an
+-- outcome call, and of the `recover` before it: the number of members notified before. `Among`
+-- says that some contexts are among others. `counts_after` are the stations' counts, `calls_to`
+-- is the number of calls of one station.
 use Rattle.std.specs.Prelude.{◌≡◌, ℕ, zero, suc, ◌+◌, ◌-◌, ◌^◌, ◌==◌, min, Bool, true, false, List, [], ◌∷◌, Option, Some, None, get_or, slice_set}
 use Rattle.std.specs.Prelude.{if◌then◌else◌}
 use Rattle.sw_context.specs.Pairs.{Pairs}

@@ -1,14 +1,28 @@
 //! Participants of a transaction: what a participant is, what it is handed, what it answers, and the
 //! stations that call it.
 //!
-//! Promised here:
-//! - [`Station::call`] makes the one call that a [`Call`] names, by the relation that the participant
-//!   states for it, and counts it; a call that is refused memory changes nothing and is not counted.
-//! - [`read_answer`] reads an answer byte by one specified rule: a byte with an unknown bit is bad and
-//!   has no bits, and RETRY does not count beside PREPARED.
-//! - A participant that never joins may implement [`Unjoined`]: [`Bystander`] makes a [`Participant`] of it.
-//! - [`Text`], [`Bytes`] and [`Sequence`] are seen by contracts as plain lists, so a clause never
-//!   speaks of capacities or addresses.
+//! # What is proved
+//!
+//! `Station::call` makes the one call that a `Call` names, by the relation that the participant states
+//! for it. The reply is of that call's kind, and the call is counted. A call that is refused memory
+//! leaves object, context, name and count as they were. `Station::new` answers `BadName` for exactly
+//! the invalid names. `call_station` says the same of one of a list of stations, and that the others
+//! stay. Laws of every chain of calls: objects and contexts join, and a transaction begins only where
+//! it has no context (`chains_append`, `chains_widen`, `rules_widen`, `types_decide`, `others_stay`,
+//! `calls_are_counted`). `shown` shows no two values alike (`shown_apart`). `read_answer` gives the
+//! bits of an answer byte by one rule: a byte with an unknown bit is bad and has no bits, and there is
+//! no RETRY beside PREPARED. `Text`, `Bytes` and `Sequence` hold what they were made of, and a `copy`
+//! is equal.
+//!
+//! # Decisions
+//!
+//! - **`Participant: Drop`**, so that a `Box<dyn Participant + Send>` can be dropped.
+//! - **`select` answers a `Text`, `commit` and `abort` an optional `Bytes`** (`AdviceResult`), the
+//!   small types that contracts see as lists. Alternative: `String` and `Vec`, wrapped by the station.
+//! - **A refused `Station::new` drops the participant.** Alternative: it hands the box back.
+//! - **A chain keeps contexts by transaction, not by session.** A transaction begins only where it has
+//!   no context, and its context stays in the chain when it has ended, until a stop. The end of a chain
+//!   is exact; a law lets it go on from fewer contexts.
 #![tactic(auto)]
 
 mod answer;

@@ -1,4 +1,8 @@
 -- What a request asks to hold, and what a reversal names.
+--
+-- - *What a request asks to hold, what a reversal names*: amount,
+--   card and key; the key of the original data elements. *Holds, committed, given back, aborted*
+--   (`Holding.antt`): what becomes of the book.
 use Rattle.std.specs.Prelude.{ℕ, List, ◌++◌, length, take, drop, replicate, Option, Some, None}
 use Rattle.iso_msg.specs.Messages.{PlainMessage, value_at}
 use Rattle.sw_base.specs.Digits.{number_of}

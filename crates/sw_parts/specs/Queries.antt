@@ -1,5 +1,11 @@
 -- What is said of a link whose answers are not known: each send and each receive meets the link's
 -- own relation.
+--
+-- - *Heard*: at most a number of receives, each by the link's own
+--   relation, until a message has the key, none came, or memory was refused to receive or to
+--   read.
+-- - *Unanswered*: a request without an answer stays as it was
+--   sent if a stand-in decides, and is refused with 91 otherwise.
 use Rattle.std.specs.Prelude.{◌≡◌, ◌⊎◌, ℕ, zero, suc, Bool, true, false, List, [], ◌∷◌, Option, Some, None}
 use Rattle.std.specs.Prelude.{if◌then◌else◌, codes}
 use Rattle.std.specs.Str.{bytes_eq}

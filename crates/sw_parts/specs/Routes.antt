@@ -1,4 +1,7 @@
 -- Which group of the flow asks the issuer of a card.
+--
+-- - *Route of a card*: of the prefixes with which the number
+--   begins the longest, the first of equally long ones.
 use Rattle.std.specs.Prelude.{ℕ, nat_lt, nat_eq, List, [], ◌∷◌, length, codes, refl}
 use Rattle.std.specs.Prelude.{Option, Some, None, is_none, if◌then◌else◌}
 use Rattle.std.specs.Coded.{Coded, code_by, coded_ℕ, coded_list, coded×}

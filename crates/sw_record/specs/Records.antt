@@ -5,7 +5,7 @@ use Rattle.iso_mask.specs.Masks.{masked_number}
 use Rattle.iso_msg.specs.Messages.{PlainMessage, value_at}
 use Rattle.sw_base.specs.Digits.{number_of}
 use Rattle.sw_context.specs.Pairs.{Pairs, find}
-use Rattle.sw_messages.specs.Requests.{message_of}
+use Rattle.sw_messages.specs.Requests.{is_stand_in, message_of}
 use Rattle.tx_history.specs.declared.event.Entry.{Entry}
 use Rattle.tx_history.specs.declared.event.Event.{Event}
 use Rattle.tx_history.specs.declared.event.Event.TheVariants.{Taken}
@@ -33,10 +33,6 @@ host_named name = if bytes_eq (take 6 name) (codes "query_") then Some (drop 6 n
 
 abbrev pub host_of : Option (List ℕ) → Option (List ℕ)
 host_of participant = option_and_then host_named participant
-
--- the switch approved in the host's place
-abbrev pub is_stand_in : Pairs → Bool
-is_stand_in x = is_some (find (codes "standin") x)
 
 -- the number that up to twelve digits spell
 abbrev pub short_number : List ℕ → Option ℕ

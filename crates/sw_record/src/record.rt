@@ -1,7 +1,7 @@
 //! The record of a transaction.
 
 ghost use Rattle.std.specs.Prelude.{◌≡◌, IfOk};
-ghost use Rattle.sw_record.specs.Records.{ended_id, host_of, is_stand_in, milliseconds_in, record_after};
+ghost use Rattle.sw_record.specs.Records.{ended_id, host_of, milliseconds_in, record_after};
 ghost use Rattle.sw_record.specs.Records.{course_of_row, record_of, record_taken};
 
 use crate::context::context_in;
@@ -9,7 +9,7 @@ use crate::course::{Course, copy_of};
 use crate::fields::{amount_in, card_in, field_in, message_at, type_in};
 use std::alloc::{AllocError, Global};
 use sw_context::Context;
-use sw_messages::{REQUEST, RESPONSE, STAND_IN, amount_of};
+use sw_messages::{REQUEST, RESPONSE, amount_of, is_stand_in};
 use sw_participant::{Bytes, Text};
 use sw_timed::MILLISECONDS;
 use tx_history::{Entry, Event, Row};
@@ -94,12 +94,6 @@ fn milliseconds_in(context: &Context) -> Option<u64>
         Some(digits) if digits.len() <= 12 => amount_of(digits),
         _ => None,
     }
-}
-
-fn is_stand_in(context: &Context) -> bool
-    ensures { result ≡ is_stand_in context.now }
-{
-    context.get(STAND_IN).is_some()
 }
 
 // The record of a transaction with this course. `tries` is how many tries it had left when it was taken, and `retries`

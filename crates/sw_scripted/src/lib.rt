@@ -3,6 +3,12 @@
 //! Promised here: a [`Scripted`] participant takes each reply from the front of its queue, and an empty
 //! queue gives PREPARED, no group, no advice and nothing to restore (`specs/Scripted.antt`); entries are
 //! put into a context in their order, and one that finds it full is passed over ([`put_all`]).
+//!
+//! # What is proved
+//!
+//! A `Scripted` participant takes each reply from the front of its queue, and likewise the entries that
+//! an answer or a `recover` puts into the context. An empty queue gives PREPARED, no group, no advice
+//! and nothing to restore.
 #![tactic(auto)]
 
 mod participant;

@@ -1,4 +1,8 @@
 -- The numbers of a run, as a function of the contexts that its transactions ended with.
+--
+-- - *Tally*: what was counted of contexts that transactions ended
+--   with. *Line of numbers* (`Line.antt`): its text, of a tally, the messages passed over, the
+--   advices stored and a time.
 use Rattle.std.specs.Prelude.{ℕ, ◌+◌, ◌-◌, ◌^◌, Bool, true, false, List, [], ◌∷◌, Option, Some, None, bytes_eq, codes, if◌then◌else◌, is_some, min}
 use Rattle.std.specs.Prelude.{option_and_then, unwrap_or}
 use Rattle.std.specs.Map.{lookup}
@@ -10,7 +14,7 @@ use Rattle.iso_msg.specs.Messages.{value_at}
 use Rattle.sw_context.specs.Pairs.{Pairs, find}
 use Rattle.sw_messages.specs.declared.class.Class.{Class}
 use Rattle.sw_messages.specs.declared.class.Class.TheVariants.{Authorization, NetworkManagement, Reversal}
-use Rattle.sw_messages.specs.Requests.{class_in, message_of}
+use Rattle.sw_messages.specs.Requests.{is_stand_in, class_in, message_of}
 
 -- Response codes with how often each was given. The codes rise.
 abbrev pub Declined : Type 0
@@ -53,9 +57,6 @@ with_code (Some code) t = if bytes_eq code (codes "00") then record t { approved
 -- field 39 of the response that a context has
 abbrev pub code_of : Pairs → Option (List ℕ)
 code_of x = option_and_then (λ m. value_at 39 m.fields) (message_of (find (codes "response") x))
-
-abbrev pub is_stand_in : Pairs → Bool
-is_stand_in x = is_some (find (codes "standin") x)
 
 abbrev pub is_of_reversal : Option Class → Bool
 is_of_reversal None = false

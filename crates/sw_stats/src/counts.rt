@@ -1,7 +1,7 @@
 //! Counting the contexts of transactions that ended.
 
 ghost use Rattle.std.specs.Prelude.{◌≡◌, IfOk, OnOk, OnErr, is_some, option_map};
-ghost use Rattle.sw_stats.specs.Tallies.{code_of, is_reversal, is_stand_in, no_tally, one_more, with_code};
+ghost use Rattle.sw_stats.specs.Tallies.{code_of, is_reversal, no_tally, one_more, with_code};
 ghost use Rattle.sw_stats.specs.Tallies.{with_context, with_declined, with_delivered};
 
 use iso_codec::{DecodeError, decode};
@@ -9,7 +9,7 @@ use std::alloc::{AllocError, Global};
 use std::collections::BTreeMap;
 use std::marker::Model;
 use sw_context::Context;
-use sw_messages::{Class, RESPONSE, STAND_IN, class_in};
+use sw_messages::{Class, RESPONSE, class_in, is_stand_in};
 
 /// A response code: the two characters of field 39.
 pub(crate) type CodeBytes = [u8; 2];
@@ -72,12 +72,6 @@ fn code_in(alloc: Global, context: &Context) -> Result<Option<CodeBytes>, AllocE
         Ok(code) => Ok(Some(code)),
         Err(_) => unreachable!(),
     }
-}
-
-fn is_stand_in(context: &Context) -> bool
-    ensures { result ≡ is_stand_in context.now }
-{
-    context.get(STAND_IN).is_some()
 }
 
 fn is_reversal(context: &Context) -> bool

@@ -2,6 +2,12 @@
 //!
 //! Of the time a contract knows nothing: a preparation does what the participant by itself does, and then a number may be
 //! noted under `ms` (`specs/Timing.antt`).
+//!
+//! # What is proved
+//!
+//! A participant that is timed prepares as it does by itself, and then a number may be noted under `ms`
+//! (`MayNote`). What it selects, and what it does while a transaction aborts, is as it is by itself. No
+//! contract says that the number is a time, or that one is noted.
 #![tactic(auto)]
 
 ghost use Rattle.std.specs.Prelude.{◌≡◌, ◌⊎◌, IfOk, OnOk};

@@ -1,2 +1,3 @@
+mod Boxes
 mod Echoes
 mod States

@@ -18,5 +18,6 @@ echoes (Some m) = is_echo_answer m
 -- an answer to an echo test, or another message that has a key, or neither
 abbrev pub IsCame : List ℕ → Came → Type 0
 IsCame bytes Echo = echoes (message_of (Some bytes)) ≡ true
-IsCame bytes (Keyed r) = (echoes (message_of (Some bytes)) ≡ false) × (r.bytes.items ≡ bytes)
+IsCame bytes (Keyed m r) =
+    (echoes (message_of (Some bytes)) ≡ false) × (message_of (Some bytes) ≡ Some m) × (r.bytes.items ≡ bytes)
 IsCame bytes Unkeyed = (echoes (message_of (Some bytes)) ≡ false) × (key_in bytes ≡ None)

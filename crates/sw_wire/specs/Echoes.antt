@@ -1,14 +1,11 @@
 -- Echo tests: network management requests with fields 7 (month, day, hour, minute and second, in UTC), 11 and 70.
-use Rattle.std.specs.Prelude.{◌≡◌, ℕ, ◌+◌, ◌/◌, ◌%◌, pos, List, [], ◌∷◌, ◌++◌, Some, codes}
+use Rattle.std.specs.Prelude.{◌≡◌, ℕ, ◌/◌, ◌%◌, pos, List, [], ◌++◌, Some, codes}
 use Rattle.jiff_core.specs.Date.{epoch_day}
 use Rattle.jiff_core.specs.declared.civil.date.Date.{Date}
 use Rattle.iso_codec.specs.Spelling.{spelling}
 use Rattle.iso_msg.specs.Messages.{PlainMessage, with_value}
-use Rattle.sw_base.specs.Digits.{number_of}
+use Rattle.sw_base.specs.Digits.{number_of, two_digits}
 use Rattle.sw_frame.specs.Stream.{Framed}
-
-abbrev pub two_digits : ℕ → List ℕ
-two_digits n = (48 + n / 10) ∷ (48 + n % 10) ∷ []
 
 -- of a date and the seconds of its day
 abbrev pub stamp_of : Date → ℕ → List ℕ

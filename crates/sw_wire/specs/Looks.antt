@@ -1,10 +1,15 @@
 -- What a look for an answer shows.
-use Rattle.std.specs.Prelude.{ℕ, Bool, true, false, Option, Some, None, if◌then◌else◌}
+use Rattle.std.specs.Prelude.{ℕ, ◌==◌, ◌||◌, Bool, true, false, not, Option, Some, None, if◌then◌else◌}
 use Rattle.std.specs.Global.{Vec}
 use Rattle.sw_wire.specs.declared.direction.DirectionState.{DirectionState}
 use Rattle.sw_wire.specs.declared.direction.DirectionState.TheVariants as direction
+use Rattle.sw_wire.specs.declared.sent.Sent.{Sent}
 use Rattle.sw_wire.specs.declared.look.Look.{Look}
-use Rattle.sw_wire.specs.declared.look.Look.TheVariants.{Answer, Closed, Open}
+use Rattle.sw_wire.specs.declared.look.Look.TheVariants.{Answer, Closed, Late, Open}
+
+-- a direction was closed since then, also if it was opened again
+abbrev pub has_closed : Sent → Sent → Bool
+has_closed sent now = not (sent.closed_to == now.closed_to) || not (sent.closed_from == now.closed_from)
 
 -- one of the directions is closed
 abbrev pub is_closed : DirectionState → DirectionState → Bool
@@ -20,6 +25,11 @@ look_of closed None = if closed then Closed else Open
 abbrev pub is_open : Look → Bool
 is_open Open = true
 is_open look = false
+
+abbrev pub is_over : Look → Bool
+is_over Late = true
+is_over Closed = true
+is_over look = false
 
 abbrev pub answer_in : Look → Option (Vec ℕ)
 answer_in (Answer answer) = Some answer

@@ -11,12 +11,13 @@ use Rattle.sw_wire.specs.declared.times.HostTimes.{HostTimes}
 use Rattle.sw_wire.specs.Moments.{later}
 use Rattle.sw_wire.specs.Times.{tests_silence}
 
--- an answer ends it, and it begins where none came in time
-abbrev pub pause_by : Look → ℕ → ℕ → Duration → PauseChange
-pause_by (Answer answer) now heard retry = Ends
-pause_by Late now heard retry = Begins (record { until = record { micros = later now retry }; heard = heard })
-pause_by Closed now heard retry = Stays
-pause_by Open now heard retry = Stays
+-- An answer ends it. It begins where none came in time, unless the host has answered another request since that one was sent.
+abbrev pub pause_by : Look → Bool → ℕ → ℕ → Duration → PauseChange
+pause_by (Answer answer) answers now heard retry = Ends
+pause_by Late answers now heard retry =
+    if answers then Stays else Begins (record { until = record { micros = later now retry }; heard = heard })
+pause_by Closed answers now heard retry = Stays
+pause_by Open answers now heard retry = Stays
 
 -- it begins too where echo tests were not answered in time
 abbrev pub pause_by_tests : Moment → ℕ → HostTimes → PauseChange

@@ -1,7 +1,11 @@
 -- What is done over a way to a host, whatever way that is.
-use Rattle.std.specs.Prelude.{◌≡◌, ◌<◌, ⊤, ℕ, Bool, true, List, Option, Some, None, option_map, if◌then◌else◌}
+use Rattle.std.specs.Prelude.{◌≡◌, ◌<◌, ⊤, ℕ, true, List, Option, Some, None, option_map}
 use Rattle.std.specs.Global.{Vec}
+use Rattle.sw_mux.specs.declared.key.Key.{Key}
+use Rattle.sw_wire.specs.declared.expected.Expected.{Expected}
 use Rattle.sw_wire.specs.declared.frame.Frame.{Frame}
+use Rattle.sw_wire.specs.declared.moment.Moment.{Moment}
+use Rattle.sw_wire.specs.declared.sent.Sent.{Sent}
 use Rattle.sw_wire.specs.declared.look.Look.{Look}
 use Rattle.sw_wire.specs.declared.look.Look.TheVariants.{Answer}
 use Rattle.sw_wire.specs.declared.outgoing.Awaited.{Awaited}
@@ -25,15 +29,31 @@ abbrev pub AnswersLook : Awaited → Look → Type 0
 AnswersLook a (Answer v) = key_in v.items ≡ Some a.key.bytes
 AnswersLook a look = ⊤
 
--- The frame was handed over, if there is one, and the answer is waited for where the frame is on its way.
-abbrev pub HandsOver : (Frame → Bool → Type 0) → Option Outgoing → Option Awaited → Type 0
-HandsOver takes None awaited = awaited ≡ None
-HandsOver takes (Some o) awaited = (taken : Bool) × takes o.frame taken × (awaited ≡ (if taken then o.awaited else None))
+-- the answer to a message with this key is waited for where its frame is on its way
+abbrev pub awaited_of : Option Key → Moment → Option Sent → Option Awaited
+awaited_of (Some k) deadline (Some s) = Some (record { key = k; deadline = deadline; sent = s })
+awaited_of key deadline sent = None
 
--- The message was made a frame with the way's deadline, and that was handed over.
-abbrev pub SendsOver : (ℕ → Type 0) → (Frame → Bool → Type 0) → List ℕ → Option Awaited → Type 0
-SendsOver dates takes message awaited =
-    (deadline : ℕ) × (o : Option Outgoing) × dates deadline × IsOutgoing message deadline o × HandsOver takes o awaited
+abbrev pub key_asked : Option Expected → Option Key
+key_asked expected = option_map (λ e. e.key) expected
+
+-- The frame was handed over with the deadline where the host is asked, and the answer is waited for where it is on its way.
+abbrev pub HandsOver : (Option Key → Frame → Option Sent → Type 0) → Option Moment → Outgoing → Option Awaited → Type 0
+HandsOver takes None o awaited = awaited ≡ None
+HandsOver takes (Some deadline) o awaited =
+    (sent : Option Sent) × takes (key_asked o.expected) (record { bytes = o.bytes; deadline = deadline }) sent
+    × (awaited ≡ awaited_of (key_asked o.expected) deadline sent)
+
+-- It is handed over after the way was entered with the request, if it is one that waits for an answer.
+abbrev pub Enters :
+    (Option Expected → Option Moment → Type 0) → (Option Key → Frame → Option Sent → Type 0) → Option Outgoing → Option Awaited → Type 0
+Enters enters takes None awaited = awaited ≡ None
+Enters enters takes (Some o) awaited = (deadline : Option Moment) × enters o.expected deadline × HandsOver takes deadline o awaited
+
+-- The message was made a frame, and that was handed over.
+abbrev pub SendsOver :
+    (Option Expected → Option Moment → Type 0) → (Option Key → Frame → Option Sent → Type 0) → List ℕ → Option Awaited → Type 0
+SendsOver enters takes message awaited = (o : Option Outgoing) × IsOutgoing message o × Enters enters takes o awaited
 
 -- the look of that number showed nothing yet
 abbrev pub ShowsNothing : (ℕ → Look → Type 0) → ℕ → Type 0

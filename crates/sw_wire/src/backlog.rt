@@ -1,9 +1,9 @@
 //! A box of what waits, from which both boxes of a host are made.
 
-ghost use Rattle.std.specs.Prelude.{◌≡◌, ◌≤◌, ◌<◌, ◌∷◌, ◌++◌, [], List, Bool, drop, length};
-ghost use Rattle.std.specs.Prelude.{nat_le, IfOk, IfSome, IsTrue};
+ghost use Rattle.std.specs.Prelude.{◌≡◌, ◌≤◌, ◌<◌, ◌∷◌, ◌++◌, [], List, Bool, length};
+ghost use Rattle.std.specs.Prelude.{is_some, nat_le, IfOk, IfSome, IsTrue};
 ghost use Rattle.std.specs.VecDeque.{deque_len, deque_capacity};
-ghost use Rattle.sw_wire.specs.Boxes.{first_of, after_first, before_first};
+ghost use Rattle.sw_wire.specs.Boxes.{first_of, after_first, before_first, place_of, without_first};
 
 use std::alloc::{AllocError, Global};
 use std::collections::VecDeque;
@@ -79,11 +79,35 @@ impl<T: Drop> Backlog<T> {
         };
     }
 
-    /// Drops the oldest, if there is one.
-    pub fn drop_oldest(&mut self)
-        ensures { self.new ≡ drop 1 self.old }
+    // Where the first that is looked for stands; how many wait if none is.
+    fn place_of<P: Picks<T>>(&self, wanted: &P) -> usize
+        ensures { result ≡ place_of (P.picks wanted.now) self.now }
     {
-        let _ = self.held.pop_front();
+        for place in 0..self.held.len() {
+            match self.held.get(place) {
+                Some(item) if wanted.picks(item) => return place,
+                _ => {}
+            }
+        }
+        self.held.len()
+    }
+
+    /// Takes the first that is looked for; the others stay.
+    pub fn take_one<P: Picks<T>>(&mut self, wanted: &P) -> Option<T>
+        ensures picked { IfSome result (λ item. IsTrue (P.picks wanted.now item)) }
+        ensures taken { result ≡ first_of (P.picks wanted.now) self.old }
+        ensures left { self.new ≡ without_first (P.picks wanted.now) self.old }
+    {
+        let place = self.place_of(wanted);
+        self.held.remove(place)
+    }
+
+    /// Whether one is looked for.
+    pub fn has<P: Picks<T>>(&self, wanted: &P) -> bool
+        ensures { result ≡ is_some (first_of (P.picks wanted.now) self.now) }
+    {
+        let place = self.place_of(wanted);
+        self.held.get(place).is_some()
     }
 
     /// Takes the first that is looked for. Those before it are dropped; if none is looked for, all

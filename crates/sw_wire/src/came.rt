@@ -15,8 +15,8 @@ use sw_participant::NoMemory;
 pub enum Came {
     /// The answer to an echo test.
     Echo,
-    /// Another message that has a key.
-    Keyed(Received),
+    /// Another message that has a key, and it with its bytes.
+    Keyed(Message, Received),
     /// Bytes that are not a message, or a message without a key.
     Unkeyed,
 }
@@ -41,7 +41,7 @@ pub fn came_in(alloc: Global, bytes: Vec<u8>) -> Result<Came, NoMemory>
         return Ok(Came::Echo);
     }
     match key_of(&message) {
-        Some(key) => Ok(Came::Keyed(Received::new(key, bytes))),
+        Some(key) => Ok(Came::Keyed(message, Received::new(key, bytes))),
         None => Ok(Came::Unkeyed),
     }
 }

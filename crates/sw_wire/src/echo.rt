@@ -6,12 +6,13 @@ ghost use Rattle.iso_msg.specs.Messages.{with_value};
 ghost use Rattle.iso_msg.specs.Values.{refusal};
 ghost use Rattle.jiff_core.specs.Date.{epoch_day};
 ghost use Rattle.sw_base.specs.Digits.{is_digit, number_of};
-ghost use Rattle.sw_wire.specs.Echoes.{IsEcho, IsStamp, echo_message, stamp_of, two_digits};
+ghost use Rattle.sw_wire.specs.Echoes.{IsEcho, IsStamp, echo_message, stamp_of};
 
 use iso_codec::encode;
 use iso_msg::{Message, MessageError, Mti};
 use jiff_core::civil::Date;
 use std::alloc::Global;
+use sw_base::two_digits;
 use sw_frame::{FrameError, frame};
 use sw_participant::NoMemory;
 
@@ -30,14 +31,6 @@ fn date_of(seconds: u64) -> Date
         unreachable!()
     };
     date
-}
-
-fn two_digits(number: u8) -> [u8; 2]
-    requires { number < 100 }
-    ensures shown { result ≡ two_digits number }
-    ensures digits { list_all is_digit result ≡ true }
-{
-    [b'0' + number / 10, b'0' + number % 10]
 }
 
 // Month, day, hour, minute and second.

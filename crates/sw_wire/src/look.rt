@@ -1,7 +1,7 @@
 //! A look for an answer.
 
 ghost use Rattle.std.specs.Prelude.{◌≡◌};
-ghost use Rattle.sw_wire.specs.Looks.{answer_in, is_closed, is_open, look_of};
+ghost use Rattle.sw_wire.specs.Looks.{answer_in, is_closed, is_open, is_over, look_of};
 
 use crate::direction::DirectionState;
 
@@ -52,6 +52,13 @@ impl Look {
         ensures { result ≡ is_open self.now }
     {
         matches!(self, Look::Open)
+    }
+
+    /// Whether no answer came, and none is waited for any more.
+    pub fn is_over(&self) -> bool
+        ensures { result ≡ is_over self.now }
+    {
+        matches!(self, Look::Late | Look::Closed)
     }
 
     /// The answer, if it is one.

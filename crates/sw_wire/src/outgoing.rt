@@ -1,15 +1,17 @@
 //! What a message becomes when it is sent.
 
-ghost use Rattle.std.specs.Prelude.{◌≡◌, IfOk};
+ghost use Rattle.std.specs.Prelude.{◌≡◌, option_map, IfOk};
 ghost use Rattle.sw_wire.specs.Framing.{IsFrameOf};
-ghost use Rattle.sw_wire.specs.Outgoings.{IsOutgoing};
+ghost use Rattle.sw_wire.specs.Outgoings.{ExpectedFor, IsOutgoing};
 
-use crate::frame::Frame;
+use crate::expected::Expected;
 use crate::moment::Moment;
-use crate::received::key_in;
+use crate::received::read_message;
+use crate::sent::Sent;
+use iso_msg::Message;
 use std::alloc::Global;
 use sw_frame::{FrameError, frame};
-use sw_mux::Key;
+use sw_mux::{Key, key_of};
 use sw_participant::NoMemory;
 
 /// The answer that is waited for.
@@ -19,32 +21,45 @@ pub struct Awaited {
     pub key: Key,
     /// The moment from which nobody waits for it.
     pub deadline: Moment,
+    /// What had been seen of the host when the message was sent.
+    pub sent: Sent,
 }
 
-/// The frame of a message, and the answer that is waited for once it is on its way; a message without
-/// a key has none.
+/// The frame of a message, and the message as a request that waits for its answer, if it has a key.
 pub struct Outgoing {
-    pub frame: Frame,
-    pub awaited: Option<Awaited>,
+    /// The length in four digits, and the message.
+    pub bytes: Vec<u8>,
+    pub expected: Option<Expected>,
 }
 
 // Written out, so that no caller proves again how its parts are dropped.
 impl Drop for Outgoing {
     fn drop(self) {
         let Outgoing {
-            frame: _,
-            awaited: _,
+            bytes: _,
+            expected: _,
         } = self;
     }
 }
 
 impl Outgoing {
-    /// Its frame.
-    pub fn into_frame(self) -> Frame
-        ensures { result ≡ self.frame }
+    /// The key of the message, if it has one.
+    pub fn key(&self) -> Option<Key>
+        ensures { result ≡ option_map (λ e. e.key) self.now.expected }
     {
-        let Outgoing { frame, awaited: _ } = self;
-        frame
+        match &self.expected {
+            Some(expected) => Some(expected.key),
+            None => None,
+        }
+    }
+
+    /// Its parts.
+    pub fn into_parts(self) -> (Vec<u8>, Option<Expected>)
+        ensures bytes { result.0 ≡ self.bytes }
+        ensures expected { result.1 ≡ self.expected }
+    {
+        let Outgoing { bytes, expected } = self;
+        (bytes, expected)
     }
 }
 
@@ -59,21 +74,26 @@ fn frame_of(alloc: Global, message: &[u8]) -> Result<Option<Vec<u8>>, NoMemory>
     }
 }
 
-/// What a message becomes when it is sent, if nobody waits for its answer from the deadline on; `None`
-/// if it is too long for a frame.
-pub fn outgoing_of(
-    alloc: Global,
-    message: &[u8],
-    deadline: Moment,
-) -> Result<Option<Outgoing>, NoMemory>
-    ensures { IfOk result (IsOutgoing message.now deadline.micros) }
+// A message as a request that waits for its answer; `None` if it has no key.
+fn expected_of(message: Message) -> Option<Expected>
+    ensures { ExpectedFor message result }
 {
-    let key = key_in(alloc, message)?;
-    let Some(bytes) = frame_of(alloc, message)? else {
-        return Ok(None);
+    match key_of(&message) {
+        Some(key) => Some(Expected::new(key, message)),
+        None => None,
+    }
+}
+
+/// What a message becomes when it is sent; `None` if it is too long for a frame.
+pub fn outgoing_of(alloc: Global, message: &[u8]) -> Result<Option<Outgoing>, NoMemory>
+    ensures { IfOk result (IsOutgoing message.now) }
+{
+    let expected = match read_message(alloc, message)? {
+        Some(message) => expected_of(message),
+        None => None,
     };
-    Ok(Some(Outgoing {
-        frame: Frame { bytes, deadline },
-        awaited: key.map(|key| Awaited { key, deadline }),
-    }))
+    match frame_of(alloc, message)? {
+        Some(bytes) => Ok(Some(Outgoing { bytes, expected })),
+        None => Ok(None),
+    }
 }

@@ -29,12 +29,13 @@ pub enum PauseChange {
 }
 
 /// What a look for an answer makes of the pause: an answer ends it, and one that did not come in time begins
-/// it anew.
-pub fn pause_by(look: &Look, now: Moment, heard: u64, retry: Duration) -> PauseChange
-    ensures { result ≡ pause_by look.now now.micros heard retry }
+/// it anew, unless the host has answered others since that request was sent (`answers`).
+pub fn pause_by(look: &Look, answers: bool, now: Moment, heard: u64, retry: Duration) -> PauseChange
+    ensures { result ≡ pause_by look.now answers now.micros heard retry }
 {
     match look {
         Look::Answer(_) => PauseChange::Ends,
+        Look::Late if answers => PauseChange::Stays,
         Look::Late => PauseChange::Begins(Pause {
             until: now.after(retry),
             heard,

@@ -1,13 +1,13 @@
 //! What a host sent.
 
-ghost use Rattle.std.specs.Prelude.{◌≡◌, IfOk, option_map, Some};
+ghost use Rattle.std.specs.Prelude.{◌≡◌, IfOk, Some};
 ghost use Rattle.sw_messages.specs.Requests.{message_of};
 ghost use Rattle.sw_wire.specs.Keyed.{key_in};
 
 use iso_codec::{DecodeError, decode};
 use iso_msg::Message;
 use std::alloc::Global;
-use sw_mux::{Key, key_of};
+use sw_mux::Key;
 use sw_participant::NoMemory;
 
 /// A message that has a key.
@@ -34,17 +34,6 @@ pub fn read_message(alloc: Global, bytes: &[u8]) -> Result<Option<Message>, NoMe
         Ok(message) => Ok(Some(message)),
         Err(DecodeError::OutOfMemory) => Err(NoMemory),
         Err(_) => Ok(None),
-    }
-}
-
-/// The key of the message whose bytes these are; `None` if they are not a message, or one without a
-/// key.
-pub fn key_in(alloc: Global, bytes: &[u8]) -> Result<Option<Key>, NoMemory>
-    ensures { IfOk result (λ key. option_map (λ k. k.bytes) key ≡ key_in bytes.now) }
-{
-    match read_message(alloc, bytes)? {
-        Some(message) => Ok(key_of(&message)),
-        None => Ok(None),
     }
 }
 

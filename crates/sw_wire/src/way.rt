@@ -1,39 +1,50 @@
 //! The way to a host and back, as a link goes it.
 
-ghost use Rattle.std.specs.Prelude.{ℕ, Bool, IfOk, IfSome};
+ghost use Rattle.std.specs.Prelude.{◌≡◌, ℕ, Option, IfOk, IfSome};
+ghost use Rattle.sw_mux.specs.declared.key.Key.{Key};
+ghost use Rattle.sw_wire.specs.declared.expected.Expected.{Expected};
 ghost use Rattle.sw_wire.specs.declared.frame.Frame.{Frame};
 ghost use Rattle.sw_wire.specs.declared.look.Look.{Look};
+ghost use Rattle.sw_wire.specs.declared.moment.Moment.{Moment};
 ghost use Rattle.sw_wire.specs.declared.outgoing.Awaited.{Awaited};
+ghost use Rattle.sw_wire.specs.declared.sent.Sent.{Sent};
 ghost use Rattle.sw_wire.specs.Ways.{AnswersLook, AnswersTo, KeyedFor, ReceivesOver, SeesLast, SendsOver};
+ghost use Rattle.sw_wire.specs.Ways.{awaited_of};
 
+use crate::expected::Expected;
 use crate::frame::Frame;
 use crate::look::Look;
 use crate::moment::{Moment, Naps};
 use crate::outgoing::{Awaited, outgoing_of};
+use crate::sent::Sent;
 use std::alloc::Global;
+use sw_mux::Key;
 use sw_participant::NoMemory;
 
 /// The way to a host and back. What is done over it is proved for every way: no contract says anything of
 /// the threads of a host.
 pub trait Way {
-    /// The moment that it gives, in microseconds.
-    ghost dates: { Self → ℕ → Type 0 };
+    /// A request that is to wait for its answer, or a message without one, and the deadline if the host is asked.
+    ghost enters: { Self → Option Expected → Option Moment → Type 0 };
 
-    /// A frame that it was handed, and whether it took it.
-    ghost takes: { Self → Frame → Bool → Type 0 };
+    /// The key and the frame that it was handed, and what had been seen of the host if it took the frame.
+    ghost takes: { Self → Option Key → Frame → Option Sent → Type 0 };
 
     /// What its look of that number showed of an answer that is waited for.
     ghost shows: { Self → Awaited → ℕ → Look → Type 0 };
 
-    /// The moment from which nobody waits for the answer to a message that is sent now.
-    fn deadline(&self) -> Moment
-        ensures { dates self.now result.micros };
+    /// Has a request wait for its answer, after those with its key, and has the directions opened. Returns the moment
+    /// from which nobody waits for the answer; `None` if the host is not asked, and then the request does not wait.
+    fn enter(&self, expected: Option<Expected>) -> Option<Moment>
+        ensures { enters self.now expected result };
 
-    /// Hands a frame to the host's thread; returns whether the frame is on its way.
-    fn send(&self, frame: Frame) -> bool
-        ensures { takes self.now frame result };
+    /// Hands a frame to the host's thread; `None` if the frame is not on its way, and then the request with the key
+    /// waits no more.
+    fn send(&self, key: Option<Key>, frame: Frame) -> Option<Sent>
+        ensures { takes self.now key frame result };
 
-    /// Looks for an answer. The looks for one answer are numbered from 0, for contracts only.
+    /// Looks for an answer. The looks for one answer are numbered from 0, for contracts only. After one that shows
+    /// that none comes the request waits no more.
     fn look(&self, awaited: &Awaited, number: u64) -> Look
         ensures shown { shows self.now awaited.now number result }
         ensures keyed { AnswersLook awaited.now result };
@@ -42,27 +53,42 @@ pub trait Way {
     fn nap(&self, naps: &mut Naps);
 }
 
+// The answer that is waited for once a frame is on its way; a message without a key has none.
+fn awaited_of(key: Option<Key>, deadline: Moment, sent: Option<Sent>) -> Option<Awaited>
+    ensures { result ≡ awaited_of key deadline sent }
+{
+    match (key, sent) {
+        (Some(key), Some(sent)) => Some(Awaited {
+            key,
+            deadline,
+            sent,
+        }),
+        _ => None,
+    }
+}
+
 /// Sends a message, and returns the answer to wait for. No answer is waited for if the message is too long
-/// for a frame, if it has no key, or if its frame is not on its way. Out of memory comes before anything is
-/// sent.
+/// for a frame, if it has no key, if the host is not asked, or if its frame is not on its way. Out of memory comes
+/// before anything is sent.
 pub fn send_over<W: Way>(
     way: &W,
     alloc: Global,
     message: &[u8],
 ) -> Result<Option<Awaited>, NoMemory>
-    ensures sent { IfOk result (SendsOver (W.dates way.now) (W.takes way.now) message.now) }
+    ensures sent { IfOk result
+        (SendsOver (W.enters way.now) (W.takes way.now) message.now) }
     ensures waits { IfOk result (KeyedFor message.now) }
 {
-    let deadline = way.deadline();
-    let Some(outgoing) = outgoing_of(alloc, message, deadline)? else {
+    let Some(outgoing) = outgoing_of(alloc, message)? else {
         return Ok(None);
     };
-    let awaited = outgoing.awaited;
-    if way.send(outgoing.into_frame()) {
-        Ok(awaited)
-    } else {
-        Ok(None)
-    }
+    let key = outgoing.key();
+    let (bytes, expected) = outgoing.into_parts();
+    let Some(deadline) = way.enter(expected) else {
+        return Ok(None);
+    };
+    let sent = way.send(key, Frame { bytes, deadline });
+    Ok(awaited_of(key, deadline, sent))
 }
 
 // Looks until there is more to be seen than nothing yet.

@@ -3,6 +3,12 @@
 //!
 //! What `sqlite_disk` asks of a disk holds of both. They begin as the disks that they are over
 //! ([`pair`]), and give these back ([`Once::into_inner`]). No contract says which call fails.
+//!
+//! # What is proved
+//!
+//! Two disks whose calls are counted together, for tests: one call fails, once or with all that follow.
+//! They keep the kit's clauses of a disk. No contract says which call fails. `pair` gives two disks
+//! over those handed in, with nothing refused yet, and `into_inner` gives each back.
 #![tactic(auto)]
 
 ghost use Rattle.std.specs.Prelude.{◌≡◌, ◌+◌, ◌&&◌, not, false, IfOk, IsErr};

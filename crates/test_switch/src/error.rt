@@ -1,6 +1,6 @@
 //! Why the program ends early.
 
-use cli_io::{ReadError, WriteError};
+use cli_io::IoError;
 use cli_script::ScriptError;
 use cli_step::StepError;
 use journal_store::JournalError;
@@ -19,8 +19,6 @@ pub enum TestError {
     #[error("a statement of the input was refused")]
     Sql,
     #[error("{0}")]
-    Read(#[from] ReadError),
-    #[error("{0}")]
     Script(#[from] ScriptError),
     #[error("{0}")]
     Step(#[from] StepError),
@@ -36,8 +34,8 @@ pub enum TestError {
     Lost,
     #[error("a run was still cut after so many calls")]
     Endless,
-    #[error("writing the output: {0}")]
-    Write(#[from] WriteError),
+    #[error("{0}")]
+    Io(#[from] IoError),
     #[error("out of memory")]
     OutOfMemory(#[from] AllocError),
 }
@@ -51,7 +49,7 @@ impl fmt::Debug for TestError {
 
 impl From<io::Error> for TestError {
     fn from(error: io::Error) -> TestError {
-        TestError::Write(WriteError::from(error))
+        TestError::Io(IoError::from_write(error))
     }
 }
 

@@ -1,6 +1,6 @@
 //! The lines that the program adds to those of a script.
 
-use cli_io::WriteError;
+use cli_io::IoError;
 use std::io::Write;
 use sw_participant::Station;
 use tx_history::JournalView;
@@ -15,8 +15,8 @@ fn run_line<W: Write>(calls: &[u64], out: &mut W) -> std::io::Result<()> {
 }
 
 /// `run CALLS[ CALLS]`
-pub fn write_run<W: Write>(calls: &[u64], out: &mut W) -> Result<(), WriteError> {
-    Ok(run_line(calls, out)?)
+pub fn write_run<W: Write>(calls: &[u64], out: &mut W) -> Result<(), IoError> {
+    run_line(calls, out).map_err(IoError::from_write)
 }
 
 fn view_line<W: Write>(word: &str, view: &JournalView, out: &mut W) -> std::io::Result<()> {
@@ -36,15 +36,15 @@ fn view_line<W: Write>(word: &str, view: &JournalView, out: &mut W) -> std::io::
 }
 
 /// `WORD NEXTID[ row ID PHASE ..][ shelf ID ..][ advice ID PLACE ..]`
-pub fn write_view<W: Write>(word: &str, view: &JournalView, out: &mut W) -> Result<(), WriteError> {
-    Ok(view_line(word, view, out)?)
+pub fn write_view<W: Write>(word: &str, view: &JournalView, out: &mut W) -> Result<(), IoError> {
+    view_line(word, view, out).map_err(IoError::from_write)
 }
 
 /// `calls NAME COUNT` for each station.
-pub fn write_calls<W: Write>(stations: &[Station], out: &mut W) -> Result<(), WriteError> {
+pub fn write_calls<W: Write>(stations: &[Station], out: &mut W) -> Result<(), IoError> {
     for station in stations {
         let (name, count) = (station.name(), station.calls());
-        writeln!(out, "calls {name} {count}")?;
+        writeln!(out, "calls {name} {count}").map_err(IoError::from_write)?;
     }
-    Ok(out.flush()?)
+    out.flush().map_err(IoError::from_write)
 }

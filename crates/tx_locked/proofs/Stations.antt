@@ -12,6 +12,7 @@ use Rattle.tx_locked.specs.declared.station.MadeCall.{MadeCall}
 use Rattle.tx_locked.specs.Linked.{Linked, count_up}
 use Rattle.tx_locked.specs.AllStations.{AllBack, AllLinked, AllThere, AreCalls, AreReady, IsReady, calls_at, is_at}
 use Rattle.tx_locked.proofs.Calls.{one_out}
+use Rattle.sw_base.proofs.Lists.{get_last}
 
 pub there_more : (n : ℕ) (ms : List MadeCall) (m : MadeCall) → AllThere n ms → m.call.participant < n → AllThere n (ms ++ m ∷ [])
 there_more n [] m a h = (h, tt)
@@ -122,10 +123,6 @@ names_back {S} {L} rule os cs ns object count name calls ss ls n a =
         get_or_past (map name ss) k [] m ∙ sym (get_or_past ns k [] j)
 
 -- the last station, and those before it
-
-get_last : {A : Type 0} (xs : List A) (x : A) → slice_get (xs ++ x ∷ []) (length xs) ≡ Some x
-get_last [] x = refl
-get_last (y ∷ xs) x = get_last xs x
 
 get_more : {A : Type 0} (xs : List A) (x y : A) (k : ℕ) → slice_get xs k ≡ Some y → slice_get (xs ++ x ∷ []) k ≡ Some y
 get_more [] x y k h = absurd (cc)

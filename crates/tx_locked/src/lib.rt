@@ -1,6 +1,15 @@
 //! What the threads of a pool have under their locks, as values: the engine with its ledger of receipts, the stations
 //! with the calls that they made, and what is compared once all threads have ended. Nothing here starts a thread or
 //! takes a lock.
+//!
+//! # What is proved
+//!
+//! What is under the engine's lock is what a list of steps left since the run began (`Locked`,
+//! `Since`). What was got from the intake was offered, in order. The ledger counts the entries of
+//! sessions, and the calls are those whose replies were recorded. A station's log is a chain of its own
+//! calls (`StationLog`). `are_calls`, `are_same` and `are_all_own` answer true only where the calls,
+//! the entries and the receipts agree. No contract says that they do so always: a body that answers
+//! false gives up each run, which tests see.
 #![tactic(auto)]
 
 mod comparing;

@@ -1,4 +1,15 @@
 -- What whole lists of items lead to, without the table's states.
+--
+-- Whole lists.
+--
+-- These do without the table's phases:
+--
+-- - `saved_in` is the context of the last answer without READONLY, or the starting one.
+-- - `told_in` is the number of tolds, `calls_in` the number of answers and choices.
+-- - `joined_in` are the participants of the answers without NO_JOIN, in order, once per answer.
+--
+-- Only the table says whose preparation was due at an answer, so `joined_in` walks along it.
+-- `IsProper` has the bounds of every state that a lawful list leads to.
 use Rattle.std.specs.Prelude.{◌≡◌, ℕ, ◌+◌, ◌≤◌, List, [], ◌∷◌, ◌++◌, length, Bool, true, ◌&&◌, if◌then◌else◌}
 use Rattle.sw_participant.specs.Answers.{stays_out}
 use Rattle.flow_model.specs.declared.flow.Flow.{Flow}

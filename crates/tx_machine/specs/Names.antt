@@ -1,4 +1,10 @@
 -- The names in a selector's text (jPOS: the groups that `GroupSelector.select` gives).
+--
+-- A selector's text.
+--
+-- `names_of`: the longest runs without space and comma, in order. `chosen f text` (in
+-- `Table.antt`): the entries of the groups that the first 16 names name, in the order of the
+-- names; an unknown name gives none.
 use Rattle.std.specs.Prelude.{ℕ, Bool, false, not, ◌==◌, ◌||◌, List, [], ◌∷◌, if◌then◌else◌}
 
 -- a space or a comma separates names

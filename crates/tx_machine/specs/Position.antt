@@ -1,4 +1,16 @@
 -- What a step and a stack represent: what is still to come.
+--
+-- The machine.
+--
+-- `upcoming_at f step`: what is to come from a step on, up to the end of its group: its entries,
+-- a selection that stands first before them. The frames of the stack are the selections under
+-- way: each leads to the entries of the groups that it has not entered, then to what is upcoming
+-- at the step that it goes back to. `tx_state f m` is the state that a machine represents: its
+-- `rest` is what is upcoming at its step, then that of its stack. `IsSound` says that step and
+-- stack are of this flow, that a call is due or nothing is to come, and that there were at most
+-- 1,000 answers and choices. `TakesItem` is what becomes of an item that a machine is given. It
+-- is taken exactly where it is due, and otherwise refused as NotDue. Out of memory comes last,
+-- and a refusal changes nothing.
 use Rattle.std.specs.Prelude.{◌≡◌, ℕ, ◌+◌, ◌<◌, List, [], ◌∷◌, ◌++◌, length, map, drop, Some, slice_get}
 use Rattle.std.specs.List.{flat_map, All}
 use Rattle.flow_model.specs.declared.flow.Flow.{Flow}

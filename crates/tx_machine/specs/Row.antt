@@ -1,4 +1,10 @@
 -- The journal's row of a transaction: what a restart finds of one that is not finished.
+--
+-- The journal's row.
+--
+-- `row_of`: phase, members, number notified, the participant of a due preparation (`doing`),
+-- tries and saved context of a transaction that has not ended; none after its end. `IsRow` has
+-- its bounds.
 use Rattle.std.specs.Prelude.{◌≡◌, ℕ, ◌<◌, ◌≤◌, List, length, Option, Some, None}
 use Rattle.std.specs.List.{All}
 use Rattle.flow_model.specs.declared.flow.Flow.{Flow}

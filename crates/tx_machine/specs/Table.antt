@@ -1,5 +1,40 @@
 -- The specified table: what one transaction's own items lead to (jPOS: `TransactionManager`, its
 -- prepare, prepareForAbort, commit and abort). It knows no steps, addresses or stacks.
+--
+-- The specified table.
+--
+-- A `TxState` is where a transaction is. It has a phase (preparing, aborting, committing,
+-- undoing) and a `rest`: what is upcoming, an entry to prepare, or a selector that has been
+-- prepared and is to select. It also has the kept RETRY, whether the bound was met, the number of
+-- answers and choices, the members, how many were notified, the saved context and the tries left.
+--
+-- An item is an answer (byte, context), a choice (text) or a told (advice or none). `next` is
+-- what one item leads to:
+--
+-- | Phase | First of the rest | Item | Then |
+-- |---|---|---|---|
+-- | preparing | entry, `prepare` is due | answer with PREPARED | the selection of a selector, then the tail |
+-- | preparing | the same | answer without PREPARED | aborting, its RETRY is kept; the rest likewise |
+-- | aborting | abort-aware entry, `prepare_for_abort` is due | any answer | aborting; the rest likewise |
+-- | preparing, aborting | selection, `select` is due | choice | the chosen entries, then the tail |
+-- | committing, undoing | a member is due | told | the next member |
+--
+-- After each item (`advanced`), before anything is due, three rules apply in this order:
+--
+-- 1. While aborting, entries that are not abort-aware are passed over (`passed`). A selector's
+--    selection stays.
+-- 2. After 1,000 answers and choices, a rest that is not empty is dropped, and the transaction
+--    aborts without retry (`limited`).
+-- 3. With an empty rest and members, preparing becomes committing, and aborting becomes undoing
+--    (`decided`).
+--
+-- `opening` is the state before the first item: the entries of `main`; `reopening` that of a
+-- transaction that the journal has. `after` folds `next` over a list, `after_newest` over a list
+-- that has the newest item first (`Bounds.antt`). `due_of` (`Due.antt`) is the call or the end
+-- that a state leads to, with the step of the call. An entry's step is `call_step`, a selection's
+-- the one after it. An abort with RETRY kept and tries left ends by `shelve`; every other end is
+-- `done`. `is_due` says whether an item of that kind is the reply to the due call; `is_lawful`
+-- (`Lists.antt`) says it of a whole list.
 use Rattle.std.specs.Prelude.{ℕ, ◌+◌, ◌==◌, Bool, true, false, not, ◌&&◌, List, [], ◌∷◌, ◌++◌, length, map, take, nat_lt, if◌then◌else◌, codes}
 use Rattle.std.specs.List.{flat_map}
 use Rattle.sw_participant.specs.Answers.{is_prepared, asks_retry, stays_out, is_readonly}

@@ -1,4 +1,34 @@
 //! A pool: the sessions of a plant as threads (jPOS: the sessions of a `TransactionManager`).
+//!
+//! # What is proved
+//!
+//! `Pool::run` runs all sessions of a plant, each in a thread of its own, over the contexts that a
+//! source gives, until the source has ended and nothing is left to do. A thread of its own reads the
+//! source, and the calling thread writes the journal, all unwritten entries in one transaction. A run
+//! that ends well is a list of turns of the plant, all of them done (`drove`), so everything that is
+//! proved of `drive` holds of it, the outcome law among it (`outcome_run::runs_are_drives`). The
+//! stations' calls are chains of their own relations, from the objects that were handed in; names stay,
+//! and the calls are counted. The history is the one before with more lawful entries (`grown`). What
+//! was offered is what the source gave, in order, each once; the source has ended, with a list that it
+//! may end with (`offered`, `whole`). Nothing waits at the end, every session is idle, and all is
+//! written (`settled`, `written`). The receipts of each session are the numbers of exactly its own
+//! entries of the run, and `finished` and `shelved` count the transactions that ended (`reports`).
+//! `Early` refusals are exact, but for out of memory, and hand the plant back as it was (`allowed`,
+//! `refused`). `Late` gives up a run, and has a journal and stations.
+//!
+//! No contract says when a run is `Late`, that its journal and stations are those that were handed in,
+//! what that journal holds, or that a run ends where a participant or the source does not return. Nor
+//! does one say that threads run at once, that the engine's lock is free during a call, that the source
+//! is read as room becomes free, or who is next: `test_threads` tests these.
+//!
+//! # Decisions
+//!
+//! - **An offer's entry does not wake the keeper**, since no session waits for it. It is written with
+//!   the entries that follow.
+//! - **All memory that handing back needs is taken before the threads start**, so journal and stations
+//!   can always be handed back.
+//! - **Where no thread can be started the run is `Late`, out of memory**, since the threads that
+//!   started must end first.
 #![tactic(auto)]
 
 mod attending;

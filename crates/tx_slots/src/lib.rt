@@ -1,6 +1,16 @@
 //! What an engine keeps: for each session a slot with the machine of its transaction; the call that is
 //! due to it; what a reply adds; the slots that rows of the journal become again; the entries and the
 //! queue; the shelf and the advices.
+//!
+//! # What is proved
+//!
+//! The parts of an engine: a session's slot with the machine of its transaction (`slot_for`), and the
+//! call that is due to it with the `recover` call before an outcome (`next_at`, `at_slot`,
+//! `restored_by`). The entry that a reply becomes, with the row, shelf item and advice that it changes
+//! (`make_ready`). A copy of the machine after a reply that is due (`after_answer`, `after_choice`,
+//! `after_told`). The machine of a journalled row and the first row with members still to be notified
+//! (`reopened`, `next_slot`). The entries and the queue with memory reserved for offers (`Lists`);
+//! shelf and advices are put both or neither (`put_both`).
 #![tactic(auto)]
 
 mod maps;

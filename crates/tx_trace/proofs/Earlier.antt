@@ -20,6 +20,7 @@ use Rattle.tx_trace.specs.declared.tracer.Tracer.{Tracer}
 use Rattle.tx_trace.specs.Trace.{Text}
 use Rattle.tx_trace.specs.Lines.{at_number, json_in, json_text, line_in, line_of, line_text}
 use Rattle.tx_trace.specs.Follow.{Follows, IsNext, earlier}
+use Rattle.sw_base.proofs.Lists.{get_last}
 
 pub earlier_all : (past : List Event) (n : ℕ) → length past ≤ n → earlier n past ≡ past
 earlier_all [] n h = refl
@@ -49,10 +50,6 @@ length_entries f v (e ∷ past) =
     let sum : length (entries f v past ++ record { number = length past + 1; event = e; change = change f v (e ∷ past) } ∷ []) ≡ length (entries f v past) +
     1 = length-append (entries f v past) _ in
     omega arith
-
-get_last : {A : Type 0} (xs : List A) (x : A) → slice_get (xs ++ x ∷ []) (length xs) ≡ Some x
-get_last [] x = refl
-get_last (y ∷ xs) x = get_last xs x
 
 -- the entry after the first n, and what there is of it
 pub record Nth (f : Flow) (v : Start) (past : List Event) (n : ℕ) : Type 0 where

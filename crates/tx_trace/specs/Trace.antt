@@ -1,4 +1,9 @@
 -- The text of the trace: the line of an entry, by what it shows.
+--
+-- The trace.
+--
+-- `step_text` is the line of an event that leads from one state to the next:
+-- [TRACE](../use/TRACE.md) has it in words.
 use Rattle.std.specs.Prelude.{ℕ, Bool, List, [], ◌∷◌, ◌++◌, codes, if◌then◌else◌, ◌/◌, ◌%◌, ◌+◌, nat_lt, slice_get, take, map, filter, is_some, length, Option}
 use Rattle.std.specs.Prelude.{Some, None, false}
 use Rattle.std.specs.Borrow.{Bor}

@@ -10,16 +10,16 @@ use std::thread;
 use std::time::{Duration, Instant};
 use sw_parts::Link;
 
-// Whether the link receives this message.
-fn hears(link: &mut HostLink, message: &[u8]) -> Result<bool, Fail> {
+/// Whether the link receives this message.
+pub fn hears(link: &mut HostLink, message: &[u8]) -> Result<bool, Fail> {
     Ok(match link.receive()? {
         Some(bytes) => bytes.as_slice() == message,
         None => false,
     })
 }
 
-// Whether the link receives nothing, and says so within five seconds, long before the deadline.
-fn hears_nothing(rt: HostRuntime, link: &mut HostLink) -> Result<bool, Fail> {
+/// Whether the link receives nothing, and says so within five seconds, long before the deadline.
+pub fn hears_nothing(rt: HostRuntime, link: &mut HostLink) -> Result<bool, Fail> {
     let start = Instant::now(&rt)?;
     let heard = link.receive()?;
     Ok(heard.is_none() && start.elapsed(&rt)? < Duration::from_secs(5))

@@ -10,7 +10,8 @@ returns-in_err-sight-clause-failed g c =
 pub returns-in_err-print-clause-failed : goal.returns-in_err-print-clause-failed
 returns-in_err-print-clause-failed g c =
     let error = err_from_is_err_and c.from_residual-in_err-print.result c.from_residual-in_err-print.ensures.1 in
-    rw (error.1, error.2) (unwritten c.args.options.now _ _ c.in_ok-sight.sight c.in_err-print.field-0.0 c.in_ok-sight.ensures.sight c.print.ensures.beginning)
+    rw (error.1, error.2) (unwritten c.args.options.now _ _ c.in_ok-sight.sight c.in_err-print.field-0.0 c.in_err-print.ensures.writing
+    c.in_ok-sight.ensures.sight c.print.ensures.beginning)
 
 pub returns-in-Beside-clause-failed : goal.returns-in-Beside-clause-failed
 returns-in-Beside-clause-failed g c =

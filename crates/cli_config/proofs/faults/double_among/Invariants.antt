@@ -1,6 +1,6 @@
 use Rattle.std.proofs.Common.{◌≡◌, drop}
 use Rattle.sw_base.specs.Refusals.{first_at}
-use Rattle.cli_config.specs.Tables.{views}
+use Rattle.toml_tables.specs.Tables.{views}
 use Rattle.cli_config.specs.Faults.{double}
 use Rattle.cli_config.proofs.faults.double_among.Given as goal
 

@@ -1,5 +1,5 @@
 use Rattle.std.proofs.Common.{◌≡◌, drop}
-use Rattle.cli_config.specs.Tables.{views}
+use Rattle.toml_tables.specs.Tables.{views}
 use Rattle.cli_config.specs.Faults.{is_taken}
 use Rattle.cli_config.proofs.faults.is_taken.Given as goal
 

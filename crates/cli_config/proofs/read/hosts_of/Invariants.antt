@@ -1,5 +1,5 @@
 use Rattle.std.proofs.Common.{◌≡◌, map, take}
-use Rattle.cli_config.specs.Tables.{views}
+use Rattle.toml_tables.specs.Tables.{views}
 use Rattle.cli_config.specs.ConfigFile.{host_of}
 use Rattle.cli_config.proofs.read.hosts_of.Given as goal
 

@@ -1,7 +1,5 @@
-use Rattle.std.specs.Bool.{⊤}
-use Rattle.std.proofs.lemmas.Result.{err_from_is_err_and}
 use Rattle.cli_step.proofs.Joining.{grows_none}
-use Rattle.cli_step.proofs.Prompting.{beginning_grows, write_fault}
+use Rattle.cli_step.proofs.Prompting.{beginning_grows}
 use Rattle.cli_step.proofs.prompt.show_word.Goals as goal
 
 pub returns-in_err-text-clause-grows : goal.returns-in_err-text-clause-grows
@@ -9,11 +7,6 @@ returns-in_err-text-clause-grows g c = grows_none _
 
 pub returns-in_err-write_out-clause-grows : goal.returns-in_err-write_out-clause-grows
 returns-in_err-write_out-clause-grows g c = beginning_grows _ _ _ c.write_out.ensures.beginning
-
-pub returns-in_err-write_out-clause-fault : goal.returns-in_err-write_out-clause-fault
-returns-in_err-write_out-clause-fault g c =
-    let error = err_from_is_err_and c.from_residual-in_err-write_out.result c.from_residual-in_err-write_out.ensures.1 in
-    rw (error.1, error.2) (write_fault ⊤ c.in_err-write_out.field-0.0)
 
 pub returns-clause-grows : goal.returns-clause-grows
 returns-clause-grows g c = (_, c.in_ok-write_out.ensures.written)

@@ -1,7 +1,8 @@
 use Rattle.std.proofs.Common.{◌≡◌, drop, length}
 use Rattle.toml.specs.View.{items_view}
 use Rattle.flow_toml.specs.Reads.{each}
-use Rattle.flow_toml.specs.FlowFile.{entry_of, tables_in}
+use Rattle.flow_toml.specs.FlowFile.{entry_of}
+use Rattle.toml_tables.specs.Tables.{tables_in}
 use Rattle.flow_toml.proofs.ItemLoop.{with_front}
 use Rattle.flow_toml.proofs.read.read_entries.Given as goal
 

@@ -1,7 +1,8 @@
 use Rattle.std.proofs.Common.{◌≡◌, drop, length}
 use Rattle.toml.specs.View.{items_view}
 use Rattle.flow_toml.specs.Reads.{each}
-use Rattle.flow_toml.specs.FlowFile.{group_of, tables_in}
+use Rattle.flow_toml.specs.FlowFile.{group_of}
+use Rattle.toml_tables.specs.Tables.{tables_in}
 use Rattle.flow_toml.proofs.ItemLoop.{with_front}
 use Rattle.flow_toml.proofs.read.read_groups.Given as goal
 

@@ -9,6 +9,6 @@ returns-in_default g c = unwanted (lines_in c.args.engine.now) _ _ _ _ _ _ c.in_
 pub returns-in-Ok : goal.returns-in-Ok
 returns-in-Ok g c = lines_told (lines_in c.args.engine.now) c.in-Some.form _ _ _ _ _ _ _ c.in-Some.is c.in-Ok.ensures.lines
 
-pub returns-in-Err-Write : goal.returns-in-Err-Write
-returns-in-Err-Write g c = lines_lost (lines_in c.args.engine.now) c.in-Some.form _ _ _ _ _ _ _ _ c.in-Some.is refl
+pub returns-in-Err-Io : goal.returns-in-Err-Io
+returns-in-Err-Io g c = lines_lost (lines_in c.args.engine.now) c.in-Some.form _ _ _ _ _ _ _ _ c.in-Some.is refl
     c.write_lines_as.ensures.beginning
