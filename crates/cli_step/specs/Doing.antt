@@ -3,7 +3,6 @@ use Rattle.std.specs.Prelude.{◌≡◌, ℕ, ◌<◌, ⊤, Bool, true, false, L
 use Rattle.sqlite_trees.specs.declared.store.Store.{Ghosts}
 use Rattle.sw_participant.specs.Chains.{counts_after}
 use Rattle.sw_participant.specs.Stations.{calls_of, name_of}
-use Rattle.journal_store.specs.Kept.{kept}
 use Rattle.sw_scripted.specs.Puts.{put_all}
 use Rattle.sw_scripted.specs.declared.puts.Put.{Put}
 use Rattle.cli_script.specs.declared.line.Action.{Action}
@@ -15,8 +14,9 @@ use Rattle.tx_plant.specs.declared.turn.Outcome.TheVariants as outcome
 use Rattle.tx_plant.specs.declared.turn.Turn.{Turn}
 use Rattle.tx_plant.specs.declared.turn.Turn.TheVariants as turn
 use Rattle.tx_plant.specs.declared.plant.Plant.{Plant}
-use Rattle.tx_plant.specs.Plant.{Turned, Whole, seen, whole}
+use Rattle.tx_plant.specs.Plant.{Turned, Whole}
 use Rattle.tx_plant.specs.Steps.{Moved}
+use Rattle.tx_plant.specs.Wholes.{stations_of, whole_at}
 use Rattle.tx_trace.specs.Follow.{count_of}
 use Rattle.tx_trace.specs.declared.tracer.Tracer.{Tracer}
 use Rattle.tx_trace.specs.Trace.{Text}
@@ -54,9 +54,9 @@ pub record Point : Type 0 where
 
 abbrev pub point_of : {S : Type 0} {I : Type 0} {D : I → Type 0} → Ghosts S → Plant S I D → Point
 point_of g p = record {
-  plant = whole p.running.engine p.running.seats (seen (kept g p.journal));
-  names = map name_of p.stations.items;
-  calls = map calls_of p.stations.items;
+  plant = whole_at g p;
+  names = map name_of (stations_of p);
+  calls = map calls_of (stations_of p);
 }
 
 abbrev pub world_of : Point → World

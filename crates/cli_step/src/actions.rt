@@ -4,6 +4,7 @@ ghost use Rattle.std.specs.Prelude.{◌≡◌, IfOk, OnErr, OnOk, string_bytes};
 ghost use Rattle.tx_trace.specs.Follow.{Follows};
 ghost use Rattle.cli_step.specs.Doing.{Adds, Says, offer_of, point_of, session_of, turn_of};
 ghost use Rattle.cli_step.specs.Runs.{Acts, IsLeft};
+ghost use Rattle.tx_plant.specs.Wholes.{engine_of};
 
 use crate::auto::auto;
 use crate::error::ActionError;
@@ -70,12 +71,12 @@ fn run_turn<S: Alter>(
     s: usize,
     text: &mut String,
 ) -> Result<(), ActionError>
-    requires { Follows plant.old.running.engine tracer.old }
+    requires { Follows (engine_of plant.old) tracer.old }
     ensures says { OnOk result (Adds (λ more. Says turn s
         (point_of S.Store plant.old) more (point_of S.Store plant.new))
         (string_bytes text.old) (string_bytes text.new)) }
     ensures failed { OnErr result (string_bytes text.new ≡ string_bytes text.old) }
-    ensures follows { OnOk result (Follows plant.new.running.engine tracer.new) }
+    ensures follows { OnOk result (Follows (engine_of plant.new) tracer.new) }
 {
     let outcome = do_turn(alloc, plant, tracer, turn)?;
     push_turn(alloc, plant.engine(), tracer, s, &outcome, text)
@@ -90,13 +91,13 @@ pub fn run_action<S: Alter>(
     action: &Action,
     text: &mut String,
 ) -> Result<(), ActionError>
-    requires { Follows plant.old.running.engine tracer.old }
+    requires { Follows (engine_of plant.old) tracer.old }
     ensures acts { OnOk result (Adds (λ more. Acts action.now
         (point_of S.Store plant.old) more (point_of S.Store plant.new))
         (string_bytes text.old) (string_bytes text.new)) }
     ensures failed { OnErr result (Adds (IsLeft action.now)
         (string_bytes text.old) (string_bytes text.new)) }
-    ensures follows { OnOk result (Follows plant.new.running.engine tracer.new) }
+    ensures follows { OnOk result (Follows (engine_of plant.new) tracer.new) }
 {
     match turn_of(alloc, action)? {
         Some(turn) => run_turn(alloc, plant, tracer, turn, session_of(action), text),

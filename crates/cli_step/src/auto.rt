@@ -2,6 +2,7 @@
 
 ghost use Rattle.std.specs.Prelude.{◌≡◌, ⊤, IfOk, OnErr, OnOk, string_bytes};
 ghost use Rattle.tx_plant.specs.declared.turn.Outcome.{Outcome as AnOutcome};
+ghost use Rattle.tx_plant.specs.Wholes.{engine_of};
 ghost use Rattle.tx_trace.specs.Follow.{Follows};
 ghost use Rattle.cli_step.specs.Auto.{Autos, Quietly, Round, ToEnd, is_accepted, is_idle, is_refused};
 ghost use Rattle.cli_step.specs.Doing.{Adds, point_of};
@@ -44,12 +45,12 @@ fn quiet_turn<S: Alter>(
     turn: Turn,
     text: &mut String,
 ) -> Result<(), ActionError>
-    requires { Follows plant.old.running.engine tracer.old }
+    requires { Follows (engine_of plant.old) tracer.old }
     ensures quietly { OnOk result (Adds (λ more. Quietly turn
         (point_of S.Store plant.old) more (point_of S.Store plant.new))
         (string_bytes text.old) (string_bytes text.new)) }
     ensures failed { OnErr result (string_bytes text.new ≡ string_bytes text.old) }
-    ensures follows { OnOk result (Follows plant.new.running.engine tracer.new) }
+    ensures follows { OnOk result (Follows (engine_of plant.new) tracer.new) }
 {
     let outcome = do_turn(alloc, plant, tracer, turn)?;
     if !is_refused(&outcome) {
@@ -65,13 +66,13 @@ fn auto_step<S: Alter>(
     tracer: &mut Tracer,
     text: &mut String,
 ) -> Result<bool, ActionError>
-    requires { Follows plant.old.running.engine tracer.old }
+    requires { Follows (engine_of plant.old) tracer.old }
     ensures round { IfOk result (λ more. (o : AnOutcome) × (is_accepted o ≡ more)
         × Adds (λ t. Round o (point_of S.Store plant.old) t (point_of S.Store plant.new))
         (string_bytes text.old) (string_bytes text.new)) }
     ensures failed { OnErr result
         (Adds (λ more. ⊤) (string_bytes text.old) (string_bytes text.new)) }
-    ensures follows { OnOk result (Follows plant.new.running.engine tracer.new) }
+    ensures follows { OnOk result (Follows (engine_of plant.new) tracer.new) }
 {
     quiet_turn(alloc, plant, tracer, Turn::Write(None), text)?;
     let outcome = do_turn(alloc, plant, tracer, Turn::Step(0))?;
@@ -91,13 +92,13 @@ pub fn auto<S: Alter>(
     tracer: &mut Tracer,
     text: &mut String,
 ) -> Result<(), ActionError>
-    requires { Follows plant.old.running.engine tracer.old }
+    requires { Follows (engine_of plant.old) tracer.old }
     ensures autos { OnOk result (Adds (λ more.
         Autos (point_of S.Store plant.old) more (point_of S.Store plant.new))
         (string_bytes text.old) (string_bytes text.new)) }
     ensures failed { OnErr result
         (Adds (λ more. ⊤) (string_bytes text.old) (string_bytes text.new)) }
-    ensures follows { OnOk result (Follows plant.new.running.engine tracer.new) }
+    ensures follows { OnOk result (Follows (engine_of plant.new) tracer.new) }
 {
     let context = Context::new(alloc);
     quiet_turn(alloc, plant, tracer, Turn::Offer(context), text)?;

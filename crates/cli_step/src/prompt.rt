@@ -13,6 +13,7 @@ ghost use Rattle.tx_trace.specs.Trace.{Text};
 ghost use Rattle.cli_script.specs.declared.error.ScriptError.TheVariants as script;
 ghost use Rattle.cli_step.specs.PromptWords.{prompt_word_text};
 ghost use Rattle.cli_step.specs.Runs.{Grows};
+ghost use Rattle.tx_plant.specs.Wholes.{engine_of};
 
 use crate::error::StepError;
 use crate::prompt_words::{PromptWord, prompt_word_at, prompt_word_text};
@@ -168,13 +169,13 @@ pub fn answer<S: Alter, W: Write, E: Write>(
     out: &mut W,
     err: &mut E,
 ) -> Result<(), StepError>
-    requires follows { Follows plant.old.running.engine tracer.old }
+    requires follows { Follows (engine_of plant.old) tracer.old }
     requires some { line.now ≢ [] }
     requires few { before + length line.now < 2 ^ 64 }
     ensures answers { OnOk result (Answers line.now
         (scene (point_of S.Store plant.old) (W.contents out.old) (E.contents err.old))
         (scene (point_of S.Store plant.new) (W.contents out.new) (E.contents err.new))) }
-    ensures follows { OnOk result (Follows plant.new.running.engine tracer.new) }
+    ensures follows { OnOk result (Follows (engine_of plant.new) tracer.new) }
     ensures grows_out { Grows (W.contents out.old) (W.contents out.new) }
     ensures grows_err { Grows (E.contents err.old) (E.contents err.new) }
     ensures fault { IfErr result (IsFaultOf ⊤) }
@@ -204,7 +205,7 @@ pub fn talk<R: Read, S: Alter, W: Write, E: Write>(
     out: &mut W,
     err: &mut E,
 ) -> Result<(), StepError>
-    requires { Follows plant.old.running.engine tracer.old }
+    requires { Follows (engine_of plant.old) tracer.old }
     ensures talked { OnOk result (IfSome (to_come R.remaining lines.old) (λ input.
         Talked last.items input
         (scene (point_of S.Store plant.old) (W.contents out.old) (E.contents err.old))

@@ -10,6 +10,7 @@ ghost use Rattle.cli_step.specs.Doing.{point_of};
 ghost use Rattle.cli_step.specs.Prompts.{IsFaultOf, is_of_sessions};
 ghost use Rattle.cli_step.specs.Runs.{Grows, IsLineFailed, IsOfJournal, IsRun, IsUnwritten, IsWriting, PlayedOn};
 ghost use Rattle.cli_step.specs.Runs.{Ran, RanAll, RunsLine, Stopped};
+ghost use Rattle.tx_plant.specs.Wholes.{engine_of};
 
 use crate::actions::run_action;
 use crate::cast::{Cast, own_participant};
@@ -66,13 +67,13 @@ pub fn run_line<S: Alter, W: Write>(
     line: usize,
     out: &mut W,
 ) -> Result<(), StepError>
-    requires { Follows plant.old.running.engine tracer.old }
+    requires { Follows (engine_of plant.old) tracer.old }
     ensures ran { OnOk result (RunsLine action
         (point_of S.Store plant.old) (W.contents out.old)
         (point_of S.Store plant.new) (W.contents out.new)) }
     ensures failed { IfErr result (IsLineFailed action
         (point_of S.Store plant.old) (W.contents out.old) (W.contents out.new) line) }
-    ensures follows { OnOk result (Follows plant.new.running.engine tracer.new) }
+    ensures follows { OnOk result (Follows (engine_of plant.new) tracer.new) }
 {
     let mut text = String::new(alloc);
     let ran = run_action(alloc, plant, tracer, &action, &mut text);
@@ -88,12 +89,12 @@ pub fn run_actions<S: Alter, W: Write>(
     actions: &mut Actions<'_>,
     out: &mut W,
 ) -> Result<(), StepError>
-    requires { Follows plant.old.running.engine tracer.old }
+    requires { Follows (engine_of plant.old) tracer.old }
     ensures ran { OnOk result (Ran actions.old actions.new
         (point_of S.Store plant.old) (W.contents out.old)
         (point_of S.Store plant.new) (W.contents out.new)) }
     ensures all { OnOk result (actions.new.rest.now ≡ []) }
-    ensures follows { OnOk result (Follows plant.new.running.engine tracer.new) }
+    ensures follows { OnOk result (Follows (engine_of plant.new) tracer.new) }
     ensures stopped { IfErr result (λ e. Stopped actions.old
         (point_of S.Store plant.old) (W.contents out.old) e (W.contents out.new)) }
 {
@@ -150,7 +151,7 @@ fn run_rest<R: Read, S: Alter, W: Write>(
     lines: &mut Lines<R>,
     out: &mut W,
 ) -> Result<(), StepError>
-    requires { Follows plant.old.running.engine tracer.old }
+    requires { Follows (engine_of plant.old) tracer.old }
     ensures ran { OnOk result (IfSome (to_come R.remaining lines.old) (λ bytes. RanAll bytes
         (point_of S.Store plant.old) (W.contents out.old)
         (point_of S.Store plant.new) (W.contents out.new))) }

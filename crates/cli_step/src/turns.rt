@@ -3,6 +3,7 @@
 ghost use Rattle.std.specs.Prelude.{◌≡◌, IfOk, OnOk, false};
 ghost use Rattle.tx_trace.specs.Follow.{Follows};
 ghost use Rattle.cli_step.specs.Doing.{Does, IsAhead, is_fresh, point_of};
+ghost use Rattle.tx_plant.specs.Wholes.{engine_of};
 
 use sqlite::Alter;
 use std::alloc::Global;
@@ -16,11 +17,11 @@ fn drive_one<S: Alter>(
     tracer: &Tracer,
     turn: Turn,
 ) -> Result<Outcome, PlantError>
-    requires { Follows plant.old.running.engine tracer.now }
+    requires { Follows (engine_of plant.old) tracer.now }
     ensures does { IfOk result (λ o.
         Does turn o (point_of S.Store plant.old) (point_of S.Store plant.new)) }
     ensures follows { IfOk result (λ o.
-        is_fresh o ≡ false → Follows plant.new.running.engine tracer.now) }
+        is_fresh o ≡ false → Follows (engine_of plant.new) tracer.now) }
     ensures ahead { IfOk result (λ o. IsAhead tracer.now o) }
 {
     tracers_go_on();
@@ -47,10 +48,10 @@ pub fn do_turn<S: Alter>(
     tracer: &mut Tracer,
     turn: Turn,
 ) -> Result<Outcome, PlantError>
-    requires { Follows plant.old.running.engine tracer.old }
+    requires { Follows (engine_of plant.old) tracer.old }
     ensures does { IfOk result (λ o.
         Does turn o (point_of S.Store plant.old) (point_of S.Store plant.new)) }
-    ensures follows { OnOk result (Follows plant.new.running.engine tracer.new) }
+    ensures follows { OnOk result (Follows (engine_of plant.new) tracer.new) }
     ensures ahead { IfOk result (λ o. IsAhead tracer.new o) }
 {
     let outcome = drive_one(alloc, plant, tracer, turn)?;

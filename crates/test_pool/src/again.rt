@@ -1,6 +1,7 @@
 //! Runs that may be refused memory, and what goes on after one was given up.
 
 ghost use Rattle.tx_plant.specs.Plant.{IsEngine};
+ghost use Rattle.tx_plant.specs.Wholes.{engine_of};
 
 use crate::error::TestError;
 use crate::runs::offers_of;
@@ -68,7 +69,7 @@ pub fn run_again<G: Gate + Sync, R: Threads + Wait + Sync>(
     offers: usize,
     gate: &G,
 ) -> Result<End, TestError>
-    requires { IsEngine plant.running.engine }
+    requires { IsEngine (engine_of plant) }
 {
     let mut plant = plant;
     for _ in 0..TRIES {

@@ -1,6 +1,7 @@
 //! The runs of a plant, until nothing is on its shelf.
 
 ghost use Rattle.tx_plant.specs.Plant.{IsEngine};
+ghost use Rattle.tx_plant.specs.Wholes.{engine_of};
 
 use crate::error::TestError;
 use journal_store::Journal;
@@ -57,7 +58,7 @@ fn run_one<G: Gate + Sync, R: Threads + Wait + Sync>(
     capacity: usize,
     gate: &G,
 ) -> Result<(Plant<MemStore>, Ran), TestError>
-    requires { IsEngine plant.running.engine }
+    requires { IsEngine (engine_of plant) }
 {
     let from = plant.engine().history().len();
     match Pool::run(rt, alloc, plant, source, capacity, gate) {
@@ -72,7 +73,7 @@ fn run_one<G: Gate + Sync, R: Threads + Wait + Sync>(
 
 // Acknowledges all advices, releases the shelf, and writes it all.
 fn release(alloc: Global, plant: &mut Plant<MemStore>) -> Result<(), TestError>
-    requires { IsEngine plant.old.running.engine }
+    requires { IsEngine (engine_of plant.old) }
 {
     let mut turns = Vec::new(alloc);
     for ((id, place), _) in plant.engine().advices() {
@@ -102,7 +103,7 @@ pub fn run_all<G: Gate + Sync, R: Threads + Wait + Sync>(
     capacity: usize,
     gate: &G,
 ) -> Result<(Plant<MemStore>, Vec<Ran>), TestError>
-    requires { IsEngine plant.running.engine }
+    requires { IsEngine (engine_of plant) }
 {
     let mut runs = Vec::new(alloc);
     let (mut plant, first) = run_one(rt, alloc, plant, offers, capacity, gate)?;

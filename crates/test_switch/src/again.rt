@@ -6,6 +6,7 @@
 //! journal's store a new plant goes on, over what the store has.
 
 ghost use Rattle.tx_plant.specs.Plant.{IsEngine};
+ghost use Rattle.tx_plant.specs.Wholes.{engine_of};
 
 use crate::error::TestError;
 use cli_io::write_whole;
@@ -124,7 +125,7 @@ fn session_of(turns: &[Turn]) -> usize {
 
 // Does one turn.
 fn drive(alloc: Global, plant: &mut Plant<MemStore>, turn: &[Turn]) -> Result<Outcome, Refused>
-    requires { IsEngine plant.old.running.engine }
+    requires { IsEngine (engine_of plant.old) }
 {
     match plant.drive(alloc, turn) {
         Ok(outcomes) => match outcomes.into_iter().next() {
@@ -141,7 +142,7 @@ fn drive_again(
     plant: &mut Plant<MemStore>,
     turn: &[Turn],
 ) -> Result<Option<Outcome>, TestError>
-    requires { IsEngine plant.old.running.engine }
+    requires { IsEngine (engine_of plant.old) }
 {
     for _ in 0..TRIES {
         plant.engine_is_sound();
@@ -164,7 +165,7 @@ fn drive_rest<W: Write>(
     done: &mut usize,
     out: &mut W,
 ) -> Result<bool, TestError>
-    requires { IsEngine plant.old.running.engine }
+    requires { IsEngine (engine_of plant.old) }
 {
     for at in *done..turns.len() {
         *done = at;

@@ -1,6 +1,7 @@
 //! What a plant does until its journal refuses.
 
 ghost use Rattle.tx_plant.specs.Plant.{IsEngine};
+ghost use Rattle.tx_plant.specs.Wholes.{engine_of};
 
 use crate::error::TestError;
 use crate::lines::write_view;
@@ -69,7 +70,7 @@ pub fn finish<S: Alter, W: Write>(
     plant: &mut Plant<S>,
     out: &mut W,
 ) -> Result<bool, TestError>
-    requires { IsEngine plant.old.running.engine }
+    requires { IsEngine (engine_of plant.old) }
 {
     write_view("found", plant.engine().opened(), out)?;
     let done = plant.recover(alloc);

@@ -1,5 +1,6 @@
 use Rattle.std.proofs.Common.{◌∙◌, [], None, append-nil, string_bytes, sym}
 use Rattle.tx_plant.specs.declared.turn.Turn.TheVariants as turn
+use Rattle.tx_plant.specs.Wholes.{engine_of}
 use Rattle.cli_step.proofs.Adding.{adds_then, idle_ends, idle_text, told_text}
 use Rattle.cli_step.specs.Auto.{Quietly, Steps}
 use Rattle.cli_step.specs.Doing.{point_of}
@@ -17,7 +18,7 @@ returns-then-is_idle-clause-round g c =
       o,
       idle_ends o idle,
       adds_then (Quietly (turn.Write None)) (Steps o) p w q (string_bytes c.args.text.now) text text c.in_ok-quiet_turn.ensures.quietly
-          ([], (c.in_ok-outcome.ensures.does, idle_text c.do_turn.new.plant.running.engine o idle), sym (append-nil text)),
+          ([], (c.in_ok-outcome.ensures.does, idle_text (engine_of c.do_turn.new.plant) o idle), sym (append-nil text)),
     )
 
 pub returns-clause-round : goal.returns-clause-round
@@ -27,7 +28,7 @@ returns-clause-round g c =
     let q = point_of g.S.Store c.do_turn.new.plant in
     let o = c.in_ok-outcome.outcome in
     let idle = sym c.is_idle.ensures ∙ c.if-is_idle.false in
-    let world = c.do_turn.new.plant.running.engine in
+    let world = engine_of c.do_turn.new.plant in
     let line = rw c.engine.ensures at c.in_ok-push_turn.ensures.line in (
       o,
       sym c.is_accepted.ensures,

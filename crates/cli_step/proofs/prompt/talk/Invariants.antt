@@ -5,10 +5,11 @@ use Rattle.cli_step.specs.Doing.{point_of}
 use Rattle.cli_step.specs.Prompts.{scene}
 use Rattle.cli_step.specs.Runs.{Grows}
 use Rattle.cli_step.proofs.prompt.talk.Given as goal
+use Rattle.tx_plant.specs.Wholes.{engine_of}
 
 abbrev pub invariant-loop-last : goal.invariant-loop-last
 invariant-loop-last g l = record {
-  follows : Follows l.plant.running.engine l.tracer;
+  follows : Follows (engine_of l.plant) l.tracer;
   talked : TalksTo l.fn.last.items l.last.items (to_come g.R.Read.remaining l.fn.lines) (to_come g.R.Read.remaining l.lines)
       (scene (point_of g.S.Store l.fn.plant) (g.W.Write.contents l.fn.out) (g.E.Write.contents l.fn.err))
       (scene (point_of g.S.Store l.plant) (g.W.Write.contents l.out) (g.E.Write.contents l.err));
