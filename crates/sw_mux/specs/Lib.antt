@@ -1,5 +1,5 @@
 pub mod Keys
-pub mod WaitingKeys
+pub mod Waiting
 pub mod Outcomes
 pub mod Numbered
 pub mod Times

@@ -8,7 +8,7 @@ mod Acks
 mod FilledMaps
 mod Closings
 pub mod Turns
-pub mod GivesEvent
+pub mod Gives
 pub mod Opens
 mod Restores
 mod Unknown
