@@ -1,5 +1,5 @@
 pub mod Rest
 pub mod Errors
 pub mod Disks
-pub mod FoundJournal
+pub mod Found
 pub mod Copied
