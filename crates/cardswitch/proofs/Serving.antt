@@ -1,5 +1,5 @@
 -- Runs that were served to their end.
--- for: requests::serve
+-- for: requests::run_over
 use Rattle.std.proofs.Common.{◌≡◌, ℕ, Bool, List, Option, Some, None, Ok, IfSome}
 use Rattle.flow_model.specs.declared.flow.Flow.{Flow}
 use Rattle.sw_issuers.specs.Sending.{PlainSender}

@@ -69,10 +69,12 @@ mod journal_file;
 mod journals;
 mod log_file;
 mod looking;
+mod machine;
 mod program;
 mod requests;
 mod steps;
 
+use crate::machine::Machine;
 use cli_io::IoError;
 use cli_options::OptionsError;
 use cli_options::command_line::options;
@@ -106,7 +108,12 @@ fn main(rt: HostRuntime) -> ExitCode {
         Ok(options) => {
             let input = rt.stdin();
             let options = options.at_terminal(input.is_terminal());
-            program::run(&rt, alloc, &rt, &options, input, &mut out, &mut err)
+            let machine = Machine {
+                threads: &rt,
+                rt: &rt,
+                alloc,
+            };
+            program::run(&machine, &options, input, &mut out, &mut err)
         }
         Err(error) => refuse(alloc, &error, &mut out, &mut err),
     })

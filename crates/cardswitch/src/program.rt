@@ -15,6 +15,7 @@ use crate::checking::check;
 use crate::error::RunError;
 use crate::flow_file::flow_at;
 use crate::looking::look_into;
+use crate::machine::Machine;
 use crate::requests::{answer_requests, recover};
 use crate::steps::step;
 use cli_decode::decode_stream;
@@ -35,21 +36,13 @@ use std::time::Clock;
 
 /// Runs a subcommand, and gives the exit status: 0 if it is done, and otherwise that of the error, which is
 /// reported. What it prints goes to `out`, and the error's text to `err`. Files that the options name are opened
-/// through `rt`, and sessions run as threads by `threads`.
+/// and sessions run as threads by the machine.
 pub fn run<
     T: Threads + Wait + Clock + Sync + Clone + Drop + Send + 'static,
     R: Read + Drop,
     O: Write,
     E: Write,
->(
-    threads: &T,
-    alloc: Global,
-    rt: &HostRuntime,
-    options: &Options<'_>,
-    input: R,
-    out: &mut O,
-    err: &mut E,
-) -> u8
+>(machine: &Machine<'_, T>, options: &Options<'_>, input: R, out: &mut O, err: &mut E) -> u8
     ensures quiet { IsQuiet options.now → result ≡ 0
         → Keeps (E.contents err.old) (E.contents err.new) }
     ensures done { result ≡ 0 → IsDone ⟦<FileStore<File> as Store>⟧ options.now
@@ -57,7 +50,7 @@ pub fn run<
     ensures failed { result ≢ 0 → IsFailed options.now
         (R.remaining input) (O.contents out.old) (O.contents out.new) result }
 {
-    match run_subcommand(options, threads, alloc, rt, input, out, err) {
+    match run_subcommand(machine, options, input, out, err) {
         Ok(()) => 0,
         Err(error) => report(&error, err),
     }
@@ -140,10 +133,8 @@ fn run_subcommand<
     O: Write,
     E: Write,
 >(
+    machine: &Machine<'_, T>,
     options: &Options<'_>,
-    threads: &T,
-    alloc: Global,
-    rt: &HostRuntime,
     input: R,
     out: &mut O,
     err: &mut E,
@@ -154,17 +145,19 @@ fn run_subcommand<
     ensures failed { IfErr result (IsErrorOf options.now
         (R.remaining input) (O.contents out.old) (O.contents out.new)) }
 {
+    let alloc = machine.alloc;
+    let rt = machine.rt;
     match options {
-        Options::Step(options) => step(alloc, rt, options, input, out, err),
+        Options::Step(options) => step(machine, options, input, out, err),
         Options::Asm => asm(alloc, input, out),
         Options::List => list(alloc, input, out),
         Options::Graph { flow, form } => graph(alloc, rt, flow, *form, out),
         Options::Decode { masking } => decode(alloc, *masking, input, out),
         Options::Encode => encode(alloc, input, out),
-        Options::Recover(options) => recover(threads, alloc, rt, options, out),
+        Options::Recover(options) => recover(machine, options, out),
         Options::Journal(options) => look_into(alloc, rt, options, out),
         Options::Check(options) => check(alloc, rt, options),
-        Options::Run(options) => answer_requests(threads, alloc, rt, options, input, out),
+        Options::Run(options) => answer_requests(machine, options, input, out),
     }
 }
 

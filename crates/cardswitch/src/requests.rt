@@ -21,6 +21,7 @@ use crate::error::RunError;
 use crate::flow_file::{config_for, flow_at};
 use crate::journals::{open_existing, open_file, open_in_memory};
 use crate::log_file::{Sink, open_log};
+use crate::machine::Machine;
 use cli_config::Config;
 use cli_options::choice::{RecoverOptions, RunOptions, StatsLines, TraceForm};
 use flow_asm::{Code, assemble};
@@ -28,7 +29,7 @@ use flow_model::Flow;
 use journal_store::Journal;
 use run_reports::Words;
 use run_setup::{journal_path, log_path, recovery, setup, words_of};
-use run_switch::{LineForm, RecordLog, Reporter, Setup, Stats, SwitchLink, run};
+use run_switch::{Edge, LineForm, RecordLog, Reporter, Setup, Stats, SwitchLink, run};
 use sqlite::Alter;
 use sqlite_std_file::File;
 use sqlite_store::FileStore;
@@ -41,22 +42,13 @@ use std::time::Clock;
 use sw_participant::Text;
 
 // Runs over a journal. Then it is reported what has become new of the hosts, and their counts, if they are wanted.
-fn serve<
-    S: Alter + Drop,
-    T: Threads + Wait + Clock + Sync,
-    R: Read + Drop,
-    O: Write,
-    E: Write,
-    K: Clock,
->(
-    threads: &T,
-    alloc: Global,
+fn run_over<S: Alter + Drop, T: Threads + Wait + Clock + Sync, R: Read + Drop, O: Write, E: Write>(
+    edge: &mut Edge<'_, T, E>,
     setup: Setup<SwitchLink>,
     code: &Code,
     journal: Journal<S>,
     input: Option<R>,
     out: &mut O,
-    stderr: &mut Reporter<'_, E, K>,
 ) -> Result<(), RunError>
     ensures served { OnOk result (IfSome input
         (λ reader. Served setup.threads code.now setup.sessions
@@ -66,9 +58,9 @@ fn serve<
         (seen (kept S.Store journal)) (O.contents out.old) (O.contents out.new))) }
     ensures failed { IfErr result IsServeFault }
 {
-    let ended = run(threads, alloc, code, journal, setup, input, out, stderr);
-    stderr.say_news();
-    stderr.say_counts();
+    let ended = run(edge, code, journal, setup, input, out);
+    edge.stderr.say_news();
+    edge.stderr.say_counts();
     Ok(ended?.into_result()?)
 }
 
@@ -227,9 +219,7 @@ fn answer_by<
     O: Write,
     T: Threads + Wait + Clock + Sync + Clone + Drop + Send + 'static,
 >(
-    threads: &T,
-    alloc: Global,
-    rt: &HostRuntime,
+    machine: &Machine<'_, T>,
     flow: Result<Flow, RunError>,
     config: Result<Config, RunError>,
     options: &RunOptions<'_>,
@@ -252,6 +242,9 @@ fn answer_by<
 {
     let flow = flow?;
     let config = config?;
+    let threads = machine.threads;
+    let alloc = machine.alloc;
+    let rt = machine.rt;
     let setup = setup(threads, alloc, rt, options, &config)?;
     let code = code_by(alloc, options, &flow, &config)?;
     let path = journal_path(alloc, options, &config)?;
@@ -261,16 +254,20 @@ fn answer_by<
     let logged = log_path.is_some();
     let words = words_for(alloc, options, logged, &path, &setup)?;
     let input = Some(input);
-    let stderr = &mut stderr_by(threads, options, words, &mut err, &mut log, logged);
+    let edge = &mut Edge {
+        rt: threads,
+        alloc,
+        stderr: stderr_by(threads, options, words, &mut err, &mut log, logged),
+    };
     match path {
         Some(path) => {
             let journal = open_file(alloc, rt, path.as_str())?;
-            let ended = serve(threads, alloc, setup, &code, journal, input, out, stderr);
+            let ended = run_over(edge, setup, &code, journal, input, out);
             in_file(path, ended)
         }
         None => {
             let journal = open_in_memory(alloc)?;
-            serve(threads, alloc, setup, &code, journal, input, out, stderr)
+            run_over(edge, setup, &code, journal, input, out)
         }
     }
 }
@@ -281,31 +278,22 @@ pub fn answer_requests<
     R: Read + Drop,
     T: Threads + Wait + Clock + Sync + Clone + Drop + Send + 'static,
     O: Write,
->(
-    threads: &T,
-    alloc: Global,
-    rt: &HostRuntime,
-    options: &RunOptions<'_>,
-    input: R,
-    out: &mut O,
-) -> Result<(), RunError>
+>(machine: &Machine<'_, T>, options: &RunOptions<'_>, input: R, out: &mut O) -> Result<(), RunError>
     ensures answered { OnOk result ((flow : Flow) × IsChecked flow
         × Answered ⟦<FileStore<File> as Store>⟧ flow options.now
         (R.remaining input) (O.contents out.old) (O.contents out.new)) }
     ensures failed { IfErr result
         (IsRunFault options.now (O.contents out.old) (O.contents out.new)) }
 {
-    let flow = flow_at(alloc, rt, options.flow);
-    let config = config_for(alloc, rt, options.config);
-    answer_by(threads, alloc, rt, flow, config, options, input, out)
+    let flow = flow_at(machine.alloc, machine.rt, options.flow);
+    let config = config_for(machine.alloc, machine.rt, options.config);
+    answer_by(machine, flow, config, options, input, out)
 }
 
 // Finishes what the journal in the file at a path has unfinished, by a flow and a configuration. (Both come as what
 // became of their files, so that contracts can say whose fault is the first.)
 fn recover_by<T: Threads + Wait + Clock + Sync, O: Write>(
-    threads: &T,
-    alloc: Global,
-    rt: &HostRuntime,
+    machine: &Machine<'_, T>,
     code: Result<Code, RunError>,
     config: Result<Config, RunError>,
     path: &str,
@@ -323,24 +311,28 @@ fn recover_by<T: Threads + Wait + Clock + Sync, O: Write>(
 {
     let steps = code?;
     let stated = config?;
+    let threads = machine.threads;
+    let alloc = machine.alloc;
+    let rt = machine.rt;
     let setup = recovery(alloc, &stated)?;
     let named = Text::from_str(alloc, path)?;
     let journal = open_existing(alloc, rt, path)?;
     let mut sink = std::io::sink();
     let mut unused = std::io::sink();
-    let mut stderr = silent(threads, &mut sink, &mut unused);
+    let edge = &mut Edge {
+        rt: threads,
+        alloc,
+        stderr: silent(threads, &mut sink, &mut unused),
+    };
     let input: Option<Empty> = None;
-    let stderr = &mut stderr;
-    let ended = serve(threads, alloc, setup, &steps, journal, input, out, stderr);
+    let ended = run_over(edge, setup, &steps, journal, input, out);
     in_file(named, ended)
 }
 
 /// Finishes what the journal in a file has unfinished, and prints the lines of the history. A file that is not there is
 /// refused, and none is made.
 pub fn recover<T: Threads + Wait + Clock + Sync, O: Write>(
-    threads: &T,
-    alloc: Global,
-    rt: &HostRuntime,
+    machine: &Machine<'_, T>,
     options: &RecoverOptions<'_>,
     out: &mut O,
 ) -> Result<(), RunError>
@@ -350,7 +342,7 @@ pub fn recover<T: Threads + Wait + Clock + Sync, O: Write>(
     ensures failed { IfErr result
         (IsRecoverFault options.now (O.contents out.old) (O.contents out.new)) }
 {
-    let code = code_at(alloc, rt, options.flow);
-    let config = config_for(alloc, rt, options.config);
-    recover_by(threads, alloc, rt, code, config, options.journal, out)
+    let code = code_at(machine.alloc, machine.rt, options.flow);
+    let config = config_for(machine.alloc, machine.rt, options.config);
+    recover_by(machine, code, config, options.journal, out)
 }

@@ -10,6 +10,7 @@ ghost use Rattle.cardswitch.specs.declared.error.RunError.TheVariants as error;
 
 use crate::error::RunError;
 use crate::flow_file::flow_at;
+use crate::machine::Machine;
 use cli_io::Input;
 use cli_lines::Lines;
 use cli_options::choice::StepOptions;
@@ -52,9 +53,8 @@ fn step_over<R: Read + Drop, O: Write>(
 }
 
 // Runs the script of an input over the flow of its own lines, or over that of the flow file at a path.
-fn step_script<R: Read + Drop, O: Write>(
-    alloc: Global,
-    rt: &HostRuntime,
+fn step_script<T, R: Read + Drop, O: Write>(
+    machine: &Machine<'_, T>,
     cast: &Cast,
     path: Option<&str>,
     input: R,
@@ -65,8 +65,8 @@ fn step_script<R: Read + Drop, O: Write>(
     ensures failed { IfErr result
         (IsStepFault path.entry (O.contents out.old) (O.contents out.new)) }
 {
-    let file = file_flow(alloc, rt, path);
-    step_over(alloc, cast, file, input, out)
+    let file = file_flow(machine.alloc, machine.rt, path);
+    step_over(machine.alloc, cast, file, input, out)
 }
 
 // Answers the lines of an input at a prompt. (The flow is given as the result of reading its file, as in
@@ -94,9 +94,8 @@ fn prompt_over<R: Read + Drop, O: Write, E: Write>(
 }
 
 // Answers the lines of an input at a prompt, over the flow of its own lines, or over that of the flow file at a path.
-fn step_prompted<R: Read + Drop, O: Write, E: Write>(
-    alloc: Global,
-    rt: &HostRuntime,
+fn step_prompted<T, R: Read + Drop, O: Write, E: Write>(
+    machine: &Machine<'_, T>,
     cast: &Cast,
     path: Option<&str>,
     input: R,
@@ -108,8 +107,8 @@ fn step_prompted<R: Read + Drop, O: Write, E: Write>(
     ensures failed { IfErr result
         (IsPromptFault path.entry (O.contents out.old) (O.contents out.new)) }
 {
-    let file = file_flow(alloc, rt, path);
-    prompt_over(alloc, cast, file, input, out, err)
+    let file = file_flow(machine.alloc, machine.rt, path);
+    prompt_over(machine.alloc, cast, file, input, out, err)
 }
 
 // Whose participants a script's flow has.
@@ -126,9 +125,8 @@ fn cast(alloc: Global, switch: bool) -> Result<Cast, RunError>
 /// Runs the script of an input over the flow of its own lines, or over that of the flow file that the options name. Its
 /// participants reply as the script says, or are the switch's own. What a line prints is written before the next one
 /// is read. With a prompt each line is asked for, and one that is refused is reported on `err` and passed over.
-pub fn step<R: Read + Drop, O: Write, E: Write>(
-    alloc: Global,
-    rt: &HostRuntime,
+pub fn step<T, R: Read + Drop, O: Write, E: Write>(
+    machine: &Machine<'_, T>,
     options: &StepOptions<'_>,
     input: R,
     out: &mut O,
@@ -140,9 +138,9 @@ pub fn step<R: Read + Drop, O: Write, E: Write>(
         (O.contents out.old) (O.contents out.new)) }
     ensures quiet { options.now.prompt ≡ false → Keeps (E.contents err.old) (E.contents err.new) }
 {
-    let cast = cast(alloc, options.switch)?;
+    let cast = cast(machine.alloc, options.switch)?;
     if options.prompt {
-        return step_prompted(alloc, rt, &cast, options.flow, input, out, err);
+        return step_prompted(machine, &cast, options.flow, input, out, err);
     }
-    step_script(alloc, rt, &cast, options.flow, input, out)
+    step_script(machine, &cast, options.flow, input, out)
 }

@@ -1,5 +1,5 @@
 -- Requests answered with advices sent between them.
--- for: stream::Requests::serve_all, batches::Requests::serve_in_batches, advices::send_between
+-- for: stream::Requests::answer_input, batches::Requests::answer_in_batches, advices::send_between
 use Rattle.std.proofs.Common.{◌≡◌, ℕ, ◌+◌, Bool, false, List, [], ◌∷◌, ◌++◌, length, Option, refl, sym, ap, subst, ◌∙◌, append_assoc, append-nil}
 use Rattle.sw_context.specs.Pairs.{Pairs}
 use Rattle.sw_frame.specs.Stream.{State, blank}

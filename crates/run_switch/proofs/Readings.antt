@@ -1,5 +1,5 @@
 -- What is read of a stream of frames, and which of its messages are requests.
--- for: stream::serve, stream::serve_messages, stream::Requests
+-- for: stream::answer_messages, stream::answer_messages, stream::Requests
 use Rattle.std.proofs.Common.{◌≡◌, ◌<◌, ◌≤◌, ℕ, ◌+◌, List, [], ◌∷◌, ◌++◌, length, map, take, drop, take-append-drop, get_or, Option}
 use Rattle.std.proofs.Common.{Result, Ok, Err, refl, sym}
 use Rattle.std.proofs.Common.{ap, arith, ◌∙◌, inl, append_assoc, append-nil}

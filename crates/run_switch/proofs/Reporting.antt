@@ -1,16 +1,17 @@
 -- The messages of frames that were answered, or passed over.
--- for: stream::Requests, batches::Requests, batches::answer_batches
-use Rattle.std.proofs.Common.{◌≡◌, ◌<◌, ℕ, ◌+◌, Bool, false, List, [], ◌∷◌, ◌++◌, length, map, take, get_or, Option, sym, subst, zero-add}
+-- for: stream::answer_messages, stream::Requests, batches::Requests, batches::answer_batches
+use Rattle.std.proofs.Common.{◌≡◌, ◌<◌, ℕ, ◌+◌, Bool, false, List, [], ◌++◌, length, map, take, get_or, Option, sym, subst}
 use Rattle.std.specs.Global.{Vec}
 use Rattle.sw_context.specs.Pairs.{Pairs}
 use Rattle.sw_frame.specs.Feeds.{messages}
 use Rattle.iso_codec.specs.Reads.{read}
 use Rattle.run_switch.specs.Points.{Point}
 use Rattle.run_switch.specs.Requests.{if_read, request_of, requests}
-use Rattle.run_switch.specs.Rounds.{Round, RoundsFor, ServesFor, Trimmed, answering}
-use Rattle.run_switch.specs.Traces.{Cuts, Log, Reports, ReportsFor, if_passed, passed_over}
+use Rattle.run_switch.specs.Rounds.{Round, RoundsFor, ServesFor, answering}
+use Rattle.run_switch.specs.Stopped.{Halts}
+use Rattle.run_switch.specs.Traces.{Log, Reports, ReportsFor, Tells, if_passed, passed_over}
 use Rattle.run_switch.proofs.Readings.{requests_append, requests_next}
-use Rattle.run_switch.proofs.Rounds.{answering_append, reports_both, reports_none, reports_trimmed}
+use Rattle.run_switch.proofs.Rounds.{answering_append, reports_both, reports_none, reports_passed}
 use Rattle.run_switch.proofs.Stops.{rounds_append, rounds_none, untrimmed_answering}
 use Rattle.run_switch.proofs.Tracing.{passed_over_append, passed_over_next}
 
@@ -48,12 +49,18 @@ message_more list i m bytes p q r a b c x y z lt at is s t =
     subst (λ (l : List Round). Reports l count p a x r c z) (sym (answering_append first next)) both in
     subst (λ (xs : List Pairs). Reports (answering xs) count p a x r c z) (sym (requests_next list i m bytes lt at is)) joined
 
--- the history may be cut first
-pub for_trimmed : (frames : List (List ℕ)) (p q r : Point) (a b : Option (List ℕ)) (k l m : Log) → Cuts p k q l →
-    Reports (answering (requests frames)) (passed_over frames) q a l r b m → ReportsFor false frames p a k r b m
-for_trimmed frames p q r a b k l m cuts s = record {
-  rounds = Trimmed ∷ answering (requests frames);
-  answers = untrimmed_answering (requests frames);
-  reports = reports_both (Trimmed ∷ []) (answering (requests frames)) 0 (passed_over frames) (passed_over frames) p q r a a b k l m
-      (sym (zero-add (passed_over frames))) (reports_trimmed p q a k l cuts) s;
-}
+-- those of a piece
+pub for_answered : (frames : List (List ℕ)) (p q : Point) (a b : Option (List ℕ)) (k l : Log) →
+    Reports (answering (requests frames)) (passed_over frames) p a k q b l → ReportsFor false frames p a k q b l
+for_answered frames p q a b k l s =
+    record { rounds = answering (requests frames); answers = untrimmed_answering (requests frames); reports = s }
+
+-- a message that is read, or passed over
+pub served_message : (xs ys : List Pairs) (n : ℕ) (p q : Point) (a b : Option (List ℕ)) (k l o : Log) → ys ≡ xs → Tells [] n k l →
+    Reports (answering ys) 0 p a l q b o → Reports (answering xs) n p a k q b o
+served_message xs ys n p q a b k l o is passed s =
+    subst (λ (zs : List Pairs). Reports (answering zs) n p a k q b o) is (reports_passed (answering ys) n p q a b k l o passed s)
+
+-- up to an error
+pub halted_message : (xs ys : List Pairs) (p : Point) (a b : Option (List ℕ)) → ys ≡ xs → Halts (answering ys) p a b → Halts (answering xs) p a b
+halted_message xs ys p a b is h = subst (λ (zs : List Pairs). Halts (answering zs) p a b) is h

@@ -211,9 +211,6 @@ reports_offer x o p w q ds n a b k l ready does s = record { serves = serves_off
 pub reports_release : (o : Outcome) (p q : Point) (a : Option (List ℕ)) (l : Log) → Does turn.Release o p q → Reports (Released ∷ []) 0 p a l q a l
 reports_release o p q a l does = record { serves = serves_release o p q a does; tells = tells_none l }
 
-pub reports_trimmed : (p q : Point) (a : Option (List ℕ)) (k l : Log) → Cuts p k q l → Reports (Trimmed ∷ []) 0 p a k q a l
-reports_trimmed p q a k l c = record { serves = serves_trimmed p q c.lines a c.cuts; tells = c.tells }
-
 pub reports_passed : (rounds : List Round) (n : ℕ) (p q : Point) (a b : Option (List ℕ)) (k l o : Log) → Tells [] n k l → Reports rounds 0 p a l q b o →
     Reports rounds n p a k q b o
 reports_passed rounds n p q a b k l o passed s = record { serves = s.serves; tells = passed_then s.serves.lines n k l o passed s.tells }

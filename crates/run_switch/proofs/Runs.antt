@@ -1,5 +1,5 @@
 -- A whole run, from its parts.
--- for: serving::Over::run
+-- for: serving::Over, serving::Begun, serving::Switch, serving::run
 use Rattle.std.proofs.Common.{◌≡◌, ℕ, ◌-◌, Bool, List, ◌++◌, Option, Result, Ok, Err, ap, refl, sym, subst, ◌∙◌}
 use Rattle.std.specs.Prelude.{IfOk, OnOk}
 use Rattle.std.specs.Io.KnownBytes.{Appends}
@@ -14,7 +14,7 @@ use Rattle.run_switch.specs.Advices.{AdviceStep, PlainAdvisor, SendsAll, begun_a
 use Rattle.run_switch.specs.declared.reporter.LineForm.TheVariants.{Text}
 use Rattle.run_switch.specs.Lines.{lines_in, written_as}
 use Rattle.run_switch.specs.Points.{IsAtRest, IsReady, Point, world_at}
-use Rattle.run_switch.specs.Ran.{Begins, Closes, Printed, Ran, ServesAll, all_lines, lines_cut, made_at}
+use Rattle.run_switch.specs.Ran.{Closes, HasBegun, Printed, Ran, ServesAll, ServesTold, all_lines, lines_cut}
 use Rattle.run_switch.specs.declared.progress.Progress.{Progress}
 use Rattle.run_switch.specs.Numbers.{begun_in, numbers_at}
 use Rattle.run_reports.specs.declared.Words.{Words}
@@ -34,57 +34,58 @@ first_is f n view j p first made is = is ∙ ap (λ (v : JournalView). v.next_id
 abbrev pub FirstRecovers : Point → Point → Type 0
 FirstRecovers p q = (f : Flow) (n : ℕ) (view : JournalView) (j : Seen) → IsMade f n view j p.plant → p.answered.last ≡ view.next_id - 1 → Recovers p q
 
-pub begun : (f : Flow) (n : ℕ) (view : JournalView) (j : Seen) (made : Whole) (first : ℕ) (id : Progress) (r : Point) → IsMade f n view j made →
-    first ≡ made.core.world.start.view.next_id → id ≡ begun_in made.core.world first → FirstRecovers (record { plant = made; answered = id }) r
-    → Begins f n j r
-begun f n view j made first id r is first_at before recovers =
-    let answered : id ≡ begun_in made.core.world view.next_id = before ∙ ap (begun_in made.core.world) (first_is f n view j made first is first_at) in
+pub has_begun : (f : Flow) (n : ℕ) (view : JournalView) (j : Seen) (made : Whole) (first : ℕ) (id : Progress) (r : Point) (sender : PlainSender) (most : ℕ)
+    (advisor : PlainAdvisor) (unfinished : Recovered)
+    → IsMade f n view j made → first ≡ made.core.world.start.view.next_id → id ≡ begun_in made.core.world first →
+    FirstRecovers (record { plant = made; answered = id }) r → advisor ≡ begun_advisor sender most first → unfinished ≡ unfinished_of made
+    → HasBegun f n j sender most r advisor unfinished
+has_begun f n view j made first id r sender most advisor unfinished is first_at before recovers by left =
+    let own : first ≡ view.next_id = first_is f n view j made first is first_at in
+    let answered : id ≡ begun_in made.core.world view.next_id = before ∙ ap (begun_in made.core.world) own in
     record {
-      view = view;
-      made = made;
-      is_made = is;
-      recovers = subst (λ (g : Progress). Recovers (record { plant = made; answered = g }) r) answered
-          (recovers f n view j is (ap (λ (g : Progress). g.last) answered));
+      begins = record {
+        view = view;
+        made = made;
+        is_made = is;
+        recovers = subst (λ (g : Progress). Recovers (record { plant = made; answered = g }) r) answered
+            (recovers f n view j is (ap (λ (g : Progress). g.last) answered));
+      };
+      advisor_is = by ∙ ap (begun_advisor sender most) own;
+      unfinished_is = left ∙ ap unfinished_in (made_view f n view j made is);
     }
 
--- the view that it begins with
-pub begun_next : (f : Flow) (n : ℕ) (view : JournalView) (j : Seen) (made : Whole) (first : ℕ) (id : Progress) (r : Point) (is : IsMade f n view j made)
-    (first_at : first ≡ made.core.world.start.view.next_id) (before : id ≡ begun_in made.core.world first)
-    (recovers : FirstRecovers (record { plant = made; answered = id }) r) → (begun f n view j made first id r is first_at before recovers).view.next_id
-    ≡ view.next_id
-unfolding begun
-begun_next f n view j made first id r is first_at before recovers = refl
+-- of the same sender
+pub begun_by : (f : Flow) (n : ℕ) (j : Seen) (s t : PlainSender) (most : ℕ) (r : Point) (advisor : PlainAdvisor) (unfinished : Recovered) → s ≡ t
+    → HasBegun f n j s most r advisor unfinished → HasBegun f n j t most r advisor unfinished
+begun_by f n j s t most r advisor unfinished is h = subst (λ (z : PlainSender). HasBegun f n j z most r advisor unfinished) is h
 
 -- all was served, and what it shows was written, with the numbers at its end
-abbrev pub ServesTold : AdviceStep → List Round → Point → Option (List ℕ) → Option (List ℕ) → ℕ → Log → Log → PlainAdvisor → Type 0
-ServesTold step rounds r a b n k l advisor = (s : ServesAll step rounds r advisor a b) × TellsAll (all_lines s) n s.end k l
-
--- what sends the advices of a run, by the id that the engine gives
-pub advisor_is : (f : Flow) (n : ℕ) (view : JournalView) (j : Seen) (made : Whole) (first : ℕ) (advisor : PlainAdvisor) (sender : PlainSender) (most : ℕ) →
-    IsMade f n view j made → first ≡ made.core.world.start.view.next_id → advisor ≡ begun_advisor sender most first
-    → advisor ≡ begun_advisor sender most view.next_id
-advisor_is f n view j made first advisor sender most is first_at by = by ∙ ap (begun_advisor sender most) (first_is f n view j made first is first_at)
+abbrev pub EndsTold : AdviceStep → List Round → Point → Option (List ℕ) → Option (List ℕ) → ℕ → Log → Log → PlainAdvisor → Type 0
+EndsTold step rounds r a b n k l advisor = (s : ServesAll step rounds r advisor a b) × TellsAll (all_lines s) n s.end k l
 
 -- that it was ready came first
-pub ran : (f : Flow) (n : ℕ) (view : JournalView) (j : Seen) (made : Whole) (first : ℕ) (id : Progress) (r : Point) (step : AdviceStep)
-    (advisor : PlainAdvisor) (sender : PlainSender) (most : ℕ) (rounds : List Round) (a b : Option (List ℕ)) (passed : ℕ) (h k l : Log)
-    (words : Option Words) (recovered : Recovered)
-    → IsMade f n view j made → first ≡ made.core.world.start.view.next_id → id ≡ begun_in made.core.world first →
-    FirstRecovers (record { plant = made; answered = id }) r → advisor ≡ begun_advisor sender most first → recovered ≡ unfinished_of made
-    → SaysReady words recovered h k → ServesTold step rounds r a b passed k l advisor → (ran : Ran f n j step sender most rounds a b)
-    × TellsRun words (unfinished_in ran.begins.view) (all_lines ran.serves) passed ran.serves.end h l
-unfolding begun
-ran f n view j made first id r step advisor sender most rounds a b passed h k l words recovered is first_at before recovers by left ready is_told =
-    let (serves, tells) = subst (ServesTold step rounds r a b passed k l) (advisor_is f n view j made first advisor sender most is first_at by) is_told in
-    let found : recovered ≡ unfinished_in view = left ∙ ap unfinished_in (made_view f n view j made is) in (
-      record { recovered = r; begins = begun f n view j made first id r is first_at before recovers; serves = serves },
-      record { begun = k; ready = subst (λ (c : Recovered). SaysReady words c h k) found ready; all = tells },
-    )
+pub told_ready : (step : AdviceStep) (rounds : List Round) (r : Point) (advisor : PlainAdvisor) (a b : Option (List ℕ)) (words : Option Words)
+    (unfinished : Recovered) (n : ℕ) (h k l : Log) → SaysReady words unfinished h k → EndsTold step rounds r a b n k l advisor
+    → ServesTold step rounds r advisor a b words unfinished n h l
+told_ready step rounds r advisor a b words unfinished n h k l ready (serves, tells) = (serves, record { begun = k; ready = ready; all = tells })
+
+-- what the run of a plant that has recovered promises
+pub ran_from : (f : Flow) (n : ℕ) (j : Seen) (sender : PlainSender) (most : ℕ) (r : Point) (advisor : PlainAdvisor) (unfinished : Recovered)
+    (step : AdviceStep) (rounds : List Round) (a b : Option (List ℕ)) (words : Option Words) (passed : ℕ) (k l : Log)
+    → HasBegun f n j sender most r advisor unfinished → ServesTold step rounds r advisor a b words unfinished passed k l
+    → (ran : Ran f n j step sender most rounds a b)
+    × TellsRun words (unfinished_in ran.begins.view) (all_lines ran.serves) passed ran.serves.end k l
+ran_from f n j sender most r advisor unfinished step rounds a b words passed k l h told =
+    let sends : ServesTold step rounds r (begun_advisor sender most h.begins.view.next_id) a b words unfinished passed k l =
+    subst (λ (s : PlainAdvisor). ServesTold step rounds r s a b words unfinished passed k l) h.advisor_is told in
+    let (serves, tells) = subst (λ (u : Recovered). ServesTold step rounds r (begun_advisor sender most h.begins.view.next_id) a b words u passed k l)
+    h.unfinished_is sends in
+    (record { recovered = r; begins = h.begins; serves = serves }, tells)
 
 -- the lines that were left were written, and the numbers last
 pub told_last : (step : AdviceStep) (rounds : List Round) (p : Point) (advisor : PlainAdvisor) (a b : Option (List ℕ)) (n : ℕ) (k l m o : Log) (q : Point)
     (w : World) → (s : ServesAll step rounds p advisor a b) → s.end ≡ q → w ≡ world_at q
-    → Tells (lines_cut s) n k l → Tells (lines_in w) 0 l m → ShowsNumbers (numbers_at q m.passed) m o → ServesTold step rounds p a b n k o advisor
+    → Tells (lines_cut s) n k l → Tells (lines_in w) 0 l m → ShowsNumbers (numbers_at q m.passed) m o → EndsTold step rounds p a b n k o advisor
 told_last step rounds p advisor a b n k l m o q w s end is cut left shows =
     let same : w ≡ world_at s.end = is ∙ ap world_at (sym end) in (
       s,
@@ -95,21 +96,9 @@ told_last step rounds p advisor a b n k l m o q w s end is cut left shows =
       },
     )
 
-pub printed : (f : Flow) (n : ℕ) (view : JournalView) (j : Seen) (made : Whole) (first : ℕ) (id : Progress) (r : Point) (a b : Option (List ℕ))
-    → IsMade f n view j made → first ≡ made.core.world.start.view.next_id → id ≡ begun_in made.core.world first →
-    FirstRecovers (record { plant = made; answered = id }) r → Appends a b (written_as Text (lines_in (world_at r))) → Printed f n j a b
-printed f n view j made first id r a b is first_at before recovers prints = record {
-  recovered = r;
-  begins = begun f n view j made first id r is first_at before recovers;
-  prints = prints;
-}
-
--- it is at rest after that, and nothing is in the queue
-pub begun_recovers : (f : Flow) (n : ℕ) (view : JournalView) (j : Seen) (made : Whole) (first : ℕ) (id : Progress) (r : Point) → IsMade f n view j made →
-    first ≡ made.core.world.start.view.next_id → id ≡ begun_in made.core.world first → FirstRecovers (record { plant = made; answered = id }) r
-    → Recovers (made_at made view) r
-unfolding begun
-begun_recovers f n view j made first id r is first_at before recovers = (begun f n view j made first id r is first_at before recovers).recovers
+pub printed : (f : Flow) (n : ℕ) (j : Seen) (sender : PlainSender) (most : ℕ) (r : Point) (advisor : PlainAdvisor) (unfinished : Recovered)
+    (a b : Option (List ℕ)) → HasBegun f n j sender most r advisor unfinished → Appends a b (written_as Text (lines_in (world_at r))) → Printed f n j a b
+printed f n j sender most r advisor unfinished a b h prints = record { recovered = r; begins = h.begins; prints = prints }
 
 -- what holds of what was served and written holds of the result
 pub through_both : {T E : Type 0} {P Q : T → Type 0} {R : Type 0} (s : Result T E) (t : Result (Unit {0}) E) (r : Result T E) → IfOk r (λ x. s ≡ Ok x) →

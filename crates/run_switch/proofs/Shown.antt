@@ -1,5 +1,5 @@
 -- Lines of a run's numbers among what is reported.
--- for: stats::Told, stats::Switch, stream::serve, batches::answer_batches
+-- for: stats::Told, stats::Switch, stream::answer_messages, batches::answer_batches
 use Rattle.std.proofs.Common.{◌≡◌, ℕ, Bool, true, false, List, [], ◌∷◌, ◌++◌, Option, refl, sym, subst, ◌∙◌, add-zero, append-nil}
 use Rattle.std.specs.Io.KnownBytes.{Appends}
 use Rattle.cli_io.specs.Written.{AppendsBeginning}

@@ -1,5 +1,5 @@
 -- What is written where a switch ends with an error.
--- for: switch::Switch, stream::Requests, serving::Switch, serving::Over, batches::Switch, batches::Requests
+-- for: switch::Switch, stream::Requests, serving::Switch, serving::Begun, batches::Switch, batches::Requests
 use Rattle.std.proofs.Common.{◌≡◌, ◌<◌, ◌⊎◌, ℕ, ◌+◌, Bool, true, false, List, [], ◌∷◌, ◌++◌, length, map, take, drop, get_or, Option, Result, Ok, Err, refl}
 use Rattle.std.proofs.Common.{sym, ap, subst, ◌∙◌, append_assoc, append-nil, inl, inr}
 use Rattle.std.specs.Global.{Vec}
@@ -16,13 +16,12 @@ use Rattle.tx_plant.specs.declared.turn.Outcome.{Outcome}
 use Rattle.tx_plant.specs.declared.turn.Turn.TheVariants as turn
 use Rattle.run_switch.specs.Points.{IsAtRest, IsReady, Point, responses, unanswered}
 use Rattle.run_switch.specs.Requests.{Reads, ReadsOn, if_read, request_of, requests}
-use Rattle.run_switch.specs.Lines.{Line}
-use Rattle.run_switch.specs.Rounds.{Alone, Batched, Completed, Does, Drains, IsOfBatches, IsRetry, MayCut, Offered, Released, Round, RoundsFor, Serves, ServesFor}
+use Rattle.run_switch.specs.Rounds.{Alone, Batched, Completed, Does, Drains, IsOfBatches, IsRetry, Offered, Released, Round, RoundsFor, Serves, ServesFor}
 use Rattle.run_switch.specs.Rounds.{Transacts, Trimmed, answering, offered_in, untrimmed}
 use Rattle.run_switch.specs.Stopped.{DrainsSome, GivesSome, Halts, HaltsOn, HaltsToward, IsOfNext}
 use Rattle.run_switch.proofs.Readings.{requests_front, requests_next}
 use Rattle.run_switch.specs.Traces.{Log}
-use Rattle.run_switch.proofs.Rounds.{Empties, answering_append, gives_own, retries_append, serves_none, serves_offer, serves_then, serves_trimmed}
+use Rattle.run_switch.proofs.Rounds.{Empties, answering_append, gives_own, retries_append, serves_none, serves_offer, serves_then}
 
 pub nothing_next : (rounds : List Round) (p : Point) → IsOfNext rounds p []
 nothing_next [] p = refl
@@ -238,11 +237,9 @@ toward_before true xs ys p a b (rs, (later, split, all), h) = (
   h,
 )
 
--- the history may be cut first
-pub toward_trimmed : (xs : List Pairs) (p q : Point) (lines : List Line) (a b : Option (List ℕ)) → MayCut p lines q → Halts (answering xs) q a b →
-    HaltsToward false xs p a b
-toward_trimmed xs p q lines a b cuts h =
-    (Trimmed ∷ answering xs, untrimmed_answering xs, halts_then (Trimmed ∷ []) (answering xs) p q a a b (serves_trimmed p q lines a cuts) h)
+-- one after the other
+pub toward_answering : (xs : List Pairs) (p : Point) (a b : Option (List ℕ)) → Halts (answering xs) p a b → HaltsToward false xs p a b
+toward_answering xs p a b h = (answering xs, untrimmed_answering xs, h)
 
 -- the queue and the shelf
 

@@ -1,5 +1,5 @@
 -- One transaction, from its take to its end.
--- for: switch::Switch::serve_next, switch::Switch::answer_next
+-- for: switch::Switch::run_next, switch::Switch::answer_next
 use Rattle.std.proofs.Common.{◌≡◌, ℕ, zero, suc, ◌+◌, ◌==◌, Bool, true, false, inl, inr, List, [], ◌∷◌, ◌++◌, map, drop, Option, Some, None, Ok, refl, sym, ap}
 use Rattle.std.proofs.Common.{subst, arith, ◌∙◌}
 use Rattle.std.specs.Prelude.{◌⊎◌, is_some, nat_lt}

@@ -1,8 +1,8 @@
 -- A whole run.
 --
--- - *Begins, serves all, ran, printed* (`Ran.antt`): the making and recovery of a run; all that
+-- - *Begins, serves all, ran, printed*: the making and recovery of a run; all that
 --   follows; both; a run without an input.
-use Rattle.std.specs.Prelude.{ℕ, List, ◌++◌, Option}
+use Rattle.std.specs.Prelude.{◌≡◌, ℕ, List, ◌++◌, Option}
 use Rattle.std.specs.Io.KnownBytes.{Appends}
 use Rattle.flow_model.specs.declared.flow.Flow.{Flow}
 use Rattle.sw_issuers.specs.Sending.{PlainSender}
@@ -16,6 +16,10 @@ use Rattle.run_switch.specs.Lines.{Line, lines_in, written_as}
 use Rattle.run_switch.specs.Advices.{AdviceStep, PlainAdvisor, SendsAll, begun_advisor, stored_at}
 use Rattle.run_switch.specs.Legs.{Advances, Stage, lines_of, stage}
 use Rattle.run_switch.specs.Numbers.{begun_in}
+use Rattle.run_switch.specs.Shown.{TellsRun, unfinished_in}
+use Rattle.run_switch.specs.Traces.{Log}
+use Rattle.run_reports.specs.declared.Words.{Words}
+use Rattle.run_reports.specs.declared.ready.Recovered.{Recovered}
 
 -- a new plant: responses of the journal's own transactions are not to be given, and nothing is counted
 abbrev pub made_at : Whole → JournalView → Point
@@ -27,6 +31,14 @@ pub record Begins (f : Flow) (sessions : ℕ) (j : Seen) (p : Point) : Type 0 wh
   pub made : Whole
   pub is_made : IsMade f sessions view j made
   pub recovers : Recovers (made_at made view) p
+
+-- A run once its plant has recovered: what sends its advices, by the id of its first own transaction, and what the journal had
+-- unfinished.
+pub record HasBegun (f : Flow) (sessions : ℕ) (j : Seen) (sender : PlainSender) (most : ℕ) (p : Point) (advisor : PlainAdvisor)
+    (unfinished : Recovered) : Type 0 where
+  pub begins : Begins f sessions j p
+  pub advisor_is : advisor ≡ begun_advisor sender most begins.view.next_id
+  pub unfinished_is : unfinished ≡ unfinished_in begins.view
 
 -- The history may be cut first. The rounds are done, in which requests are offered when the switch is ready for them, and answered before the next
 -- are, and stored advices are sent between them; the queue and the shelf are emptied; then each stored advice is sent, and dropped where it is
@@ -55,6 +67,12 @@ lines_cut s = s.cut ++ (lines_of s.serves ++ s.drains.serves.lines)
 abbrev pub all_lines : {step : AdviceStep} {rounds : List Round} {p : Point} {advisor : PlainAdvisor} {before after : Option (List ℕ)} →
     ServesAll step rounds p advisor before after → List Line
 all_lines s = lines_cut s ++ lines_in (world_at s.end)
+
+-- and all that a run writes to standard error was written: that it is ready first, the numbers last
+abbrev pub ServesTold : AdviceStep → List Round → Point → PlainAdvisor → Option (List ℕ) → Option (List ℕ) → Option Words → Recovered → ℕ → Log → Log →
+    Type 0
+ServesTold step rounds p advisor before after words unfinished passed a b =
+    (all : ServesAll step rounds p advisor before after) × TellsRun words unfinished (all_lines all) passed all.end a b
 
 -- the queue and the shelf are emptied; then each stored advice is sent
 pub record Closes (step : AdviceStep) (p : Point) (advisor : PlainAdvisor) (before : Option (List ℕ)) (q : Point) (sent : PlainAdvisor)

@@ -135,6 +135,11 @@ pub record Serving (step : AdviceStep) (threads : Bool) (input : Option (List �
 abbrev pub ServesSome : AdviceStep → Bool → Option (List ℕ) → Point → PlainAdvisor → Option (List ℕ) → Option (List ℕ) → Type 0
 ServesSome step threads input p advisor before after = Keeps before after ⊎ Serving step threads input p advisor before after
 
+-- after a run has begun, with or without an input: what that has was served, or the lines of the history were printed, up to an error
+abbrev pub GoesOnSome : AdviceStep → Bool → Option (Option (List ℕ)) → Point → PlainAdvisor → Option (List ℕ) → Option (List ℕ) → Type 0
+GoesOnSome step threads None p advisor before after = AppendsBeginning before after (written_as Text (lines_in (world_at p)))
+GoesOnSome step threads (Some input) p advisor before after = ServesSome step threads input p advisor before after
+
 -- a run with an input recovered, and served up to an error
 pub record Stopped (step : AdviceStep) (sender : PlainSender) (most : ℕ) (threads : Bool) (f : Flow) (sessions : ℕ) (j : Seen)
     (input before after : Option (List ℕ)) : Type 0 where

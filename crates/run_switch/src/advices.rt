@@ -12,8 +12,8 @@ ghost use Rattle.run_switch.specs.Rounds.{IsEmptied};
 ghost use Rattle.run_switch.specs.Stored.{stored_id, plain};
 ghost use Rattle.run_switch.specs.Traces.{log_of};
 
+use crate::edge::Edge;
 use crate::error::ServeError;
-use crate::reporter::Reporter;
 use crate::switch::Switch;
 use sqlite::Alter;
 use std::alloc::{AllocError, Global};
@@ -334,23 +334,22 @@ fn due_advices<S: Alter, L: Link>(
 /// Sends the next stored advices between two reads, at most as many as the advisor may; those that are accepted
 /// are dropped. It begins after the one that was sent last, and with the oldest if none comes after it. Then the
 /// history is cut, if it is long or its lines are wanted.
-pub(crate) fn send_between<S: Alter, L: Link, E: Write, K: Clock>(
-    alloc: Global,
+pub(crate) fn send_between<S: Alter, T: Clock, L: Link, E: Write>(
+    edge: &mut Edge<'_, T, E>,
     switch: &mut Switch<S>,
     advisor: &mut Advisor<L>,
-    stderr: &mut Reporter<'_, E, K>,
 ) -> Result<(), ServeError>
     requires ready { IsReady (point_of S.Store switch.old) }
     ensures sends { OnOk result (SendsBetween
         (SendsAdvice L.sends L.receives L.starves (Unit {0}))
-        advisor.old (point_of S.Store switch.old) (log_of E.contents stderr.old)
-        advisor.new (point_of S.Store switch.new) (log_of E.contents stderr.new)) }
+        advisor.old (point_of S.Store switch.old) (log_of E.contents edge.old.stderr)
+        advisor.new (point_of S.Store switch.new) (log_of E.contents edge.new.stderr)) }
     ensures ready { OnOk result (IsReady (point_of S.Store switch.new)) }
 {
-    let list = due_advices(alloc, switch, advisor)?;
+    let list = due_advices(edge.alloc, switch, advisor)?;
     if list.is_empty() {
         return Ok(());
     }
-    send_each(alloc, switch, advisor, &list)?;
-    switch.cut_traced(alloc, stderr)
+    send_each(edge.alloc, switch, advisor, &list)?;
+    switch.cut_traced(edge)
 }

@@ -13,13 +13,12 @@ ghost use Rattle.run_switch.specs.Stopped.{HaltsToward, StopsWithin, Unfinished}
 ghost use Rattle.run_switch.specs.Traces.{Finishes, Reports, ReportsFor, Tells, log_of, passed_over};
 
 use crate::advices::{Advisor, send_between};
+use crate::edge::Edge;
 use crate::error::ServeError;
-use crate::reporter::Reporter;
 use crate::stream::{PIECE, Piece, Requests, StreamEnd, request_in};
 use crate::switch::{MAX_BATCH, Switch};
 use cli_io::IoError;
 use sqlite::Alter;
-use std::alloc::Global;
 use std::io::{Read, Write};
 use std::sync::Wait;
 use std::thread::Threads;
@@ -29,63 +28,59 @@ use sw_parts::Link;
 
 impl<S: Alter + Drop> Switch<S> {
     // Gives the responses of a batch, runs what is on the shelf, and writes the lines of the trace.
-    fn finish<O: Write, E: Write, K: Clock>(
+    fn finish<T: Clock, O: Write, E: Write>(
         &mut self,
-        alloc: Global,
+        edge: &mut Edge<'_, T, E>,
         out: &mut O,
-        stderr: &mut Reporter<'_, E, K>,
     ) -> Result<(), ServeError>
         requires { RestsGiven (point_of S.Store self.old) }
         ensures finishes { OnOk result (Finishes
-            (point_of S.Store self.old) (O.contents out.old) (log_of E.contents stderr.old)
-            (point_of S.Store self.new) (O.contents out.new) (log_of E.contents stderr.new)) }
+            (point_of S.Store self.old) (O.contents out.old) (log_of E.contents edge.old.stderr)
+            (point_of S.Store self.new) (O.contents out.new) (log_of E.contents edge.new.stderr)) }
         ensures ready { OnOk result (IsReady (point_of S.Store self.new)) }
         ensures unfinished { OnErr result (Unfinished (point_of S.Store self.old)
             (O.contents out.old) (O.contents out.new)) }
     {
-        self.give(alloc, out)?;
-        self.drain(alloc, out, stderr)?;
-        self.cut_traced(alloc, stderr)
+        self.give(edge.alloc, out)?;
+        self.drain(edge, out)?;
+        self.cut_traced(edge)
     }
 
     // Answers a request that came alone, in this thread: so it takes no longer than without threads.
-    fn answer_alone<O: Write, E: Write, K: Clock>(
+    fn answer_alone<T: Clock, O: Write, E: Write>(
         &mut self,
-        alloc: Global,
+        edge: &mut Edge<'_, T, E>,
         request: Context,
         out: &mut O,
-        stderr: &mut Reporter<'_, E, K>,
     ) -> Result<(), ServeError>
         requires ready { IsReady (point_of S.Store self.old) }
         ensures serves { OnOk result ((rounds : List Round)
             × RoundsFor true (request ∷ []) rounds × Reports rounds 0
-            (point_of S.Store self.old) (O.contents out.old) (log_of E.contents stderr.old)
-            (point_of S.Store self.new) (O.contents out.new) (log_of E.contents stderr.new)) }
+            (point_of S.Store self.old) (O.contents out.old) (log_of E.contents edge.old.stderr)
+            (point_of S.Store self.new) (O.contents out.new) (log_of E.contents edge.new.stderr)) }
         ensures ready { OnOk result (IsReady (point_of S.Store self.new)) }
         ensures halts { OnErr result (HaltsToward true (request ∷ [])
             (point_of S.Store self.old) (O.contents out.old) (O.contents out.new)) }
     {
-        stderr.begin();
-        self.run_alone(alloc, request)?;
-        self.finish(alloc, out, stderr)
+        edge.stderr.begin();
+        self.run_alone(edge.alloc, request)?;
+        self.finish(edge, out)
     }
 
     // Answers requests that came at once: two or more as one batch, and a single one alone. If it ends with an
     // error, the lines of the history are written all the same, unless a batch was given up.
-    fn answer_batch<T: Threads + Wait + Sync, O: Write, E: Write, K: Clock>(
+    fn answer_batch<T: Threads + Wait + Clock + Sync, O: Write, E: Write>(
         self,
-        rt: &T,
-        alloc: Global,
+        edge: &mut Edge<'_, T, E>,
         requests: Vec<Context>,
         out: &mut O,
-        stderr: &mut Reporter<'_, E, K>,
     ) -> Result<Switch<S>, ServeError>
         requires ready { IsReady (point_of S.Store self) }
         requires few { vec_len requests ≤ 256 }
         ensures serves { IfOk result (λ switch. (rounds : List Round)
             × RoundsFor true requests.items rounds × Reports rounds 0
-            (point_of S.Store self) (O.contents out.old) (log_of E.contents stderr.old)
-            (point_of S.Store switch) (O.contents out.new) (log_of E.contents stderr.new)) }
+            (point_of S.Store self) (O.contents out.old) (log_of E.contents edge.old.stderr)
+            (point_of S.Store switch) (O.contents out.new) (log_of E.contents edge.new.stderr)) }
         ensures ready { IfOk result (λ switch. IsReady (point_of S.Store switch)) }
         ensures halts { OnErr result (HaltsToward true requests.items
             (point_of S.Store self) (O.contents out.old) (O.contents out.new)) }
@@ -94,12 +89,12 @@ impl<S: Alter + Drop> Switch<S> {
             return Ok(self);
         }
         if requests.len() > 1 {
-            stderr.begin();
-            let mut switch = self.run_together(rt, alloc, requests)?;
-            return match switch.finish(alloc, out, stderr) {
+            edge.stderr.begin();
+            let mut switch = self.run_together(edge.rt, edge.alloc, requests)?;
+            return match switch.finish(edge, out) {
                 Ok(()) => Ok(switch),
                 Err(error) => {
-                    let _lines = stderr.trace(alloc, switch.engine());
+                    let _lines = edge.stderr.trace(edge.alloc, switch.engine());
                     Err(error)
                 }
             };
@@ -109,10 +104,10 @@ impl<S: Alter + Drop> Switch<S> {
             unreachable!()
         };
         let mut switch = self;
-        match switch.answer_alone(alloc, request, out, stderr) {
+        match switch.answer_alone(edge, request, out) {
             Ok(()) => Ok(switch),
             Err(error) => {
-                let _lines = stderr.trace(alloc, switch.engine());
+                let _lines = edge.stderr.trace(edge.alloc, switch.engine());
                 Err(error)
             }
         }
@@ -130,21 +125,20 @@ fn add_request(found: &mut Vec<Context>, request: Option<Context>) -> Result<(),
 }
 
 // The contexts of the requests among some messages.
-fn requests_in<E: Write, K: Clock>(
-    alloc: Global,
+fn requests_in<T: Clock, E: Write>(
+    edge: &mut Edge<'_, T, E>,
     count: &mut u64,
     list: &[Vec<u8>],
-    stderr: &mut Reporter<'_, E, K>,
 ) -> Result<Vec<Context>, ServeError>
     ensures all { IfOk result (λ found. found.items ≡ requests (messages list.now)) }
     ensures tells { OnOk result (Tells [] (passed_over (messages list.now))
-        (log_of E.contents stderr.old) (log_of E.contents stderr.new)) }
+        (log_of E.contents edge.old.stderr) (log_of E.contents edge.new.stderr)) }
     ensures few { IfOk result (λ found. vec_len found ≤ length list.now) }
 {
-    let mut found = Vec::new(alloc);
+    let mut found = Vec::new(edge.alloc);
     for message in list {
         *count = count.saturating_add(1);
-        let request = request_in(alloc, *count, message, stderr)?;
+        let request = request_in(edge, *count, message)?;
         add_request(&mut found, request)?;
     }
     Ok(found)
@@ -152,19 +146,17 @@ fn requests_in<E: Write, K: Clock>(
 
 // Answers the requests among some messages, in batches. After each batch the numbers of the run are written, if
 // they are due.
-fn answer_batches<S: Alter + Drop, T: Threads + Wait + Clock + Sync, O: Write, E: Write, K: Clock>(
-    rt: &T,
-    alloc: Global,
+fn answer_batches<S: Alter + Drop, T: Threads + Wait + Clock + Sync, O: Write, E: Write>(
+    edge: &mut Edge<'_, T, E>,
     switch: Switch<S>,
     count: &mut u64,
     list: &[Vec<u8>],
     out: &mut O,
-    stderr: &mut Reporter<'_, E, K>,
 ) -> Result<Switch<S>, ServeError>
     requires ready { IsReady (point_of S.Store switch) }
     ensures serves { IfOk result (λ after. ReportsFor true (messages list.now)
-        (point_of S.Store switch) (O.contents out.old) (log_of E.contents stderr.old)
-        (point_of S.Store after) (O.contents out.new) (log_of E.contents stderr.new)) }
+        (point_of S.Store switch) (O.contents out.old) (log_of E.contents edge.old.stderr)
+        (point_of S.Store after) (O.contents out.new) (log_of E.contents edge.new.stderr)) }
     ensures ready { IfOk result (λ after. IsReady (point_of S.Store after)) }
     ensures halts { OnErr result (HaltsToward true (requests (messages list.now))
         (point_of S.Store switch) (O.contents out.old) (O.contents out.new)) }
@@ -173,10 +165,10 @@ fn answer_batches<S: Alter + Drop, T: Threads + Wait + Clock + Sync, O: Write, E
     let mut rest = list;
     for _ in 0..list.len() {
         let (batch, more) = rest.split_at(rest.len().min(MAX_BATCH));
-        let requests = requests_in(alloc, count, batch, stderr)?;
+        let requests = requests_in(edge, count, batch)?;
         let before = switch.answered.counts.requests();
-        switch = switch.answer_batch(rt, alloc, requests, out, stderr)?;
-        switch.show_since(rt, alloc, before, stderr);
+        switch = switch.answer_batch(edge, requests, out)?;
+        switch.show_since(edge, before);
         rest = more;
     }
     Ok(switch)
@@ -185,23 +177,20 @@ fn answer_batches<S: Alter + Drop, T: Threads + Wait + Clock + Sync, O: Write, E
 impl Requests {
     /// Answers all requests of an input, in batches of those that have come: at most 256 messages, and at
     /// least one. A request that came alone is answered in this thread. Stored advices are sent between two reads.
-    pub(crate) fn serve_in_batches<
+    pub(crate) fn answer_in_batches<
         S: Alter + Drop,
         T: Threads + Wait + Clock + Sync,
         L: Link,
         R: Read,
         O: Write,
         E: Write,
-        K: Clock,
     >(
         &mut self,
-        rt: &T,
-        alloc: Global,
+        edge: &mut Edge<'_, T, E>,
         switch: Switch<S>,
         advisor: &mut Advisor<L>,
         input: &mut R,
         out: &mut O,
-        stderr: &mut Reporter<'_, E, K>,
     ) -> Result<(Switch<S>, StreamEnd), ServeError>
         requires ready { IsReady (point_of S.Store switch) }
         requires fresh { self.old.framer ≡ blank }
@@ -209,9 +198,9 @@ impl Requests {
             × ReadTo served.1 (R.remaining input.old) frames
             × AdvancesFor (SendsAdvice L.sends L.receives L.starves (Unit {0})) true frames
             (stage advisor.old (point_of S.Store switch) (O.contents out.old))
-            (log_of E.contents stderr.old)
+            (log_of E.contents edge.old.stderr)
             (stage advisor.new (point_of S.Store served.0) (O.contents out.new))
-            (log_of E.contents stderr.new)) }
+            (log_of E.contents edge.new.stderr)) }
         ensures ready { IfOk result (λ served. IsReady (point_of S.Store served.0)) }
         ensures stops { OnErr result (StopsWithin
             (SendsAdvice L.sends L.receives L.starves (Unit {0})) true (R.remaining input.old)
@@ -219,16 +208,15 @@ impl Requests {
             (O.contents out.new)) }
     {
         let mut switch = switch;
-        let mut buf = vec![in alloc; 0u8; PIECE]?;
+        let mut buf = vec![in edge.alloc; 0u8; PIECE]?;
         // More reads than any run makes.
         for _ in 0..u64::MAX {
-            let Piece { messages, end } = self.read(alloc, input, buf.as_mut_slice())?;
-            let count = &mut self.count;
-            switch = answer_batches(rt, alloc, switch, count, &messages, out, stderr)?;
+            let Piece { messages, end } = self.read(edge.alloc, input, buf.as_mut_slice())?;
+            switch = answer_batches(edge, switch, &mut self.count, &messages, out)?;
             if let Some(end) = end {
                 return Ok((switch, end));
             }
-            send_between(alloc, &mut switch, advisor, stderr)?;
+            send_between(edge, &mut switch, advisor)?;
         }
         Ok((switch, StreamEnd::Unread(IoError::TooManyReads)))
     }

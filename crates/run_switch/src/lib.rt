@@ -145,6 +145,7 @@
 mod advices;
 mod batches;
 mod defaults;
+mod edge;
 mod error;
 mod given;
 mod progress;
@@ -160,6 +161,7 @@ mod unsuited;
 mod with_records;
 
 pub use defaults::{DEFAULT_STAND_IN, default_advised, default_queried, default_routes};
+pub use edge::Edge;
 pub use error::ServeError;
 pub use record_log::RecordLog;
 pub use reporter::{LineForm, Reporter, write_lines};

@@ -15,19 +15,21 @@ ghost use Rattle.tx_seats.specs.Drives.{IsMade};
 ghost use Rattle.run_switch.specs.Links.{sender_with};
 ghost use Rattle.run_switch.specs.Lines.{lines_in, written_as};
 ghost use Rattle.run_switch.specs.Points.{IsAtRest, point_of};
-ghost use Rattle.run_switch.specs.Ran.{Closes, Printed, Ran, ServesAll, all_lines, lines_cut};
+ghost use Rattle.run_switch.specs.Ran.{Closes, HasBegun, Printed, Ran, ServesAll, ServesTold, all_lines};
+ghost use Rattle.run_switch.specs.Ran.{lines_cut};
 ghost use Rattle.run_switch.specs.Rounds.{Recovers, Round, RoundsFor};
 ghost use Rattle.run_switch.specs.Requests.{ReadTo, requests};
-ghost use Rattle.run_switch.specs.Stopped.{DrainsSome, IsStopped, ServesSome};
+ghost use Rattle.run_switch.specs.Stopped.{DrainsSome, GoesOnSome, IsStopped, ServesSome};
 ghost use Rattle.run_switch.specs.Shown.{TellsAll, TellsRun, unfinished_in, unfinished_of};
 ghost use Rattle.run_switch.specs.Traces.{DrainsAll, Tells, log_of, passed_over};
 ghost use Rattle.cli_io.specs.Written.{AppendsBeginning};
 ghost use Rattle.run_switch.specs.declared.reporter.LineForm.TheVariants.{Text};
 
 use crate::advices::{Advisor, send_advices};
+use crate::edge::Edge;
 use crate::error::ServeError;
 use crate::progress::Progress;
-use crate::reporter::{Reporter, write_lines};
+use crate::reporter::write_lines;
 use crate::saying::unfinished_in;
 use crate::setup::{NamedLink, Setup, SwitchLink, query_name, sender_over};
 use crate::stream::{Requests, StreamEnd};
@@ -78,41 +80,38 @@ impl<S: Alter> Switch<S> {
 
     /// Runs what waits in the queue; when nothing waits there, moves the shelf to the queue. Ends when nothing is
     /// on the shelf either.
-    pub(crate) fn drain<O: Write, E: Write, K: Clock>(
+    pub(crate) fn drain<T: Clock, O: Write, E: Write>(
         &mut self,
-        alloc: Global,
+        edge: &mut Edge<'_, T, E>,
         out: &mut O,
-        stderr: &mut Reporter<'_, E, K>,
     ) -> Result<(), ServeError>
         requires rest { IsAtRest (point_of S.Store self.old) }
         ensures drains { OnOk result (DrainsAll
-            (point_of S.Store self.old) (O.contents out.old) (log_of E.contents stderr.old)
-            (point_of S.Store self.new) (O.contents out.new) (log_of E.contents stderr.new)) }
+            (point_of S.Store self.old) (O.contents out.old) (log_of E.contents edge.old.stderr)
+            (point_of S.Store self.new) (O.contents out.new) (log_of E.contents edge.new.stderr)) }
         ensures stops { OnErr result (DrainsSome
             (point_of S.Store self.old) (O.contents out.old) (O.contents out.new)) }
     {
         for _ in 0..MAX_ROUNDS {
             if self.engine().queued() > 0 {
-                self.answer_next(alloc, stderr, out)?;
+                self.answer_next(edge, out)?;
                 continue;
             }
             if self.engine().shelved() == 0 {
                 return Ok(());
             }
-            self.act(alloc, Turn::Release)?;
+            self.act(edge.alloc, Turn::Release)?;
         }
         Err(ServeError::Endless)
     }
 
     // Answers the requests of an input, runs what is on the shelf, and sends the stored advices.
-    fn serve_to_end<C: Clock, L: Link, R: Read + Drop, O: Write, E: Write, K: Clock>(
+    fn answer_in_turn<T: Clock, L: Link, R: Read + Drop, O: Write, E: Write>(
         &mut self,
-        rt: &C,
-        alloc: Global,
+        edge: &mut Edge<'_, T, E>,
         advisor: &mut Advisor<L>,
         input: R,
         out: &mut O,
-        stderr: &mut Reporter<'_, E, K>,
     ) -> Result<StreamEnd, ServeError>
         requires rest { IsAtRest (point_of S.Store self.old) }
         requires empty { waits self.old.plant.running.engine ≡ [] }
@@ -123,26 +122,25 @@ impl<S: Alter> Switch<S> {
             (point_of S.Store self.old) advisor.old (O.contents out.old) (O.contents out.new))
             × (all.end ≡ point_of S.Store self.new)
             × Tells (lines_cut all) (passed_over frames)
-            (log_of E.contents stderr.old) (log_of E.contents stderr.new)) }
+            (log_of E.contents edge.old.stderr) (log_of E.contents edge.new.stderr)) }
         ensures stops { OnErr result (ServesSome
             (SendsAdvice L.sends L.receives L.starves (Unit {0})) false (R.remaining input)
             (point_of S.Store self.old) advisor.old (O.contents out.old) (O.contents out.new)) }
     {
-        self.cut_traced(alloc, stderr)?;
+        self.cut_traced(edge)?;
         let mut input = input;
-        let mut requests = Requests::new(alloc);
-        let end = requests.serve_all(rt, alloc, self, advisor, &mut input, out, stderr)?;
-        self.close(alloc, advisor, out, stderr)?;
+        let mut requests = Requests::new(edge.alloc);
+        let end = requests.answer_input(edge, self, advisor, &mut input, out)?;
+        self.close(edge, advisor, out)?;
         Ok(end)
     }
 
     // Empties the queue and the shelf, and sends the stored advices.
-    fn close<L: Link, O: Write, E: Write, K: Clock>(
+    fn close<T: Clock, L: Link, O: Write, E: Write>(
         &mut self,
-        alloc: Global,
+        edge: &mut Edge<'_, T, E>,
         advisor: &mut Advisor<L>,
         out: &mut O,
-        stderr: &mut Reporter<'_, E, K>,
     ) -> Result<(), ServeError>
         requires rest { IsAtRest (point_of S.Store self.old) }
         ensures closes { OnOk result (
@@ -150,12 +148,12 @@ impl<S: Alter> Switch<S> {
             (point_of S.Store self.old) advisor.old (O.contents out.old)
             (point_of S.Store self.new) advisor.new (O.contents out.new))
             × Tells c.drains.serves.lines 0
-            (log_of E.contents stderr.old) (log_of E.contents stderr.new)) }
+            (log_of E.contents edge.old.stderr) (log_of E.contents edge.new.stderr)) }
         ensures stops { OnErr result (DrainsSome
             (point_of S.Store self.old) (O.contents out.old) (O.contents out.new)) }
     {
-        self.drain(alloc, out, stderr)?;
-        send_advices(alloc, self, advisor)
+        self.drain(edge, out)?;
+        send_advices(edge.alloc, self, advisor)
     }
 }
 
@@ -163,21 +161,18 @@ impl<S: Alter + Drop> Switch<S> {
     // Answers the requests of an input in batches, each run by all sessions at once, then runs what is on the
     // shelf, and sends the stored advices. The lines of the trace are written after each batch and at the end; the
     // numbers of the run come last.
-    fn serve_together<
+    fn answer_together<
         T: Threads + Wait + Clock + Sync,
         L: Link,
         R: Read + Drop,
         O: Write,
         E: Write,
-        K: Clock,
     >(
         self,
-        rt: &T,
-        alloc: Global,
-        input: R,
+        edge: &mut Edge<'_, T, E>,
         advisor: &mut Advisor<L>,
+        input: R,
         out: &mut O,
-        stderr: &mut Reporter<'_, E, K>,
     ) -> Result<StreamEnd, ServeError>
         requires rest { IsAtRest (point_of S.Store self) }
         requires empty { waits self.plant.running.engine ≡ [] }
@@ -187,22 +182,20 @@ impl<S: Alter + Drop> Switch<S> {
             × (all : ServesAll (SendsAdvice L.sends L.receives L.starves (Unit {0})) rounds
             (point_of S.Store self) advisor.old (O.contents out.old) (O.contents out.new))
             × TellsAll (all_lines all) (passed_over frames) all.end
-            (log_of E.contents stderr.old) (log_of E.contents stderr.new)) }
+            (log_of E.contents edge.old.stderr) (log_of E.contents edge.new.stderr)) }
         ensures stops { OnErr result (ServesSome
             (SendsAdvice L.sends L.receives L.starves (Unit {0})) true (R.remaining input)
             (point_of S.Store self) advisor.old (O.contents out.old) (O.contents out.new)) }
     {
         let mut switch = self;
-        switch.cut_traced(alloc, stderr)?;
+        switch.cut_traced(edge)?;
         let mut input = input;
-        let mut requests = Requests::new(alloc);
-        let served = requests.serve_in_batches(
-            rt, alloc, switch, advisor, &mut input, out, stderr,
-        )?;
+        let mut requests = Requests::new(edge.alloc);
+        let served = requests.answer_in_batches(edge, switch, advisor, &mut input, out)?;
         let (mut switch, end) = served;
-        let closed = switch.close(alloc, advisor, out, stderr);
-        let traced = stderr.trace(alloc, switch.engine());
-        switch.show(rt, alloc, stderr);
+        let closed = switch.close(edge, advisor, out);
+        let traced = edge.stderr.trace(edge.alloc, switch.engine());
+        switch.show(edge);
         closed?;
         traced?;
         Ok(end)
@@ -259,32 +252,19 @@ impl<S: Alter + Drop, R: Read + Drop, L: Link> Drop for Over<S, R, L> {
 }
 
 impl<S: Alter + Drop, R: Read + Drop, L: Link> Over<S, R, L> {
-    // The run over the stations that were made (apart, so that its proof does not carry their making).
-    fn run<T: Threads + Wait + Clock + Sync, O: Write, E: Write, K: Clock>(
+    // Makes the plant of the stations that were made, and finishes what the journal has unfinished. (Apart, so that
+    // its proof does not carry how the stations are made.)
+    fn begin(
         self,
-        rt: &T,
         alloc: Global,
         code: &Code,
         stations: Vec<Station>,
-        out: &mut O,
-        stderr: &mut Reporter<'_, E, K>,
-    ) -> Result<StreamEnd, ServeError>
-        ensures ran { IfOk result (λ end. IfSome self.input (λ reader. (frames : List (List ℕ))
-            × ReadTo end (R.remaining reader) frames
-            × (rounds : List Round) × RoundsFor self.threads (requests frames) rounds
-            × (ran : Ran code.now self.sessions (seen (kept S.Store self.journal))
-            (SendsAdvice L.sends L.receives L.starves (Unit {0})) self.sender self.advices rounds
-            (O.contents out.old) (O.contents out.new))
-            × TellsRun stderr.old.words (unfinished_in ran.begins.view)
-            (all_lines ran.serves) (passed_over frames) ran.serves.end
-            (log_of E.contents stderr.old) (log_of E.contents stderr.new))) }
-        ensures printed { OnOk result (IfNone self.input (Printed code.now self.sessions
-            (seen (kept S.Store self.journal)) (O.contents out.old) (O.contents out.new))) }
-        ensures stopped { OnErr result (IsStopped
-            (SendsAdvice L.sends L.receives L.starves (Unit {0})) self.sender self.advices
-            self.threads (option_map R.remaining self.input)
-            code.now self.sessions (seen (kept S.Store self.journal))
-            (O.contents out.old) (O.contents out.new)) }
+    ) -> Result<Begun<S, R, L>, ServeError>
+        ensures begun { IfOk result (λ run. HasBegun code.now self.sessions
+            (seen (kept S.Store self.journal)) self.sender self.advices
+            (point_of S.Store run.switch) run.advisor run.unfinished) }
+        ensures input { IfOk result (λ run. run.input ≡ self.input) }
+        ensures threads { IfOk result (λ run. run.threads ≡ self.threads) }
     {
         let Over {
             journal,
@@ -303,20 +283,85 @@ impl<S: Alter + Drop, R: Read + Drop, L: Link> Over<S, R, L> {
         let first = plant.engine().opened().next_id;
         let answered = Progress::begin(alloc, plant.engine(), first);
         let mut switch = Switch { plant, answered };
-        let mut advisor = Advisor::new(sender, advices, first);
+        let advisor = Advisor::new(sender, advices, first);
         let unfinished = switch.unfinished();
         switch.recover(alloc)?;
+        Ok(Begun {
+            switch,
+            advisor,
+            unfinished,
+            input,
+            threads,
+        })
+    }
+}
+
+// A run whose plant has recovered, and what it recovered.
+struct Begun<S: Alter, R: Read, L: Link> {
+    switch: Switch<S>,
+    advisor: Advisor<L>,
+    unfinished: Recovered,
+    input: Option<R>,
+    threads: bool,
+}
+
+// Written out, so that no caller proves again how its parts are dropped.
+impl<S: Alter + Drop, R: Read + Drop, L: Link> Drop for Begun<S, R, L> {
+    fn drop(self) {
+        let Begun {
+            switch: _,
+            advisor: _,
+            unfinished: _,
+            input: _,
+            threads: _,
+        } = self;
+    }
+}
+
+impl<S: Alter + Drop, R: Read + Drop, L: Link> Begun<S, R, L> {
+    // Answers the requests of the input, or prints the lines of the history if there is none.
+    fn go_on<T: Threads + Wait + Clock + Sync, O: Write, E: Write>(
+        self,
+        edge: &mut Edge<'_, T, E>,
+        out: &mut O,
+    ) -> Result<StreamEnd, ServeError>
+        requires rest { IsAtRest (point_of S.Store self.switch) }
+        requires empty { waits self.switch.plant.running.engine ≡ [] }
+        ensures serves { IfOk result (λ end. IfSome self.input (λ reader.
+            (frames : List (List ℕ)) × ReadTo end (R.remaining reader) frames
+            × (rounds : List Round) × RoundsFor self.threads (requests frames) rounds
+            × ServesTold (SendsAdvice L.sends L.receives L.starves (Unit {0})) rounds
+            (point_of S.Store self.switch) self.advisor (O.contents out.old) (O.contents out.new)
+            edge.old.stderr.words self.unfinished (passed_over frames)
+            (log_of E.contents edge.old.stderr) (log_of E.contents edge.new.stderr))) }
+        ensures printed { OnOk result (IfNone self.input (Appends
+            (O.contents out.old) (O.contents out.new)
+            (written_as Text (lines_in self.switch.plant.running.engine)))) }
+        ensures stops { OnErr result (GoesOnSome
+            (SendsAdvice L.sends L.receives L.starves (Unit {0})) self.threads
+            (option_map R.remaining self.input) (point_of S.Store self.switch) self.advisor
+            (O.contents out.old) (O.contents out.new)) }
+    {
+        let Begun {
+            switch,
+            advisor,
+            unfinished,
+            input,
+            threads,
+        } = self;
         let Some(input) = input else {
-            print(alloc, switch.engine(), out)?;
+            print(edge.alloc, switch.engine(), out)?;
             return Ok(StreamEnd::Whole);
         };
-        stderr.say_ready(alloc, unfinished);
+        let mut switch = switch;
+        let mut advisor = advisor;
+        edge.stderr.say_ready(edge.alloc, unfinished);
         if threads {
-            return switch.serve_together(rt, alloc, input, &mut advisor, out, stderr);
+            return switch.answer_together(edge, &mut advisor, input, out);
         }
-        let served = switch.serve_to_end(rt, alloc, &mut advisor, input, out, stderr);
-        let traced = stderr.trace(alloc, switch.engine());
-        switch.show(rt, alloc, stderr);
+        let served = switch.answer_in_turn(edge, &mut advisor, input, out);
+        let traced = edge.stderr.trace(edge.alloc, switch.engine());
+        switch.show(edge);
         end_of(served, traced)
     }
 }
@@ -355,7 +400,7 @@ fn named(
 /// With threads the requests are answered in batches of those that have come, at most 256 at once; the lines
 /// of the trace are written after each batch. Those of a batch that was given up are lost.
 ///
-/// If `stderr` wants the numbers of the run, they are written each time that many more requests are answered (with
+/// If standard error wants the numbers of the run, they are written each time that many more requests are answered (with
 /// threads, after the batch in which this happens), and at the end. If it wants words, it is written that the run is
 /// ready, before the first read, and after each request, or each batch, what has become new of the hosts.
 ///
@@ -367,22 +412,13 @@ fn named(
 /// have (`DoubleStation`).
 ///
 /// The stations are made here; no caller has one of them.
-pub fn run<
-    S: Alter + Drop,
-    T: Threads + Wait + Clock + Sync,
-    R: Read + Drop,
-    O: Write,
-    E: Write,
-    K: Clock,
->(
-    rt: &T,
-    alloc: Global,
+pub fn run<S: Alter + Drop, T: Threads + Wait + Clock + Sync, R: Read + Drop, O: Write, E: Write>(
+    edge: &mut Edge<'_, T, E>,
     code: &Code,
     journal: Journal<S>,
     setup: Setup<SwitchLink>,
     input: Option<R>,
     out: &mut O,
-    stderr: &mut Reporter<'_, E, K>,
 ) -> Result<StreamEnd, ServeError>
     ensures ran { IfOk result (λ end. IfSome input (λ reader. (frames : List (List ℕ))
         × ReadTo end (R.remaining reader) frames
@@ -392,9 +428,9 @@ pub fn run<
         ⟦<SwitchLink as Link>⟧.starves (Unit {0}))
         (sender_with ⟦<SwitchLink as Link>⟧.state setup.routes setup.advised.items)
         setup.advices rounds (O.contents out.old) (O.contents out.new))
-        × TellsRun stderr.old.words (unfinished_in ran.begins.view)
+        × TellsRun edge.old.stderr.words (unfinished_in ran.begins.view)
         (all_lines ran.serves) (passed_over frames) ran.serves.end
-        (log_of E.contents stderr.old) (log_of E.contents stderr.new))) }
+        (log_of E.contents edge.old.stderr) (log_of E.contents edge.new.stderr))) }
     ensures printed { OnOk result (IfNone input (Printed code.now setup.sessions
         (seen (kept S.Store journal)) (O.contents out.old) (O.contents out.new))) }
     ensures stopped { OnErr result (IsStopped
@@ -416,6 +452,7 @@ pub fn run<
         threads,
         timed,
     } = setup;
+    let alloc = edge.alloc;
     let over = Over {
         journal,
         input,
@@ -470,5 +507,6 @@ pub fn run<
             Err(StationError::OutOfMemory) => return Err(ServeError::OutOfMemory),
         }
     }
-    over.run(rt, alloc, code, stations, out, stderr)
+    let begun = over.begin(alloc, code, stations)?;
+    begun.go_on(edge, out)
 }

@@ -6,6 +6,7 @@ ghost use Rattle.run_switch.specs.Points.{point_of};
 ghost use Rattle.run_switch.specs.Shown.{ShowsNumbers, ShowsSince, every_of, hosts_of, is_due};
 ghost use Rattle.run_switch.specs.Traces.{Tells, log_of};
 
+use crate::edge::Edge;
 use crate::reporter::Reporter;
 use crate::switch::Switch;
 use cli_io::write_whole;
@@ -105,37 +106,30 @@ impl<S: Alter> Switch<S> {
 
     /// Writes the numbers of the run so far, if they are wanted. If standard error takes nothing, or memory is
     /// refused, the line is lost, and nothing else changes.
-    pub(crate) fn show<C: Clock, E: Write, K: Clock>(
-        &self,
-        rt: &C,
-        alloc: Global,
-        stderr: &mut Reporter<'_, E, K>,
-    )
-        ensures shows { ShowsNumbers (numbers_at (point_of S.Store self.now) stderr.old.passed)
-            (log_of E.contents stderr.old) (log_of E.contents stderr.new) }
-        ensures words { stderr.new.words ≡ stderr.old.words }
+    pub(crate) fn show<T: Clock, E: Write>(&self, edge: &mut Edge<'_, T, E>)
+        ensures shows { ShowsNumbers (numbers_at (point_of S.Store self.now) edge.old.stderr.passed)
+            (log_of E.contents edge.old.stderr) (log_of E.contents edge.new.stderr) }
+        ensures words { edge.new.stderr.words ≡ edge.old.stderr.words }
     {
-        stderr.show(rt, alloc, &self.answered.counts, self.given_since());
+        let counts = &self.answered.counts;
+        let given = self.given_since();
+        edge.stderr.show(edge.rt, edge.alloc, counts, given);
     }
 
     /// Writes what has become new of the hosts; then the numbers and the hosts' counts, if they have become due since
     /// `before` requests were answered.
-    pub(crate) fn show_since<C: Clock, E: Write, K: Clock>(
-        &self,
-        rt: &C,
-        alloc: Global,
-        before: u64,
-        stderr: &mut Reporter<'_, E, K>,
-    )
-        ensures since { ShowsSince (every_of stderr.old.stats) before
-            (numbers_at (point_of S.Store self.now) stderr.old.passed) (hosts_of stderr.old.words)
-            (log_of E.contents stderr.old) (log_of E.contents stderr.new) }
-        ensures tells { Tells [] 0 (log_of E.contents stderr.old) (log_of E.contents stderr.new) }
+    pub(crate) fn show_since<T: Clock, E: Write>(&self, edge: &mut Edge<'_, T, E>, before: u64)
+        ensures since { ShowsSince (every_of edge.old.stderr.stats) before
+            (numbers_at (point_of S.Store self.now) edge.old.stderr.passed)
+            (hosts_of edge.old.stderr.words)
+            (log_of E.contents edge.old.stderr) (log_of E.contents edge.new.stderr) }
+        ensures tells { Tells [] 0
+            (log_of E.contents edge.old.stderr) (log_of E.contents edge.new.stderr) }
     {
-        stderr.say_news();
-        if stderr.is_due(before, self.answered.counts.requests()) {
-            self.show(rt, alloc, stderr);
-            stderr.say_counts();
+        edge.stderr.say_news();
+        if edge.stderr.is_due(before, self.answered.counts.requests()) {
+            self.show(edge);
+            edge.stderr.say_counts();
         }
     }
 }

@@ -13,13 +13,13 @@ ghost use Rattle.run_switch.specs.Points.{IsReady, point_of};
 ghost use Rattle.run_switch.specs.Rounds.{answering};
 ghost use Rattle.run_switch.specs.Errors.{result_of};
 ghost use Rattle.run_switch.specs.Requests.{EndsAs, FramesIn, ReadTo, ReadsOn, if_read, request_of, requests};
-ghost use Rattle.run_switch.specs.Stopped.{Halts, HaltsOn, StopsWithin};
-ghost use Rattle.run_switch.specs.Traces.{Reports, ReportsFor, Tells, if_passed, log_of, passed_over};
+ghost use Rattle.run_switch.specs.Stopped.{Halts, StopsWithin};
+ghost use Rattle.run_switch.specs.Traces.{Reports, Tells, if_passed, log_of, passed_over};
 ghost use Rattle.run_switch.specs.declared.stream.StreamEnd.TheVariants.{BadLength, Unread};
 
 use crate::advices::{Advisor, send_between};
+use crate::edge::Edge;
 use crate::error::ServeError;
-use crate::reporter::Reporter;
 use crate::switch::Switch;
 use cli_io::IoError;
 use iso_codec::{DecodeError, decode, type_in};
@@ -98,82 +98,56 @@ fn context_of(alloc: Global, number: u64, message: &[u8]) -> Result<Context, Ser
 }
 
 // The context of a request; a message that cannot be read is passed over, and its number is written.
-pub(crate) fn request_in<E: Write, K: Clock>(
-    alloc: Global,
+pub(crate) fn request_in<T: Clock, E: Write>(
+    edge: &mut Edge<'_, T, E>,
     number: u64,
     message: &[u8],
-    stderr: &mut Reporter<'_, E, K>,
 ) -> Result<Option<Context>, ServeError>
     ensures request { IfOk result (λ request. option_to_list request
         ≡ map request_of (if_read (read message.now) message.now)) }
     ensures tells { OnOk result (Tells [] (if_passed (read message.now))
-        (log_of E.contents stderr.old) (log_of E.contents stderr.new)) }
+        (log_of E.contents edge.old.stderr) (log_of E.contents edge.new.stderr)) }
 {
     // A message that can be read is only checked here; it is decoded where its fields are needed.
     if type_in(message).is_some() {
-        return Ok(Some(context_of(alloc, number, message)?));
+        return Ok(Some(context_of(edge.alloc, number, message)?));
     }
-    match decode(alloc, message) {
+    match decode(edge.alloc, message) {
         Ok(_) => unreachable!(),
         Err(DecodeError::OutOfMemory) => Err(ServeError::OutOfMemory),
         Err(error) => {
-            stderr.pass_over(alloc, number, &error)?;
+            edge.stderr.pass_over(edge.alloc, number, &error)?;
             Ok(None)
         }
     }
 }
 
-// Answers a message, if it can be read, and writes the numbers of the run, if they are due.
-fn serve<S: Alter, C: Clock, O: Write, E: Write, K: Clock>(
-    rt: &C,
-    alloc: Global,
-    switch: &mut Switch<S>,
-    number: u64,
-    message: &[u8],
-    out: &mut O,
-    stderr: &mut Reporter<'_, E, K>,
-) -> Result<(), ServeError>
-    requires ready { IsReady (point_of S.Store switch.old) }
-    ensures serves { OnOk result (Reports (answering
-        (map request_of (if_read (read message.now) message.now))) (if_passed (read message.now))
-        (point_of S.Store switch.old) (O.contents out.old) (log_of E.contents stderr.old)
-        (point_of S.Store switch.new) (O.contents out.new) (log_of E.contents stderr.new)) }
-    ensures halts { OnErr result (Halts (answering
-        (map request_of (if_read (read message.now) message.now)))
-        (point_of S.Store switch.old) (O.contents out.old) (O.contents out.new)) }
-    ensures ready { OnOk result (IsReady (point_of S.Store switch.new)) }
-{
-    let Some(request) = request_in(alloc, number, message, stderr)? else {
-        return Ok(());
-    };
-    let before = switch.answered.counts.requests();
-    switch.answer(alloc, request, stderr, out)?;
-    switch.show_since(rt, alloc, before, stderr);
-    Ok(())
-}
-
-// Answers messages, one after the other.
-fn serve_messages<S: Alter, C: Clock, O: Write, E: Write, K: Clock>(
-    rt: &C,
-    alloc: Global,
+// Answers messages, one after the other: each that can be read. After each the numbers of the run are written, if they
+// are due.
+fn answer_messages<S: Alter, T: Clock, O: Write, E: Write>(
+    edge: &mut Edge<'_, T, E>,
     switch: &mut Switch<S>,
     count: &mut u64,
     list: &[Vec<u8>],
     out: &mut O,
-    stderr: &mut Reporter<'_, E, K>,
 ) -> Result<(), ServeError>
     requires ready { IsReady (point_of S.Store switch.old) }
     ensures serves { OnOk result (Reports (answering (requests (messages list.now)))
         (passed_over (messages list.now))
-        (point_of S.Store switch.old) (O.contents out.old) (log_of E.contents stderr.old)
-        (point_of S.Store switch.new) (O.contents out.new) (log_of E.contents stderr.new)) }
+        (point_of S.Store switch.old) (O.contents out.old) (log_of E.contents edge.old.stderr)
+        (point_of S.Store switch.new) (O.contents out.new) (log_of E.contents edge.new.stderr)) }
     ensures halts { OnErr result (Halts (answering (requests (messages list.now)))
         (point_of S.Store switch.old) (O.contents out.old) (O.contents out.new)) }
     ensures ready { OnOk result (IsReady (point_of S.Store switch.new)) }
 {
     for message in list {
         *count = count.saturating_add(1);
-        serve(rt, alloc, switch, *count, message, out, stderr)?;
+        let Some(request) = request_in(edge, *count, message)? else {
+            continue;
+        };
+        let before = switch.answered.counts.requests();
+        switch.answer(edge, request, out)?;
+        switch.show_since(edge, before);
     }
     Ok(())
 }
@@ -255,50 +229,14 @@ impl Requests {
         Ok(Piece { messages, end })
     }
 
-    // Writes the lines of the trace, reads once, and answers the messages that this completes. Returns how the
-    // stream ended, if it did.
-    fn serve_read<S: Alter, C: Clock, R: Read, O: Write, E: Write, K: Clock>(
-        &mut self,
-        rt: &C,
-        alloc: Global,
-        switch: &mut Switch<S>,
-        input: &mut R,
-        buf: &mut [u8],
-        out: &mut O,
-        stderr: &mut Reporter<'_, E, K>,
-    ) -> Result<Option<StreamEnd>, ServeError>
-        requires ready { IsReady (point_of S.Store switch.old) }
-        requires room { 0 < length buf.old }
-        requires sound { self.old.framer.failed ≡ false }
-        ensures room { length buf.new ≡ length buf.old }
-        ensures goes_on { IfOk result (λ end. IfNone end (self.new.framer.failed ≡ false)) }
-        ensures serves { IfOk result (λ end. (more : List (List ℕ))
-            × ReadsOn (R.remaining input.old) self.old.framer more
-            (R.remaining input.new) self.new.framer
-            × ReportsFor false more
-            (point_of S.Store switch.old) (O.contents out.old) (log_of E.contents stderr.old)
-            (point_of S.Store switch.new) (O.contents out.new) (log_of E.contents stderr.new)
-            × IfSome end (λ e. EndsAs e self.new.framer (R.remaining input.new))) }
-        ensures halts { OnErr result (HaltsOn false (R.remaining input.old) self.old.framer
-            (point_of S.Store switch.old) (O.contents out.old) (O.contents out.new)) }
-        ensures ready { OnOk result (IsReady (point_of S.Store switch.new)) }
-    {
-        switch.cut_traced(alloc, stderr)?;
-        let Piece { messages, end } = self.read(alloc, input, buf)?;
-        serve_messages(rt, alloc, switch, &mut self.count, &messages, out, stderr)?;
-        Ok(end)
-    }
-
     /// Answers all messages of an input, as they come, and sends stored advices between two reads.
-    pub(crate) fn serve_all<S: Alter, C: Clock, L: Link, R: Read, O: Write, E: Write, K: Clock>(
+    pub(crate) fn answer_input<S: Alter, T: Clock, L: Link, R: Read, O: Write, E: Write>(
         &mut self,
-        rt: &C,
-        alloc: Global,
+        edge: &mut Edge<'_, T, E>,
         switch: &mut Switch<S>,
         advisor: &mut Advisor<L>,
         input: &mut R,
         out: &mut O,
-        stderr: &mut Reporter<'_, E, K>,
     ) -> Result<StreamEnd, ServeError>
         requires ready { IsReady (point_of S.Store switch.old) }
         requires fresh { self.old.framer ≡ blank }
@@ -306,24 +244,24 @@ impl Requests {
             × ReadTo end (R.remaining input.old) frames
             × AdvancesFor (SendsAdvice L.sends L.receives L.starves (Unit {0})) false frames
             (stage advisor.old (point_of S.Store switch.old) (O.contents out.old))
-            (log_of E.contents stderr.old)
+            (log_of E.contents edge.old.stderr)
             (stage advisor.new (point_of S.Store switch.new) (O.contents out.new))
-            (log_of E.contents stderr.new)) }
+            (log_of E.contents edge.new.stderr)) }
         ensures stops { OnErr result (StopsWithin
             (SendsAdvice L.sends L.receives L.starves (Unit {0})) false (R.remaining input.old)
             (stage advisor.old (point_of S.Store switch.old) (O.contents out.old))
             (O.contents out.new)) }
         ensures ready { OnOk result (IsReady (point_of S.Store switch.new)) }
     {
-        let mut buf = vec![in alloc; 0u8; PIECE]?;
+        let mut buf = vec![in edge.alloc; 0u8; PIECE]?;
         // More reads than any run makes.
         for _ in 0..u64::MAX {
-            let buf = buf.as_mut_slice();
-            let end = self.serve_read(rt, alloc, switch, input, buf, out, stderr)?;
+            let Piece { messages, end } = self.read(edge.alloc, input, buf.as_mut_slice())?;
+            answer_messages(edge, switch, &mut self.count, &messages, out)?;
             if let Some(end) = end {
                 return Ok(end);
             }
-            send_between(alloc, switch, advisor, stderr)?;
+            send_between(edge, switch, advisor)?;
         }
         Ok(StreamEnd::Unread(IoError::TooManyReads))
     }

@@ -13,10 +13,10 @@ ghost use Rattle.run_switch.specs.Rounds.{answering};
 ghost use Rattle.run_switch.specs.Stopped.{GivesSome, Halts};
 ghost use Rattle.run_switch.specs.Traces.{Cuts, IsLive, IsOver, Reports, log_of};
 
+use crate::edge::Edge;
 use crate::error::ServeError;
 use crate::given::{count_above, last_above, text_above};
 use crate::progress::Progress;
-use crate::reporter::Reporter;
 use cli_io::write_out;
 use sqlite::Alter;
 use std::alloc::Global;
@@ -125,7 +125,7 @@ impl<S: Alter> Switch<S> {
     }
 
     // Runs the transaction of the queue's first context to its end.
-    fn serve_next(&mut self, alloc: Global) -> Result<(), ServeError>
+    fn run_next(&mut self, alloc: Global) -> Result<(), ServeError>
         requires rest { IsAtRest (point_of S.Store self.old) }
         ensures transacts { OnOk result ((own : Option Pairs) × Transacts
             (point_of S.Store self.old) own (point_of S.Store self.new)) }
@@ -148,7 +148,7 @@ impl<S: Alter> Switch<S> {
         ensures rests { OnOk result (RestsGiven (point_of S.Store self.new)) }
     {
         self.act(alloc, Turn::Offer(request))?;
-        self.serve_next(alloc)
+        self.run_next(alloc)
     }
 
     /// Writes the responses that were not given yet, those of the transactions that ended since, and counts them.
@@ -175,31 +175,31 @@ impl<S: Alter> Switch<S> {
 
     // Cuts a history between two transactions, if it is long or its lines are wanted; these are written first.
     // With the trace, no line is then left to write.
-    fn cut_between<E: Write, K: Clock>(
+    fn cut_between<T: Clock, E: Write>(
         &mut self,
-        alloc: Global,
-        stderr: &mut Reporter<'_, E, K>,
+        edge: &mut Edge<'_, T, E>,
     ) -> Result<(), ServeError>
         requires rest { IsAtRest (point_of S.Store self.old) }
         ensures cuts { OnOk result (Cuts
-            (point_of S.Store self.old) (log_of E.contents stderr.old)
-            (point_of S.Store self.new) (log_of E.contents stderr.new)) }
+            (point_of S.Store self.old) (log_of E.contents edge.old.stderr)
+            (point_of S.Store self.new) (log_of E.contents edge.new.stderr)) }
         ensures rest { OnOk result (IsAtRest (point_of S.Store self.new)) }
         ensures queue { OnOk result (waits self.new.plant.running.engine
             ≡ waits self.old.plant.running.engine) }
-        ensures live { OnOk result (IsLive (log_of E.contents stderr.old) self.new.plant.running.engine) }
-        ensures once { OnErr result (IsOver (log_of E.contents stderr.new)) }
+        ensures live { OnOk result (IsLive
+            (log_of E.contents edge.old.stderr) self.new.plant.running.engine) }
+        ensures once { OnErr result (IsOver (log_of E.contents edge.new.stderr)) }
     {
-        let entries = entries_kept(stderr.is_live());
+        let entries = entries_kept(edge.stderr.is_live());
         if self.engine().history().len() < entries {
             return Ok(());
         }
-        stderr.trace(alloc, self.engine())?;
-        match self.act(alloc, Turn::Cut) {
+        edge.stderr.trace(edge.alloc, self.engine())?;
+        match self.act(edge.alloc, Turn::Cut) {
             Ok(_) => Ok(()),
             Err(error) => {
                 // Its lines are written, and none of them is written again when the run ends.
-                stderr.finish();
+                edge.stderr.finish();
                 Err(error)
             }
         }
@@ -207,64 +207,64 @@ impl<S: Alter> Switch<S> {
 
     /// Cuts a history that is long or whose lines are wanted; these are written first. So the lines of the trace
     /// are written before the run waits for input.
-    pub(crate) fn cut_traced<E: Write, K: Clock>(
+    pub(crate) fn cut_traced<T: Clock, E: Write>(
         &mut self,
-        alloc: Global,
-        stderr: &mut Reporter<'_, E, K>,
+        edge: &mut Edge<'_, T, E>,
     ) -> Result<(), ServeError>
         requires rest { IsAtRest (point_of S.Store self.old) }
         requires empty { waits self.old.plant.running.engine ≡ [] }
         ensures cuts { OnOk result (Cuts
-            (point_of S.Store self.old) (log_of E.contents stderr.old)
-            (point_of S.Store self.new) (log_of E.contents stderr.new)) }
+            (point_of S.Store self.old) (log_of E.contents edge.old.stderr)
+            (point_of S.Store self.new) (log_of E.contents edge.new.stderr)) }
         ensures ready { OnOk result (IsReady (point_of S.Store self.new)) }
-        ensures live { OnOk result (IsLive (log_of E.contents stderr.old) self.new.plant.running.engine) }
+        ensures live { OnOk result (IsLive
+            (log_of E.contents edge.old.stderr) self.new.plant.running.engine) }
     {
-        self.cut_between(alloc, stderr)
+        self.cut_between(edge)
     }
 
     /// Runs the transaction of the queue's first context to its end, and writes its response; then the lines of
     /// the trace so far, if it is wanted.
-    pub(crate) fn answer_next<O: Write, E: Write, K: Clock>(
+    pub(crate) fn answer_next<T: Clock, O: Write, E: Write>(
         &mut self,
-        alloc: Global,
-        stderr: &mut Reporter<'_, E, K>,
+        edge: &mut Edge<'_, T, E>,
         out: &mut O,
     ) -> Result<(), ServeError>
         requires rest { IsAtRest (point_of S.Store self.old) }
         ensures serves { OnOk result (Reports (Completed ∷ []) 0
-            (point_of S.Store self.old) (O.contents out.old) (log_of E.contents stderr.old)
-            (point_of S.Store self.new) (O.contents out.new) (log_of E.contents stderr.new)) }
+            (point_of S.Store self.old) (O.contents out.old) (log_of E.contents edge.old.stderr)
+            (point_of S.Store self.new) (O.contents out.new) (log_of E.contents edge.new.stderr)) }
         ensures halts { OnErr result (Halts (Completed ∷ [])
             (point_of S.Store self.old) (O.contents out.old) (O.contents out.new)) }
         ensures rest { OnOk result (IsAtRest (point_of S.Store self.new)) }
-        ensures live { OnOk result (IsLive (log_of E.contents stderr.old) self.new.plant.running.engine) }
+        ensures live { OnOk result (IsLive
+            (log_of E.contents edge.old.stderr) self.new.plant.running.engine) }
     {
-        stderr.begin();
-        self.serve_next(alloc)?;
-        self.give(alloc, out)?;
-        self.cut_between(alloc, stderr)
+        edge.stderr.begin();
+        self.run_next(edge.alloc)?;
+        self.give(edge.alloc, out)?;
+        self.cut_between(edge)
     }
 
     /// Runs the transaction of a request to its end, and writes its response; then the lines of the trace so far,
     /// if it is wanted.
-    pub(crate) fn answer<O: Write, E: Write, K: Clock>(
+    pub(crate) fn answer<T: Clock, O: Write, E: Write>(
         &mut self,
-        alloc: Global,
+        edge: &mut Edge<'_, T, E>,
         request: Context,
-        stderr: &mut Reporter<'_, E, K>,
         out: &mut O,
     ) -> Result<(), ServeError>
         requires ready { IsReady (point_of S.Store self.old) }
         ensures serves { OnOk result (Reports (answering (request ∷ [])) 0
-            (point_of S.Store self.old) (O.contents out.old) (log_of E.contents stderr.old)
-            (point_of S.Store self.new) (O.contents out.new) (log_of E.contents stderr.new)) }
+            (point_of S.Store self.old) (O.contents out.old) (log_of E.contents edge.old.stderr)
+            (point_of S.Store self.new) (O.contents out.new) (log_of E.contents edge.new.stderr)) }
         ensures halts { OnErr result (Halts (answering (request ∷ []))
             (point_of S.Store self.old) (O.contents out.old) (O.contents out.new)) }
         ensures ready { OnOk result (IsReady (point_of S.Store self.new)) }
-        ensures live { OnOk result (IsLive (log_of E.contents stderr.old) self.new.plant.running.engine) }
+        ensures live { OnOk result (IsLive
+            (log_of E.contents edge.old.stderr) self.new.plant.running.engine) }
     {
-        self.act(alloc, Turn::Offer(request))?;
-        self.answer_next(alloc, stderr, out)
+        self.act(edge.alloc, Turn::Offer(request))?;
+        self.answer_next(edge, out)
     }
 }

@@ -9,30 +9,30 @@ returns-in-Some-clause-answered g c =
     taken _ c.args.flow c.args.config c.in_ok-flow.flow c.in_ok-config.config c.in_ok-flow.was c.in_ok-config.was
     (answered_by_code _ c.in_ok-flow.flow c.in_ok-code.code c.args.options.now c.in_ok-config.config _ _ _ _ c.in_ok-code.ensures.same
     (rw c.in_file.ensures (answered_by_file _ c.in_ok-code.code c.args.options.now c.in_ok-config.config c.in_ok-setup.setup c.as_str.result.now
-    c.in-Some.path c.in_ok-journal-in-Some.journal _ _ _ c.serve-ended.result c.in_ok-setup.ensures.set_up
+    c.in-Some.path c.in_ok-journal-in-Some.journal _ _ _ c.run_over-ended.result c.in_ok-setup.ensures.set_up
     (takes_code c.in_ok-flow.flow c.in_ok-code.code c.args.options.now c.in_ok-config.config c.in_ok-code.ensures.same c.in_ok-code.ensures.taken)
-    (ap Some c.as_str.ensures ∙ (sym c.in-Some.is ∙ c.in_ok-path.ensures)) c.in_ok-journal-in-Some.ensures.journal c.serve-ended.ensures.served)))
+    (ap Some c.as_str.ensures ∙ (sym c.in-Some.is ∙ c.in_ok-path.ensures)) c.in_ok-journal-in-Some.ensures.journal c.run_over-ended.ensures.served)))
 
 pub returns-in-Some-clause-failed : goal.returns-in-Some-clause-failed
 returns-in-Some-clause-failed g c =
     taken _ c.args.flow c.args.config c.in_ok-flow.flow c.in_ok-config.config c.in_ok-flow.was c.in_ok-config.was
-    (rw c.in_file.ensures (refused_in_file c.args.options.now c.in_ok-config.config c.in-Some.path _ _ c.serve-ended.result c.in_ok-setup.ensures.set_up.within
-    (sym c.in-Some.is ∙ c.in_ok-path.ensures) c.serve-ended.ensures.failed))
+    (rw c.in_file.ensures (refused_in_file c.args.options.now c.in_ok-config.config c.in-Some.path _ _ c.run_over-ended.result c.in_ok-setup.ensures.set_up.within
+    (sym c.in-Some.is ∙ c.in_ok-path.ensures) c.run_over-ended.ensures.failed))
 
 pub returns-clause-answered : goal.returns-clause-answered
 returns-clause-answered g c =
     taken _ c.args.flow c.args.config c.in_ok-flow.flow c.in_ok-config.config c.in_ok-flow.was c.in_ok-config.was
     (answered_by_code _ c.in_ok-flow.flow c.in_ok-code.code c.args.options.now c.in_ok-config.config _ _ _ _ c.in_ok-code.ensures.same
     (answered_in_memory _ c.in_ok-code.code c.args.options.now c.in_ok-config.config c.in_ok-setup.setup c.in_ok-journal-in-None.journal _ _ _
-    c.serve.result c.in_ok-setup.ensures.set_up
+    c.run_over.result c.in_ok-setup.ensures.set_up
     (takes_code c.in_ok-flow.flow c.in_ok-code.code c.args.options.now c.in_ok-config.config c.in_ok-code.ensures.same c.in_ok-code.ensures.taken)
-    (sym c.in-None.is ∙ c.in_ok-path.ensures) c.in_ok-journal-in-None.ensures.journal c.serve.ensures.served))
+    (sym c.in-None.is ∙ c.in_ok-path.ensures) c.in_ok-journal-in-None.ensures.journal c.run_over.ensures.served))
 
 pub returns-clause-failed : goal.returns-clause-failed
 returns-clause-failed g c =
     taken _ c.args.flow c.args.config c.in_ok-flow.flow c.in_ok-config.config c.in_ok-flow.was c.in_ok-config.was
-    (refused_in_memory c.args.options.now c.in_ok-config.config _ _ c.serve.result c.in_ok-setup.ensures.set_up.within
-    (sym c.in-None.is ∙ c.in_ok-path.ensures) c.serve.ensures.failed)
+    (refused_in_memory c.args.options.now c.in_ok-config.config _ _ c.run_over.result c.in_ok-setup.ensures.set_up.within
+    (sym c.in-None.is ∙ c.in_ok-path.ensures) c.run_over.ensures.failed)
 
 pub returns-in_err-log-clause-failed : goal.returns-in_err-log-clause-failed
 returns-in_err-log-clause-failed g c =

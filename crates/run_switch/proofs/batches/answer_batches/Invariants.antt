@@ -9,7 +9,7 @@ invariant-loop g l = record {
   first : List (List ℕ);
   split : messages l.list ≡ first ++ messages l.rest;
   few : length l.rest + l.counter ≤ length l.list;
-  serves : ReportsFor true first (point_of g.S.Store l.fn.switch) (g.O.Write.contents l.fn.out) (log_of g.E.Write.contents l.fn.stderr)
-      (point_of g.S.Store l.switch) (g.O.Write.contents l.out) (log_of g.E.Write.contents l.stderr);
+  serves : ReportsFor true first (point_of g.S.Store l.fn.switch) (g.O.Write.contents l.fn.out) (log_of g.E.Write.contents l.fn.edge.stderr)
+      (point_of g.S.Store l.switch) (g.O.Write.contents l.out) (log_of g.E.Write.contents l.edge.stderr);
   ready : IsReady (point_of g.S.Store l.switch);
 }

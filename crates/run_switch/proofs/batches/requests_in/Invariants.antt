@@ -7,6 +7,6 @@ use Rattle.run_switch.proofs.batches.requests_in.Given as goal
 abbrev pub invariant-loop-message : goal.invariant-loop-message
 invariant-loop-message g l = record {
   all : l.found.items ≡ requests (messages (take l.message-index l.list));
-  tells : Tells [] (passed_over (messages (take l.message-index l.list))) (log_of g.E.Write.contents l.fn.stderr) (log_of g.E.Write.contents l.stderr);
+  tells : Tells [] (passed_over (messages (take l.message-index l.list))) (log_of g.E.Write.contents l.fn.edge.stderr) (log_of g.E.Write.contents l.edge.stderr);
   few : length l.found.items ≤ l.message-index;
 }

@@ -6,7 +6,7 @@ use Rattle.run_switch.proofs.switch.Switch.answer_next.Goals as goal
 
 pub returns : goal.returns
 returns g c =
-    let (own, transacts) = c.in_ok-serve_next.ensures.transacts in
+    let (own, transacts) = c.in_ok-run_next.ensures.transacts in
     let (text, framed, appends) = c.in_ok-give.ensures.gives in
     record {
       serves = on_both c.cut_between.result (λ cuts rest. reports_from (Completed ∷ []) 0 _ _ _ _ _ _ _ c.begin.ensures
@@ -18,13 +18,13 @@ returns g c =
 
 pub give-requires : goal.give-requires
 give-requires g c =
-    let (own, transacts) = c.in_ok-serve_next.ensures.transacts in
-    record { rests = rest_given _ _ own c.requires.rest transacts c.in_ok-serve_next.ensures.seated }
+    let (own, transacts) = c.in_ok-run_next.ensures.transacts in
+    record { rests = rest_given _ _ own c.requires.rest transacts c.in_ok-run_next.ensures.seated }
 
-pub returns-in_err-serve_next-clause-halts : goal.returns-in_err-serve_next-clause-halts
-returns-in_err-serve_next-clause-halts g c = on_err_of c.from_residual.result (halts_none (Completed ∷ []) _ _)
+pub returns-in_err-run_next-clause-halts : goal.returns-in_err-run_next-clause-halts
+returns-in_err-run_next-clause-halts g c = on_err_of c.from_residual.result (halts_none (Completed ∷ []) _ _)
 
 pub returns-in_err-give-clause-halts : goal.returns-in_err-give-clause-halts
 returns-in_err-give-clause-halts g c =
-    let (own, transacts) = c.in_ok-serve_next.ensures.transacts in
+    let (own, transacts) = c.in_ok-run_next.ensures.transacts in
     on_err_of c.from_residual-in_err-give.result (halts_gives own _ _ _ _ c.requires.rest transacts c.in_err-give.ensures.stopped)

@@ -28,7 +28,7 @@ returns-in-Ok g c =
       cuts = record {
         lines = _;
         cuts = cuts;
-        tells = subst (λ (w : World). Tells (lines_in w) 0 (log_of g.E.Write.contents c.args.stderr.now) (log_of g.E.Write.contents c.trace.new.self))
+        tells = subst (λ (w : World). Tells (lines_in w) 0 (log_of g.E.Write.contents c.args.edge.now.stderr) (log_of g.E.Write.contents c.trace.new.self))
             c.engine-2.ensures c.in_ok-trace.ensures.tells;
       };
       rest = cut_rest _ _ _ c.requires.rest c.in-Ok.ensures.does c.in-Ok.ensures.seated;

@@ -8,9 +8,9 @@ use Rattle.run_switch.proofs.switch.Switch.show_since.Goals as goal
 
 pub returns-then-is_due-clause-since : goal.returns-then-is_due-clause-since
 returns-then-is_due-clause-since g c =
-    since_due (every_of c.args.stderr.now.stats) c.args.before (numbers_at (point_of g.S.Store c.args.self.now) c.args.stderr.now.passed)
+    since_due (every_of c.args.edge.now.stderr.stats) c.args.before (numbers_at (point_of g.S.Store c.args.self.now) c.args.edge.now.stderr.passed)
     (numbers_at (point_of g.S.Store c.args.self.now) c.say_news.new.self.passed) _ _ _ _ _ _
-    (due_is (every_of c.args.stderr.now.stats) (every_of c.say_news.new.self.stats) c.args.before c.requests.result _ c.is_due.result c.is_due.ensures
+    (due_is (every_of c.args.edge.now.stderr.stats) (every_of c.say_news.new.self.stats) c.args.before c.requests.result _ c.is_due.result c.is_due.ensures
     c.if-is_due.true (ap every_of c.say_news.ensures.stats) c.requests.ensures)
     (ap (numbers_at (point_of g.S.Store c.args.self.now)) c.say_news.ensures.says.writes.passed)
     (ap hosts_of c.show.ensures.words ∙ c.say_news.ensures.hosts) c.say_news.ensures.says c.show.ensures.shows c.say_counts.ensures

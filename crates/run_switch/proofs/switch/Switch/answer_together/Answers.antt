@@ -1,10 +1,10 @@
 use Rattle.std.proofs.Common.{true, inl, inr}
 use Rattle.run_switch.proofs.Runs.{all_served, told_last}
 use Rattle.run_switch.proofs.Stops.{drains_all, on_err_of}
-use Rattle.run_switch.proofs.switch.Switch.serve_together.Goals as goal
+use Rattle.run_switch.proofs.switch.Switch.answer_together.Goals as goal
 
-pub serve_in_batches-requires-clause-ready : goal.serve_in_batches-requires-clause-ready
-serve_in_batches-requires-clause-ready g c = λ κs within. c.in_ok-cut_traced.ensures.ready
+pub answer_in_batches-requires-clause-ready : goal.answer_in_batches-requires-clause-ready
+answer_in_batches-requires-clause-ready g c = λ κs within. c.in_ok-cut_traced.ensures.ready
 
 pub returns-clause-serves : goal.returns-clause-serves
 returns-clause-serves g c =

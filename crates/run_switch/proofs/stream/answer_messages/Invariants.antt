@@ -5,14 +5,14 @@ use Rattle.run_switch.specs.Points.{IsReady, point}
 use Rattle.run_switch.specs.Rounds.{answering}
 use Rattle.run_switch.specs.Traces.{Reports, log_of, passed_over}
 use Rattle.run_switch.specs.Requests.{requests}
-use Rattle.run_switch.proofs.stream.serve_messages.Given as goal
+use Rattle.run_switch.proofs.stream.answer_messages.Given as goal
 
 abbrev pub invariant-loop-message : goal.invariant-loop-message
 invariant-loop-message g l = record {
   serves : Reports (answering (requests (messages (take l.message-index l.list)))) (passed_over (messages (take l.message-index l.list)))
       (point l.fn.switch.plant.running.engine l.fn.switch.plant.running.seats (kept g.S.Store l.fn.switch.plant.journal) l.fn.switch.answered)
-      (g.O.Write.contents l.fn.out) (log_of g.E.Write.contents l.fn.stderr)
+      (g.O.Write.contents l.fn.out) (log_of g.E.Write.contents l.fn.edge.stderr)
       (point l.switch.plant.running.engine l.switch.plant.running.seats (kept g.S.Store l.switch.plant.journal) l.switch.answered)
-      (g.O.Write.contents l.out) (log_of g.E.Write.contents l.stderr);
+      (g.O.Write.contents l.out) (log_of g.E.Write.contents l.edge.stderr);
   ready : IsReady (point l.switch.plant.running.engine l.switch.plant.running.seats (kept g.S.Store l.switch.plant.journal) l.switch.answered);
 }

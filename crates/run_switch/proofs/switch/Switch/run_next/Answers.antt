@@ -1,5 +1,5 @@
 use Rattle.run_switch.proofs.Transactions.{stepped, took, transacted}
-use Rattle.run_switch.proofs.switch.Switch.serve_next.Goals as goal
+use Rattle.run_switch.proofs.switch.Switch.run_next.Goals as goal
 
 pub loop-init : goal.loop-init
 loop-init g c = took _ _ _ c.in_ok-act.ensures.does c.in_ok-act.ensures.seated

@@ -1,7 +1,7 @@
 use Rattle.journal_store.specs.Kept.{kept}
 use Rattle.run_switch.specs.Points.{point}
 use Rattle.run_switch.proofs.Transactions.{Under}
-use Rattle.run_switch.proofs.switch.Switch.serve_next.Given as goal
+use Rattle.run_switch.proofs.switch.Switch.run_next.Given as goal
 
 abbrev pub invariant-loop : goal.invariant-loop
 invariant-loop g l = Under (point l.fn.self.plant.running.engine l.fn.self.plant.running.seats (kept g.S.Store l.fn.self.plant.journal) l.fn.self.answered)

@@ -2,7 +2,7 @@ use Rattle.std.proofs.Common.{false, inl, inr}
 use Rattle.std.proofs.KnownBytes.{Keeps-refl}
 use Rattle.run_switch.proofs.Runs.{all_served}
 use Rattle.run_switch.proofs.Stops.{on_err_of}
-use Rattle.run_switch.proofs.switch.Switch.serve_to_end.Goals as goal
+use Rattle.run_switch.proofs.switch.Switch.answer_in_turn.Goals as goal
 
 pub returns : goal.returns
 returns g c =

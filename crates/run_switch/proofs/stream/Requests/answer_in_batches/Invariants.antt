@@ -4,7 +4,7 @@ use Rattle.run_switch.specs.Requests.{Reads}
 use Rattle.sw_issuers.specs.Sending.{SendsAdvice}
 use Rattle.run_switch.specs.Legs.{AdvancesFor, stage}
 use Rattle.run_switch.specs.Traces.{log_of}
-use Rattle.run_switch.proofs.stream.Requests.serve_in_batches.Given as goal
+use Rattle.run_switch.proofs.stream.Requests.answer_in_batches.Given as goal
 
 abbrev pub invariant-loop : goal.invariant-loop
 invariant-loop g l = record {
@@ -13,7 +13,7 @@ invariant-loop g l = record {
   frames : List (List ℕ);
   reads : Reads (g.R.Read.remaining l.fn.input) (g.R.Read.remaining l.input) frames l.self.framer;
   serves : AdvancesFor (SendsAdvice g.L.Link.sends g.L.Link.receives g.L.Link.starves (Unit {0})) true frames
-      (stage l.fn.advisor (point_of g.S.Store l.fn.switch) (g.O.Write.contents l.fn.out)) (log_of g.E.Write.contents l.fn.stderr)
-      (stage l.advisor (point_of g.S.Store l.switch) (g.O.Write.contents l.out)) (log_of g.E.Write.contents l.stderr);
+      (stage l.fn.advisor (point_of g.S.Store l.fn.switch) (g.O.Write.contents l.fn.out)) (log_of g.E.Write.contents l.fn.edge.stderr)
+      (stage l.advisor (point_of g.S.Store l.switch) (g.O.Write.contents l.out)) (log_of g.E.Write.contents l.edge.stderr);
   ready : IsReady (point_of g.S.Store l.switch);
 }
