@@ -47,13 +47,9 @@ ran_over (Ok end) other None remaining one threads f n j sender most p advisor u
 ran_over {R} (Ok end) other (Some reader) remaining one threads f n j sender most p advisor unfinished step a b words k l same by h served =
     let here : Served remaining one step p advisor a b words unfinished k l end reader =
     subst (λ (z : Option R). IfSome z (Served remaining one step p advisor a b words unfinished k l end)) same served in
-    let (frames, read, rounds, are, told) = here in (
-      frames,
-      read,
-      rounds,
-      for_these threads one (requests frames) rounds (sym by) are,
-      ran_from f n j sender most p advisor unfinished step rounds a b words (passed_over frames) k l h told,
-    )
+    let (frames, read, rounds, are, told) = here in
+    let (done, tells) = ran_from f n j sender most p advisor unfinished step rounds a b words (passed_over frames) k l h told in
+    (frames, read, rounds, for_these threads one (requests frames) rounds (sym by) are, done, tells)
 
 over_same_routes : {X : Type 0} (state : X → List ℕ) (s : PlainSender) (routes others : List Routing) (links : List (GroupLink X)) →
     s ≡ sender_with state routes links → routes ≡ others → s ≡ sender_with state others links
