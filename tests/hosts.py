@@ -163,6 +163,23 @@ def late_of_the_same_key(program, room):
         wanted("the second response's code", code(run.receive()), b"05")
 
 
+def late_of_two_acquirers(program, room):
+    """Two acquirers have one terminal and STAN: the late answer for the first one's card is not taken for the other's request."""
+    with switch(program, room) as (run, wire):
+        run.send(request(1, 400))
+        first = wire.get()
+        wanted("the first response's code", code(run.receive()), b"00")
+        run.send(request(1, card=b"4000000000000010"))
+        second = wire.get()
+        wire.put(reply(first, b"51") + reply(second, b"05"))
+        wanted("the second response's code", code(run.receive()), b"05")
+        run.send(request(1, 400, card=b"4000000000000028"))
+        wire.get()
+        wire.put(reply(second, b"05"))
+        response = run.receive()
+        wanted("fields 38 and 39 without an answer of its own", (response[1].get(38), code(response)), (b"SI0001", b"00"))
+
+
 def garbage(program, room):
     """Bytes that are no message are dropped; at a bad length the switch closes its end, and stands in at once."""
     with switch(program, room) as (run, wire):
@@ -915,6 +932,7 @@ CASES = [
     silent,
     late,
     late_of_the_same_key,
+    late_of_two_acquirers,
     garbage,
     unheard,
     closed_in_a_frame,
