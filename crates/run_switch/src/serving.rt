@@ -252,19 +252,32 @@ impl<S: Alter + Drop, R: Read + Drop, L: Link> Drop for Over<S, R, L> {
 }
 
 impl<S: Alter + Drop, R: Read + Drop, L: Link> Over<S, R, L> {
-    // Makes the plant of the stations that were made, and finishes what the journal has unfinished. (Apart, so that
-    // its proof does not carry how the stations are made.)
-    fn begin(
+    // The run over the stations that were made: makes the plant, finishes what the journal has unfinished, and goes on.
+    // (Apart, so that its proof does not carry how the stations are made. No function hands the plant out, since its
+    // stations would hide from contracts whose they are.)
+    fn run<T: Threads + Wait + Clock + Sync, O: Write, E: Write>(
         self,
-        alloc: Global,
+        edge: &mut Edge<'_, T, E>,
         code: &Code,
         stations: Vec<Station>,
-    ) -> Result<Begun<S, R, L>, ServeError>
-        ensures begun { IfOk result (λ run. HasBegun code.now self.sessions
-            (seen (kept S.Store self.journal)) self.sender self.advices
-            (point_of S.Store run.switch) run.advisor run.unfinished) }
-        ensures input { IfOk result (λ run. run.input ≡ self.input) }
-        ensures threads { IfOk result (λ run. run.threads ≡ self.threads) }
+        out: &mut O,
+    ) -> Result<StreamEnd, ServeError>
+        ensures ran { IfOk result (λ end. IfSome self.input (λ reader. (frames : List (List ℕ))
+            × ReadTo end (R.remaining reader) frames
+            × (rounds : List Round) × RoundsFor self.threads (requests frames) rounds
+            × (ran : Ran code.now self.sessions (seen (kept S.Store self.journal))
+            (SendsAdvice L.sends L.receives L.starves (Unit {0})) self.sender self.advices rounds
+            (O.contents out.old) (O.contents out.new))
+            × TellsRun edge.old.stderr.words (unfinished_in ran.begins.view)
+            (all_lines ran.serves) (passed_over frames) ran.serves.end
+            (log_of E.contents edge.old.stderr) (log_of E.contents edge.new.stderr))) }
+        ensures printed { OnOk result (IfNone self.input (Printed code.now self.sessions
+            (seen (kept S.Store self.journal)) (O.contents out.old) (O.contents out.new))) }
+        ensures stopped { OnErr result (IsStopped
+            (SendsAdvice L.sends L.receives L.starves (Unit {0})) self.sender self.advices
+            self.threads (option_map R.remaining self.input)
+            code.now self.sessions (seen (kept S.Store self.journal))
+            (O.contents out.old) (O.contents out.new)) }
     {
         let Over {
             journal,
@@ -274,6 +287,7 @@ impl<S: Alter + Drop, R: Read + Drop, L: Link> Over<S, R, L> {
             sessions,
             threads,
         } = self;
+        let alloc = edge.alloc;
         let plant = match Plant::new(alloc, code, journal, stations, sessions) {
             Ok(plant) => plant,
             Err((error, _, stations)) => {
@@ -286,13 +300,14 @@ impl<S: Alter + Drop, R: Read + Drop, L: Link> Over<S, R, L> {
         let advisor = Advisor::new(sender, advices, first);
         let unfinished = switch.unfinished();
         switch.recover(alloc)?;
-        Ok(Begun {
+        let begun = Begun {
             switch,
             advisor,
             unfinished,
             input,
             threads,
-        })
+        };
+        begun.go_on(edge, out)
     }
 }
 
@@ -507,6 +522,5 @@ pub fn run<S: Alter + Drop, T: Threads + Wait + Clock + Sync, R: Read + Drop, O:
             Err(StationError::OutOfMemory) => return Err(ServeError::OutOfMemory),
         }
     }
-    let begun = over.begin(alloc, code, stations)?;
-    begun.go_on(edge, out)
+    over.run(edge, code, stations, out)
 }

@@ -20,6 +20,11 @@ const OF_ANOTHER: &[u8] = b"01004020000000800000164000000000000010000042TERM0001
 
 const TO_ANOTHER: &[u8] = b"01104020000000800000164000000000000010000042TERM0001";
 
+/// A third request of the acquirer of the others, with STAN 44, and its response.
+const LAST_REQUEST: &[u8] = b"01000020000000800000000044TERM0001";
+
+const LAST_RESPONSE: &[u8] = b"01100020000000800000000044TERM0001";
+
 // Whether the next frame that the host reads is that of such a request.
 fn reads_of(wired: &mut Wired, request: &[u8]) -> Result<bool, Fail> {
     let mut frame = [0; 56];
@@ -123,14 +128,14 @@ fn a_closing_ends_all_waits(rt: HostRuntime) -> Result<(), Fail> {
     let mut first = wired.host.link(rt)?;
     let mut second = wired.host.link(rt)?;
     let mut third = wired.host.link(rt)?;
-    first.send(OF_ONE)?;
+    first.send(REQUEST)?;
     second.send(NEXT_REQUEST)?;
     thread::sleep(&rt, Duration::from_millis(1_100));
     wired.responses.write_all(b"no length")?;
     assert!(rt; closes(rt, &wired));
-    third.send(REQUEST)?;
-    wired.answers(RESPONSE)?;
-    assert!(rt; hears(&mut third, RESPONSE)?);
+    third.send(LAST_REQUEST)?;
+    wired.answers(LAST_RESPONSE)?;
+    assert!(rt; hears(&mut third, LAST_RESPONSE)?);
     assert!(rt; hears_nothing(rt, &mut first)?);
     assert!(rt; hears_nothing(rt, &mut second)?);
     Ok(())
