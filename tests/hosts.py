@@ -169,7 +169,7 @@ def late_of_two_acquirers(program, room):
         run.send(request(1, 400))
         first = wire.get()
         wanted("the first response's code", code(run.receive()), b"00")
-        run.send(request(1, card=b"4000000000000010"))
+        run.send(request(1, 400, card=b"4000000000000010"))
         second = wire.get()
         wire.put(reply(first, b"51") + reply(second, b"05"))
         wanted("the second response's code", code(run.receive()), b"05")
