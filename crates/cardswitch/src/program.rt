@@ -9,6 +9,7 @@ ghost use Rattle.cardswitch.specs.Drawings.{IsDrawFault, IsDrawn};
 ghost use Rattle.cardswitch.specs.Errors.{run_status};
 ghost use Rattle.cli_decode.specs.Decoded.{IsDecodedStream};
 ghost use Rattle.cli_flows.specs.Subcommands.{IsAssembled, IsListed};
+ghost use Rattle.cli_io.specs.Errors.{IsOfWriting};
 ghost use Rattle.cli_options.specs.Refusal.{status_of};
 
 use crate::checking::check;
