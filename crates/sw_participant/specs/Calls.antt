@@ -7,21 +7,14 @@
 -- and a reply of another kind performs nothing. `shown` shows a value that has a code as numbers,
 -- no two values alike. Of a station contracts see its type of participant, name, count and object
 -- (`type_of`, `name_of`, `calls_of`, `object_of`); `rule_of` is its participant's `PerformsCall`.
-use Rattle.std.specs.Prelude.{◌≡◌, ℕ, List}
+use Rattle.std.specs.Prelude.{ℕ, List}
 use Rattle.sw_context.specs.Pairs.{Pairs}
 use Rattle.sw_participant.specs.declared.participant.Participant.{Ghosts}
 use Rattle.sw_participant.specs.declared.call.Act.{Act}
-use Rattle.sw_participant.specs.declared.call.Act.TheVariants.{Prepare, PrepareForAbort, Select, Commit, Abort, Recover}
 use Rattle.sw_participant.specs.declared.call.Reply.{Reply}
-use Rattle.sw_participant.specs.declared.call.Reply.TheVariants.{Answer, Chosen, Told, Recovered}
+use Rattle.sw_participant.specs.Performs.{PerformsBy}
 
 -- The call that the act names, in this transaction, led from an object and a context to the later ones, with a
 -- reply of the call's kind.
 abbrev pub PerformsCall : {S : Type 0} → Ghosts S → ℕ → Act → List ℕ → Pairs → Reply → List ℕ → Pairs → Type 0
-PerformsCall w id Prepare o x (Answer byte) p y = w.prepares id o x byte p y
-PerformsCall w id PrepareForAbort o x (Answer byte) p y = w.prepares_for_abort id o x byte p y
-PerformsCall w id Select o x (Chosen text) p y = w.selects id o x text p × (y ≡ x)
-PerformsCall w id (Commit recovering) o x (Told advice) p y = w.commits id recovering o x advice p y
-PerformsCall w id (Abort recovering) o x (Told advice) p y = w.aborts id recovering o x advice p y
-PerformsCall w id (Recover commit) o x Recovered p y = w.recovers id commit o x p y
-PerformsCall w id _ o x _ p y = ⊥
+PerformsCall w id act o x reply p y = PerformsBy w.prepares w.prepares_for_abort w.selects w.commits w.aborts w.recovers id act o x reply p y

@@ -7,7 +7,8 @@
 //! for it. The reply is of that call's kind, and the call is counted. A call that is refused memory
 //! leaves object, context, name and count as they were. `Station::new` answers `BadName` for exactly
 //! the invalid names. `call_station` says the same of one of a list of stations, and that the others
-//! stay. Laws of every chain of calls: objects and contexts join, and a transaction begins only where
+//! stay. A call beside others (`call_beside`, `make_beside`) is one by the same relation, and the object
+//! after it is the one before it; a `Bystander` makes it of the part's. Laws of every chain of calls: objects and contexts join, and a transaction begins only where
 //! it has no context (`chains_append`, `chains_widen`, `rules_widen`, `types_decide`, `others_stay`,
 //! `calls_are_counted`). `shown` shows no two values alike (`shown_apart`). `read_answer` gives the
 //! bits of an answer byte by one rule: a byte with an unknown bit is bad and has no bits, and there is
@@ -16,7 +17,12 @@
 //!
 //! # Decisions
 //!
-//! - **`Participant: Drop`**, so that a `Box<dyn Participant + Send>` can be dropped.
+//! - **`Participant: Drop`**, so that a `Box<dyn Participant + Send + Sync>` can be dropped.
+//! - **A participant is called beside other calls by a shared borrow** (`call_beside`): such a call cannot
+//!   change the object that contracts see, so a chain of calls says of it what it says of any other, and
+//!   several sessions may be in one participant at once. The default body refuses, which meets every
+//!   relation. Alternative: several boxes of one participant, whose objects contracts would have to tell
+//!   apart.
 //! - **`select` answers a `Text`, `commit` and `abort` an optional `Bytes`** (`AdviceResult`), the
 //!   small types that contracts see as lists. Alternative: `String` and `Vec`, wrapped by the station.
 //! - **A refused `Station::new` drops the participant.** Alternative: it hands the box back.

@@ -4,6 +4,7 @@ ghost use Rattle.std.specs.Prelude.{◌≡◌, ℕ, List, IfOk, OnErr};
 ghost use Rattle.sw_context.specs.Pairs.{Pairs};
 ghost use Rattle.sw_participant.specs.Outcomes.{StaysQuiet, RestoresNothing};
 
+use crate::call::{Act, Call, Reply};
 use crate::participant::{AdviceResult, NoMemory, Participant};
 use crate::values::Text;
 use sw_context::Context;
@@ -42,6 +43,37 @@ pub trait Unjoined: Drop {
             prepares id (object self.old) context.old byte (object self.new) context.new) }
         ensures object_kept { OnErr result (object self.new ≡ object self.old) }
         ensures context_kept { OnErr result (context.new ≡ context.old) };
+
+    /// Whether several sessions may call it at once, by the calls that follow (`Participant::is_shared`).
+    fn is_shared(&self) -> bool {
+        false
+    }
+
+    /// `select`, while other sessions may be in a call.
+    fn select_beside(&self, id: u64, context: &Context) -> Result<Text, NoMemory>
+        ensures performed { IfOk result (λ text.
+            selects id (object self.now) context.now text (object self.now)) }
+    {
+        Err(NoMemory)
+    }
+
+    /// `prepare_for_abort`, likewise.
+    fn prepare_for_abort_beside(&self, id: u64, context: &mut Context) -> Result<u8, NoMemory>
+        ensures performed { IfOk result (λ byte. prepares_for_abort id
+            (object self.now) context.old byte (object self.now) context.new) }
+        ensures context_kept { OnErr result (context.new ≡ context.old) }
+    {
+        Err(NoMemory)
+    }
+
+    /// `prepare`, likewise.
+    fn prepare_beside(&self, id: u64, context: &mut Context) -> Result<u8, NoMemory>
+        ensures performed { IfOk result (λ byte.
+            prepares id (object self.now) context.old byte (object self.now) context.new) }
+        ensures context_kept { OnErr result (context.new ≡ context.old) }
+    {
+        Err(NoMemory)
+    }
 }
 
 /// The participant made of one that never joins: an outcome has no effect.
@@ -102,5 +134,22 @@ impl<P: Unjoined> Participant for Bystander<P> {
 
     fn recover(&mut self, id: u64, context: &mut Context, commit: bool) -> Result<(), NoMemory> {
         Ok(())
+    }
+
+    fn is_shared(&self) -> bool {
+        self.part.is_shared()
+    }
+
+    fn call_beside(&self, call: &Call, context: &mut Context) -> Result<Reply, NoMemory> {
+        let (id, part) = (call.id, &self.part);
+        match call.act {
+            Act::Prepare => part.prepare_beside(id, context).map(Reply::Answer),
+            Act::PrepareForAbort => part
+                .prepare_for_abort_beside(id, context)
+                .map(Reply::Answer),
+            Act::Select => part.select_beside(id, context).map(Reply::Chosen),
+            Act::Commit { .. } | Act::Abort { .. } => Ok(Reply::Told(None)),
+            Act::Recover { .. } => Ok(Reply::Recovered),
+        }
     }
 }
