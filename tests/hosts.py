@@ -765,11 +765,6 @@ def stan_of(message):
     return messages.decode(message)[1][11]
 
 
-def quiet(wire, seconds):
-    """Nothing comes to the host within this many seconds."""
-    wanted("the next message at the host", wire.come(seconds), None)
-
-
 def four_under_way(program, room):
     """With `in_flight = 4` a host gets four requests at once, and each further one only after an answer. Without it, one."""
     for alpha, most in ("in_flight = 4", 4), ("", 1):
@@ -779,7 +774,7 @@ def four_under_way(program, room):
             for left in range(len(batch), 0, -1):
                 while len(under_way) < min(most, left):
                     under_way.append(wire.get())
-                quiet(wire, 0.1)
+                wire.quiet(0.1)
                 wire.put(reply(under_way.popleft()))
             wanted("field 38 of each response", [run.receive()[1].get(38) for _ in batch], [b"HOST42"] * len(batch))
 
@@ -820,7 +815,7 @@ def equal_keys(program, room):
         run.send_batch([request(1, card=card) for card in cards])
         for _ in cards:
             message = wire.get()
-            quiet(wire, 0.5)
+            wire.quiet(0.5)
             wire.put(reply(message, cards[messages.decode(message)[1][2]]))
         came = [run.receive()[1] for _ in cards]
         wanted("field 39 of each response", {fields[2]: fields.get(39) for fields in came}, cards)
@@ -829,9 +824,10 @@ def equal_keys(program, room):
 def equal_keys_unanswered(program, room):
     """The second of two requests with one terminal and STAN is not sent before the timeout of the first, which is not answered."""
     with switch(program, room, *SIXTEEN, alpha="in_flight = 4") as (run, wire):
+        began = time.monotonic()
         run.send_batch([request(1, 400), request(1, 400, b"4000000000000010")])
         wire.get()
-        quiet(wire, TIMEOUT - 0.3)
+        wanted("the second request before the timeout", wire.come(began + TIMEOUT - 0.1 - time.monotonic()), None)
         # (it waits for its turn as long as the first one waits for its answer: it may be sent then, or not at all)
         wanted("field 38 of each response", [run.receive()[1].get(38) for _ in range(2)], [b"SI0001"] * 2)
 
@@ -843,7 +839,7 @@ def closed_under_two(program, room):
         lost = [wire.get(), wire.get()]
         wire.put(b"")
         # (the pipes are opened at most once a second)
-        quiet(wire, 1.2)
+        wire.quiet(1.2)
         began = time.monotonic()
         os.close(wire.writes)
         wire.writes = None

@@ -68,8 +68,7 @@ class Wire:
 
     def quiet(self, seconds):
         """Nothing comes to the host for this many seconds."""
-        time.sleep(seconds)
-        wanted("at the host", self.read(0), b"")
+        wanted("at the host", self.come(seconds) or self.bytes, b"")
 
     def hung_up(self):
         """The switch closes its end, and nothing comes before."""
