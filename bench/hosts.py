@@ -3,6 +3,7 @@
 
     bench/hosts.py [--program PATH] [--requests N] [--rounds N] [--flying N] [--sessions N] [--timeout MS] [--retry MS] [--echo S]
                    [--dead] [--first]
+    bench/hosts.py --latency MS [--program PATH] [--count N] [--in-flight N] [--sessions N] [--rounds N] [--folder PATH]
 
 Both hosts are examples/hosts/host.py at named pipes. Alpha answers at once. Beta gives no answer to a request, so each of its requests
 waits for the timeout. With --retry only one of them does, and then beta is not asked for --retry milliseconds. Beta accepts the advices that follow.
@@ -17,6 +18,12 @@ requests wait at most, and how many of them wait for over half the timeout, whic
 It prints one table: the requests a second, and for alpha's requests the median time until the response, and what 99 of 100 stay below,
 with --sessions sessions as threads and without threads. Each figure is the median of the rounds, in which both take turns. In brackets
 is its ratio to the figure without threads. The journal is in memory.
+
+With --latency it asks one host that answers each request by itself MS milliseconds after it came, whatever else is under way (latency.py).
+--count requests, each with a STAN of its own, are at the input at once, and --sessions sessions run as threads. The table has the
+requests a second (the median of the rounds) and how many were under way at the host at most, with `in_flight = 1` over fewer requests, and
+with --in-flight. In brackets is the ratio to the former. A request that the host did not approve ends the benchmark. The journal is
+in memory, or a file in a new folder within --folder, such as /dev/shm.
 """
 
 import argparse
@@ -30,6 +37,7 @@ import sys
 import tempfile
 import time
 
+import latency
 import run
 from threads import EARLY, cells, in_turns, percentile, talk
 
@@ -146,7 +154,16 @@ def main():
     parser.add_argument("--echo", type=int, default=0, help="after how many seconds without a frame beta gets an echo test")
     parser.add_argument("--dead", action="store_true", help="beta answers nothing at all")
     parser.add_argument("--first", action="store_true", help="beta's first request is one of those that are timed")
+    parser.add_argument("--latency", type=int, help="a host that answers each request by itself this many milliseconds after it came")
+    parser.add_argument("--count", type=int, default=2000, help="with --latency: how many requests are at the input at once")
+    parser.add_argument("--in-flight", type=int, default=16, help="with --latency: how many of them may be under way at the host")
+    parser.add_argument("--folder", help="with --latency: where the journal is, as a file; without it in memory")
     given = parser.parse_args()
+    if given.latency is not None:
+        head, *others = latency.table(given, frame)
+        for what, figures in [head, ("---", ["---"] * len(head[1])), *others]:
+            print(f"| {what} | " + " | ".join(figures) + " |", flush=True)
+        return
     print(f"| {given.flying} in flight | no threads | {given.sessions} sessions as threads |")
     print("|---" * 3 + "|")
     for share in SHARES:

@@ -10,6 +10,7 @@ name has these letters. The last line has the counts; the status is 1 if somethi
 """
 
 import argparse
+import collections
 import contextlib
 import datetime
 import itertools
@@ -38,7 +39,7 @@ CONFIG = """
 name = "alpha"
 to = "alpha.to"
 from = "alpha.from"
-timeout_ms = 1500
+timeout_ms = {timeout}
 {alpha}
 
 [[host]]
@@ -53,13 +54,15 @@ TESTED, ANSWERED = "retry_ms = 1000\necho_s = 30", (b"0100", b"0120", b"0121", b
 PIPES = 'to = "beta.to"\nfrom = "beta.from"\ntimeout_ms = 1500'
 # A card of beta.
 FIVE = b"5000000000000009"
+# As many sessions as there may be, as threads.
+SIXTEEN = ["--threads", "--sessions", "16"]
 
 
 @contextlib.contextmanager
-def switch(program, room, *words, alpha="", beta="simulated = true", more=""):
+def switch(program, room, *words, alpha="", beta="simulated = true", more="", timeout=1500):
     """A run that has begun, and the host of `alpha`, which listens."""
     with open(os.path.join(room, "config.toml"), "w", encoding="utf-8") as file:
-        file.write(CONFIG.format(alpha=alpha, beta=beta) + more)
+        file.write(CONFIG.format(alpha=alpha, beta=beta, timeout=timeout) + more)
     wire = Wire(room, "alpha")
     wire.listen()
     run = Run(program, room, *words)
@@ -722,7 +725,7 @@ def asked_at_once(program, room):
         other = Wire(room, "beta")
         other.listen()
         batch = [request(1, card=FIVE), request(2), request(3)]
-        run.process.stdin.write(b"".join(map(messages.framed, batch)))
+        run.send_batch(batch)
         message = other.get()
         for _ in range(2):
             wire.put(reply(wire.get()))
@@ -739,7 +742,7 @@ def silent_in_a_batch(program, room):
             other = Wire(inner, "beta")
             other.listen()
             batch, began = [request(1, 400, FIVE), request(2, 400, FIVE), request(3)], time.monotonic()
-            run.process.stdin.write(b"".join(map(messages.framed, batch)))
+            run.send_batch(batch)
             wire.put(reply(wire.get()))
             other.get()
             if waits == 2:
@@ -756,6 +759,118 @@ def silent_in_a_batch(program, room):
                 wanted("advices at the silent host", answers(other, *[b"00"] * 4), [b"0420", b"0120"] * 2)
             run.end()
             wanted("at the other host", wire.read(0), b"")
+
+
+def stan_of(message):
+    return messages.decode(message)[1][11]
+
+
+def four_under_way(program, room):
+    """With `in_flight = 4` a host gets four requests at once, and each further one only after an answer. Without it, one."""
+    for alpha, most in ("in_flight = 4", 4), ("", 1):
+        with tempfile.TemporaryDirectory(dir=room) as inner, switch(program, inner, *SIXTEEN, alpha=alpha, timeout=60_000) as (run, wire):
+            batch, under_way = [small(stan) for stan in range(1, 13)], collections.deque()
+            run.send_batch(batch)
+            for left in range(len(batch), 0, -1):
+                while len(under_way) < min(most, left):
+                    under_way.append(wire.get())
+                wire.quiet(0.1)
+                wire.put(reply(under_way.popleft()))
+            wanted("field 38 of each response", [run.receive()[1].get(38) for _ in batch], [b"HOST42"] * len(batch))
+
+
+def answered_in_reverse(program, room):
+    """Two requests are under way at one host, which answers the later one first: each gets its own answer."""
+    with switch(program, room, *SIXTEEN, alpha="in_flight = 2", timeout=15_000) as (run, wire):
+        run.send_batch([small(1), small(2)])
+        for message in reversed([wire.get(), wire.get()]):
+            wire.put(reply(message, auth=stan_of(message)))
+        for _ in range(2):
+            _, fields, _ = run.receive()
+            wanted(f"field 38 of the response to {fields[11]}", fields.get(38), fields[11])
+
+
+def answered_twice(program, room):
+    """The second answer to a request is late, also while another request is under way."""
+    with switch(program, room, "--stats", *SIXTEEN, alpha="in_flight = 2", timeout=15_000) as (run, wire):
+        run.send_batch([small(1), small(2)])
+        twice, once = wire.get(), wire.get()
+        wire.put(reply(twice, b"05") + reply(twice, b"61") + reply(once, b"51"))
+        codes = {stan_of(twice): b"05", stan_of(once): b"51"}
+        wanted("field 39 of each response", codes_of(run, 2), codes)
+        counts = run.end().splitlines()[-1].partition(b" unanswered=")[2]
+        wanted("what is counted", counts, b"0 late=1 unreadable=0 dropped=0")
+
+
+def codes_of(run, count):
+    """The codes of the next responses, by their STANs."""
+    came = [run.receive()[1] for _ in range(count)]
+    return {fields[11]: fields.get(39) for fields in came}
+
+
+def equal_keys(program, room):
+    """Of two requests with one terminal and STAN, and different cards, the second is sent once the first is answered. Each gets its own answer."""
+    cards = {b"4000000000000002": b"05", b"4000000000000010": b"51"}
+    with switch(program, room, *SIXTEEN, alpha="in_flight = 4", timeout=15_000) as (run, wire):
+        run.send_batch([request(1, card=card) for card in cards])
+        for _ in cards:
+            message = wire.get()
+            wire.quiet(0.5)
+            wire.put(reply(message, cards[messages.decode(message)[1][2]]))
+        came = [run.receive()[1] for _ in cards]
+        wanted("field 39 of each response", {fields[2]: fields.get(39) for fields in came}, cards)
+
+
+def equal_keys_unanswered(program, room):
+    """The second of two requests with one terminal and STAN is not sent before the timeout of the first, which is not answered."""
+    with switch(program, room, *SIXTEEN, alpha="in_flight = 4") as (run, wire):
+        began = time.monotonic()
+        run.send_batch([request(1, 400), request(1, 400, b"4000000000000010")])
+        wire.get()
+        wanted("the second request before the timeout", wire.come(began + TIMEOUT - 0.1 - time.monotonic()), None)
+        # (it waits for its turn as long as the first one waits for its answer: it may be sent then, or not at all)
+        wanted("field 38 of each response", [run.receive()[1].get(38) for _ in range(2)], [b"SI0001"] * 2)
+
+
+def closed_under_two(program, room):
+    """The host closes the pipe that it answers over while two requests are under way, and a third has it opened again: both waits end at once."""
+    with switch(program, room, *SIXTEEN, alpha="in_flight = 2", timeout=15_000) as (run, wire):
+        run.send_batch([small(1), small(2), small(3)])
+        lost = [wire.get(), wire.get()]
+        wire.put(b"")
+        # (the pipes are opened at most once a second)
+        wire.quiet(1.2)
+        began = time.monotonic()
+        os.close(wire.writes)
+        wire.writes = None
+        third = wire.get()
+        wire.put(reply(third))
+        came = [run.receive()[1] for _ in range(3)]
+        at_once([time.monotonic() - began])
+        told = {stan_of(message): b"SI" + stan_of(message)[2:] for message in lost} | {stan_of(third): b"HOST42"}
+        wanted("field 38 of each response", {fields[11]: fields.get(38) for fields in came}, told)
+
+
+def one_answer_lost(program, room):
+    """One of two answers is lost: no pause begins, and the next request is sent to the host. Where both are lost one begins."""
+    with switch(program, room, *SIXTEEN, alpha="in_flight = 2\nretry_ms = 60000") as (run, wire):
+        run.send_batch([small(1), small(2)])
+        lost, answered = wire.get(), wire.get()
+        wire.put(reply(answered))
+        came = [run.receive()[1] for _ in range(2)]
+        told = {stan_of(lost): b"SI" + stan_of(lost)[2:], stan_of(answered): b"HOST42"}
+        wanted("field 38 of each response", {fields[11]: fields.get(38) for fields in came}, told)
+        run.send(small(3))
+        wire.put(reply(wire.get()))
+        wanted("field 38 after one lost answer", run.receive()[1].get(38), b"HOST42")
+        run.send_batch([small(4), small(5)])
+        for _ in range(2):
+            wire.get()
+        wanted("field 38 of each response", [run.receive()[1].get(38) for _ in range(2)], [b"SI0004", b"SI0005"])
+        response = run.ask(small(6))
+        wanted("field 38 of a host that is not asked", response[1].get(38), b"SI0006")
+        at_once([response[2]])
+        wanted("at the host", wire.read(0), b"")
 
 
 def worked_host(program, room):
@@ -962,6 +1077,13 @@ CASES = [
     reported_at_the_end,
     asked_at_once,
     silent_in_a_batch,
+    four_under_way,
+    answered_in_reverse,
+    answered_twice,
+    equal_keys,
+    equal_keys_unanswered,
+    closed_under_two,
+    one_answer_lost,
     worked_host,
     behind_socat,
     over_a_connection,

@@ -68,8 +68,7 @@ class Wire:
 
     def quiet(self, seconds):
         """Nothing comes to the host for this many seconds."""
-        time.sleep(seconds)
-        wanted("at the host", self.read(0), b"")
+        wanted("at the host", self.come(seconds) or self.bytes, b"")
 
     def hung_up(self):
         """The switch closes its end, and nothing comes before."""
@@ -137,6 +136,10 @@ class Run:
 
     def send(self, message):
         self.process.stdin.write(messages.framed(message))
+
+    def send_batch(self, batch):
+        """Sends messages by one write: with threads they are a batch."""
+        self.process.stdin.write(b"".join(map(messages.framed, batch)))
 
     def receive(self):
         """The next response, as its type and fields, and how many seconds it took."""

@@ -6,8 +6,8 @@ import re
 from model import flows, texts
 
 NAME, DIGITS = r"[a-zA-Z0-9_.-]{1,%d}", r"[0-9]{1,%d}"
-# The times of a host that the file does not state.
-TIMES = {"timeout_ms": 10_000, "retry_ms": 0, "echo_s": 0}
+# The numbers of a host that the file does not state.
+NUMBERS = {"timeout_ms": 10_000, "retry_ms": 0, "echo_s": 0, "in_flight": 1}
 
 
 def text_like(pattern):
@@ -63,6 +63,7 @@ TOP = {
 HOST = {
     "echo_s": (integers(0, 86_400), False, True),
     "from": (PATH, True, True),
+    "in_flight": (integers(1, 16), False, True),
     "name": (names(26), True, False),
     "retry_ms": (integers(0, 3_600_000), False, True),
     "simulated": (SIMULATION, False, False),
@@ -152,7 +153,7 @@ def wire_of(host):
     if "simulated" in host:
         return "simulated" if host["simulated"] is True else "silent"
     wire = {key: host[key] for key in ("to", "from")}
-    return wire | {key: host.get(key, default) for key, default in TIMES.items()}
+    return wire | {key: host.get(key, default) for key, default in NUMBERS.items()}
 
 
 def stated(document):

@@ -25,8 +25,13 @@ def host(random):
     made = {"name": random.choice(NAMES)}
     if random.random() < 0.5:
         return made | {"simulated": random.choice([True, "silent"])}
-    times = {"timeout_ms": random.choice([1, 2000, 600_000]), "retry_ms": random.choice([0, 5000, 3_600_000]), "echo_s": random.choice([0, 30, 86_400])}
-    return made | {"to": "none.to", "from": "none.from"} | some(random, times)
+    numbers = {
+        "timeout_ms": random.choice([1, 2000, 600_000]),
+        "retry_ms": random.choice([0, 5000, 3_600_000]),
+        "echo_s": random.choice([0, 30, 86_400]),
+        "in_flight": random.choice([1, 4, 16]),
+    }
+    return made | {"to": "none.to", "from": "none.from"} | some(random, numbers)
 
 
 def route(random):
@@ -68,7 +73,8 @@ def spoil(random, made):
     elif way == "odd" and keys:
         table[random.choice(keys)] = one_of(random, ODD)
     elif way == "known":
-        table[random.choice(["simulated", "to", "name", "retry_ms", "echo_s", "prefix", "sessions", "advices", "host"])] = one_of(random, [*ODD, *NAMES])
+        known = ["simulated", "to", "name", "retry_ms", "echo_s", "in_flight", "prefix", "sessions", "advices", "host"]
+        table[random.choice(known)] = one_of(random, [*ODD, *NAMES])
     else:
         table[random.choice(["color", "Name", "zz", "a b"])] = one_of(random, ODD)
 

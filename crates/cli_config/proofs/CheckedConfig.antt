@@ -54,9 +54,9 @@ module _ (n : ℕ) (ms : Members) where
   times_checked b = (
     (
       default_fits 1 600000 10000 (number_at key.TimeoutMs ms) (omega arith, omega arith)
-          (number_fits 1 600000 (value_at key.TimeoutMs ms) (is_fit host_path ms key.TimeoutMs b.1.1.1.1.1.1.0)),
+          (number_fits 1 600000 (value_at key.TimeoutMs ms) (is_fit host_path ms key.TimeoutMs b.1.1.1.1.1.1.1.0)),
       default_fits 0 3600000 0 (number_at key.RetryMs ms) (omega arith, omega arith)
-          (number_fits 0 3600000 (value_at key.RetryMs ms) (is_fit host_path ms key.RetryMs b.1.1.1.0)),
+          (number_fits 0 3600000 (value_at key.RetryMs ms) (is_fit host_path ms key.RetryMs b.1.1.1.1.0)),
     ),
     default_fits 0 86400 0 (number_at key.EchoS ms) (omega arith, omega arith)
         (number_fits 0 86400 (value_at key.EchoS ms) (is_fit host_path ms key.EchoS b.0)),
@@ -68,10 +68,12 @@ module _ (n : ℕ) (ms : Members) where
       ap (λ (o : Option Data). if is_some o then Some key.Simulated else None) is in
       let from = text_fits want.Path paths_are_texts (value_at key.From ms) (is_there host_path ms key.From m.1.0 refl apart)
       (is_fit host_path ms key.From b.1.0) in
-      let to = text_fits want.Path paths_are_texts (value_at key.To ms) (is_there host_path ms key.To m.1.1.1.1.1.1.1.0 refl apart)
-      (is_fit host_path ms key.To b.1.1.1.1.1.1.1.0) in (
+      let to = text_fits want.Path paths_are_texts (value_at key.To ms) (is_there host_path ms key.To m.1.1.1.1.1.1.1.1.0 refl apart)
+      (is_fit host_path ms key.To b.1.1.1.1.1.1.1.1.0) in (
         (long_enough (text_at (spelling key.To) ms) to, long_enough (text_at (spelling key.From) ms) from),
         times_checked b,
+        default_fits 1 16 1 (number_at key.InFlight ms) (omega arith, omega arith)
+            (number_fits 1 16 (value_at key.InFlight ms) (is_fit host_path ms key.InFlight b.1.1.0)),
       )
   wire_checked (Some (boolean x)) is m b = tt
   wire_checked (Some (string s)) is m b = tt
@@ -85,8 +87,8 @@ module _ (n : ℕ) (ms : Members) where
   host_checked h =
       let m = none_missing host_path ms h in
       let b = none_bad host_path ms h in
-      let name = text_fits (want.Name 26) (names_are_texts 26) (value_at key.Name ms) (is_there host_path ms key.Name m.1.1.0 refl refl)
-      (is_fit host_path ms key.Name b.1.1.0) in
+      let name = text_fits (want.Name 26) (names_are_texts 26) (value_at key.Name ms) (is_there host_path ms key.Name m.1.1.1.0 refl refl)
+      (is_fit host_path ms key.Name b.1.1.1.0) in
       (name_parts 26 (text_at (spelling key.Name) ms) name, wire_checked (value_at key.Simulated ms) refl m b)
 
   abbrev route_path : TablePath

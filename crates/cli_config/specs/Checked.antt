@@ -21,7 +21,7 @@ abbrev pub AreTimes : WireTimes → Type 0
 AreTimes times = (IsIn 1 600000 times.timeout_ms × IsIn 0 3600000 times.retry_ms) × IsIn 0 86400 times.echo_s
 
 abbrev pub IsWire : Wire → Type 0
-IsWire (wire.Streams to from times) = (IsPath to × IsPath from) × AreTimes times
+IsWire (wire.Streams to from times in_flight) = (IsPath to × IsPath from) × AreTimes times × IsIn 1 16 in_flight
 IsWire w = ⊤
 
 -- the name has room for `query_` before it

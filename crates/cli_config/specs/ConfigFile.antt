@@ -35,8 +35,9 @@ times_of ms = record {
   echo_s = unwrap_or (number_at key.EchoS ms) 0;
 }
 
+-- if the file does not say, one request at a time is under way at the host
 abbrev pub streams_of : Members → Wire
-streams_of ms = wire.Streams (text_at (spelling key.To) ms) (text_at (spelling key.From) ms) (times_of ms)
+streams_of ms = wire.Streams (text_at (spelling key.To) ms) (text_at (spelling key.From) ms) (times_of ms) (unwrap_or (number_at key.InFlight ms) 1)
 
 -- how a host without a fault is reached, by what stands at `simulated`: true, or "silent"
 abbrev pub wire_by : Option Data → Members → Wire

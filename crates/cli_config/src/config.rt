@@ -47,6 +47,8 @@ pub enum Wire {
         /// What frames are read from.
         from: Text,
         times: WireTimes,
+        /// How many requests may be under way at the host at once, 1 to 16.
+        in_flight: u64,
     },
 }
 
@@ -72,6 +74,7 @@ impl Drop for Wire {
                 to: _,
                 from: _,
                 times: _,
+                in_flight: _,
             } => {}
         }
     }

@@ -38,6 +38,7 @@ pub enum Key {
     Run,
     EchoS,
     From,
+    InFlight,
     Name,
     RetryMs,
     Simulated,
@@ -115,6 +116,7 @@ impl Section {
             Section::Host => &[
                 Key::EchoS,
                 Key::From,
+                Key::InFlight,
                 Key::Name,
                 Key::RetryMs,
                 Key::Simulated,
@@ -157,7 +159,7 @@ impl Key {
             Key::PerCard => Want::Number(0, 999_999_999_999_999),
             Key::StandIn => Want::Number(0, 999_999_999_999),
             Key::Advices => Want::Number(0, 256),
-            Key::Sessions => Want::Number(1, 16),
+            Key::InFlight | Key::Sessions => Want::Number(1, 16),
         }
     }
 
@@ -176,9 +178,12 @@ impl Key {
         ensures { result ≡ spec.excluded self }
     {
         match self {
-            Key::EchoS | Key::From | Key::RetryMs | Key::TimeoutMs | Key::To => Some(
-                Key::Simulated,
-            ),
+            Key::EchoS
+            | Key::From
+            | Key::InFlight
+            | Key::RetryMs
+            | Key::TimeoutMs
+            | Key::To => Some(Key::Simulated),
             _ => None,
         }
     }
@@ -198,6 +203,7 @@ impl AsStr for Key {
             Key::Run => "run",
             Key::EchoS => "echo_s",
             Key::From => "from",
+            Key::InFlight => "in_flight",
             Key::Name => "name",
             Key::RetryMs => "retry_ms",
             Key::Simulated => "simulated",

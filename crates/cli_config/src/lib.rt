@@ -8,6 +8,7 @@
 //! timeout_ms = 2000
 //! retry_ms = 5000
 //! echo_s = 30
+//! in_flight = 4
 //!
 //! [[route]]
 //! prefix = "4"
@@ -45,8 +46,8 @@
 //! # Decisions
 //!
 //! - **What the file leaves out is `None`**, so the program's own defaults stand in one place, the
-//!   program. Only the times of a host have their defaults here, since a host that is reached by
-//!   streams always has them.
+//!   program. Only the times of a host and `in_flight` have their defaults here, since a host that
+//!   is reached by streams always has them.
 //! - **A value of the wrong kind and one out of range are one fault**, a bad value: a message says what
 //!   is expected, which has both.
 //! - **All tables are tested by themselves before names and prefixes are compared**, so a double is

@@ -54,6 +54,7 @@ fn streams_of(alloc: Global, table: &Table) -> Result<Wire, AllocError>
         to,
         from,
         times: times_of(table),
+        in_flight: number_at(table, Key::InFlight).unwrap_or(1),
     })
 }
 

@@ -88,10 +88,17 @@ impl Side {
         match wire {
             Wire::Simulated => Ok(Side::Simulated),
             Wire::Silent => Ok(Side::Silent),
-            Wire::Streams { to, from, times } => {
+            Wire::Streams {
+                to,
+                from,
+                times,
+                in_flight,
+            } => {
                 let to = WritePath::new(*rt, to.copy()?.into_string());
                 let from = ReadPath::new(*rt, from.copy()?.into_string());
-                let host = sw_hosts::Host::start(threads, alloc, to, from, times_of(times))?;
+                let times = times_of(times);
+                let in_flight = *in_flight as usize;
+                let host = sw_hosts::Host::start(threads, alloc, to, from, times, in_flight)?;
                 Ok(Side::Reached(host))
             }
         }
