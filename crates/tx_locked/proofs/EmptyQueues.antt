@@ -2,9 +2,6 @@
 -- for: comparing::is_settled
 use Rattle.std.proofs.Common.{◌≡◌, List, [], ◌∷◌, length, refl}
 use Rattle.std.proofs.Common.{arith}
-use Rattle.sw_participant.specs.declared.call.Reply.{Reply}
-use Rattle.tx_history.specs.declared.event.Event.{Event}
-use Rattle.tx_history.specs.declared.event.Event.TheVariants as event
 use Rattle.tx_engine.specs.World.{World}
 use Rattle.tx_engine.specs.Calls.{waits}
 

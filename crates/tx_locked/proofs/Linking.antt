@@ -1,10 +1,10 @@
 -- One more call of a station.
--- for: station::StationLog::make
+-- for: station::StationLog::call, open::Notes::add
 use Rattle.std.proofs.Common.{◌≡◌, ◌+◌, ◌-◌, ◌^◌, min, ℕ, List, [], ◌∷◌, ◌++◌, refl, sym, subst, ap, ◌∙◌}
 use Rattle.sw_participant.specs.Chains.{Rule}
 use Rattle.sw_participant.specs.Callers.{Within}
 use Rattle.tx_locked.specs.declared.station.MadeCall.{MadeCall}
-use Rattle.tx_locked.specs.Linked.{IsStation, Linked, count_up}
+use Rattle.tx_locked.specs.Linked.{AreNotes, IsBeside, IsStation, Linked, count_up}
 
 pub linked_more : (rule : Rule) (o p q : List ℕ) (ms : List MadeCall) (m : MadeCall) → Linked rule o ms p →
     rule m.call.id m.call.act p m.before m.reply q m.after → Linked rule o (ms ++ m ∷ []) q
@@ -34,4 +34,12 @@ station_still first o p q c d rule new log s w e = record {
   within = λ id act a x reply b y h. s.within id act a x reply b y (w id act a x reply b y h);
   linked = subst (λ (z : List ℕ). Linked first o log z) (sym e) s.linked;
   counts = s.counts;
+}
+
+-- one more call beside others
+pub notes_more : (rule : Rule) (o : List ℕ) (c d e : ℕ) (log : List MadeCall) (m : MadeCall) → AreNotes rule o c d log → IsBeside rule o m →
+    e ≡ min (d + 1) (2 ^ 64 - 1) → AreNotes rule o c e (log ++ m ∷ [])
+notes_more rule o c d e log m a b n = record {
+  linked = linked_more rule o o o log m a.linked b;
+  counts = n ∙ (ap (λ z. min (z + 1) (2 ^ 64 - 1)) a.counts ∙ sym (count_more c log m));
 }

@@ -71,16 +71,26 @@ pub struct BesideCall {
     after: Context,
 }
 
-/// A station in a run whose participant several sessions call at once.
+/// A station in a run whose participant several sessions call at once. Contracts see which one it is.
 #[derive(Drop)]
 pub struct OpenStation<K: Run, C: Caller> {
     index: usize,
     name: Text,
     participant: C,
     of: PhantomData<K>,
-    ghost within: { Within (C.rule participant) (K.rule index) },
-    ghost object: { C.object participant ≡ get_or K.objects index [] },
-    ghost named: { name ≡ get_or K.names index [] },
+}
+
+impl<K: Run, C: Caller> Model for OpenStation<K, C> {
+    ghost use Rattle.std.specs.Prelude.{◌≡◌, ℕ, [], get_or};
+    ghost use Rattle.sw_participant.specs.Callers.{Within};
+
+    ghost Value = { ℕ };
+
+    ghost view = { λ s. s.index };
+
+    ghost invariant = { λ s. Within (C.rule s.participant) (K.rule s.index)
+        × (C.object s.participant ≡ get_or K.objects s.index [])
+        × (s.name ≡ get_or K.names s.index []) };
 }
 
 /// What comes back from a station: its parts, its calls in the run, and which one it is; `None` if that is not known.
@@ -98,7 +108,7 @@ impl<K: Run, C: Caller> OpenStation<K, C> {
         requires object { C.object parts.participant ≡ get_or K.objects index [] }
         requires count { parts.calls ≡ get_or K.counts index 0 }
         requires name { parts.name ≡ get_or K.names index [] }
-        ensures station { result.0.index ≡ index }
+        ensures station { result.0 ≡ index }
         ensures notes { result.1 ≡ notes_seen index [] }
     {
         let StationParts {
@@ -118,8 +128,8 @@ impl<K: Run, C: Caller> OpenStation<K, C> {
     /// Makes the call with this context, beside other calls. After `NoMemory` the run has to end: the call may have
     /// been made.
     pub fn call(&self, call: &Call, context: Context) -> Result<BesideCall, NoMemory>
-        ensures beside { IfOk result (λ b. IsBeside (K.rule self.now.index)
-            (get_or K.objects self.now.index []) b.made) }
+        ensures beside { IfOk result (λ b. IsBeside (K.rule self.now)
+            (get_or K.objects self.now []) b.made) }
         ensures made { IfOk result (λ b. b.made ≡ made call.now b.reply context b.after) }
     {
         let before = context.copy()?;
@@ -145,11 +155,11 @@ impl<K: Run, C: Caller> OpenStation<K, C> {
         notes: &mut Notes<K>,
         call: BesideCall,
     ) -> Result<Option<(Reply, Context)>, NoMemory>
-        requires beside { IsBeside (K.rule self.now.index)
-            (get_or K.objects self.now.index []) call.made }
+        requires beside { IsBeside (K.rule self.now)
+            (get_or K.objects self.now []) call.made }
         ensures noted { IfOk result (λ r. IfSome r (λ left.
             (left ≡ (call.reply, call.after))
-            × (notes.new ≡ notes_seen self.now.index (notes.old.log ++ call.made ∷ [])))) }
+            × (notes.new ≡ notes_seen self.now (notes.old.log ++ call.made ∷ [])))) }
         ensures kept { OnErr result (notes.new ≡ notes.old) }
     {
         let BesideCall { made, reply, after } = call;
