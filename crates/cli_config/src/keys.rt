@@ -178,12 +178,8 @@ impl Key {
         ensures { result ≡ spec.excluded self }
     {
         match self {
-            Key::EchoS
-            | Key::From
-            | Key::InFlight
-            | Key::RetryMs
-            | Key::TimeoutMs
-            | Key::To => Some(Key::Simulated),
+            Key::EchoS | Key::From | Key::InFlight | Key::RetryMs | Key::TimeoutMs | Key::To =>
+                Some(Key::Simulated),
             _ => None,
         }
     }
