@@ -20,6 +20,7 @@ use Rattle.run_switch.specs.declared.error.ServeError.TheVariants as serve
 use Rattle.run_switch.specs.declared.setup.Setup.{Setup}
 use Rattle.run_setup.specs.declared.error.ConfigFileError.{ConfigFileError}
 use Rattle.run_setup.specs.Plans.{IsSetUp, journal_of, limit_of, log_path_of, no_config, plain_setup}
+use Rattle.sw_book.specs.Most.{max_limit}
 use Rattle.cardswitch.specs.Errors.{error_at}
 use Rattle.cardswitch.specs.Journals.{IsFound, IsNewJournal, IsOfFile}
 use Rattle.cardswitch.specs.Runs.{Answered, AnsweredBy, IfTaken, IsConfigAt, IsConfigFault, IsFileFault, IsFlowFault, IsLogFault, IsOpenFault, IsRecoverFault, IsRunFault}
@@ -218,7 +219,7 @@ serve_error journal (serve.Pool e) none h = tt
 serve_error journal (serve.Mismatch n) none h = tt
 serve_error journal serve.Endless none h = tt
 
-served_fault : (o : RunOptions) (c : Config) (before after : Option (List ℕ)) (e : RunError) → limit_of o c ≤ 999999999999999
+served_fault : (o : RunOptions) (c : Config) (before after : Option (List ℕ)) (e : RunError) → limit_of o c ≤ max_limit
     → journal_of o c ≡ None → IsServeFault e → IsRunFaultBy o c before after e
 served_fault o c before after (error.Serve e) limit none h = (limit, serve_error (journal_of o c) e none h)
 served_fault o c before after error.OutOfMemory limit none h = λ over. absurd (omega arith)
@@ -239,7 +240,7 @@ served_fault o c before after (error.Text e) limit none h = absurd h
 
 -- a run over a journal in memory that is refused after its limit was taken
 pub refused_in_memory : (o : RunOptions) (c : Config) (before after : Option (List ℕ)) (r : Result (Unit {0}) RunError)
-    → limit_of o c ≤ 999999999999999 → None ≡ journal_of o c → IfErr r IsServeFault → IfErr r (IsRunFaultBy o c before after)
+    → limit_of o c ≤ max_limit → None ≡ journal_of o c → IfErr r IsServeFault → IfErr r (IsRunFaultBy o c before after)
 refused_in_memory o c before after (Ok u) limit none h = tt
 refused_in_memory o c before after (Err e) limit none h = served_fault o c before after e limit (sym none) h
 
@@ -283,7 +284,7 @@ fault_in_file path before after (error.Text e) h = absurd h
 
 -- the faults of a run over the journal in a file
 file_fault : (o : RunOptions) (c : Config) (path : List ℕ) (before after : Option (List ℕ)) (e : RunError)
-    → limit_of o c ≤ 999999999999999 → Some path ≡ journal_of o c → IsFileFault path before after e → IsRunFaultBy o c before after e
+    → limit_of o c ≤ max_limit → Some path ≡ journal_of o c → IsFileFault path before after e → IsRunFaultBy o c before after e
 file_fault o c path before after (error.JournalFile p cause) limit named h =
     (limit, subst (λ (x : List ℕ). journal_of o c ≡ Some x) (sym h.0) (sym named), h.1)
 file_fault o c path before after (error.Journal p cause) limit named h =
@@ -306,7 +307,7 @@ file_fault o c path before after (error.Text e) limit named h = absurd h
 
 -- a run over the journal in a file that is refused after its limit was taken
 pub refused_in_file : (o : RunOptions) (c : Config) (path : List ℕ) (before after : Option (List ℕ)) (r : Result (Unit {0}) RunError)
-    → limit_of o c ≤ 999999999999999 → Some path ≡ journal_of o c → IfErr r IsServeFault → IfErr (ended_at path r) (IsRunFaultBy o c before after)
+    → limit_of o c ≤ max_limit → Some path ≡ journal_of o c → IfErr r IsServeFault → IfErr (ended_at path r) (IsRunFaultBy o c before after)
 refused_in_file o c path before after (Ok u) limit named h = tt
 refused_in_file o c path before after (Err e) limit named h =
     file_fault o c path before after (error_at path e) limit named (fault_in_file path before after e h)
@@ -331,12 +332,12 @@ open_fault path before (error.Input e) h = absurd h
 open_fault path before (error.Text e) h = absurd h
 
 pub unopened : (o : RunOptions) (c : Config) (path : List ℕ) (before after : Option (List ℕ)) (e : RunError)
-    → limit_of o c ≤ 999999999999999 → Some path ≡ journal_of o c → after ≡ before → IsOpenFault path e → IsRunFaultBy o c before after e
+    → limit_of o c ≤ max_limit → Some path ≡ journal_of o c → after ≡ before → IsOpenFault path e → IsRunFaultBy o c before after e
 unopened o c path before after e limit named same h =
     subst (λ (x : Option (List ℕ)). IsRunFaultBy o c before x e) (sym same) (file_fault o c path before before e limit named (open_fault path before e h))
 
 -- no log is opened, and nothing is written
-pub unlogged : (o : RunOptions) (c : Config) (path : Option (List ℕ)) (before : Option (List ℕ)) (e : RunError) → limit_of o c ≤ 999999999999999
+pub unlogged : (o : RunOptions) (c : Config) (path : Option (List ℕ)) (before : Option (List ℕ)) (e : RunError) → limit_of o c ≤ max_limit
     → path ≡ log_path_of o c → IfSome path (λ p. IsLogFault p e) → IfNone path (false ≡ true) → IsRunFaultBy o c before before e
 unlogged o c None before e limit is fault there = absurd (cc)
 unlogged o c (Some path) before (error.LogFile p cause) limit is fault there = (limit, sym is ∙ ap Some (sym fault), refl)

@@ -26,6 +26,7 @@ use Rattle.run_switch.specs.declared.stream.StreamEnd.TheVariants.{Whole}
 use Rattle.run_switch.specs.declared.error.ServeError.{ServeError}
 use Rattle.run_switch.specs.declared.error.ServeError.TheVariants as serve
 use Rattle.run_setup.specs.Plans.{PlainSetup, journal_of, limit_of, log_path_of, no_config, setup_of}
+use Rattle.sw_book.specs.Most.{max_limit}
 use Rattle.cardswitch.specs.Errors.{error_at}
 use Rattle.cardswitch.specs.Journals.{IsFound, IsFoundAt}
 use Rattle.cardswitch.specs.SetUps.{IsMistake, TakesSetUp}
@@ -71,7 +72,7 @@ pub record Served (threads : Bool) (flow : Flow) (sessions : ℕ) (j : Seen) (se
 pub record AnsweredBy {S : Type 0} (files : Ghosts S) (flow : Flow) (o : RunOptions) (c : Config)
     (unread before after : Option (List ℕ)) : Type 0 where
   pub setup : PlainSetup
-  pub within : limit_of o c ≤ 999999999999999
+  pub within : limit_of o c ≤ max_limit
   pub is_set_up : setup ≡ setup_of o c
   pub taken : TakesSetUp o.config flow c
   pub journal : Seen
@@ -151,17 +152,17 @@ IsLogFault path _ = ⊥
 -- and what is done with the journal. Nothing is written before that, nor under a limit that is too great.
 abbrev pub IsRunFaultBy : RunOptions → Config → Option (List ℕ) → Option (List ℕ) → RunError → Type 0
 IsRunFaultBy o c before after (error.BadLimit limit) =
-    (limit ≡ limit_of o c) × (999999999999999 < limit) × (after ≡ before)
+    (limit ≡ limit_of o c) × (max_limit < limit) × (after ≡ before)
 IsRunFaultBy o c before after (error.SetUp e) =
-    (limit_of o c ≤ 999999999999999) × IsMistake o.config c e × (after ≡ before)
+    (limit_of o c ≤ max_limit) × IsMistake o.config c e × (after ≡ before)
 IsRunFaultBy o c before after (error.LogFile path cause) =
-    (limit_of o c ≤ 999999999999999) × (log_path_of o c ≡ Some path) × (after ≡ before)
+    (limit_of o c ≤ max_limit) × (log_path_of o c ≡ Some path) × (after ≡ before)
 IsRunFaultBy o c before after (error.JournalFile path cause) =
-    (limit_of o c ≤ 999999999999999) × (journal_of o c ≡ Some path) × (after ≡ before)
-IsRunFaultBy o c before after (error.Journal path cause) = (limit_of o c ≤ 999999999999999) × (journal_of o c ≡ Some path)
-IsRunFaultBy o c before after (error.Engine path cause) = (limit_of o c ≤ 999999999999999) × (journal_of o c ≡ Some path)
-IsRunFaultBy o c before after (error.Serve e) = (limit_of o c ≤ 999999999999999) × IsServeError (journal_of o c) e
-IsRunFaultBy o c before after error.OutOfMemory = 999999999999999 < limit_of o c → after ≡ before
+    (limit_of o c ≤ max_limit) × (journal_of o c ≡ Some path) × (after ≡ before)
+IsRunFaultBy o c before after (error.Journal path cause) = (limit_of o c ≤ max_limit) × (journal_of o c ≡ Some path)
+IsRunFaultBy o c before after (error.Engine path cause) = (limit_of o c ≤ max_limit) × (journal_of o c ≡ Some path)
+IsRunFaultBy o c before after (error.Serve e) = (limit_of o c ≤ max_limit) × IsServeError (journal_of o c) e
+IsRunFaultBy o c before after error.OutOfMemory = max_limit < limit_of o c → after ≡ before
 IsRunFaultBy o c before after _ = ⊥
 
 -- The faults of `run`: its flow file, its configuration file, and those that its configuration leaves.

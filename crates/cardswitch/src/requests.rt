@@ -9,6 +9,7 @@ ghost use Rattle.tx_plant.specs.Plant.{seen};
 ghost use Rattle.run_switch.specs.Ran.{Printed};
 ghost use Rattle.run_setup.specs.Plans.{limit_of, plain_setup};
 ghost use Rattle.run_setup.specs.Words.{IsWordsOf};
+ghost use Rattle.sw_book.specs.Most.{max_limit};
 ghost use Rattle.cardswitch.specs.Checking.{IsRunMistake};
 ghost use Rattle.cardswitch.specs.SetUps.{TakesSetUp};
 ghost use Rattle.cardswitch.specs.Runs.{Answered, AnsweredBy, IfTaken};
@@ -231,7 +232,7 @@ fn answer_by<
         × (O.contents out.new ≡ O.contents out.old)) }
     ensures no_config { IfOk flow (λ _. IfErr config (λ e. (result ≡ Err e)
         × (O.contents out.new ≡ O.contents out.old))) }
-    ensures bad_limit { IfTaken flow config (λ _ c. 999999999999999 < limit_of options.now c
+    ensures bad_limit { IfTaken flow config (λ _ c. max_limit < limit_of options.now c
         → (result ≡ Err (RunError.BadLimit (limit_of options.now c)))
         × (O.contents out.new ≡ O.contents out.old)) }
     ensures answered { IfTaken flow config (λ f c. OnOk result

@@ -55,20 +55,32 @@ fn read_fixed<'a>(
     Ok(rest)
 }
 
-fn read_after_length<'a>(
-    alloc: Global,
+/// The form of a field whose length stands before its value.
+struct VariableForm {
     content: Content,
     length_digits: u16,
     max_length: u16,
+}
+
+fn read_after_length<'a>(
+    alloc: Global,
+    form: VariableForm,
     number: u8,
     bytes: &'a [u8],
     message: &mut Message,
 ) -> Result<&'a [u8], DecodeError>
-    requires form { form_of number ≡ Some (FieldForm.Variable content length_digits max_length) }
-    requires digits { length_digits ≤ 3 }
-    ensures { GivesMessage (λ rest. (message.new, rest.now)) result
-        (grown (FieldForm.Variable content length_digits max_length) message.old number bytes.now) }
+    requires form { form_of number
+        ≡ Some (FieldForm.Variable form.content form.length_digits form.max_length) }
+    requires digits { form.length_digits ≤ 3 }
+    ensures { GivesMessage (λ rest. (message.new, rest.now)) result (grown
+        (FieldForm.Variable form.content form.length_digits form.max_length)
+        message.old number bytes.now) }
 {
+    let VariableForm {
+        content,
+        length_digits,
+        max_length,
+    } = form;
     let (value, rest) = read_variable(length_digits, max_length, number, bytes)?;
     let form = FieldForm::Variable {
         content,
@@ -116,15 +128,12 @@ fn read_field<'a>(
                 max_length,
             },
         ) => {
-            read_after_length(
-                alloc,
+            let form = VariableForm {
                 content,
                 length_digits,
                 max_length,
-                number,
-                bytes,
-                message,
-            )
+            };
+            read_after_length(alloc, form, number, bytes, message)
         }
         Some(FieldForm::Binary) => read_hex(alloc, number, bytes, message),
     }

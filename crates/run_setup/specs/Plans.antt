@@ -18,6 +18,7 @@ use Rattle.sw_book.specs.Items.{PlainBook}
 use Rattle.sw_hosts.specs.declared.issuer_link.IssuerLink.{IssuerLink}
 use Rattle.run_switch.specs.Links.{switch_routes}
 use Rattle.run_switch.specs.declared.setup.Setup.{Setup}
+use Rattle.sw_book.specs.Most.{max_limit}
 use Rattle.run_setup.specs.declared.error.SetupError.{SetupError}
 use Rattle.run_setup.specs.declared.error.SetupError.TheVariants.{BadLimit, OutOfMemory}
 use Rattle.run_setup.specs.Links.{host_link, host_query, named_state, shown_link, wire_state}
@@ -37,7 +38,7 @@ limit_of o c = unwrap_or (option_or o.limit c.limits.per_card) 10000
 
 -- a limit that is refused is that of the run, and greater than any that a book may have
 abbrev pub IsLimitFault : RunOptions → Config → SetupError → Type 0
-IsLimitFault o c (BadLimit limit) = (limit ≡ limit_of o c) × (999999999999999 < limit)
+IsLimitFault o c (BadLimit limit) = (limit ≡ limit_of o c) × (max_limit < limit)
 IsLimitFault o c OutOfMemory = ⊤
 
 -- what the switch approves in a silent issuer's place, 1,000 minor units where nothing states it
@@ -153,5 +154,5 @@ recovery_of c = record {
 
 -- a run is set up so, which it is only with a limit that a book may have
 pub record IsSetUp {C : Type 0} (o : RunOptions) (c : Config) (setup : Setup (IssuerLink C)) : Type 0 where
-  pub within : limit_of o c ≤ 999999999999999
+  pub within : limit_of o c ≤ max_limit
   pub plain : plain_setup setup ≡ setup_of o c

@@ -2,6 +2,7 @@
 
 ghost use Rattle.std.specs.Prelude.{◌≡◌, ◌<◌, ◌≤◌, [], Err, IfErr, IfOk, OnOk, is_some};
 ghost use Rattle.run_switch.specs.Links.{switch_routes};
+ghost use Rattle.sw_book.specs.Most.{max_limit};
 ghost use Rattle.run_setup.specs.Plans.{IsLimitFault, IsSetUp, advices_of, journal_of, log_path_of, limit_of};
 ghost use Rattle.run_setup.specs.Plans.{plain_setup, recovery_of, sessions_of, stand_in_of, threads_of};
 ghost use Rattle.run_setup.specs.declared.error.SetupError.TheVariants.{BadLimit, OutOfMemory};
@@ -15,15 +16,12 @@ use std::alloc::{AllocError, Global};
 use std::sync::Wait;
 use std::thread::Threads;
 use std::time::Clock;
-use sw_book::Book;
+use sw_book::{Book, MAX_LIMIT};
 use sw_participant::Text;
 use sw_simulated::SimulatedSetup;
 
 /// What a card may spend in one run, in minor units, if nothing states it.
 const LIMIT: u64 = 10_000;
-
-/// The greatest limit of a book. (`Book::new` promises only that it takes every smaller one.)
-const MOST_LIMIT: u64 = 999_999_999_999_999;
 
 /// The path of the journal, if it is in a file. Out of memory is the only refusal.
 pub fn journal_path(
@@ -109,10 +107,10 @@ fn stand_in(config: &Config) -> u64
 // A new book with a limit, at most the greatest one.
 fn book(alloc: Global, limit: u64) -> Result<Book, SetupError>
     ensures book { IfOk result (λ book. book ≡ record { limit = limit; items = [] }) }
-    ensures within { OnOk result (limit ≤ 999999999999999) }
-    ensures refused { IfErr result (λ e. (e ≡ BadLimit limit) × (999999999999999 < limit)) }
+    ensures within { OnOk result (limit ≤ max_limit) }
+    ensures refused { IfErr result (λ e. (e ≡ BadLimit limit) × (max_limit < limit)) }
 {
-    if limit > MOST_LIMIT {
+    if limit > MAX_LIMIT {
         return Err(SetupError::BadLimit(limit));
     }
     match Book::new(alloc, limit) {
@@ -131,7 +129,7 @@ pub fn setup<T: Threads + Wait + Clock + Clone + Drop + Send + 'static>(
     config: &Config,
 ) -> Result<Setup<SwitchLink>, SetupError>
     ensures set_up { IfOk result (IsSetUp options.now config.now) }
-    ensures bad_limit { 999999999999999 < limit_of options.now config.now
+    ensures bad_limit { max_limit < limit_of options.now config.now
         → result ≡ Err (BadLimit (limit_of options.now config.now)) }
     ensures within { IfErr result (IsLimitFault options.now config.now) }
 {

@@ -390,7 +390,7 @@ fn boxed<P: Unjoined>(alloc: Global, participant: P) -> Result<Box<Bystander<P>>
 fn named(
     alloc: Global,
     name: &str,
-    participant: Box<dyn Participant + Send>,
+    participant: Box<dyn Participant + Send + Sync>,
 ) -> Result<Station, NoMemory>
     requires { is_name name.now ≡ true }
     ensures named { IfOk result (λ station. name_of station ≡ name.now) }

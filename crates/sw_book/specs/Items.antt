@@ -16,6 +16,7 @@ use Rattle.sw_book.specs.declared.item.Item.{Item}
 use Rattle.sw_book.specs.declared.item.Totals.{Totals}
 use Rattle.sw_book.specs.declared.item.State.{State}
 use Rattle.sw_book.specs.declared.item.State.TheVariants.{Open, Used, Reversed}
+use Rattle.sw_book.specs.Most.{max_amount}
 use Rattle.sw_book.specs.declared.error.BookError.{BookError}
 use Rattle.sw_book.specs.declared.error.BookError.TheVariants.{OutOfMemory, OverLimit}
 use Rattle.sw_book.specs.declared.error.BookError.TheVariants.{AmountTooLarge, Duplicate}
@@ -147,7 +148,7 @@ is_over book card amount =
 
 abbrev pub refusal : PlainBook → ℕ → Card → BookKey → ℕ → Option BookError
 refusal book id card key amount = first_of (
-    refused_if (nat_lt 999999999999 amount) AmountTooLarge
+    refused_if (nat_lt max_amount amount) AmountTooLarge
     ∷ refused_if (is_taken id key book.items) Duplicate
     ∷ refused_if (is_over book card amount) OverLimit
     ∷ [])

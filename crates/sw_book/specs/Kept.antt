@@ -4,6 +4,7 @@ use Rattle.sw_book.specs.declared.item.Card.{Card}
 use Rattle.sw_book.specs.declared.item.BookKey.{BookKey}
 use Rattle.sw_book.specs.declared.item.Item.{Item}
 use Rattle.sw_book.specs.declared.item.Totals.{Totals}
+use Rattle.sw_book.specs.Most.{max_limit}
 use Rattle.sw_book.specs.Items.{Items, id_of, total, used, reserved, totals_in}
 
 -- no key occurs twice
@@ -16,7 +17,7 @@ one item = 1
 
 pub record IsBook (limit : ℕ) (items : Items)
     (ids : BookKey → Option ℕ) (totals : Card → Option Totals) : Type 0 where
-  pub small : limit ≤ 999999999999999
+  pub small : limit ≤ max_limit
   pub own : HaveOwnKeys items
   pub found : (key : BookKey) → ids key ≡ id_of key items
   pub spent : (card : Card) → (totals_in (totals card)).used ≡ used card items

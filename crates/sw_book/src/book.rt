@@ -8,6 +8,7 @@ ghost use Rattle.sw_book.specs.declared.item.BookKey.{BookKey};
 ghost use Rattle.sw_book.specs.declared.item.Card.{Card};
 ghost use Rattle.sw_book.specs.declared.item.State.TheVariants.{Open};
 ghost use Rattle.sw_book.specs.declared.error.BookError.TheVariants.{BadLimit};
+ghost use Rattle.sw_book.specs.Most.{max_limit};
 ghost use Rattle.sw_book.specs.Items.{used, reserved, key_eq, card_eq, is_open_in, is_used_in};
 ghost use Rattle.sw_book.specs.Items.{item_at, with_item, with_items, in_its_place};
 ghost use Rattle.sw_book.specs.Items.{settled, released, reversed};
@@ -20,10 +21,10 @@ use std::collections::{BTreeMap, HashMap};
 use std::marker::Model;
 
 /// The greatest limit: 15 digits.
-const MOST_LIMIT: u64 = 999_999_999_999_999;
+pub const MAX_LIMIT: u64 = 999_999_999_999_999;
 
 /// The greatest amount: the 12 digits of field 4.
-const MOST_AMOUNT: u64 = 999_999_999_999;
+pub const MAX_AMOUNT: u64 = 999_999_999_999;
 
 /// The items of all cards, under one limit that holds for each card. Contracts see the limit, and
 /// the items under their ids, which rise.
@@ -64,10 +65,10 @@ impl Book {
     /// is `BadLimit`, of a limit over 999,999,999,999,999.
     pub fn new(alloc: Global, limit: u64) -> Result<Book, BookError>
         ensures book { IfOk result (λ b. b ≡ record { limit = limit; items = [] }) }
-        ensures accepted { limit ≤ 999999999999999 → IsOk result }
-        ensures refused { IfErr result (λ e. (e ≡ BadLimit) × (999999999999999 < limit)) }
+        ensures accepted { limit ≤ max_limit → IsOk result }
+        ensures refused { IfErr result (λ e. (e ≡ BadLimit) × (max_limit < limit)) }
     {
-        if limit > MOST_LIMIT {
+        if limit > MAX_LIMIT {
             return Err(BookError::BadLimit);
         }
         Ok(Book {
@@ -110,7 +111,7 @@ impl Book {
         ensures refused { IfErr result (λ e. IsRefusal e (refusal self.old id card key amount)) }
         ensures kept { OnErr result (self.new ≡ self.old) }
     {
-        if amount > MOST_AMOUNT {
+        if amount > MAX_AMOUNT {
             return Err(BookError::AmountTooLarge);
         }
         if self.items.contains_key(&id) || self.ids.contains_key(&key) {

@@ -31,6 +31,6 @@ mod book;
 mod error;
 mod item;
 
-pub use book::Book;
+pub use book::{Book, MAX_AMOUNT, MAX_LIMIT};
 pub use error::BookError;
 pub use item::{BookKey, Card, Item, State, Totals};

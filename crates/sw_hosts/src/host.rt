@@ -36,15 +36,24 @@ impl Drop for Host {
 
 impl Host {
     /// Starts the threads of a host, with both directions closed: the first message that is sent has
-    /// them opened. It is refused if no memory or no thread can be had.
+    /// them opened. At most `in_flight` requests, from 1, are under way at the host at once. It is refused if no
+    /// memory or no thread can be had.
     pub fn start<
         R: Threads + Wait + Clock + Clone + Drop + Send + 'static,
         W: OpenWriter + Send + 'static,
         I: OpenReader + Send + 'static,
-    >(rt: &R, alloc: Global, to: W, from: I, times: HostTimes) -> Result<Host, AllocError>
-        ensures { IfOk result (λ host. (arc_value host.shared).times ≡ times) }
+    >(
+        rt: &R,
+        alloc: Global,
+        to: W,
+        from: I,
+        times: HostTimes,
+        in_flight: usize,
+    ) -> Result<Host, AllocError>
+        ensures times { IfOk result (λ host. (arc_value host.shared).times ≡ times) }
+        ensures in_flight { IfOk result (λ host. (arc_value host.shared).in_flight ≡ in_flight) }
     {
-        let shared = Arc::new(alloc, Shared::new(alloc, times)?)?;
+        let shared = Arc::new(alloc, Shared::new(alloc, times, in_flight)?)?;
         let (rt_to, shared_to) = (rt.clone()?, Arc::try_clone(&shared)?);
         thread::spawn(rt, move || {
             let thread = HostThread {

@@ -1,6 +1,6 @@
 //! The way over the threads of a host.
 
-ghost use Rattle.std.specs.Prelude.{◌≡◌, ⊤, IfOk, IfSome, Some};
+ghost use Rattle.std.specs.Prelude.{◌≡◌, ⊤, nat_lt, IfOk, IfSome, Some};
 ghost use Rattle.std.specs.Arc.{arc_value};
 ghost use Rattle.sw_wire.specs.Keyed.{key_in};
 ghost use Rattle.sw_wire.specs.Looks.{answer_in};
@@ -34,6 +34,15 @@ impl<C: Clock + Drop> Drop for HostWay<C> {
             clock: _,
             shared: _,
         } = self;
+    }
+}
+
+impl<C: Clock + Copy + Drop> HostWay<C> {
+    /// Another way over the same threads.
+    pub fn copy(&self) -> Result<HostWay<C>, AllocError>
+        ensures { IfOk result (λ way. arc_value way.shared ≡ arc_value self.now.shared) }
+    {
+        Ok(HostWay::new(self.clock, Arc::try_clone(&self.shared)?))
     }
 }
 
@@ -73,6 +82,13 @@ impl<C: Clock + Drop> HostWay<C> {
         ensures { IfOk result (λ r. arc_value r.shared ≡ arc_value self.now.shared) }
     {
         Ok(HostReport::new(Arc::try_clone(&self.shared)?))
+    }
+
+    /// Whether more than one request may be under way at the host at once.
+    pub fn is_shared(&self) -> bool
+        ensures { result ≡ nat_lt 1 (arc_value self.now.shared).in_flight }
+    {
+        self.shared.in_flight > 1
     }
 
     // Has a request wait for its answer, unless one with its key is under way, or too many wait; then it comes back.

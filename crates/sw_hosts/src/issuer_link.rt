@@ -42,7 +42,7 @@ impl<C: Clock + Drop> IssuerLink<C> {
     }
 }
 
-impl<C: Clock + Drop> Link for IssuerLink<C> {
+impl<C: Clock + Copy + Drop> Link for IssuerLink<C> {
     ghost state = { λ link. state_of ⟦<Issuer as Link>⟧.state link };
 
     ghost sends = { λ s message t. SendsBy ⟦<Issuer as Link>⟧.sends s message t };
@@ -62,6 +62,21 @@ impl<C: Clock + Drop> Link for IssuerLink<C> {
         match self {
             IssuerLink::Simulated(issuer) => issuer.receive(),
             IssuerLink::Host(link) => link.receive(),
+        }
+    }
+
+    // The simulated issuer keeps the answers that wait in its link, and so it has one link alone.
+    fn is_shared(&self) -> bool {
+        match self {
+            IssuerLink::Simulated(_) => false,
+            IssuerLink::Host(link) => link.is_shared(),
+        }
+    }
+
+    fn beside(&self) -> Result<Option<IssuerLink<C>>, NoMemory> {
+        match self {
+            IssuerLink::Simulated(_) => Ok(None),
+            IssuerLink::Host(link) => Ok(link.beside()?.map(IssuerLink::Host)),
         }
     }
 }

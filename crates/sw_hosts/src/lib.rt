@@ -17,8 +17,11 @@
 //!
 //! - No frame that `next_frame` takes from the outbox is too late, and an answer that a link takes has
 //!   the key that it waits for.
-//! - A host has the times that it is given (`Host::start`), and its links and reports share these with
-//!   it (`Host::link`, `host_report`). That its threads and deadlines go by them is only tested.
+//! - A host has the times and the number of requests that may be under way which it is given
+//!   (`Host::start`), and its links and reports share these with it (`Host::link`, `host_report`). That
+//!   its threads, deadlines and links go by them is only tested.
+//! - A host's link that `beside` gives is in the one state that links to hosts have, and no send and no
+//!   receive changes it. That it leads to the same host is only tested.
 //! - What is counted is only tested, and so is that the threads and links note the signs of a host.
 //! - After `HostLink::send` was out of memory nothing is waited for; `receive` refuses nothing. Contracts see no state of a link. `IssuerLink` keeps what the simulated issuer promises.
 //!
@@ -56,6 +59,10 @@
 //!   cannot be checked. Alternative: the key alone, as `QMUX` compares it.
 //! - **A request waits for the one with its key to be answered or given up**, before its own timeout
 //!   begins. Alternative: to refuse it, and to stand in for a host that is there.
+//! - **How many requests may be under way is a limit of the host's**, whatever links they go over: a
+//!   request that finds no place waits for one as long as the host's timeout, before its own timeout
+//!   begins. With one alone no link is shared. Alternative: a limit of a participant's, which advices
+//!   and a second group of the host would pass by.
 //! - **A link looks each millisecond**, and needs no handle to wait with. Alternative: a wake-up for each
 //!   answer, for which the calls of participants would have to take a handle.
 //! - **Contracts see no state of a link to a host.** Nothing can be promised of what comes over a wire,

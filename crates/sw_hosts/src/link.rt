@@ -25,6 +25,8 @@ use sw_wire::{Awaited, receive_over, send_over};
 ///   nobody or has no key, or its answer was returned; once a direction was closed since; and from the deadline on,
 ///   which is the host's timeout after the sending. It takes no memory.
 ///
+/// `beside` gives a link of its own to the same host, which knows of no request that this one sent.
+///
 /// Contracts see no state of a link: nothing can be promised of what comes over a wire, and the
 /// receiver compares the key again.
 pub struct HostLink<C: Clock + Drop = HostRuntime> {
@@ -84,7 +86,7 @@ impl<C: Clock + Drop> HostLink<C> {
     }
 }
 
-impl<C: Clock + Drop> Link for HostLink<C> {
+impl<C: Clock + Copy + Drop> Link for HostLink<C> {
     ghost state = { λ link. [] };
 
     ghost sends = { λ s message t. t ≡ [] };
@@ -99,5 +101,13 @@ impl<C: Clock + Drop> Link for HostLink<C> {
 
     fn receive(&mut self) -> Result<Option<Vec<u8>>, NoMemory> {
         Ok(self.await_answer())
+    }
+
+    fn is_shared(&self) -> bool {
+        self.way.is_shared()
+    }
+
+    fn beside(&self) -> Result<Option<HostLink<C>>, NoMemory> {
+        Ok(Some(HostLink::new(self.alloc, self.way.copy()?)))
     }
 }

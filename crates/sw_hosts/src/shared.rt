@@ -19,6 +19,8 @@ use sw_wire::{
 /// while something is read, written or opened.
 pub struct Shared {
     pub times: HostTimes,
+    /// How many requests may be under way at the host at once.
+    pub in_flight: usize,
     /// The direction to the host; its thread writes.
     pub to: Direction,
     /// The direction from the host; its thread reads.
@@ -40,6 +42,7 @@ impl Drop for Shared {
     fn drop(self) {
         let Shared {
             times: _,
+            in_flight: _,
             to: _,
             from: _,
             answers: _,
@@ -55,14 +58,16 @@ impl Drop for Shared {
 
 impl Shared {
     /// With both directions closed, no request that waits, and nothing to be written.
-    pub fn new(alloc: Global, times: HostTimes) -> Result<Shared, AllocError>
-        ensures { IfOk result (λ shared. shared.times ≡ times) }
+    pub fn new(alloc: Global, times: HostTimes, in_flight: usize) -> Result<Shared, AllocError>
+        ensures times { IfOk result (λ shared. shared.times ≡ times) }
+        ensures in_flight { IfOk result (λ shared. shared.in_flight ≡ in_flight) }
     {
         Ok(Shared {
             times,
+            in_flight,
             to: Direction::new(),
             from: Direction::new(),
-            answers: Mutex::new(Answers::new(alloc)?),
+            answers: Mutex::new(Answers::new(alloc, in_flight)?),
             outbox: Mutex::new(Outbox::new(alloc)?),
             counters: Counters::new(),
             state: SharedState::new(),

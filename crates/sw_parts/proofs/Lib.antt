@@ -1,4 +1,5 @@
 pub mod FieldLengths
 mod KeyParts
 mod Hearing
+mod Staying
 mod LongestPrefix

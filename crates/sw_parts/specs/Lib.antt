@@ -13,3 +13,4 @@ pub mod Reversals
 pub mod Forwards
 pub mod StandIns
 pub mod Routes
+pub mod Staying

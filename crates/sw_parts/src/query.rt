@@ -152,6 +152,14 @@ fn conclude<M: Memory>(
     }
 }
 
+/// A request whose key waits.
+#[derive(Drop)]
+struct Keyed<'a> {
+    key: Key,
+    deadline: u64,
+    bytes: &'a [u8],
+}
+
 /// Sends a request whose key waits, and waits for its answer. All contexts are made before the
 /// request is sent.
 fn ask<M: Memory, L: Link>(
@@ -159,23 +167,20 @@ fn ask<M: Memory, L: Link>(
     mux: &mut Mux,
     link: &mut L,
     has_stand_in: bool,
-    key: Key,
-    deadline: u64,
-    bytes: &[u8],
+    request: &Keyed<'_>,
     context: &mut Context,
 ) -> Result<u8, NoMemory>
-    requires { mux.old ≡ (key, deadline) ∷ [] }
+    requires { mux.old ≡ (request.now.key, request.now.deadline) ∷ [] }
     ensures asked { IfOk result (λ byte.
-        Asks L.sends L.receives L.starves M.refused has_stand_in bytes.now key.bytes
-        (L.state link.old) context.old byte (L.state link.new) context.new) }
-    ensures waits { without key.bytes mux.new ≡ [] }
+        Asks L.sends L.receives L.starves M.refused has_stand_in request.now.bytes.now
+        request.now.key.bytes (L.state link.old) context.old byte (L.state link.new) context.new) }
     ensures link_kept { OnErr result (L.state link.new ≡ L.state link.old) }
     ensures context_kept { OnErr result (context.new ≡ context.old) }
 {
     let asked = asking(context)?;
     let otherwise = unanswered(&asked, has_stand_in)?;
-    link.send(bytes)?;
-    let heard = hear(memory, mux, link, key, deadline);
+    link.send(request.bytes)?;
+    let heard = hear(memory, mux, link, request.key, request.deadline);
     let (byte, next) = conclude(memory, has_stand_in, asked, otherwise, heard);
     *context = next;
     Ok(byte)
@@ -186,16 +191,13 @@ fn query<M: Memory, L: Link>(
     alloc: Global,
     memory: &M,
     id: u64,
-    mux: &mut Mux,
     link: &mut L,
     has_stand_in: bool,
     context: &mut Context,
 ) -> Result<u8, NoMemory>
-    requires { mux.old ≡ [] }
     ensures queried { IfOk result (λ byte.
         Queries L.sends L.receives L.starves M.refused has_stand_in
         (L.state link.old) context.old byte (L.state link.new) context.new) }
-    ensures idle { mux.new ≡ [] }
     ensures link_kept { OnErr result (L.state link.new ≡ L.state link.old) }
     ensures context_kept { OnErr result (context.new ≡ context.old) }
 {
@@ -206,14 +208,18 @@ fn query<M: Memory, L: Link>(
         return Ok(PASSES);
     };
     let bytes = bytes_in(alloc, context)?;
+    let mut mux = Mux::new(alloc);
     match mux.request(&request, id) {
         Ok(key) => {
-            let asked = ask(memory, mux, link, has_stand_in, key, id, &bytes, context);
-            mux.withdraw(&key);
-            asked
+            let keyed = Keyed {
+                key,
+                deadline: id,
+                bytes: &bytes,
+            };
+            ask(memory, &mut mux, link, has_stand_in, &keyed, context)
         }
         Err(MuxError::OutOfMemory) => Err(NoMemory),
-        // Nothing waited, so the numbers began again.
+        // Nothing waited, so the numbers began with this one.
         Err(MuxError::NumbersSpent) => unreachable!(),
         Err(_) => {
             note_code(context, ResponseCode::SystemMalfunction)?;
@@ -235,11 +241,8 @@ fn bytes_in(alloc: Global, context: &Context) -> Result<Vec<u8>, NoMemory>
 pub struct QueryIssuer<L: Link, M: Memory = Heap> {
     alloc: Global,
     memory: M,
-    mux: Mux,
     link: L,
     has_stand_in: bool,
-    // between calls nothing waits
-    ghost idle: { mux ≡ [] },
 }
 
 // Written out, so that no caller proves again how its parts are dropped.
@@ -248,7 +251,6 @@ impl<L: Link + Drop, M: Memory + Drop> Drop for QueryIssuer<L, M> {
         let QueryIssuer {
             alloc: _,
             memory: _,
-            mux: _,
             link: _,
             has_stand_in: _,
         } = self;
@@ -265,7 +267,6 @@ impl<L: Link> QueryIssuer<L, Heap> {
         QueryIssuer {
             alloc,
             memory: Heap::new(alloc),
-            mux: Mux::new(alloc),
             link,
             has_stand_in,
         }
@@ -287,7 +288,6 @@ impl<L: Link, M: Memory> Unjoined for QueryIssuer<L, M> {
             self.alloc,
             &self.memory,
             id,
-            &mut self.mux,
             &mut self.link,
             self.has_stand_in,
             context,
@@ -299,6 +299,34 @@ impl<L: Link, M: Memory> Unjoined for QueryIssuer<L, M> {
     }
 
     fn select(&mut self, id: u64, context: &Context) -> Result<Text, NoMemory> {
+        Ok(Text::from_str(self.alloc, "")?)
+    }
+
+    fn is_shared(&self) -> bool {
+        self.link.is_shared()
+    }
+
+    #[tactic(auto, using(crate::proofs::Staying::stays))]
+    fn prepare_beside(&self, id: u64, context: &mut Context) -> Result<u8, NoMemory> {
+        let Some(link) = self.link.beside()? else {
+            return Err(NoMemory);
+        };
+        let mut link = link;
+        query(
+            self.alloc,
+            &self.memory,
+            id,
+            &mut link,
+            self.has_stand_in,
+            context,
+        )
+    }
+
+    fn prepare_for_abort_beside(&self, id: u64, context: &mut Context) -> Result<u8, NoMemory> {
+        Ok(PASSES)
+    }
+
+    fn select_beside(&self, id: u64, context: &Context) -> Result<Text, NoMemory> {
         Ok(Text::from_str(self.alloc, "")?)
     }
 }

@@ -2,6 +2,7 @@
 
 ghost use Rattle.std.specs.Prelude.{◌≡◌, ◌≤◌, codes, nat_eq};
 ghost use Rattle.std.specs.List.{starts_with};
+ghost use Rattle.sw_book.specs.Most.{max_limit};
 
 use crate::participant::Simulated;
 use std::alloc::{AllocError, Global};
@@ -22,12 +23,12 @@ pub struct SimulatedSetup {
     pub stand_in: u64,
     /// Which group of the flow asks the issuer of a card.
     pub routes: Sequence<Routing>,
-    ghost within: { limit ≤ 999999999999999 },
+    ghost within: { limit ≤ max_limit },
 }
 
 // A new book with a limit, at most the greatest one.
 fn book(alloc: Global, limit: u64) -> Book
-    requires { limit ≤ 999999999999999 }
+    requires { limit ≤ max_limit }
 {
     match Book::new(alloc, limit) {
         Ok(book) => book,

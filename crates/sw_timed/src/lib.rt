@@ -111,4 +111,23 @@ impl<P: Unjoined, C: Clock + Drop> Unjoined for Timed<P, C> {
     fn select(&mut self, id: u64, context: &Context) -> Result<Text, NoMemory> {
         self.part.select(id, context)
     }
+
+    fn is_shared(&self) -> bool {
+        self.part.is_shared()
+    }
+
+    fn prepare_beside(&self, id: u64, context: &mut Context) -> Result<u8, NoMemory> {
+        let began = self.begin();
+        let byte = self.part.prepare_beside(id, context)?;
+        note_time(byte, self.since(began), context);
+        Ok(byte)
+    }
+
+    fn prepare_for_abort_beside(&self, id: u64, context: &mut Context) -> Result<u8, NoMemory> {
+        self.part.prepare_for_abort_beside(id, context)
+    }
+
+    fn select_beside(&self, id: u64, context: &Context) -> Result<Text, NoMemory> {
+        self.part.select_beside(id, context)
+    }
 }

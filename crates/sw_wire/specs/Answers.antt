@@ -32,6 +32,10 @@ is_answered k answer expected = asks k expected && suits expected.request answer
 abbrev pub is_under_way : List ℕ → List Expected → List Received → Bool
 is_under_way k asked came = if is_some (first_of (asks k) asked) then true else is_some (first_of (has_key k) came)
 
--- likewise, or 64 wait
-abbrev pub is_refused : List ℕ → List Expected → List Received → Bool
-is_refused k asked came = if is_under_way k asked came then true else nat_le 64 (length asked)
+-- as many requests wait as may, which is never more than 64
+abbrev pub is_busy : ℕ → List Expected → Bool
+is_busy most asked = if nat_le most (length asked) then true else nat_le 64 (length asked)
+
+-- one with the key is under way, or as many wait as may
+abbrev pub is_refused : ℕ → List ℕ → List Expected → List Received → Bool
+is_refused most k asked came = if is_under_way k asked came then true else is_busy most asked

@@ -61,6 +61,13 @@ impl<T: Drop> Backlog<T> {
         Ok(Backlog { held })
     }
 
+    /// How many wait.
+    pub fn len(&self) -> usize
+        ensures { result ≡ length self.now }
+    {
+        self.held.len()
+    }
+
     /// Whether 64 wait, and never more.
     pub fn is_full(&self) -> bool
         ensures full { result ≡ nat_le 64 (length self.now) }

@@ -25,6 +25,24 @@ pub record IsStation (first : Rule) (o : List ℕ) (c : ℕ) (rule : Rule) (p : 
   pub linked : Linked first o log p
   pub counts : d ≡ count_up c log
 
+-- a call beside others is one that the rule allows, and leaves the object as it was
+abbrev pub IsBeside : Rule → List ℕ → MadeCall → Type 0
+IsBeside rule o m = rule m.call.id m.call.act o m.before m.reply o m.after
+
+-- The notes of a station whose participant several sessions call at once: its calls lead from the object that it has to the
+-- same, and the count counts them.
+pub record AreNotes (rule : Rule) (o : List ℕ) (c d : ℕ) (log : List MadeCall) : Type 0 where
+  pub linked : Linked rule o log o
+  pub counts : d ≡ count_up c log
+
+-- what contracts see of notes: which station's they are, and its calls in the run
+pub record NotesSeen : Type 0 where
+  pub index : ℕ
+  pub log : List MadeCall
+
+abbrev pub notes_seen : ℕ → List MadeCall → NotesSeen
+notes_seen index log = record { index = index; log = log }
+
 -- what contracts see of it: which one it is, its name, and its calls in the run
 pub record StationSeen : Type 0 where
   pub index : ℕ

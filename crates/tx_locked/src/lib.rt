@@ -7,7 +7,9 @@
 //! What is under the engine's lock is what a list of steps left since the run began (`Locked`,
 //! `Since`). What was got from the intake was offered, in order. The ledger counts the entries of
 //! sessions, and the calls are those whose replies were recorded. A station's log is a chain of its own
-//! calls (`StationLog`). `are_calls`, `are_same` and `are_all_own` answer true only where the calls,
+//! calls (`StationLog`). Of a station whose participant several sessions call at once (`OpenStation`) the
+//! participant is under no lock. Each of its calls leaves the object that it had at the start, and its
+//! notes (`Notes`) are a chain from that object to the same. `are_calls`, `are_same` and `are_all_own` answer true only where the calls,
 //! the entries and the receipts agree. No contract says that they do so always: a body that answers
 //! false gives up each run, which tests see.
 #![tactic(auto)]
@@ -16,6 +18,7 @@ mod comparing;
 mod copies;
 mod fault;
 mod locked;
+mod open;
 mod run;
 mod session;
 mod station;
@@ -25,6 +28,7 @@ pub use comparing::{
 };
 pub use fault::Fault;
 pub use locked::{Left, Locked, RunIntake};
+pub use open::{BesideCall, Notes, OpenStation, StationBack};
 pub use run::Run;
 pub use session::{Plan, Session};
 pub use station::{MadeCall, StationLog, StationParts};

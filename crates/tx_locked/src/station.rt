@@ -88,8 +88,8 @@ fn copy_reply(reply: &Reply) -> Result<Reply, AllocError>
     }
 }
 
-// Copies of what a call left.
-fn copy_left(reply: &Reply, context: &Context) -> Result<(Reply, Context), NoMemory>
+/// Copies of what a call left.
+pub(crate) fn copy_left(reply: &Reply, context: &Context) -> Result<(Reply, Context), NoMemory>
     ensures { IfOk result (λ r. (r.0 ≡ reply.now) × (r.1 ≡ context.now)) }
 {
     Ok((copy_reply(reply)?, context.copy()?))

@@ -41,6 +41,7 @@ mod pool;
 mod refusal;
 mod report;
 mod running;
+mod seat;
 mod shared;
 mod threads;
 

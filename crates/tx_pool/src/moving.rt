@@ -1,47 +1,33 @@
 //! Stations and sessions, on their way into the threads and back.
 
-ghost use Rattle.std.specs.Prelude.{◌≡◌, ◌≤◌, ◌+◌, true, [], IfOk, length, get_or, vec_len, vec_capacity};
+ghost use Rattle.std.specs.Prelude.{◌≡◌, ◌≤◌, ◌+◌, true, [], IfOk, length, vec_len, vec_capacity};
 ghost use Rattle.std.specs.List.{sum_by};
-ghost use Rattle.sw_participant.specs.Callers.{Within};
-ghost use Rattle.tx_locked.specs.AllStations.{AllBack, AreReady, IsReady};
+ghost use Rattle.tx_locked.specs.AllStations.{AllBack, AreReady};
 
+use crate::seat::{Seat, is_at, seat_of, unseat};
 use std::alloc::{AllocError, Global};
-use std::sync::Mutex;
 use std::sync::ledger::Share;
 use sw_participant::Caller;
-use tx_locked::{MadeCall, Run, Session, StationLog, StationParts, both};
+use tx_locked::{MadeCall, Run, Session, StationBack, StationParts, both};
 
-// A station under its lock.
-fn lock_station<K: Run, C: Caller>(
-    alloc: Global,
-    index: usize,
-    station: StationParts<C>,
-) -> Mutex<StationLog<K, C>>
-    requires { IsReady (K.rule index) (C.rule station.participant)
-        (get_or K.objects index []) (C.object station.participant)
-        (get_or K.counts index 0) station.calls (get_or K.names index []) station.name }
-{
-    Mutex::new(StationLog::new(alloc, index, station))
-}
-
-/// Each station under its lock, the last one first.
-pub(crate) fn lock_stations<K: Run, C: Caller>(
+/// The seat of each station, the last one first.
+pub(crate) fn seat_stations<K: Run, C: Caller>(
     alloc: Global,
     stations: Vec<StationParts<C>>,
-    locks: Vec<Mutex<StationLog<K, C>>>,
-) -> Vec<Mutex<StationLog<K, C>>>
-    requires room { vec_len stations ≤ vec_capacity locks }
-    requires empty { vec_len locks ≡ 0 }
+    seats: Vec<Seat<K, C>>,
+) -> Vec<Seat<K, C>>
+    requires room { vec_len stations ≤ vec_capacity seats }
+    requires empty { vec_len seats ≡ 0 }
     requires ready { AreReady K.rule K.objects K.counts K.names (λ s. C.rule s.participant)
         (λ s. C.object s.participant) (λ s. s.calls) (λ s. s.name) stations.items }
     ensures { vec_len result ≡ vec_len stations }
 {
     let mut stations = stations;
-    let mut locks = locks;
+    let mut seats = seats;
     while let Some(station) = stations.pop() {
-        locks.push_reserved(lock_station(alloc, stations.len(), station));
+        seats.push_reserved(seat_of(alloc, stations.len(), station));
     }
-    locks
+    seats
 }
 
 /// Opens a session for each part of the share but one, the last session first.
@@ -100,29 +86,29 @@ pub(crate) struct Back<C: Caller> {
     pub(crate) in_order: bool,
 }
 
-/// Takes the stations out of their locks, the first of which is that of the last station.
-pub(crate) fn unlock_stations<K: Run, C: Caller>(
-    locks: Vec<Mutex<StationLog<K, C>>>,
+/// Takes the stations out of their seats, the first of which is that of the last station.
+pub(crate) fn unseat_stations<K: Run, C: Caller>(
+    seats: Vec<Seat<K, C>>,
     stations: Vec<StationParts<C>>,
     logs: Vec<Vec<MadeCall>>,
 ) -> Back<C>
-    requires room { vec_len locks ≤ vec_capacity stations }
-    requires log_room { vec_len locks ≤ vec_capacity logs }
+    requires room { vec_len seats ≤ vec_capacity stations }
+    requires log_room { vec_len seats ≤ vec_capacity logs }
     requires empty { stations.items ≡ [] }
     requires no_logs { logs.items ≡ [] }
-    requires all { vec_len locks ≡ length K.objects }
-    ensures count { vec_len result.stations ≡ vec_len locks }
+    requires all { vec_len seats ≡ length K.objects }
+    ensures count { vec_len result.stations ≡ vec_len seats }
     ensures back { result.in_order ≡ true → AllBack K.rule K.objects K.counts K.names
         (λ s. C.object s.participant) (λ s. s.calls) (λ s. s.name) (λ v. v.items)
         result.stations.items result.logs.items }
 {
-    let mut locks = locks;
+    let mut seats = seats;
     let mut stations = stations;
     let mut logs = logs;
     let mut in_order = true;
-    while let Some(lock) = locks.pop() {
-        let (index, parts, log) = lock.into_inner().into_parts();
-        let here = index == stations.len();
+    while let Some(seat) = seats.pop() {
+        let StationBack { index, parts, log } = unseat(seat);
+        let here = is_at(index, stations.len());
         in_order = both(in_order, here);
         stations.push_reserved(parts);
         logs.push_reserved(log);

@@ -26,7 +26,7 @@ use tx_intake::{Getter, Intake, IntakeError, Putter, Source};
 use tx_locked::StationParts;
 use tx_plant::{Plant, PlantParts};
 
-type Boxed = Box<dyn Participant + Send>;
+type Boxed = Box<dyn Participant + Send + Sync>;
 
 // Puts the parts of the stations into a list with room for them.
 fn take_apart(stations: Vec<Station>, parts: Vec<StationParts<Boxed>>) -> Vec<StationParts<Boxed>>

@@ -15,7 +15,8 @@ ghost use Rattle.tx_locked.specs.Settled.{IsSettled};
 
 use crate::ending::{Lost, Ran, Remains, conclude};
 use crate::gate::Gate;
-use crate::moving::{lock_stations, open_sessions, unlock_stations};
+use crate::moving::{open_sessions, seat_stations, unseat_stations};
+use crate::seat::Seat;
 use crate::shared::Shared;
 use crate::threads::{Tasks, work};
 use journal_store::Journal;
@@ -28,7 +29,7 @@ use std::sync::{Condvar, Mutex, Wait};
 use std::thread::Threads;
 use sw_participant::Caller;
 use tx_intake::{Getter, Intake, Putter, Source};
-use tx_locked::{Fault, Locked, MadeCall, Run, RunIntake, Session, StationLog, StationParts};
+use tx_locked::{Fault, Locked, MadeCall, Run, RunIntake, Session, StationParts};
 use tx_plant::Running;
 
 /// Empty lists with the room that a run needs on its way in and back, and its sessions. All this
@@ -37,7 +38,7 @@ use tx_plant::Running;
 #[derive(Drop)]
 struct Rooms<K: Run, C: Caller> {
     sessions: Vec<Session<K>>,
-    locks: Vec<Mutex<StationLog<K, C>>>,
+    seats: Vec<Seat<K, C>>,
     stations: Vec<StationParts<C>>,
     logs: Vec<Vec<MadeCall>>,
     receipts: Vec<Vec<usize>>,
@@ -53,7 +54,7 @@ fn make_rooms<K: Run, C: Caller>(
     requires amount { share.old.amount ≡ 0 }
     ensures share { IfOk result (λ _. (share.new.parts ≡ 1) × (share.new.amount ≡ 0)) }
     ensures sessions { IfOk result (λ r. vec_len r.sessions ≡ sessions) }
-    ensures locks { IfOk result (λ r. (vec_len r.locks ≡ 0) × (stations ≤ vec_capacity r.locks)) }
+    ensures seats { IfOk result (λ r. (vec_len r.seats ≡ 0) × (stations ≤ vec_capacity r.seats)) }
     ensures stations { IfOk result (λ r. (r.stations.items ≡ [])
         × (stations ≤ vec_capacity r.stations)) }
     ensures logs { IfOk result (λ r. (r.logs.items ≡ []) × (stations ≤ vec_capacity r.logs)) }
@@ -62,7 +63,7 @@ fn make_rooms<K: Run, C: Caller>(
 {
     Ok(Rooms {
         sessions: open_sessions(alloc, sessions, share)?,
-        locks: Vec::with_capacity(alloc, stations)?,
+        seats: Vec::with_capacity(alloc, stations)?,
         stations: Vec::with_capacity(alloc, stations)?,
         logs: Vec::with_capacity(alloc, stations)?,
         receipts: Vec::with_capacity(alloc, sessions)?,
@@ -84,7 +85,7 @@ pub(crate) struct Work<S: Alter, C: Caller, O: Source> {
 fn run_in<
     S: Alter + Drop,
     K: Run + Send + Sync,
-    C: Caller + Send,
+    C: Caller + Send + Sync,
     O: Source + Send,
     G: Gate + Sync,
     R: Threads + Wait + Sync,
@@ -155,7 +156,7 @@ fn run_in<
         offers: Condvar::new(),
         room: Condvar::new(),
         gathered: AtomicU64::new(0),
-        stations: lock_stations(alloc, stations, rooms.locks),
+        seats: seat_stations(alloc, stations, rooms.seats),
         intake: RunIntake {
             intake,
             of: PhantomData,
@@ -180,7 +181,7 @@ fn run_in<
         offers: _,
         room: _,
         gathered: _,
-        stations,
+        seats,
         intake,
     } = shared;
     conclude(Remains {
@@ -190,7 +191,7 @@ fn run_in<
         intake,
         worked,
         share,
-        back: unlock_stations(stations, rooms.stations, rooms.logs),
+        back: unseat_stations(seats, rooms.stations, rooms.logs),
         receipts: rooms.receipts,
     })
 }
@@ -199,7 +200,7 @@ fn run_in<
 /// their own objects and counts.
 pub(crate) fn run_parts<
     S: Alter + Drop,
-    C: Caller + Send,
+    C: Caller + Send + Sync,
     O: Source + Send,
     G: Gate + Sync,
     R: Threads + Wait + Sync,

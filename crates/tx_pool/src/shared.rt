@@ -1,18 +1,19 @@
 //! What all threads of a run share.
 
+use crate::seat::Seat;
 use std::sync::atomic::{AtomicU64, Ordering};
 use std::sync::{Condvar, Mutex, MutexGuard, Wait};
 use std::time::Duration;
 use sw_participant::Caller;
-use tx_locked::{Fault, Locked, Run, RunIntake, StationLog};
+use tx_locked::{Fault, Locked, Run, RunIntake};
 
 /// The longest time that the keeper waits for calls, in milliseconds.
 const GATHERING: u64 = 1;
 
-/// What the threads of a run share: the engine under its lock, each station under its own, the
-/// last one first, the intake, and the condition variables of the engine's lock, one for each
-/// kind of waiting. A thread that has a station's lock may take the engine's, never the other way
-/// round.
+/// What the threads of a run share: the engine under its lock, the seat of each station, the last
+/// one first, the intake, and the condition variables of the engine's lock, one for each kind of
+/// waiting. A thread that has the lock of a seat, or of its notes, may take the engine's, never the
+/// other way round.
 ///
 /// No wake-up is lost. A thread waits only after it found, under the engine's lock, that it has
 /// nothing to do, and `wait` releases the lock and falls asleep in one step. What it waits for
@@ -49,7 +50,7 @@ pub(crate) struct Shared<K: Run, C: Caller> {
     pub(crate) room: Condvar,
     /// How often the keeper's wait for calls was ended by a session.
     pub(crate) gathered: AtomicU64,
-    pub(crate) stations: Vec<Mutex<StationLog<K, C>>>,
+    pub(crate) seats: Vec<Seat<K, C>>,
     pub(crate) intake: RunIntake<K>,
 }
 

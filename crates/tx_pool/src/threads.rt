@@ -42,7 +42,7 @@ pub(crate) fn work<
     R: Threads + Wait + Sync,
     S: Alter + Drop,
     K: Run + Send + Sync,
-    C: Caller + Send,
+    C: Caller + Send + Sync,
     O: Source + Send,
     G: Gate + Sync,
 >(rt: &R, alloc: Global, shared: &Shared<K, C>, gate: &G, tasks: Tasks<S, K, O>) -> Worked<S, K, O>

@@ -2,7 +2,7 @@
 
 use crate::tests::hearing::{hears, hears_nothing};
 use crate::tests::wires::{
-    NEXT_REQUEST, NEXT_RESPONSE, REQUEST, RESPONSE, Wired, seconds, wire_up,
+    NEXT_REQUEST, NEXT_RESPONSE, REQUEST, RESPONSE, Wired, seconds, wire_up, wire_up_for,
 };
 use std::io::{Read, Write};
 use std::test::Fail;
@@ -62,6 +62,44 @@ fn answers_in_another_order(rt: HostRuntime) -> Result<(), Fail> {
     assert!(rt; hears(&mut first, RESPONSE)?);
     assert!(rt; hears(&mut second, NEXT_RESPONSE)?);
     assert!(rt; wired.host.counts().late == 0);
+    Ok(())
+}
+
+#[test]
+fn a_link_beside_another_asks_by_itself(rt: HostRuntime) -> Result<(), Fail> {
+    let mut wired = wire_up_for(rt, rt, seconds(10), 2)?;
+    let mut first = wired.host.link(rt)?;
+    assert!(rt; first.is_shared());
+    first.send(REQUEST)?;
+    let Some(second) = first.beside()? else {
+        unreachable!()
+    };
+    let mut second = second;
+    second.send(NEXT_REQUEST)?;
+    assert!(rt; wired.reads(REQUEST)? && wired.reads(NEXT_REQUEST)?);
+    wired.answers(NEXT_RESPONSE)?;
+    wired.answers(RESPONSE)?;
+    assert!(rt; hears(&mut second, NEXT_RESPONSE)?);
+    assert!(rt; hears(&mut first, RESPONSE)?);
+    Ok(())
+}
+
+// A request that finds no place within the timeout reaches nobody.
+#[test]
+fn no_more_requests_than_may_be_under_way(rt: HostRuntime) -> Result<(), Fail> {
+    let mut wired = wire_up_for(rt, rt, seconds(2), 1)?;
+    let mut first = wired.host.link(rt)?;
+    assert!(rt; !first.is_shared());
+    first.send(REQUEST)?;
+    assert!(rt; wired.reads(REQUEST)?);
+    let mut second = wired.host.link(rt)?;
+    second.send(NEXT_REQUEST)?;
+    assert!(rt; wired.host.counts().dropped == 1);
+    assert!(rt; hears_nothing(rt, &mut second)?);
+    wired.answers(RESPONSE)?;
+    assert!(rt; first.receive()?.is_none());
+    first.send(LAST_REQUEST)?;
+    assert!(rt; wired.reads(LAST_REQUEST)?);
     Ok(())
 }
 

@@ -2,7 +2,7 @@
 
 use std::alloc::Global;
 use std::sync::Arc;
-use std::sync::atomic::{AtomicBool, Ordering};
+use std::sync::atomic::{AtomicBool, AtomicU64, Ordering};
 use std::test::*;
 use std::thread;
 
@@ -18,6 +18,17 @@ pub fn new_flag(alloc: Global) -> Result<Arc<AtomicBool>, Fail> {
 pub fn is_set_in_time(flag: &AtomicBool) -> bool {
     for _ in 0..TURNS {
         if flag.load(Ordering::SeqCst) {
+            return true;
+        }
+        thread::yield_now();
+    }
+    false
+}
+
+/// Likewise until the number has come to `least`. Returns whether it has.
+pub fn reaches_in_time(number: &AtomicU64, least: u64) -> bool {
+    for _ in 0..TURNS {
+        if number.load(Ordering::SeqCst) >= least {
             return true;
         }
         thread::yield_now();

@@ -7,7 +7,8 @@ use crate::tests::plants::{Runtime, code_of, code_of_one, context_of, listed, pl
 use crate::tests::sources::WaitingSource;
 use flow_asm::Code;
 use std::alloc::Global;
-use std::sync::atomic::Ordering;
+use std::sync::Arc;
+use std::sync::atomic::{AtomicU64, Ordering};
 use std::test::*;
 use sw_participant::{Kind, Station};
 use tx_history::{Entry, Event};
@@ -97,6 +98,46 @@ fn two_sessions_prepare_at_once(rt: HostRuntime) -> Result<(), Fail> {
     for _ in 0..5 {
         meet(&rt)?;
     }
+    Ok(())
+}
+
+// Transactions that all choose the one participant `p` after `pick`, run by two sessions.
+fn run_all_through<R: Runtime>(rt: &R, p: Deed, count: usize) -> Result<Counting, Fail> {
+    let alloc = rt.alloc();
+    let mut stations = Vec::new(alloc);
+    stations.push(station_of(alloc, "pick", Deed::Answer(0x41))?)?;
+    stations.push(station_of(alloc, "p", p)?)?;
+    stations.push(station_of(alloc, "q", Deed::Answer(0x01))?)?;
+    let plant = plant_of(alloc, &code_of_choice(alloc)?, stations, 2)?;
+    let mut contexts = Vec::new(alloc);
+    for _ in 0..count {
+        contexts.push(context_of(alloc, "a")?)?;
+    }
+    let gate = Counting::new();
+    let (_, _, report) = run(rt, plant, Listed::new(contexts), 4, &gate)?;
+    assert!(rt; report.finished == count);
+    Ok(gate)
+}
+
+// Two transactions, of which each prepares only while the other does, in one participant.
+#[test]
+fn two_sessions_meet_in_one_participant(rt: HostRuntime) -> Result<(), Fail> {
+    for _ in 0..5 {
+        let began = Arc::new(rt.alloc(), AtomicU64::new(0))?;
+        let gate = run_all_through(&rt, Deed::Together { began }, 2)?;
+        assert!(rt; gate.most() == 2);
+        assert!(rt; gate.outcomes() == (2, 0));
+    }
+    Ok(())
+}
+
+// A participant that is not shared is called by one session at a time.
+#[test]
+fn sessions_call_a_participant_in_turn(rt: HostRuntime) -> Result<(), Fail> {
+    let under_way = Arc::new(rt.alloc(), AtomicU64::new(0))?;
+    let gate = run_all_through(&rt, Deed::Alone { under_way }, 32)?;
+    assert!(rt; gate.most() == 1);
+    assert!(rt; gate.outcomes() == (32, 0));
     Ok(())
 }
 

@@ -1,9 +1,9 @@
 //! The participant of the tests.
 
-use crate::tests::flags::is_set_in_time;
+use crate::tests::flags::{is_set_in_time, reaches_in_time};
 use std::alloc::Global;
 use std::sync::Arc;
-use std::sync::atomic::{AtomicBool, Ordering};
+use std::sync::atomic::{AtomicBool, AtomicU64, Ordering};
 use std::test::*;
 use sw_context::Context;
 use sw_participant::{Bystander, NoMemory, Station, Text, Unjoined};
@@ -21,6 +21,16 @@ pub enum Deed {
     /// It answers 01 this many times, is refused memory once, and then answers 01 again.
     Fail {
         calls: u64,
+    },
+    /// Several sessions call it at once: it answers 01 if another preparation began in time, and otherwise 00. The
+    /// number is that of all that began.
+    Together {
+        began: Arc<AtomicU64>,
+    },
+    /// It answers 01 if no other preparation of it was under way meanwhile, and otherwise 00. The number is that of
+    /// those that are.
+    Alone {
+        under_way: Arc<AtomicU64>,
     },
 }
 
@@ -54,8 +64,39 @@ impl Deed {
                 *calls = calls.saturating_sub(1);
                 Ok(0x01)
             }
+            Deed::Together { began } => Ok(answer_if(reaches_two(began))),
+            Deed::Alone { under_way } => Ok(answer_if(stays_alone(under_way))),
         }
     }
+
+    // The same beside other calls; only `Together` is called so.
+    fn answer_beside(&self) -> Result<u8, NoMemory> {
+        match self {
+            Deed::Together { began } => Ok(answer_if(reaches_two(began))),
+            _ => Err(NoMemory),
+        }
+    }
+}
+
+fn answer_if(good: bool) -> u8 {
+    if good { 0x01 } else { 0x00 }
+}
+
+// Whether two have begun, in time.
+fn reaches_two(began: &AtomicU64) -> bool {
+    began.fetch_add(1, Ordering::SeqCst);
+    reaches_in_time(began, 2)
+}
+
+// Whether no other was under way while this one took some time.
+fn stays_alone(under_way: &AtomicU64) -> bool {
+    let others = under_way.fetch_add(1, Ordering::SeqCst);
+    let mut most = others;
+    for _ in 0..10_000 {
+        most = most.max(under_way.load(Ordering::SeqCst).saturating_sub(1));
+    }
+    under_way.fetch_sub(1, Ordering::SeqCst);
+    most == 0
 }
 
 // Contracts see nothing of it, and it promises nothing.
@@ -83,5 +124,13 @@ impl Unjoined for Actor {
 
     fn prepare(&mut self, _id: u64, _context: &mut Context) -> Result<u8, NoMemory> {
         self.deed.answer()
+    }
+
+    fn is_shared(&self) -> bool {
+        matches!(&self.deed, Deed::Together { .. })
+    }
+
+    fn prepare_beside(&self, _id: u64, _context: &mut Context) -> Result<u8, NoMemory> {
+        self.deed.answer_beside()
     }
 }

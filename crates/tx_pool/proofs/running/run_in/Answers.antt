@@ -55,4 +55,4 @@ returns-clause-written g c =
 
 pub returns-clause-lost : goal.returns-clause-lost
 returns-clause-lost g c =
-    err_with _ _ c.conclude.result c.conclude.ensures.lost (λ e d. ap (λ v. vec_len v) d.1 ∙ (c.unlock_stations.ensures.count ∙ c.lock_stations.ensures))
+    err_with _ _ c.conclude.result c.conclude.ensures.lost (λ e d. ap (λ v. vec_len v) d.1 ∙ (c.unseat_stations.ensures.count ∙ c.seat_stations.ensures))

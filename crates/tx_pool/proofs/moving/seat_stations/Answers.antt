@@ -1,9 +1,9 @@
 use Rattle.std.proofs.Common.{rules, ◌≡◌, [], ◌∷◌, ◌++◌, length}
 use Rattle.tx_locked.proofs.Stations.{ready_last, ready_less}
-use Rattle.tx_pool.proofs.moving.lock_stations.Goals as goal
+use Rattle.tx_pool.proofs.moving.seat_stations.Goals as goal
 
-pub lock_station-requires : goal.lock_station-requires
-lock_station-requires g c =
+pub seat_of-requires : goal.seat_of-requires
+seat_of-requires g c =
     let l = c.loop-station.stations.items in
     let e : l ≡ c.pop.new.self.items ++ c.in-Some.station ∷ [] = search rules in
     let n : length c.pop.new.self.items ≡ c.len.result = search rules in

@@ -2,11 +2,11 @@ use Rattle.std.proofs.Common.{rules, ◌≡◌, [], length, get_or, subst, arith
 use Rattle.std.proofs.lemmas.Bool.Decides.{nat_tests}
 use Rattle.tx_locked.specs.AllStations.{IsBack}
 use Rattle.tx_locked.proofs.Stations.{both_push}
-use Rattle.tx_pool.proofs.moving.unlock_stations.Goals as goal
+use Rattle.tx_pool.proofs.moving.unseat_stations.Goals as goal
 
-pub loop-lock-preserved : goal.loop-lock-preserved
-loop-lock-preserved g c =
-    let l = c.loop-lock in
+pub loop-seat-preserved : goal.loop-seat-preserved
+loop-seat-preserved g c =
+    let l = c.loop-seat in
     let p = c.into_parts-index in (
       search rules,
       search rules,
@@ -27,4 +27,4 @@ loop-lock-preserved g c =
     )
 
 pub returns-clause-back : goal.returns-clause-back
-returns-clause-back g c = λ good. record { long = search rules; logged = search rules; each = c.loop-lock.invariant.4 good }
+returns-clause-back g c = λ good. record { long = search rules; logged = search rules; each = c.loop-seat.invariant.4 good }
