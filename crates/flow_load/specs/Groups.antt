@@ -48,7 +48,7 @@ pub record Walk : Type 0 where
   pub rest : List Step
 
 abbrev pub walk_of : GroupRead → Walk
-walk_of w = record { entries = w.entries.items; at = w.at; seen = w.seen; rest = w.rest.now }
+walk_of w = record { entries = w.entries.items; at = w.left.at; seen = w.left.seen; rest = w.left.steps.now }
 
 abbrev pub with_entries : List Entry → Walk → Walk
 with_entries es w = record w { entries = es ++ w.entries }
@@ -61,7 +61,7 @@ pub record Walks : Type 0 where
   pub rest : List Step
 
 abbrev pub walks_of : GroupsRead → Walks
-walks_of w = record { groups = w.groups.items; at = w.at; seen = w.seen; rest = w.rest.now }
+walks_of w = record { groups = w.groups.items; at = w.left.at; seen = w.left.seen; rest = w.left.steps.now }
 
 abbrev pub with_groups : List Group → Walks → Walks
 with_groups gs w = record w { groups = gs ++ w.groups }

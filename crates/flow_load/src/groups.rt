@@ -115,32 +115,38 @@ fn cut_off(group: usize, here: usize, select_due: Option<usize>) -> LoadError
     }
 }
 
-// A group, the number of the step after its return, how many participants were seen so far, and the
-// steps that are left.
+// The steps that are yet to be read, the number of the first of them, and how many participants were
+// seen before it.
+#[derive(Clone, Copy)]
+struct Left<'a> {
+    at: usize,
+    seen: usize,
+    steps: &'a [Step],
+}
+
+// A group, and what is left after its return.
 #[derive(Drop)]
 struct GroupRead<'a> {
     entries: Vec<Entry>,
-    at: usize,
-    seen: usize,
-    rest: &'a [Step],
+    left: Left<'a>,
 }
 
-// The group of this number, from step `at` on, which is the first of `steps`; `line` is that of step 0.
+// The group of this number, which begins what is left; `line` is that of step 0.
 fn read_group<'a>(
     alloc: Global,
     parts: &[Part],
     line: usize,
     group: usize,
-    at: usize,
-    seen: usize,
-    steps: &'a [Step],
+    left: Left<'a>,
 ) -> Result<GroupRead<'a>, LoadError>
     requires line { 2 ≤ line }
-    requires few { line + at + length steps.now < 2 ^ 32 }
-    ensures read { GivesImage spec.walk_of result
-        (spec.walk parts.now line group None at seen steps.now) }
-    ensures within { IfOk result (λ w. w.at + length w.rest.now ≤ at + length steps.now) }
+    requires few { line + left.at + length left.steps.now < 2 ^ 32 }
+    ensures read { GivesImage spec.walk_of result (spec.walk parts.now line group None
+        left.entry.at left.entry.seen left.entry.steps.now) }
+    ensures within { IfOk result (λ w. w.left.at + length w.left.steps.now
+        ≤ left.entry.at + length left.entry.steps.now) }
 {
+    let Left { at, seen, steps } = left;
     let mut entries = Vec::new(alloc);
     let mut select_due = None;
     let mut seen = seen;
@@ -153,26 +159,23 @@ fn read_group<'a>(
             }
             StepRole::Picks => select_due = None,
             StepRole::Returns => {
-                return Ok(GroupRead {
-                    entries,
+                let left = Left {
                     at: at + k + 1,
                     seen,
-                    rest: &steps[k + 1..],
-                });
+                    steps: &steps[k + 1..],
+                };
+                return Ok(GroupRead { entries, left });
             }
         }
     }
     Err(cut_off(group, line + at + steps.len(), select_due))
 }
 
-// The groups in their order, the number of the first step after them, how many participants were
-// seen, and the steps that are left.
+// The groups in their order, and what is left after them.
 #[derive(Drop)]
 struct GroupsRead<'a> {
     groups: Vec<Group>,
-    at: usize,
-    seen: usize,
-    rest: &'a [Step],
+    left: Left<'a>,
 }
 
 fn read_groups<'a>(
@@ -186,45 +189,41 @@ fn read_groups<'a>(
     requires few { line + length parts.now + length starts.now + length steps.now < 2 ^ 32 }
     ensures read { GivesImage spec.walks_of result
         (spec.walks parts.now line 0 0 0 steps.now starts.now) }
-    ensures within { IfOk result (λ w. w.at ≤ length steps.now) }
+    ensures within { IfOk result (λ w. w.left.at ≤ length steps.now) }
 {
     let mut groups = Vec::new(alloc);
-    let mut at = 0;
-    let mut seen = 0;
-    let mut rest = steps;
+    let mut left = Left {
+        at: 0,
+        seen: 0,
+        steps,
+    };
     for (number, start) in starts.iter().enumerate() {
-        if start.first != at {
+        if start.first != left.at {
             return Err(LoadError::BadTarget(2 + parts.len() + number));
         }
-        let walked = read_group(alloc, parts, line, number, at, seen, rest)?;
+        let walked = read_group(alloc, parts, line, number, left)?;
         let name = start.name.copy()?;
         groups.push(Group {
             name,
             entries: Sequence::new(walked.entries),
         })?;
-        at = walked.at;
-        seen = walked.seen;
-        rest = walked.rest;
+        left = walked.left;
     }
-    Ok(GroupsRead {
-        groups,
-        at,
-        seen,
-        rest,
-    })
+    Ok(GroupsRead { groups, left })
 }
 
 // Refuses a step that no group has, and a participant that is not called.
 fn check_end(parts: &[Part], line: usize, walked: &GroupsRead<'_>) -> Result<(), LoadError>
-    requires { line + walked.now.at < 2 ^ 32 }
+    requires { line + walked.now.left.at < 2 ^ 32 }
     ensures { GivesImage (λ u. u) result (refused
         (spec.end_fault parts.now line (spec.walks_of walked.now))) }
 {
-    if !walked.rest.is_empty() {
-        return Err(LoadError::BadTarget(line + walked.at));
+    let left = walked.left;
+    if !left.steps.is_empty() {
+        return Err(LoadError::BadTarget(line + left.at));
     }
-    if walked.seen < parts.len() {
-        return Err(LoadError::BadTarget(2 + walked.seen));
+    if left.seen < parts.len() {
+        return Err(LoadError::BadTarget(2 + left.seen));
     }
     Ok(())
 }

@@ -28,22 +28,29 @@ fn add_if(
     Ok(())
 }
 
+// The number of a group in its flow, and the index of an entry in that group.
+#[derive(Clone, Copy)]
+struct EntryPlace {
+    group: usize,
+    index: usize,
+}
+
 fn add_of_entry(
     found: &mut Vec<Breach>,
     flow: &Flow,
     set_up: &SetUp,
     group: &Group,
-    number: usize,
-    index: usize,
+    place: EntryPlace,
     entry: &Entry,
 ) -> Result<(), AllocError>
-    requires { index ≤ length group.now.entries }
+    requires { place.index ≤ length group.now.entries }
     ensures { OnOk result (found.new.items ≡ found.old.items
-        ++ spec.entry_breaches flow.now set_up.now group.now number index entry.now) }
+        ++ spec.entry_breaches flow.now set_up.now group.now place.group place.index entry.now) }
 {
+    let at = At::Entry(place.group, place.index);
     for rule in Rule::all() {
-        let is_broken = entry_breaks(*rule, flow, set_up, group, index, entry);
-        add_if(found, set_up, is_broken, *rule, At::Entry(number, index))?;
+        let is_broken = entry_breaks(*rule, flow, set_up, group, place.index, entry);
+        add_if(found, set_up, is_broken, *rule, at)?;
     }
     Ok(())
 }
@@ -59,7 +66,11 @@ fn add_of_entries(
         ++ spec.all_entry_breaches flow.now set_up.now group.now number) }
 {
     for (index, entry) in group.entries.as_slice().iter().enumerate() {
-        add_of_entry(found, flow, set_up, group, number, index, entry)?;
+        let place = EntryPlace {
+            group: number,
+            index,
+        };
+        add_of_entry(found, flow, set_up, group, place, entry)?;
     }
     Ok(())
 }

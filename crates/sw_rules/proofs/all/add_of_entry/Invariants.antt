@@ -5,5 +5,5 @@ use Rattle.sw_rules.specs.Rules.{entry_breaks}
 use Rattle.sw_rules.proofs.all.add_of_entry.Given as goal
 
 abbrev pub invariant-loop-rule : goal.invariant-loop-rule
-invariant-loop-rule l = l.found.items ++ broken l.set_up (at.Entry l.number l.index)
-    (λ r. entry_breaks r l.flow l.set_up l.group l.index l.entry) (drop l.rule-index l.rule-items) ≡ l.fn.found.items ++ entry_breaches l.flow l.set_up l.group l.number l.index l.entry
+invariant-loop-rule l = l.found.items ++ broken l.set_up (at.Entry l.place.group l.place.index)
+    (λ r. entry_breaks r l.flow l.set_up l.group l.place.index l.entry) (drop l.rule-index l.rule-items) ≡ l.fn.found.items ++ entry_breaches l.flow l.set_up l.group l.place.group l.place.index l.entry
