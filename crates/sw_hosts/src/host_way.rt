@@ -99,9 +99,12 @@ impl<C: Clock + Drop> HostWay<C> {
         }
     }
 
-    // Likewise, after the requests with its key, for as long as one of them may take; whether it waits now.
+    // Likewise, after the requests with its key, for as long as one that was sent just now may take, and a little
+    // longer, so that it is there when that one's place becomes free; whether it waits now.
     fn await_turn(&self, expected: Expected) -> bool {
-        let deadline = Moment::now(&self.clock).after(self.shared.times.timeout);
+        let deadline = Moment::now(&self.clock)
+            .after(self.shared.times.timeout)
+            .after(Duration::from_millis(LOCKING));
         let mut naps = Naps::new();
         let mut expected = expected;
         for _ in 0..u64::MAX {

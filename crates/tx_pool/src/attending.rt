@@ -11,6 +11,7 @@ use sw_participant::{Call, Caller, NoMemory};
 use tx_locked::{Fault, Locked, Plan, Run, Session, StationLog};
 
 /// What the threads of all sessions work with.
+#[derive(Drop)]
 struct Attendant<'a, K: Run, C: Caller, G: Gate, R: Wait> {
     rt: &'a R,
     alloc: Global,
