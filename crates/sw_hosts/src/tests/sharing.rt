@@ -8,6 +8,7 @@ use std::io::{Read, Write};
 use std::test::Fail;
 use std::thread;
 use std::time::Duration;
+use sw_participant::NoMemory;
 use sw_parts::Link;
 use sw_wire::{DirectionState, HostTimes};
 
@@ -72,7 +73,7 @@ fn a_link_beside_another_asks_by_itself(rt: HostRuntime) -> Result<(), Fail> {
     assert!(rt; first.is_shared());
     first.send(REQUEST)?;
     let Some(second) = first.beside()? else {
-        unreachable!()
+        return Err(Fail::from(NoMemory));
     };
     let mut second = second;
     second.send(NEXT_REQUEST)?;
