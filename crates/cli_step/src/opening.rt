@@ -160,7 +160,7 @@ fn open_over<R: Read, W: Write, E: Write>(
     let mut stations = Vec::new(alloc);
     for part in code.participants() {
         let name = part.name.as_str();
-        let participant: Box<dyn Participant + Send> = match cast {
+        let participant: Box<dyn Participant + Send + Sync> = match cast {
             Cast::Scripted => Box::new(alloc, Scripted::new(alloc, replies.take(alloc, name)))?,
             Cast::Switch(setup) => Box::new(alloc, own_participant(alloc, setup, name)?)?,
         };
