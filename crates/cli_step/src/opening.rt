@@ -12,9 +12,9 @@ ghost use Rattle.cli_step.specs.Runs.{Grows};
 
 use crate::cast::{Cast, own_participant};
 use crate::error::StepError;
-use crate::prompt::{answer, ask, leave, refusal, report, talk};
+use crate::prompt::{TracedPlant, answer, ask, leave, refusal, report, talk};
 use crate::prompt_words::{HELP, PromptWord, prompt_word_at};
-use crate::script::{memory_journal, plant_refused};
+use crate::script::{PlantPlan, memory_journal, plant_refused};
 use crate::typed::{Typed, keep};
 use cli_io::write_out;
 use cli_lines::Lines;
@@ -27,6 +27,16 @@ use sw_participant::{Participant, Station};
 use sw_scripted::Scripted;
 use tx_plant::Plant;
 use tx_trace::Tracer;
+
+/// What a session at a prompt has from its start.
+#[derive(Drop)]
+struct Stage<'a> {
+    alloc: Global,
+    /// Whose participants a flow has.
+    cast: &'a Cast,
+    /// The steps of the flow of a flow file, if there is one.
+    file: Option<Code>,
+}
 
 /// What a line is before a flow is opened.
 #[derive(Drop)]
@@ -84,14 +94,12 @@ fn flow_of(alloc: Global, file: &Option<Code>) -> Result<Option<Flow>, AllocErro
     }
 }
 
-// Answers a line over a plant of these stations with a journal in memory, and then all that are still to come; or
+// Answers a line over a plant of this plan with a journal in memory, and then all that are still to come; or
 // returns why no plant is made. (Apart from `open_over`, so that its proof does not carry how the stations are
 // made.)
 fn talk_over<R: Read, W: Write, E: Write>(
     alloc: Global,
-    code: &Code,
-    stations: Vec<Station>,
-    sessions: usize,
+    plan: PlantPlan,
     line: &[u8],
     lines: &mut Lines<R>,
     out: &mut W,
@@ -101,36 +109,41 @@ fn talk_over<R: Read, W: Write, E: Write>(
     requires few { length line.now < 2 ^ 63 }
     requires given { lines_given lines.old ≢ 0 }
     ensures talked { IfOk result (λ r. OnOk r (IfSome (to_come R.remaining lines.old) (λ others.
-        TalkedOver code.now sessions line.now others
+        TalkedOver plan.code plan.sessions line.now others
         (W.contents out.old) (E.contents err.old) (W.contents out.new) (E.contents err.new)))) }
-    ensures refused { IfOk result (λ r. OnErr r (HasBadSessions code.now sessions)) }
+    ensures refused { IfOk result (λ r. OnErr r (HasBadSessions plan.code plan.sessions)) }
     ensures stays { IfOk result (λ r. OnErr r
         (AreSame lines.old lines.new out.old out.new err.old err.new)) }
     ensures grows_out { Grows (W.contents out.old) (W.contents out.new) }
     ensures grows_err { Grows (E.contents err.old) (E.contents err.new) }
-    ensures fault { IfErr result (IsFaultOf (IsMade code.now sessions)) }
+    ensures fault { IfErr result (IsFaultOf (IsMade plan.code plan.sessions)) }
 {
+    let PlantPlan {
+        code,
+        stations,
+        sessions,
+    } = plan;
     let before = lines.count() - 1;
     let journal = match memory_journal(alloc) {
         Ok(journal) => journal,
         Err(error) => return Err(error.at_line(before + 1)),
     };
-    let mut plant = match Plant::new(alloc, code, journal, stations, sessions) {
+    let plant = match Plant::new(alloc, &code, journal, stations, sessions) {
         Ok(plant) => plant,
         Err((cause, _, _)) => return Ok(Err(plant_refused(alloc, cause, before + 1, sessions)?)),
     };
-    let mut tracer = Tracer::new(alloc, plant.engine());
+    let tracer = Tracer::new(alloc, plant.engine());
+    let mut traced = TracedPlant { plant, tracer };
     let last = Vec::from_slice(alloc, line)?;
-    answer(alloc, &mut plant, &mut tracer, line, before, out, err)?;
-    talk(alloc, &mut plant, &mut tracer, last, lines, out, err)?;
+    answer(alloc, &mut traced, line, before, out, err)?;
+    talk(alloc, &mut traced, last, lines, out, err)?;
     Ok(Ok(()))
 }
 
 // Makes the participants of the flow, as `play` does, and answers a line over their plant, and then all that are still to
 // come; or returns why no plant is made. (It hands no station out either.)
 fn open_over<R: Read, W: Write, E: Write>(
-    alloc: Global,
-    cast: &Cast,
+    stage: &Stage<'_>,
     opening: Opening,
     line: &[u8],
     lines: &mut Lines<R>,
@@ -151,6 +164,7 @@ fn open_over<R: Read, W: Write, E: Write>(
     ensures grows_err { Grows (E.contents err.old) (E.contents err.new) }
     ensures fault { IfErr result (IsFaultOf SomeIsMade) }
 {
+    let alloc = stage.alloc;
     let code = assemble(alloc, &opening.flow)?;
     let Opening {
         flow: _,
@@ -160,30 +174,24 @@ fn open_over<R: Read, W: Write, E: Write>(
     let mut stations = Vec::new(alloc);
     for part in code.participants() {
         let name = part.name.as_str();
-        let participant: Box<dyn Participant + Send> = match cast {
+        let participant: Box<dyn Participant + Send + Sync> = match stage.cast {
             Cast::Scripted => Box::new(alloc, Scripted::new(alloc, replies.take(alloc, name)))?,
             Cast::Switch(setup) => Box::new(alloc, own_participant(alloc, setup, name)?)?,
         };
         stations.push(Station::from_parts(part.name.copy()?, participant, 0))?;
     }
-    talk_over(
-        alloc,
-        &code,
+    let plan = PlantPlan {
+        code,
         stations,
-        sessions as usize,
-        line,
-        lines,
-        out,
-        err,
-    )
+        sessions: sessions as usize,
+    };
+    talk_over(alloc, plan, line, lines, out, err)
 }
 
 // Opens the flow that the settings state, and answers a line and then all that are still to come; or reports why the
 // flow is not opened. Returns whether it is.
 fn open_or_report<R: Read, W: Write, E: Write>(
-    alloc: Global,
-    cast: &Cast,
-    file: &Option<Code>,
+    stage: &Stage<'_>,
     settings: &[u8],
     line: &[u8],
     lines: &mut Lines<R>,
@@ -195,9 +203,10 @@ fn open_or_report<R: Read, W: Write, E: Write>(
     requires given { lines_given lines.old ≢ 0 }
     ensures opened { IfOk result (λ opened. opened ≡ true →
         IfSome (to_come R.remaining lines.old) (λ others.
-        OpenedOver file.now settings.now line.now others
+        OpenedOver stage.now.file settings.now line.now others
         (W.contents out.old) (E.contents err.old) (W.contents out.new) (E.contents err.new))) }
-    ensures refused { IfOk result (λ opened. opened ≡ false → IsUnopened file.now settings.now) }
+    ensures refused { IfOk result (λ opened. opened ≡ false →
+        IsUnopened stage.now.file settings.now) }
     ensures reported { IfOk result (λ opened. opened ≡ false →
         IsReported (E.contents err.old) (E.contents err.new)) }
     ensures stays { IfOk result (λ opened. opened ≡ false →
@@ -206,9 +215,10 @@ fn open_or_report<R: Read, W: Write, E: Write>(
     ensures grows_err { Grows (E.contents err.old) (E.contents err.new) }
     ensures fault { IfErr result (IsFaultOf SomeIsMade) }
 {
-    let flow = flow_of(alloc, file)?;
+    let alloc = stage.alloc;
+    let flow = flow_of(alloc, &stage.file)?;
     match open_settings(alloc, flow, settings, lines.count()) {
-        Ok(opening) => match open_over(alloc, cast, opening, line, lines, out, err)? {
+        Ok(opening) => match open_over(stage, opening, line, lines, out, err)? {
             Ok(()) => Ok(true),
             Err(cause) => {
                 report(alloc, &cause, err)?;
@@ -225,8 +235,7 @@ fn open_or_report<R: Read, W: Write, E: Write>(
 // Answers a line before a flow is opened, unless the flow is to be opened for it. Returns whether it is. `before`
 // lines came before the line.
 fn answer_head<W: Write, E: Write>(
-    alloc: Global,
-    file: &Option<Code>,
+    stage: &Stage<'_>,
     settings: &mut Vec<u8>,
     line: &[u8],
     before: usize,
@@ -234,18 +243,18 @@ fn answer_head<W: Write, E: Write>(
     err: &mut E,
 ) -> Result<bool, StepError>
     requires { before + length line.now < 2 ^ 64 }
-    ensures head { IfOk result (λ opens. opens ≡ false → HeadAnswers file.now line.now
+    ensures head { IfOk result (λ opens. opens ≡ false → HeadAnswers stage.now.file line.now
         (heading settings.old.items (W.contents out.old) (E.contents err.old))
         (heading settings.new.items (W.contents out.new) (E.contents err.new))) }
     ensures opens { IfOk result (λ opens. opens ≡ true →
-        IsHeadLine (is_some file.now) line.now head.Opens) }
+        IsHeadLine (is_some stage.now.file) line.now head.Opens) }
     ensures stays { IfOk result (λ opens. opens ≡ true →
         AreSame settings.old settings.new out.old out.new err.old err.new) }
     ensures grows_out { Grows (W.contents out.old) (W.contents out.new) }
     ensures grows_err { Grows (E.contents err.old) (E.contents err.new) }
     ensures fault { IfErr result (IsFaultOf SomeIsMade) }
 {
-    match head_line(alloc, file.is_some(), before, line)? {
+    match head_line(stage.alloc, stage.file.is_some(), before, line)? {
         HeadLine::Help => {
             write_out(out, HELP.as_bytes())?;
             Ok(false)
@@ -256,7 +265,7 @@ fn answer_head<W: Write, E: Write>(
         }
         HeadLine::Opens => Ok(true),
         HeadLine::Refused(cause) => {
-            report(alloc, &StepError::Script(cause), err)?;
+            report(stage.alloc, &StepError::Script(cause), err)?;
             Ok(false)
         }
     }
@@ -265,9 +274,7 @@ fn answer_head<W: Write, E: Write>(
 // Answers a line that was typed before a flow is opened, and, if the flow is opened for it, all lines that are still to
 // come. Returns whether the session has ended.
 fn answer_or_open<R: Read, W: Write, E: Write>(
-    alloc: Global,
-    cast: &Cast,
-    file: &Option<Code>,
+    stage: &Stage<'_>,
     settings: &mut Vec<u8>,
     line: &[u8],
     lines: &mut Lines<R>,
@@ -279,9 +286,9 @@ fn answer_or_open<R: Read, W: Write, E: Write>(
     requires given { lines_given lines.old ≢ 0 }
     ensures opened { IfOk result (λ ended. ended ≡ true →
         IfSome (to_come R.remaining lines.old) (λ others.
-        OpenedAt file.now settings.old.items line.now others
+        OpenedAt stage.now.file settings.old.items line.now others
         (W.contents out.old) (E.contents err.old) (W.contents out.new) (E.contents err.new))) }
-    ensures answered { IfOk result (λ ended. ended ≡ false → HeadAnswers file.now line.now
+    ensures answered { IfOk result (λ ended. ended ≡ false → HeadAnswers stage.now.file line.now
         (heading settings.old.items (W.contents out.old) (E.contents err.old))
         (heading settings.new.items (W.contents out.new) (E.contents err.new))) }
     ensures stays { IfOk result (λ ended. ended ≡ false → lines.new ≡ lines.old) }
@@ -290,19 +297,10 @@ fn answer_or_open<R: Read, W: Write, E: Write>(
     ensures fault { IfErr result (IsFaultOf SomeIsMade) }
 {
     let before = lines.count() - 1;
-    if !answer_head(alloc, file, settings, line, before, out, err)? {
+    if !answer_head(stage, settings, line, before, out, err)? {
         return Ok(false);
     }
-    open_or_report(
-        alloc,
-        cast,
-        file,
-        settings.as_slice(),
-        line,
-        lines,
-        out,
-        err,
-    )
+    open_or_report(stage, settings.as_slice(), line, lines, out, err)
 }
 
 /// Runs a session at a prompt: writes the prompt, reads a line, and answers it before the next prompt, up to `quit` or
@@ -331,6 +329,11 @@ pub fn run_prompted<R: Read, W: Write, E: Write>(
     ensures fault { IfErr result (IsFaultOf SomeIsMade) }
 {
     let steps = code_of(alloc, file)?;
+    let stage = Stage {
+        alloc,
+        cast,
+        file: steps,
+    };
     let mut settings = Vec::new(alloc);
     while let Some(read) = ask(alloc, lines, out)? {
         // No setting is repeated by an empty line: one that is given twice may be refused.
@@ -340,7 +343,7 @@ pub fn run_prompted<R: Read, W: Write, E: Write>(
             Typed::Quit => return Ok(()),
             Typed::Line => {
                 let line = line.as_slice();
-                if answer_or_open(alloc, cast, &steps, &mut settings, line, lines, out, err)? {
+                if answer_or_open(&stage, &mut settings, line, lines, out, err)? {
                     return Ok(());
                 }
             }

@@ -159,35 +159,53 @@ pub fn refusal(error: ScriptError) -> Result<ScriptError, StepError>
     }
 }
 
+/// A plant, and what traces its engine.
+pub struct TracedPlant<S: Alter> {
+    pub plant: Plant<S>,
+    pub tracer: Tracer,
+}
+
+// Written out, so that no caller proves again how its parts are dropped.
+impl<S: Alter + Drop> Drop for TracedPlant<S> {
+    fn drop(self) {
+        let TracedPlant {
+            plant: _,
+            tracer: _,
+        } = self;
+    }
+}
+
 /// Answers a line: shows what it asks for, runs it, or reports why it is refused. `before` lines came before it.
 pub fn answer<S: Alter, W: Write, E: Write>(
     alloc: Global,
-    plant: &mut Plant<S>,
-    tracer: &mut Tracer,
+    traced: &mut TracedPlant<S>,
     line: &[u8],
     before: usize,
     out: &mut W,
     err: &mut E,
 ) -> Result<(), StepError>
-    requires follows { Follows (engine_of plant.old) tracer.old }
+    requires follows { Follows (engine_of traced.old.plant) traced.old.tracer }
     requires some { line.now ≢ [] }
     requires few { before + length line.now < 2 ^ 64 }
     ensures answers { OnOk result (Answers line.now
-        (scene (point_of S.Store plant.old) (W.contents out.old) (E.contents err.old))
-        (scene (point_of S.Store plant.new) (W.contents out.new) (E.contents err.new))) }
-    ensures follows { OnOk result (Follows (engine_of plant.new) tracer.new) }
+        (scene (point_of S.Store traced.old.plant) (W.contents out.old) (E.contents err.old))
+        (scene (point_of S.Store traced.new.plant) (W.contents out.new) (E.contents err.new))) }
+    ensures follows { OnOk result (Follows (engine_of traced.new.plant) traced.new.tracer) }
     ensures grows_out { Grows (W.contents out.old) (W.contents out.new) }
     ensures grows_err { Grows (E.contents err.old) (E.contents err.new) }
     ensures fault { IfErr result (IsFaultOf ⊤) }
 {
     if let Some(word) = prompt_word_at(line) {
-        return show_word(alloc, plant, word, out);
+        return show_word(alloc, &traced.plant, word, out);
     }
     let mut actions = Actions::new(line, before);
     match actions.next(alloc) {
         Ok(Some(action)) => match saved_session(&action) {
-            Some(s) => show_saved(alloc, plant, s, out),
-            None => run_line(alloc, plant, tracer, action, before + 1, out),
+            Some(s) => show_saved(alloc, &traced.plant, s, out),
+            None => {
+                let (plant, tracer) = (&mut traced.plant, &mut traced.tracer);
+                run_line(alloc, plant, tracer, action, before + 1, out)
+            }
         },
         Ok(None) => unreachable!(),
         Err(error) => report(alloc, &StepError::Script(refusal(error)?), err),
@@ -198,18 +216,17 @@ pub fn answer<S: Alter, W: Write, E: Write>(
 /// the line that an empty one repeats.
 pub fn talk<R: Read, S: Alter, W: Write, E: Write>(
     alloc: Global,
-    plant: &mut Plant<S>,
-    tracer: &mut Tracer,
+    traced: &mut TracedPlant<S>,
     last: Vec<u8>,
     lines: &mut Lines<R>,
     out: &mut W,
     err: &mut E,
 ) -> Result<(), StepError>
-    requires { Follows (engine_of plant.old) tracer.old }
+    requires { Follows (engine_of traced.old.plant) traced.old.tracer }
     ensures talked { OnOk result (IfSome (to_come R.remaining lines.old) (λ input.
         Talked last.items input
-        (scene (point_of S.Store plant.old) (W.contents out.old) (E.contents err.old))
-        (scene (point_of S.Store plant.new) (W.contents out.new) (E.contents err.new)))) }
+        (scene (point_of S.Store traced.old.plant) (W.contents out.old) (E.contents err.old))
+        (scene (point_of S.Store traced.new.plant) (W.contents out.new) (E.contents err.new)))) }
     ensures grows_out { Grows (W.contents out.old) (W.contents out.new) }
     ensures grows_err { Grows (E.contents err.old) (E.contents err.new) }
     ensures fault { IfErr result (IsFaultOf ⊤) }
@@ -221,7 +238,7 @@ pub fn talk<R: Read, S: Alter, W: Write, E: Write>(
             Typed::Quit => return Ok(()),
             Typed::Line => {
                 let before = lines.count() - 1;
-                answer(alloc, plant, tracer, last.as_slice(), before, out, err)?;
+                answer(alloc, traced, last.as_slice(), before, out, err)?;
             }
         }
     }

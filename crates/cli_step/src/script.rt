@@ -166,29 +166,43 @@ fn run_rest<R: Read, S: Alter, W: Write>(
     Ok(())
 }
 
-// Runs these lines, and then those that are still to come, over a plant of these stations with a journal in
-// memory. (Apart from `play`, so that its proof does not carry how the stations are made.)
+/// What a plant is made of, besides its journal.
+#[derive(Drop)]
+pub struct PlantPlan {
+    /// The steps of the flow.
+    pub code: Code,
+    /// A station for each participant of the flow, in their order.
+    pub stations: Vec<Station>,
+    pub sessions: usize,
+}
+
+// Runs these lines, and then those that are still to come, over a plant of this plan with a journal in memory.
+// (Apart from `play`, so that its proof does not carry how the stations are made.)
 fn play_over<R: Read, W: Write>(
     alloc: Global,
-    code: &Code,
-    stations: Vec<Station>,
-    sessions: usize,
+    plan: PlantPlan,
     actions: &mut Actions<'_>,
     lines: &mut Lines<R>,
     out: &mut W,
 ) -> Result<(), StepError>
     ensures played { OnOk result (IfSome (to_come R.remaining lines.old) (λ others.
-        PlayedOn code.now sessions actions.old others (W.contents out.old) (W.contents out.new))) }
+        PlayedOn plan.code plan.sessions actions.old others
+        (W.contents out.old) (W.contents out.new))) }
     ensures few { OnOk result (IfSome (to_come R.remaining lines.old)
         (λ bytes. length bytes ≤ room lines.old)) }
     ensures grown { OnErr result (Grows (W.contents out.old) (W.contents out.new)) }
 {
+    let PlantPlan {
+        code,
+        stations,
+        sessions,
+    } = plan;
     let first = actions.lines().saturating_add(1);
     let journal = match memory_journal(alloc) {
         Ok(journal) => journal,
         Err(error) => return Err(error.at_line(first)),
     };
-    let mut plant = match Plant::new(alloc, code, journal, stations, sessions) {
+    let mut plant = match Plant::new(alloc, &code, journal, stations, sessions) {
         Ok(plant) => plant,
         Err((cause, _, _)) => return Err(plant_refused(alloc, cause, first, sessions)?),
     };
@@ -225,21 +239,18 @@ fn play<R: Read, W: Write>(
     let mut stations = Vec::new(alloc);
     for part in code.participants() {
         let name = part.name.as_str();
-        let participant: Box<dyn Participant + Send> = match cast {
+        let participant: Box<dyn Participant + Send + Sync> = match cast {
             Cast::Scripted => Box::new(alloc, Scripted::new(alloc, replies.take(alloc, name)))?,
             Cast::Switch(setup) => Box::new(alloc, own_participant(alloc, setup, name)?)?,
         };
         stations.push(Station::from_parts(part.name.copy()?, participant, 0))?;
     }
-    play_over(
-        alloc,
-        &code,
+    let plan = PlantPlan {
+        code,
         stations,
-        sessions as usize,
-        &mut actions,
-        lines,
-        out,
-    )
+        sessions: sessions as usize,
+    };
+    play_over(alloc, plan, &mut actions, lines, out)
 }
 
 /// Runs the lines of a script in their order over a plant with a journal in memory, and writes what each

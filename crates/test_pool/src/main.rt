@@ -55,6 +55,13 @@ struct Task {
     is_again: bool,
 }
 
+/// A flow in its steps, and what is to be done over it.
+#[derive(Drop)]
+struct Work {
+    code: Code,
+    task: Task,
+}
+
 fn number(word: &str) -> Result<usize, TestError> {
     word.parse::<usize>().map_err(|_| TestError::Words)
 }
@@ -96,12 +103,13 @@ fn names_of(alloc: Global, code: &Code) -> Result<Vec<Text>, TestError> {
 fn play_again<R: Threads + Wait + Sync, W: Write>(
     rt: &R,
     alloc: Global,
-    code: &Code,
+    work: &Work,
     stations: Vec<Station>,
-    task: Task,
     is_begun: &mut bool,
     out: &mut W,
 ) -> Result<(), TestError> {
+    let code = &work.code;
+    let task = work.task;
     let mut plant = match Plant::new(alloc, code, new_journal(alloc)?, stations, task.sessions) {
         Ok(plant) => plant,
         Err((error, _, _)) => return Err(TestError::Plant(error)),
@@ -133,11 +141,12 @@ fn play_again<R: Threads + Wait + Sync, W: Write>(
 fn play<R: Threads + Wait + Sync, W: Write>(
     rt: &R,
     alloc: Global,
-    code: &Code,
-    task: Task,
+    work: &Work,
     is_begun: &mut bool,
     out: &mut W,
 ) -> Result<(), TestError> {
+    let code = &work.code;
+    let task = work.task;
     let mut stations = Vec::new(alloc);
     for (number, part) in code.participants().iter().enumerate() {
         let number = (number & 0x7f) as u8;
@@ -149,7 +158,7 @@ fn play<R: Threads + Wait + Sync, W: Write>(
         }
     }
     if task.is_again {
-        return play_again(rt, alloc, code, stations, task, is_begun, out);
+        return play_again(rt, alloc, work, stations, is_begun, out);
     }
     *is_begun = true;
     let journal = new_journal(alloc)?;
@@ -173,7 +182,11 @@ fn play_flow<R: Files + Threads + Wait + Sync, W: Write>(
     out: &mut W,
 ) -> Result<(), TestError> {
     let flow = open_flow(alloc, rt, flow)?;
-    play(rt, alloc, &assemble(alloc, &flow)?, task, is_begun, out)
+    let work = Work {
+        code: assemble(alloc, &flow)?,
+        task,
+    };
+    play(rt, alloc, &work, is_begun, out)
 }
 
 // Plays the flow; after an error before the first run begins, plays it anew.

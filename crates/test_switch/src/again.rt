@@ -179,14 +179,20 @@ fn drive_rest<W: Write>(
     Ok(true)
 }
 
+/// The turns of a script, and the plant that is to do them, but for its stations.
+#[derive(Drop)]
+struct Work {
+    code: Code,
+    sessions: usize,
+    turns: Vec<Turn>,
+}
+
 // Does the turns over a plant of these stations; if its journal fails, over a new one, which is reported as a
 // stop. `is_begun` is set before the first turn.
 fn drive_all<W: Write>(
     alloc: Global,
-    code: &Code,
+    work: &Work,
     stations: Vec<Station>,
-    sessions: usize,
-    turns: &[Turn],
     is_begun: &mut bool,
     out: &mut W,
 ) -> Result<(), TestError> {
@@ -196,7 +202,7 @@ fn drive_all<W: Write>(
     );
     let mut done = 0;
     for _ in 0..TRIES {
-        let left = match Plant::new(alloc, code, journal, stations, sessions) {
+        let left = match Plant::new(alloc, &work.code, journal, stations, work.sessions) {
             Ok(mut plant) => {
                 if *is_begun {
                     let restarted = Outcome::Restarted(plant.engine().recovering());
@@ -204,7 +210,7 @@ fn drive_all<W: Write>(
                 }
                 *is_begun = true;
                 plant.engine_is_sound();
-                if drive_rest(alloc, &mut plant, turns, &mut done, out)? {
+                if drive_rest(alloc, &mut plant, work.turns.as_slice(), &mut done, out)? {
                     return Ok(());
                 }
                 let PlantParts {
@@ -247,16 +253,12 @@ fn run_once<W: Write>(
         let participant = Box::new(alloc, Scripted::new(alloc, replies))?;
         stations.push(Station::from_parts(part.name.copy()?, participant, 0))?;
     }
-    let sessions = script.sessions as usize;
-    drive_all(
-        alloc,
-        &code,
-        stations,
-        sessions,
-        turns.as_slice(),
-        is_begun,
-        out,
-    )
+    let work = Work {
+        code,
+        sessions: script.sessions as usize,
+        turns,
+    };
+    drive_all(alloc, &work, stations, is_begun, out)
 }
 
 fn is_memory(error: &TestError) -> bool {

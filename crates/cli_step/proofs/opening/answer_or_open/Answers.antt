@@ -3,7 +3,7 @@ use Rattle.cli_step.proofs.opening.answer_or_open.Goals as goal
 
 pub returns-clause-answered : goal.returns-clause-answered
 returns-clause-answered g c =
-    let file = c.args.file.now in
+    let file = c.args.stage.now.file in
     let settings = c.args.settings.now.items in
     let out = g.W.Write.contents c.args.out.now in
     let err = g.E.Write.contents c.args.err.now in

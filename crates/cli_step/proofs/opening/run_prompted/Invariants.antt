@@ -7,7 +7,7 @@ use Rattle.cli_step.proofs.opening.run_prompted.Given as goal
 
 abbrev pub invariant-loop-settings : goal.invariant-loop-settings
 invariant-loop-settings g l = record {
-  same : l.steps ≡ l.fn.file;
+  same : l.stage.file ≡ l.fn.file;
   talked : HeadTalksTo l.fn.file (to_come g.R.Read.remaining l.fn.lines) (to_come g.R.Read.remaining l.lines)
       (heading [] (g.W.Write.contents l.fn.out) (g.E.Write.contents l.fn.err))
       (heading l.settings.items (g.W.Write.contents l.out) (g.E.Write.contents l.err));

@@ -14,7 +14,7 @@ returns-in-Err-clause-grows_err g c = grows_none _
 
 pub returns-in-Err-clause-fault : goal.returns-in-Err-clause-fault
 returns-in-Err-clause-fault g c =
-    rw c.at_line.ensures (journal_fault _ (IsMade c.args.code.now c.args.sessions) c.in-Err.error (rw c.in-Err.is at c.memory_journal.ensures.refused))
+    rw c.at_line.ensures (journal_fault _ (IsMade c.args.plan.code c.args.plan.sessions) c.in-Err.error (rw c.in-Err.is at c.memory_journal.ensures.refused))
 
 pub returns-clause-grows_out : goal.returns-clause-grows_out
 returns-clause-grows_out g c = grows_then _ _ _ c.answer.ensures.grows_out c.talk.ensures.grows_out
@@ -25,13 +25,13 @@ returns-clause-grows_err g c = grows_then _ _ _ c.answer.ensures.grows_err c.tal
 pub returns-clause-talked : goal.returns-clause-talked
 returns-clause-talked g c =
     let opened = c.in-Ok-new.ensures.opened in
-    talked_over c.args.code.now c.args.sessions c.args.line.now (to_come g.R.Read.remaining c.args.lines.now) _ _ _ _ _
+    talked_over c.args.plan.code c.args.plan.sessions c.args.line.now (to_come g.R.Read.remaining c.args.lines.now) _ _ _ _ _
     (record { journal = _; fresh = c.in-Ok.ensures.whole; view = opened.0; opened = opened.1; seated = c.in-Ok-new.ensures.seated })
     c.in_ok-answer.ensures.answers (rw c.in_ok-last.ensures.items at c.in_ok-talk.ensures.talked)
 
 pub returns-in-Err-new-clause-refused : goal.returns-in-Err-new-clause-refused
 returns-in-Err-new-clause-refused g c =
-    bad_sessions c.args.code.now c.args.sessions _ _ _ c.in-Err-new.cause c.in_ok-plant_refused-in-Err-new.ensures.refused c.in-Err-new.ensures.refused
+    bad_sessions c.args.plan.code c.args.plan.sessions _ _ _ c.in-Err-new.cause c.in_ok-plant_refused-in-Err-new.ensures.refused c.in-Err-new.ensures.refused
 
 pub returns-in-Err-new-clause-grows_out : goal.returns-in-Err-new-clause-grows_out
 returns-in-Err-new-clause-grows_out g c = grows_none _

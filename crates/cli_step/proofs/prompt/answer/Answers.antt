@@ -9,7 +9,7 @@ use Rattle.cli_step.proofs.prompt.answer.Goals as goal
 
 pub returns-in-Some-clause-answers : goal.returns-in-Some-clause-answers
 returns-in-Some-clause-answers g c =
-    let p = point_of g.S.Store c.args.plant.now in
+    let p = point_of g.S.Store c.args.traced.now.plant in
     let a = scene p (g.W.Write.contents c.args.out.now) (g.E.Write.contents c.args.err.now) in
     let b = scene p (g.W.Write.contents c.show_word.new.out) (g.E.Write.contents c.args.err.now) in
     on_ok c.show_word.result (λ shown. answers_by _ c.args.line.now a b (sym c.in-Some.is ∙ c.prompt_word_at.ensures)
@@ -24,7 +24,7 @@ returns-in-Some-clause-grows_err g c = grows_none _
 
 pub returns-in-None-clause-answers : goal.returns-in-None-clause-answers
 returns-in-None-clause-answers g c =
-    let p = point_of g.S.Store c.args.plant.now in
+    let p = point_of g.S.Store c.args.traced.now.plant in
     let q = point_of g.S.Store c.run_line.new.plant in
     let a = scene p (g.W.Write.contents c.args.out.now) (g.E.Write.contents c.args.err.now) in
     let b = scene q (g.W.Write.contents c.run_line.new.out) (g.E.Write.contents c.args.err.now) in
@@ -47,7 +47,7 @@ returns-in-None-clause-fault g c =
 
 pub returns-in-Some-saved_session-clause-answers : goal.returns-in-Some-saved_session-clause-answers
 returns-in-Some-saved_session-clause-answers g c =
-    let p = point_of g.S.Store c.args.plant.now in
+    let p = point_of g.S.Store c.args.traced.now.plant in
     let a = scene p (g.W.Write.contents c.args.out.now) (g.E.Write.contents c.args.err.now) in
     let b = scene p (g.W.Write.contents c.show_saved.new.out) (g.E.Write.contents c.args.err.now) in
     let next = rw (c.in-Ok-Some.is, c.in-Ok-Some.field-0-is) at c.next.ensures.next in
@@ -61,7 +61,7 @@ returns-in-Some-saved_session-clause-grows_err g c = grows_none _
 
 pub returns-in_ok-refusal-in-Err-clause-answers : goal.returns-in_ok-refusal-in-Err-clause-answers
 returns-in_ok-refusal-in-Err-clause-answers g c =
-    let p = point_of g.S.Store c.args.plant.now in
+    let p = point_of g.S.Store c.args.traced.now.plant in
     let a = scene p (g.W.Write.contents c.args.out.now) (g.E.Write.contents c.args.err.now) in
     let b = scene p (g.W.Write.contents c.args.out.now) (g.E.Write.contents c.report.new.err) in
     let next = rw c.in-Err.is at c.next.ensures.next in

@@ -20,9 +20,9 @@ loop-last-init g c = record {
 pub loop-last-preserved : goal.loop-last-preserved
 loop-last-preserved g c =
     let old = c.loop-last in
-    let a = scene (point_of g.S.Store c.args.plant.now) (g.W.Write.contents c.args.out.now) (g.E.Write.contents c.args.err.now) in
-    let b = scene (point_of g.S.Store old.plant) (g.W.Write.contents old.out) (g.E.Write.contents old.err) in
-    let asked = scene (point_of g.S.Store old.plant) (g.W.Write.contents c.ask.new.out) (g.E.Write.contents old.err) in
+    let a = scene (point_of g.S.Store c.args.traced.now.plant) (g.W.Write.contents c.args.out.now) (g.E.Write.contents c.args.err.now) in
+    let b = scene (point_of g.S.Store old.traced.plant) (g.W.Write.contents old.out) (g.E.Write.contents old.err) in
+    let asked = scene (point_of g.S.Store old.traced.plant) (g.W.Write.contents c.ask.new.out) (g.E.Write.contents old.err) in
     let next = rw c.in-Some.is at c.in_ok-read.ensures.next in
     let line = c.in-Some.read.items in
     let is : c.in_ok-keep.field-0 ≡ typed old.last.items line = rw (sym c.as_slice.ensures.value) c.in_ok-keep.ensures.is in
@@ -35,21 +35,21 @@ loop-last-preserved g c =
           (to_come g.R.Read.remaining c.ask.new.lines) line a b asked asked old.invariant.talked next prompted
           (nothing_typed old.last.items line c.in_ok-keep.field-0 asked is w.in-Nothing.is) in
           record {
-            follows = rw (w.plant-is, w.tracer-is) old.invariant.follows;
-            talked = rw (keeps, w.plant-is, w.out-is, w.err-is) on;
+            follows = rw w.traced-is old.invariant.follows;
+            talked = rw (keeps, w.traced-is, w.out-is, w.err-is) on;
             grows_out = rw w.out-is out;
             grows_err = rw w.err-is old.invariant.grows_err;
           }
       | in-Line+in_ok-answer-in-Line w ↦
-          let after = scene (point_of g.S.Store w.answer.new.plant) (g.W.Write.contents w.answer.new.out) (g.E.Write.contents w.answer.new.err) in
+          let after = scene (point_of g.S.Store w.answer.new.traced.plant) (g.W.Write.contents w.answer.new.out) (g.E.Write.contents w.answer.new.err) in
           let answers : Answers (kept old.last.items line) asked after =
           rw (sym keeps, sym w.as_slice-in-Line.ensures.value) w.in_ok-answer-in-Line.ensures.answers in
           let on = talks_on c.args.last.items old.last.items (to_come g.R.Read.remaining c.args.lines.now) (to_come g.R.Read.remaining old.lines)
           (to_come g.R.Read.remaining c.ask.new.lines) line a b asked after old.invariant.talked next prompted
           (line_typed old.last.items line c.in_ok-keep.field-0 asked after is w.in-Line.is answers) in
           record {
-            follows = rw (w.plant-is, w.tracer-is) w.in_ok-answer-in-Line.ensures.follows;
-            talked = rw (keeps, w.plant-is, w.out-is, w.err-is) on;
+            follows = rw w.traced-is w.in_ok-answer-in-Line.ensures.follows;
+            talked = rw (keeps, w.traced-is, w.out-is, w.err-is) on;
             grows_out = rw w.out-is (grows_then a.out asked.out after.out out w.answer.ensures.grows_out);
             grows_err = rw w.err-is (grows_then a.err b.err after.err old.invariant.grows_err w.answer.ensures.grows_err);
           }
@@ -58,9 +58,9 @@ loop-last-preserved g c =
 pub returns-in-Quit-clause-talked : goal.returns-in-Quit-clause-talked
 returns-in-Quit-clause-talked g c =
     let old = c.loop-last in
-    let a = scene (point_of g.S.Store c.args.plant.now) (g.W.Write.contents c.args.out.now) (g.E.Write.contents c.args.err.now) in
-    let b = scene (point_of g.S.Store old.plant) (g.W.Write.contents old.out) (g.E.Write.contents old.err) in
-    let asked = scene (point_of g.S.Store old.plant) (g.W.Write.contents c.ask.new.out) (g.E.Write.contents old.err) in
+    let a = scene (point_of g.S.Store c.args.traced.now.plant) (g.W.Write.contents c.args.out.now) (g.E.Write.contents c.args.err.now) in
+    let b = scene (point_of g.S.Store old.traced.plant) (g.W.Write.contents old.out) (g.E.Write.contents old.err) in
+    let asked = scene (point_of g.S.Store old.traced.plant) (g.W.Write.contents c.ask.new.out) (g.E.Write.contents old.err) in
     let next = rw c.in-Some.is at c.in_ok-read.ensures.next in
     let line = c.in-Some.read.items in
     let is : c.in_ok-keep.field-0 ≡ typed old.last.items line = rw (sym c.as_slice.ensures.value) c.in_ok-keep.ensures.is in
@@ -71,9 +71,9 @@ returns-in-Quit-clause-talked g c =
 pub returns-clause-talked : goal.returns-clause-talked
 returns-clause-talked g c =
     let old = c.loop-last in
-    let a = scene (point_of g.S.Store c.args.plant.now) (g.W.Write.contents c.args.out.now) (g.E.Write.contents c.args.err.now) in
-    let b = scene (point_of g.S.Store old.plant) (g.W.Write.contents old.out) (g.E.Write.contents old.err) in
-    let end = scene (point_of g.S.Store old.plant) (g.W.Write.contents c.leave.new.out) (g.E.Write.contents old.err) in
+    let a = scene (point_of g.S.Store c.args.traced.now.plant) (g.W.Write.contents c.args.out.now) (g.E.Write.contents c.args.err.now) in
+    let b = scene (point_of g.S.Store old.traced.plant) (g.W.Write.contents old.out) (g.E.Write.contents old.err) in
+    let end = scene (point_of g.S.Store old.traced.plant) (g.W.Write.contents c.leave.new.out) (g.E.Write.contents old.err) in
     let next = rw c.in_default.is at c.in_ok-read.ensures.next in
     on_ok c.leave.result (λ left. talked c.args.last.items old.last.items (to_come g.R.Read.remaining c.args.lines.now)
     (to_come g.R.Read.remaining old.lines) (to_come g.R.Read.remaining c.ask.new.lines) a b end old.invariant.talked next
