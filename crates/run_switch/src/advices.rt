@@ -4,6 +4,7 @@ ghost use Rattle.std.specs.Prelude.{◌≡◌, map, option_map, take, IfOk, OnOk
 ghost use Rattle.sw_issuers.specs.Sending.{SendsAdvice};
 ghost use Rattle.tx_engine.specs.Calls.{waits};
 ghost use Rattle.tx_history.specs.Journal.{advices};
+ghost use Rattle.tx_plant.specs.Wholes.{engine_of};
 ghost use Rattle.run_switch.specs.Advices.{Sends, SendsAll, SendsBetween, StaysAtRest};
 ghost use Rattle.run_switch.specs.Advices.{begun_advisor, due_between, going_on, is_repeat};
 ghost use Rattle.run_switch.specs.Advices.{is_up_to, last_with, later, stored_at};
@@ -266,8 +267,8 @@ fn send_advice<S: Alter, L: Link>(
         advisor.new (point_of S.Store switch.new)) }
     ensures rests { OnOk result (StaysAtRest
         (point_of S.Store switch.old) (point_of S.Store switch.new)) }
-    ensures queue { OnOk result (waits switch.new.plant.running.engine
-        ≡ waits switch.old.plant.running.engine) }
+    ensures queue { OnOk result (waits (engine_of switch.new.plant)
+        ≡ waits (engine_of switch.old.plant)) }
 {
     let accepted = advisor.send(stored)?;
     if !accepted {
@@ -291,8 +292,8 @@ fn send_each<S: Alter, L: Link>(
         advisor.new (point_of S.Store switch.new)) }
     ensures rests { OnOk result (StaysAtRest
         (point_of S.Store switch.old) (point_of S.Store switch.new)) }
-    ensures queue { OnOk result (waits switch.new.plant.running.engine
-        ≡ waits switch.old.plant.running.engine) }
+    ensures queue { OnOk result (waits (engine_of switch.new.plant)
+        ≡ waits (engine_of switch.old.plant)) }
 {
     for stored in list {
         send_advice(alloc, switch, advisor, stored)?;

@@ -12,6 +12,7 @@ ghost use Rattle.tx_history.specs.declared.journal.JournalView.{JournalView};
 ghost use Rattle.journal_store.specs.Kept.{kept};
 ghost use Rattle.tx_plant.specs.Plant.{IsEngine, Seen, seen};
 ghost use Rattle.tx_seats.specs.Drives.{IsMade};
+ghost use Rattle.tx_plant.specs.Wholes.{engine_of};
 ghost use Rattle.run_switch.specs.Links.{sender_with};
 ghost use Rattle.run_switch.specs.Lines.{lines_in, written_as};
 ghost use Rattle.run_switch.specs.Points.{IsAtRest, point_of};
@@ -65,7 +66,7 @@ impl<S: Alter> Switch<S> {
 
     // Finishes what the journal of a new plant has unfinished.
     fn recover(&mut self, alloc: Global) -> Result<(), ServeError>
-        requires made { IsEngine self.old.plant.running.engine }
+        requires made { IsEngine (engine_of self.old.plant) }
         ensures recovers { OnOk result ((f : Flow) (n : ℕ) (view : JournalView) (j : Seen)
             → IsMade f n view j (point_of S.Store self.old).plant
             → self.old.answered.last ≡ view.next_id - 1
@@ -114,7 +115,7 @@ impl<S: Alter> Switch<S> {
         out: &mut O,
     ) -> Result<StreamEnd, ServeError>
         requires rest { IsAtRest (point_of S.Store self.old) }
-        requires empty { waits self.old.plant.running.engine ≡ [] }
+        requires empty { waits (engine_of self.old.plant) ≡ [] }
         ensures serves { IfOk result (λ end. (frames : List (List ℕ))
             × ReadTo end (R.remaining input) frames
             × (rounds : List Round) × RoundsFor false (requests frames) rounds
@@ -175,7 +176,7 @@ impl<S: Alter + Drop> Switch<S> {
         out: &mut O,
     ) -> Result<StreamEnd, ServeError>
         requires rest { IsAtRest (point_of S.Store self) }
-        requires empty { waits self.plant.running.engine ≡ [] }
+        requires empty { waits (engine_of self.plant) ≡ [] }
         ensures serves { IfOk result (λ end. (frames : List (List ℕ))
             × ReadTo end (R.remaining input) frames
             × (rounds : List Round) × RoundsFor true (requests frames) rounds
@@ -341,7 +342,7 @@ impl<S: Alter + Drop, R: Read + Drop, L: Link> Begun<S, R, L> {
         out: &mut O,
     ) -> Result<StreamEnd, ServeError>
         requires rest { IsAtRest (point_of S.Store self.switch) }
-        requires empty { waits self.switch.plant.running.engine ≡ [] }
+        requires empty { waits (engine_of self.switch.plant) ≡ [] }
         ensures serves { IfOk result (λ end. IfSome self.input (λ reader.
             (frames : List (List ℕ)) × ReadTo end (R.remaining reader) frames
             × (rounds : List Round) × RoundsFor self.threads (requests frames) rounds
@@ -351,7 +352,7 @@ impl<S: Alter + Drop, R: Read + Drop, L: Link> Begun<S, R, L> {
             (log_of E.contents edge.old.stderr) (log_of E.contents edge.new.stderr))) }
         ensures printed { OnOk result (IfNone self.input (Appends
             (O.contents out.old) (O.contents out.new)
-            (written_as Text (lines_in self.switch.plant.running.engine)))) }
+            (written_as Text (lines_in (engine_of self.switch.plant))))) }
         ensures stops { OnErr result (GoesOnSome
             (SendsAdvice L.sends L.receives L.starves (Unit {0})) self.threads
             (option_map R.remaining self.input) (point_of S.Store self.switch) self.advisor

@@ -6,6 +6,7 @@ ghost use Rattle.sw_context.specs.Pairs.{Pairs};
 ghost use Rattle.sw_frame.specs.Stream.{AreFramed};
 ghost use Rattle.tx_engine.specs.Calls.{waits};
 ghost use Rattle.tx_seats.specs.Seated.{Seated};
+ghost use Rattle.tx_plant.specs.Wholes.{engine_of};
 ghost use Rattle.run_switch.specs.Points.{IsAtRest, IsReady, RestsGiven, all_answered, point_of};
 ghost use Rattle.run_switch.specs.Points.{responses, unanswered};
 ghost use Rattle.run_switch.specs.Rounds.{Completed, Does, IsDone, Lone, Together, Transacts};
@@ -101,7 +102,7 @@ fn unless_refused(outcome: Outcome) -> Result<Outcome, ServeError>
 impl<S: Alter> Switch<S> {
     /// Its engine.
     pub(crate) fn engine(&self) -> &Engine
-        ensures { result.now ≡ self.now.plant.running.engine }
+        ensures { result.now ≡ engine_of self.now.plant }
     {
         self.plant.engine()
     }
@@ -184,10 +185,10 @@ impl<S: Alter> Switch<S> {
             (point_of S.Store self.old) (log_of E.contents edge.old.stderr)
             (point_of S.Store self.new) (log_of E.contents edge.new.stderr)) }
         ensures rest { OnOk result (IsAtRest (point_of S.Store self.new)) }
-        ensures queue { OnOk result (waits self.new.plant.running.engine
-            ≡ waits self.old.plant.running.engine) }
+        ensures queue { OnOk result (waits (engine_of self.new.plant)
+            ≡ waits (engine_of self.old.plant)) }
         ensures live { OnOk result (IsLive
-            (log_of E.contents edge.old.stderr) self.new.plant.running.engine) }
+            (log_of E.contents edge.old.stderr) (engine_of self.new.plant)) }
         ensures once { OnErr result (IsOver (log_of E.contents edge.new.stderr)) }
     {
         let entries = entries_kept(edge.stderr.is_live());
@@ -212,13 +213,13 @@ impl<S: Alter> Switch<S> {
         edge: &mut Edge<'_, T, E>,
     ) -> Result<(), ServeError>
         requires rest { IsAtRest (point_of S.Store self.old) }
-        requires empty { waits self.old.plant.running.engine ≡ [] }
+        requires empty { waits (engine_of self.old.plant) ≡ [] }
         ensures cuts { OnOk result (Cuts
             (point_of S.Store self.old) (log_of E.contents edge.old.stderr)
             (point_of S.Store self.new) (log_of E.contents edge.new.stderr)) }
         ensures ready { OnOk result (IsReady (point_of S.Store self.new)) }
         ensures live { OnOk result (IsLive
-            (log_of E.contents edge.old.stderr) self.new.plant.running.engine) }
+            (log_of E.contents edge.old.stderr) (engine_of self.new.plant)) }
     {
         self.cut_between(edge)
     }
@@ -238,7 +239,7 @@ impl<S: Alter> Switch<S> {
             (point_of S.Store self.old) (O.contents out.old) (O.contents out.new)) }
         ensures rest { OnOk result (IsAtRest (point_of S.Store self.new)) }
         ensures live { OnOk result (IsLive
-            (log_of E.contents edge.old.stderr) self.new.plant.running.engine) }
+            (log_of E.contents edge.old.stderr) (engine_of self.new.plant)) }
     {
         edge.stderr.begin();
         self.run_next(edge.alloc)?;
@@ -262,7 +263,7 @@ impl<S: Alter> Switch<S> {
             (point_of S.Store self.old) (O.contents out.old) (O.contents out.new)) }
         ensures ready { OnOk result (IsReady (point_of S.Store self.new)) }
         ensures live { OnOk result (IsLive
-            (log_of E.contents edge.old.stderr) self.new.plant.running.engine) }
+            (log_of E.contents edge.old.stderr) (engine_of self.new.plant)) }
     {
         self.act(edge.alloc, Turn::Offer(request))?;
         self.answer_next(edge, out)
