@@ -828,7 +828,7 @@ def equal_keys_unanswered(program, room):
         run.send_batch([request(1, 400), request(1, 400, b"4000000000000010")])
         wire.get()
         wanted("the second request before the timeout", wire.come(began + TIMEOUT - 0.1 - time.monotonic()), None)
-        # (it waits for its turn as long as the first one waits for its answer: it may be sent then, or not at all)
+        # (it waits for its turn 100 ms longer than the first one for its answer: it is sent then, unless the machine is busy)
         wanted("field 38 of each response", [run.receive()[1].get(38) for _ in range(2)], [b"SI0001"] * 2)
 
 
