@@ -1,9 +1,5 @@
-//! Hosts at the other end of pipes, which each test plays itself.
+//! Hosts at the other end of pipes, which each test plays itself: what `tests/hosts.py` cannot reach by the program.
 
-mod hearing;
 mod reaching;
 mod reporting;
-mod sharing;
-mod stations;
-mod watching;
 mod wires;

@@ -16,11 +16,6 @@ pub const REQUEST: &[u8] = b"01000020000000800000000042TERM0001";
 
 pub const RESPONSE: &[u8] = b"01100020000000800000000042TERM0001";
 
-/// The next one, with STAN 43.
-pub const NEXT_REQUEST: &[u8] = b"01000020000000800000000043TERM0001";
-
-pub const NEXT_RESPONSE: &[u8] = b"01100020000000800000000043TERM0001";
-
 /// A host, and the ends of its pipes. Two of them only keep the pipes open.
 #[derive(Drop)]
 pub struct Wired {
@@ -59,30 +54,19 @@ fn open<C: Clock>(clock: &C, shared: &Shared) {
     }
 }
 
-/// A host over two open pipes, each of which it opens again as often as it likes, at which 16 requests may be under
-/// way. The runtime comes twice: once for its threads, and once for its files, whose type has to be named for a
-/// thread to take it.
+/// A host over two open pipes, each of which it opens again as often as it likes. The runtime comes twice: once
+/// for its threads, and once for its files, whose type has to be named for a thread to take it.
 pub fn wire_up<R: Threads + Wait + Clock + Copy + Send + 'static>(
     rt: R,
     files: HostRuntime,
     times: HostTimes,
-) -> Result<Wired, Fail> {
-    wire_up_for(rt, files, times, 16)
-}
-
-/// Likewise, with as many requests as may be under way at the host.
-pub fn wire_up_for<R: Threads + Wait + Clock + Copy + Send + 'static>(
-    rt: R,
-    files: HostRuntime,
-    times: HostTimes,
-    in_flight: usize,
 ) -> Result<Wired, Fail> {
     let alloc = files.alloc();
     let (requests, to) = pipe(&files)?;
     let (from, responses) = pipe(&files)?;
     let writer = WritePath::new(files, path_of(alloc, &to)?);
     let reader = ReadPath::new(files, path_of(alloc, &from)?);
-    let host = Host::start(&rt, alloc, writer, reader, times, in_flight)?;
+    let host = Host::start(&rt, alloc, writer, reader, times, 16)?;
     open(&files, &host.shared);
     Ok(Wired {
         host,
