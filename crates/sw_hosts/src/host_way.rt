@@ -99,8 +99,8 @@ impl<C: Clock + Drop> HostWay<C> {
         }
     }
 
-    // Likewise, after the requests with its key, for as long as one that was sent just now may take, and a little
-    // longer, so that it is there when that one's place becomes free; whether it waits now.
+    // Likewise, after the requests with its key; whether it waits now. It tries for the host's timeout and a little
+    // longer, so that it gets the place of a request that was sent just now and is not answered.
     fn await_turn(&self, expected: Expected) -> bool {
         let deadline = Moment::now(&self.clock)
             .after(self.shared.times.timeout)

@@ -8,7 +8,8 @@
 //! leaves object, context, name and count as they were. `Station::new` answers `BadName` for exactly
 //! the invalid names. `call_station` says the same of one of a list of stations, and that the others
 //! stay. A call beside others (`call_beside`, `make_beside`) is one by the same relation, and the object
-//! after it is the one before it; a `Bystander` makes it of the part's. Laws of every chain of calls: objects and contexts join, and a transaction begins only where
+//! after it is the one before it; a `Bystander` makes it of the part's. Laws of every
+//! chain of calls: objects and contexts join, and a transaction begins only where
 //! it has no context (`chains_append`, `chains_widen`, `rules_widen`, `types_decide`, `others_stay`,
 //! `calls_are_counted`). `shown` shows no two values alike (`shown_apart`). `read_answer` gives the
 //! bits of an answer byte by one rule: a byte with an unknown bit is bad and has no bits, and there is

@@ -40,8 +40,8 @@
 //!   field.
 //! - Field 90 of a reversal is put as any value, where its field takes it; it always does, as its parts
 //!   have 4, 6, 10, 11 and 11 digits (that is not said by a clause of its own).
-//! - A query's `DuplicateKey` cannot come: its multiplexer is empty between calls (the ghost field
-//!   `idle` of `QueryIssuer`), so no relation names it. After the send, out of memory counts as no
+//! - A query's `DuplicateKey` cannot come: each query has a multiplexer of its own, which is
+//!   empty when its request comes, so no relation names it. After the send, out of memory counts as no
 //!   match, for the notes of the answer all or nothing. What hears and notes is generic in its
 //!   `Memory`, so that it can claim a refusal only where a call of that was refused. Alternative: to
 //!   say nothing of when an answer is lost.

@@ -9,7 +9,8 @@
 //! sessions, and the calls are those whose replies were recorded. A station's log is a chain of its own
 //! calls (`StationLog`). Of a station whose participant several sessions call at once (`OpenStation`) the
 //! participant is under no lock. Each of its calls leaves the object that it had at the start, and its
-//! notes (`Notes`) are a chain from that object to the same. `are_calls`, `are_same` and `are_all_own` answer true only where the calls,
+//! notes (`Notes`) are a chain from that object to the same.
+//! `are_calls`, `are_same` and `are_all_own` answer true only where the calls,
 //! the entries and the receipts agree. No contract says that they do so always: a body that answers
 //! false gives up each run, which tests see.
 #![tactic(auto)]
