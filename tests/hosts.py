@@ -761,13 +761,6 @@ def silent_in_a_batch(program, room):
             wanted("at the other host", wire.read(0), b"")
 
 
-def opened(run, wire):
-    """Has the pipes to the host opened, by a request that it answers: of those that come meanwhile only one waits for that."""
-    run.send(small(99))
-    wire.put(reply(wire.get()))
-    wanted("field 38 of the first response", run.receive()[1].get(38), b"HOST42")
-
-
 def stan_of(message):
     return messages.decode(message)[1][11]
 
@@ -776,7 +769,6 @@ def four_under_way(program, room):
     """With `in_flight = 4` a host gets four requests at once, and each further one only after an answer. Without it, one."""
     for alpha, most in ("in_flight = 4", 4), ("", 1):
         with tempfile.TemporaryDirectory(dir=room) as inner, switch(program, inner, *SIXTEEN, alpha=alpha, timeout=60_000) as (run, wire):
-            opened(run, wire)
             batch, under_way = [small(stan) for stan in range(1, 13)], collections.deque()
             run.send_batch(batch)
             for left in range(len(batch), 0, -1):
@@ -790,7 +782,6 @@ def four_under_way(program, room):
 def answered_in_reverse(program, room):
     """Two requests are under way at one host, which answers the later one first: each gets its own answer."""
     with switch(program, room, *SIXTEEN, alpha="in_flight = 2", timeout=15_000) as (run, wire):
-        opened(run, wire)
         run.send_batch([small(1), small(2)])
         for message in reversed([wire.get(), wire.get()]):
             wire.put(reply(message, auth=stan_of(message)))
@@ -802,7 +793,6 @@ def answered_in_reverse(program, room):
 def answered_twice(program, room):
     """The second answer to a request is late, also while another request is under way."""
     with switch(program, room, "--stats", *SIXTEEN, alpha="in_flight = 2", timeout=15_000) as (run, wire):
-        opened(run, wire)
         run.send_batch([small(1), small(2)])
         twice, once = wire.get(), wire.get()
         wire.put(reply(twice, b"05") + reply(twice, b"61") + reply(once, b"51"))
@@ -822,7 +812,6 @@ def equal_keys(program, room):
     """Of two requests with one terminal and STAN, and different cards, the second is sent once the first is answered. Each gets its own answer."""
     cards = {b"4000000000000002": b"05", b"4000000000000010": b"51"}
     with switch(program, room, *SIXTEEN, alpha="in_flight = 4", timeout=15_000) as (run, wire):
-        opened(run, wire)
         run.send_batch([request(1, card=card) for card in cards])
         for _ in cards:
             message = wire.get()
@@ -835,7 +824,6 @@ def equal_keys(program, room):
 def equal_keys_unanswered(program, room):
     """The second of two requests with one terminal and STAN is not sent before the timeout of the first, which is not answered."""
     with switch(program, room, *SIXTEEN, alpha="in_flight = 4") as (run, wire):
-        opened(run, wire)
         began = time.monotonic()
         run.send_batch([request(1, 400), request(1, 400, b"4000000000000010")])
         wire.get()
@@ -847,7 +835,6 @@ def equal_keys_unanswered(program, room):
 def closed_under_two(program, room):
     """The host closes the pipe that it answers over while two requests are under way, and a third has it opened again: both waits end at once."""
     with switch(program, room, *SIXTEEN, alpha="in_flight = 2", timeout=15_000) as (run, wire):
-        opened(run, wire)
         run.send_batch([small(1), small(2), small(3)])
         lost = [wire.get(), wire.get()]
         wire.put(b"")
@@ -867,7 +854,6 @@ def closed_under_two(program, room):
 def one_answer_lost(program, room):
     """One of two answers is lost: no pause begins, and the next request is sent to the host. Where both are lost one begins."""
     with switch(program, room, *SIXTEEN, alpha="in_flight = 2\nretry_ms = 60000") as (run, wire):
-        opened(run, wire)
         run.send_batch([small(1), small(2)])
         lost, answered = wire.get(), wire.get()
         wire.put(reply(answered))

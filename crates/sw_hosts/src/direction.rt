@@ -4,7 +4,7 @@ use crate::shared_moment::SharedMoment;
 use std::sync::Wait;
 use std::sync::atomic::{AtomicU64, Ordering};
 use std::time::Duration;
-use sw_wire::{DirectionState, Moment, is_ordered, opened_from};
+use sw_wire::{DirectionState, Moment, is_awaited, is_ordered, opened_from};
 
 /// One direction of a host. Links order it to be opened; one thread opens it, uses it and closes it. An order, and
 /// whatever else the thread has to look at, rings its bell: the thread reads the bell before it looks, and sleeps
@@ -57,19 +57,22 @@ impl Direction {
         self.closings.load(Ordering::SeqCst)
     }
 
-    /// Orders the direction to be opened, if it is closed and the last order came at least a second ago. Returns
-    /// whether the order was given.
-    pub fn order(&self, now: Moment) -> bool {
+    /// Orders the direction to be opened, if it is closed and the last order came at least a second ago.
+    pub fn order(&self, now: Moment) {
         if !is_ordered(self.state(), self.ordered.get(), now) {
-            return false;
+            return;
         }
-        // If several links order it at once, one of them does.
-        let is_first = self.exchange(DirectionState::Closed, DirectionState::Opening);
-        if is_first {
-            self.ordered.set(Some(now));
+        // Before the state, so that who sees it being opened sees when it was ordered. If several links order it at once,
+        // one of them does.
+        self.ordered.set(Some(now));
+        if self.exchange(DirectionState::Closed, DirectionState::Opening) {
             self.ring();
         }
-        is_first
+    }
+
+    /// Whether a message waits for it to be opened.
+    pub fn is_awaited(&self, now: Moment) -> bool {
+        is_awaited(self.state(), self.ordered.get(), now)
     }
 
     /// The moment from which it is ordered without a message, if it is closed and the host is tested from

@@ -15,9 +15,6 @@ use sw_wire::{
     Awaited, DirectionState, Expected, Frame, HostSign, Look, Moment, Naps, Sent, Way, is_closed,
 };
 
-/// How long a message that has a direction opened waits for it, in milliseconds.
-const OPENING: u64 = 100;
-
 /// How long a lock is waited for, in milliseconds.
 const LOCKING: u64 = 100;
 
@@ -137,16 +134,10 @@ impl<C: Clock + Drop> HostWay<C> {
 
     // Has the closed directions opened, and waits for them, but not for long.
     fn open(&self, now: Moment) {
-        let shared = &self.shared;
-        if !shared.order(now) {
-            return;
-        }
-        let deadline = now.after(Duration::from_millis(OPENING));
+        self.shared.order(now);
         let mut naps = Naps::new();
         for _ in 0..u64::MAX {
-            let is_opening = shared.to.state() == DirectionState::Opening
-                || shared.from.state() == DirectionState::Opening;
-            if !is_opening || Moment::now(&self.clock).is_past(deadline) {
+            if !self.shared.is_awaited(Moment::now(&self.clock)) {
                 return;
             }
             naps.sleep(&self.clock);

@@ -38,9 +38,9 @@
 //! - **For contracts, a message to a host that cannot be reached is sent**, and no answer is received,
 //!   at once. So the stand-in comes without a delay, and a link refuses out of memory alone.
 //!   Alternative: a refusal of its own, for which each participant would need a case.
-//! - **A direction is opened at most once a second**, and a message waits for that up to 100
-//!   milliseconds: long enough for a host that is there, and short enough for one that is not. An
-//!   opening that waits is not ordered again.
+//! - **A direction is opened at most once a second**, and messages wait for that up to 100
+//!   milliseconds from the order on, whichever of them gave it: long enough for a host that is there,
+//!   and short enough for one that is not. An opening that waits is not ordered again.
 //! - **An unanswered echo test begins a pause too**: otherwise the next request would be sent to a host
 //!   that is known to be silent.
 //! - **Only the thread that writes sends echo tests**, and it has no clock beside its bell: it sleeps

@@ -118,10 +118,15 @@ impl Shared {
         self.to.put_off(now);
     }
 
-    /// Orders both directions to be opened, as far as they are closed. Returns whether an order was given.
-    pub fn order(&self, now: Moment) -> bool {
-        let (to, from) = (self.to.order(now), self.from.order(now));
-        to || from
+    /// Orders both directions to be opened, as far as they are closed.
+    pub fn order(&self, now: Moment) {
+        self.to.order(now);
+        self.from.order(now);
+    }
+
+    /// Whether a message waits for a direction to be opened.
+    pub fn is_awaited(&self, now: Moment) -> bool {
+        self.to.is_awaited(now) || self.from.is_awaited(now)
     }
 
     /// Notes that something was read from the host.

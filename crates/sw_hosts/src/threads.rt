@@ -57,7 +57,7 @@ impl<R: Wait + Clock> HostThread<'_, R> {
             let now = Moment::now(self.rt);
             match shared.to.opened_from(shared.tested_from(shared.heard())) {
                 Some(from) if now.is_past(from) => {
-                    let _ = shared.order(now);
+                    shared.order(now);
                 }
                 Some(from) => shared.to.sleep_for(self.rt, rings, now.until(from)),
                 None => shared.to.sleep(self.rt, rings),
@@ -105,7 +105,7 @@ impl<R: Wait + Clock> HostThread<'_, R> {
         let (now, heard) = (Moment::now(self.rt), shared.heard());
         let before = watch.tests;
         watch.tested(now, heard, shared.times.timeout);
-        let _ = shared.from.order(now);
+        shared.from.order(now);
         match echo_frame(self.alloc, seconds(self.rt), watch.next_stan()) {
             Ok(frame) => {
                 let is_written = write_noted(shared, writer, &frame);

@@ -2,12 +2,15 @@
 
 ghost use Rattle.std.specs.Prelude.{◌≡◌, ◌<◌};
 ghost use Rattle.sw_wire.specs.declared.direction.DirectionState.{DirectionState};
-ghost use Rattle.sw_wire.specs.Directions.{is_due, is_ordered, opened_from, word_of};
+ghost use Rattle.sw_wire.specs.Directions.{is_awaited, is_due, is_ordered, opened_from, word_of};
 
 use crate::moment::Moment;
 
 /// How soon after an order to open a direction the next one may come, in microseconds.
 const BETWEEN_ORDERS: u64 = 1_000_000;
+
+/// How long after the order a message waits for a direction that is being opened, in microseconds.
+const OPENING: u64 = 100_000;
 
 /// Whether a direction of a host is open.
 #[derive(Clone, Copy, PartialEq, Eq)]
@@ -45,12 +48,12 @@ impl DirectionState {
     }
 }
 
-// Whether a direction that was last ordered to be opened at `last` may be ordered again.
-fn is_due(last: Option<Moment>, now: Moment) -> bool
-    ensures { result ≡ is_due last now.micros }
+// Whether a direction was last ordered to be opened this many microseconds ago or earlier, or never.
+fn is_due(micros: u64, last: Option<Moment>, now: Moment) -> bool
+    ensures { result ≡ is_due micros last now.micros }
 {
     match last {
-        Some(last) => BETWEEN_ORDERS <= now.micros.saturating_sub(last.micros),
+        Some(last) => micros <= now.micros.saturating_sub(last.micros),
         None => true,
     }
 }
@@ -60,7 +63,15 @@ fn is_due(last: Option<Moment>, now: Moment) -> bool
 pub fn is_ordered(state: DirectionState, last: Option<Moment>, now: Moment) -> bool
     ensures { result ≡ is_ordered state last now.micros }
 {
-    state == DirectionState::Closed && is_due(last, now)
+    state == DirectionState::Closed && is_due(BETWEEN_ORDERS, last, now)
+}
+
+/// Whether a message waits for a direction: one that is being opened, and was ordered, by whatever message, less than
+/// 100 milliseconds ago. It was ordered last at `last`.
+pub fn is_awaited(state: DirectionState, last: Option<Moment>, now: Moment) -> bool
+    ensures { result ≡ is_awaited state last now.micros }
+{
+    state == DirectionState::Opening && !is_due(OPENING, last, now)
 }
 
 /// The moment from which a closed direction that was last ordered at `last` is ordered without a message: while

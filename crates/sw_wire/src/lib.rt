@@ -4,8 +4,8 @@
 //! - [`Answers`] holds the requests that wait and the answers that came, and an [`Outbox`] what is to be written, 64 at
 //!   most each, with memory from the start. [`came_in`] says what bytes from a host are.
 //! - [`send_over`] and [`receive_over`] are what a link does over any [`Way`] to a host and back.
-//! - [`is_ordered`] and [`opened_from`] say when a direction is ordered to be opened; [`is_paused`], [`pause_by`] and
-//!   [`pause_by_tests`] whether a host is not asked, and what changes that; [`Watch::duty`] what the thread that
+//! - [`is_ordered`] and [`opened_from`] say when a direction is ordered to be opened, [`is_awaited`] whether a message
+//!   waits for that; [`is_paused`], [`pause_by`] and [`pause_by_tests`] whether a host is not asked, and what changes that; [`Watch::duty`] what the thread that
 //!   writes does where no frame waits. [`echo_frame`] is an echo test.
 //! - [`HostState`] and [`Counts`] are what is reported of a host, each with its line.
 //!
@@ -25,7 +25,8 @@
 //! - `Outbox::put` takes no frame where 64 wait. `Outbox::next` takes the first whose deadline has not
 //!   come, and says how many before it were dropped.
 //! - A direction is ordered to be opened exactly where it is closed, and the last order, if any, came a
-//!   second ago or longer (`is_ordered`).
+//!   second ago or longer (`is_ordered`). A message waits for one that is being opened, and was ordered
+//!   less than 100 milliseconds ago (`is_awaited`).
 //! - `outgoing_of` makes of a message its frame, and the request that waits for its answer, if the
 //!   message has a key (`SentAs`).
 //! - `send_over` and `receive_over` are proved of every `Way`. The first enters the way with that
@@ -83,7 +84,7 @@ pub use answers::Answers;
 pub use backlog::Picked;
 pub use came::{Came, came_in};
 pub use counts::Counts;
-pub use direction::{DirectionState, is_ordered, opened_from};
+pub use direction::{DirectionState, is_awaited, is_ordered, opened_from};
 pub use echo::echo_frame;
 pub use expected::Expected;
 pub use frame::Frame;

@@ -43,8 +43,7 @@ fn path_of(alloc: Global, end: &impl AsRawFd) -> Result<String, AllocError> {
 // Has both directions opened before a test begins: a message waits for that for only 100 milliseconds, and a
 // machine may be busy for longer.
 fn open<C: Clock>(clock: &C, shared: &Shared) {
-    let now = Moment::now(clock);
-    let _ = (shared.to.order(now), shared.from.order(now));
+    shared.order(Moment::now(clock));
     for _ in 0..10_000 {
         let is_open = shared.to.state() == DirectionState::Open;
         if is_open && shared.from.state() == DirectionState::Open {
