@@ -48,4 +48,4 @@ pub use error::MachineError;
 pub use laws::{bounded_lists, lists_extend, lists_keep_bounds, whole_lists};
 pub use machine::Machine;
 pub use names::{FirstNames, first_names};
-pub use values::{Due, Item, Phase, Spot};
+pub use values::{Due, Item, Phase, Reopened, Spot};

@@ -16,7 +16,7 @@ use crate::error::MachineError;
 use crate::places::{add_frames, add_steps, spot};
 use crate::rules::{MAX_CALLS, end_of, is_open, join, outcome_of, phase_after, retry_by, save};
 use crate::selection::{chosen_groups, end_step, main_step};
-use crate::values::{Due, Item, Phase};
+use crate::values::{Due, Item, Phase, Reopened};
 use crate::walk::{StackFrame, copy_frames, enter, look, next_due};
 use flow_asm::{Code, StepView};
 use std::alloc::{AllocError, Global};
@@ -116,23 +116,22 @@ impl Machine {
         machine
     }
 
-    /// A transaction from the journal, whose members are notified from number `told` on: of the commit if
-    /// `committing`, otherwise of the abort. It is never shelved. It takes no memory.
+    /// A transaction from the journal. Its members that were not notified are notified; it is never
+    /// shelved. It takes no memory.
     #[tactic(auto, unfolding(crate::specs::Contract::tx_state, crate::specs::Contract::IsSound))]
-    pub fn reopened(
-        alloc: Global,
-        code: &Code,
-        committing: bool,
-        joined: Vec<usize>,
-        told: usize,
-        tries: u8,
-        saved: Vec<u8>,
-    ) -> Machine
-        requires { All (λ p. p < length (parts_of code.now)) joined.items }
+    pub fn reopened(alloc: Global, code: &Code, from: Reopened) -> Machine
+        requires { All (λ p. p < length (parts_of code.now)) from.joined.items }
         ensures sound { IsSound code.now result }
         ensures state { tx_state code.now result
-            ≡ reopening committing joined.items told tries saved.items }
+            ≡ reopening from.committing from.joined.items from.told from.tries from.saved.items }
     {
+        let Reopened {
+            committing,
+            joined,
+            told,
+            tries,
+            saved,
+        } = from;
         let phase = if committing {
             Phase::Committing
         } else {

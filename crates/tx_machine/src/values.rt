@@ -45,6 +45,20 @@ pub enum Due {
     Done,
 }
 
+/// A transaction as the journal has it.
+pub struct Reopened {
+    /// Whether its members are notified of the commit, and otherwise of the abort.
+    pub committing: bool,
+    /// The numbers of its members.
+    pub joined: Vec<usize>,
+    /// How many of them were notified.
+    pub told: usize,
+    /// How many tries are left after this one.
+    pub tries: u8,
+    /// The context that it began with, as bytes.
+    pub saved: Vec<u8>,
+}
+
 /// The reply to a due call.
 pub enum Item {
     /// The answer byte of a preparation, and the context as the participant left it.

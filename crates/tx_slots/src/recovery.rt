@@ -15,7 +15,7 @@ use flow_model::number_of;
 use std::alloc::{AllocError, Global};
 use sw_participant::Text;
 use tx_history::Row;
-use tx_machine::{Machine, Phase};
+use tx_machine::{Machine, Phase, Reopened};
 
 // Adds the numbers of these participants.
 fn add_numbers(numbers: &mut Vec<usize>, code: &Code, names: &[Text]) -> Result<(), AllocError>
@@ -96,11 +96,13 @@ pub fn reopened(alloc: Global, code: &Code, row: &Row) -> Result<Machine, AllocE
     Ok(Machine::reopened(
         alloc,
         code,
-        is_committing(row.phase),
-        members,
-        row.told,
-        row.tries,
-        saved.into_vec(),
+        Reopened {
+            committing: is_committing(row.phase),
+            joined: members,
+            told: row.told,
+            tries: row.tries,
+            saved: saved.into_vec(),
+        },
     ))
 }
 

@@ -32,7 +32,7 @@ use std::collections::BTreeMap;
 use sw_participant::Bytes;
 use tx_engine::{Engine, reopened, restored_by};
 use tx_history::{Change, Entry, Event, Row};
-use tx_machine::{Due, Machine};
+use tx_machine::{Due, Machine, Reopened};
 use tx_slots::{after_answer, after_choice, after_told};
 
 /// Goes through the entries of an engine's history and gives the line of each. It keeps the machines of
@@ -347,7 +347,17 @@ fn reopened_at(
 {
     match find_row(rows, id) {
         Some(row) => reopened(alloc, code, row),
-        None => Ok(Machine::reopened(alloc, code, false, Vec::new(alloc), 0, 0, Vec::new(alloc))),
+        None => Ok(Machine::reopened(
+            alloc,
+            code,
+            Reopened {
+                committing: false,
+                joined: Vec::new(alloc),
+                told: 0,
+                tries: 0,
+                saved: Vec::new(alloc),
+            },
+        )),
     }
 }
 
