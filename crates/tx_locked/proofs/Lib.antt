@@ -3,3 +3,4 @@ mod Linking
 mod Growth
 pub mod Stations
 mod EmptyQueues
+pub mod Finishing

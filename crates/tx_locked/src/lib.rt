@@ -18,6 +18,7 @@
 mod comparing;
 mod copies;
 mod fault;
+mod finished;
 mod locked;
 mod open;
 mod run;
@@ -28,6 +29,7 @@ pub use comparing::{
     are_all_own, are_calls, are_same, both, count_finished, count_on_shelf, is_settled,
 };
 pub use fault::Fault;
+pub use finished::{Finished, are_kept, finished_in};
 pub use locked::{Left, Locked, RunIntake};
 pub use open::{BesideCall, Notes, OpenStation, StationBack};
 pub use run::Run;

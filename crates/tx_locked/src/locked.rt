@@ -1,6 +1,6 @@
 //! What is under the engine's lock.
 
-ghost use Rattle.std.specs.Prelude.{All, ◌≡◌, ◌+◌, ◌≤◌, ◌<◌, ℕ, [], ◌∷◌, length, IfOk, OnErr};
+ghost use Rattle.std.specs.Prelude.{All, ◌≡◌, ◌+◌, ◌≤◌, ◌<◌, ℕ, [], ◌∷◌, length, map, IfOk, OnErr};
 ghost use Rattle.sw_context.specs.Pairs.{Pairs};
 ghost use Rattle.sw_participant.specs.Chains.{Began};
 ghost use Rattle.journal_tables.specs.Small.{IsEntrySmall};
@@ -11,6 +11,7 @@ ghost use Rattle.tx_locked.specs.Since.{Since, locked_seen};
 
 use crate::copies::copies;
 use crate::fault::Fault;
+use crate::finished::Finished;
 use crate::run::Run;
 use crate::session::{Plan, Session};
 use crate::station::MadeCall;
@@ -90,6 +91,26 @@ fn take(running: &mut Running, alloc: Global, session: usize) -> Result<usize, F
 // The fault of a run that contradicts its history: the number is the one after its last entry.
 fn mismatch(running: &Running) -> Fault {
     Fault::ReceiptMismatch(running.engine().history().len().saturating_add(1))
+}
+
+// The transactions of these ids, with copies of the contexts that they ended with.
+fn finished(alloc: Global, running: &Running, ids: &[u64]) -> Result<Vec<Finished>, Fault>
+    ensures { IfOk result (λ list. map (λ f. f.id) list.items ≡ ids.now) }
+{
+    let Ok(list) = Vec::with_capacity(alloc, ids.len()) else {
+        return Err(Fault::OutOfMemory);
+    };
+    let mut list = list;
+    for id in ids {
+        let Some(context) = running.ended(*id) else {
+            return Err(mismatch(running));
+        };
+        let Ok(context) = context.copy() else {
+            return Err(Fault::OutOfMemory);
+        };
+        list.push_reserved(Finished { id: *id, context });
+    }
+    Ok(list)
 }
 
 impl<K: Run> Locked<K> {
@@ -360,6 +381,14 @@ impl<K: Run> Locked<K> {
         ensures small { IfOk result (λ late. All IsEntrySmall late.items) }
     {
         copies(alloc, self.running.unwritten())
+    }
+
+    /// The transactions of these ids, with copies of the contexts that they ended with. The fault is out of
+    /// memory, or that one of them has not ended.
+    pub fn finished(&self, alloc: Global, ids: &[u64]) -> Result<Vec<Finished>, Fault>
+        ensures { IfOk result (λ list. map (λ f. f.id) list.items ≡ ids.now) }
+    {
+        finished(alloc, &self.running, ids)
     }
 
     /// Moves the mark over this many entries, which were written.

@@ -257,6 +257,10 @@ pub ok_both : {A E : Type 0} (P Q R : A → Type 0) (r : Result A E) → IfOk r 
 ok_both P Q R (Ok a) p q f = f a p q
 ok_both P Q R (Err e) p q f = tt
 
+pub ok_three : {A E : Type 0} (P Q S R : A → Type 0) (r : Result A E) → IfOk r P → IfOk r Q → IfOk r S → ((a : A) → P a → Q a → S a → R a) → IfOk r R
+ok_three P Q S R (Ok a) p q s f = f a p q s
+ok_three P Q S R (Err e) p q s f = tt
+
 -- what holds where a run was given up, in other words
 pub err_with : {A : Type 0} {E : Type 0} (P : E → Type 0) (Q : E → Type 0) (r : Result A E) → IfErr r P → ((e : E) → P e → Q e) → IfErr r Q
 err_with P Q (Ok a) h k = h

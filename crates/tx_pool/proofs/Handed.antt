@@ -1,5 +1,5 @@
 -- What holds of stations in parts holds of the stations that are put together again.
--- for: pool::Pool::run
+-- for: pool::Pool::run_into
 use Rattle.std.proofs.Common.{◌≡◌, Bool, true, false, zero, suc, ℕ, List, [], ◌∷◌, length, map, refl, sym, ap, subst, ◌∙◌, Option, Some, None}
 use Rattle.std.proofs.Math.Path.{fun_ext}
 use Rattle.std.proofs.lemmas.List.{length-map}

@@ -5,3 +5,4 @@ mod Ends
 mod Concluding
 mod Starts
 mod Handed
+mod Sinking

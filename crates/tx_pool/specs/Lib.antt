@@ -1,4 +1,5 @@
 pub mod Wrote
+pub mod Sinks
 pub mod Drives
 pub mod Feeding
 pub mod Went

@@ -1,5 +1,5 @@
 -- What the keeper of the journal did.
-use Rattle.std.specs.Prelude.{◌≡◌, ◌⊎◌, ◌≤◌, false, List, []}
+use Rattle.std.specs.Prelude.{◌≡◌, ◌⊎◌, ◌≤◌, false, List, [], ◌++◌}
 use Rattle.sqlite_trees.specs.View.{doubt}
 use Rattle.journal_rows.specs.Tables.{Tables, all_made}
 use Rattle.journal_rows.specs.Law.{changes_of}
@@ -14,6 +14,15 @@ LeavesLess j k = (t : Tables) → k.may_leave t → j.may_leave t
 -- a stop leaves the tables as they are
 abbrev pub LeavesThese : JournalState → Type 0
 LeavesThese k = (t : Tables) → k.may_leave t → t ≡ k.tables
+
+-- a stop leaves the tables of the first with these entries, and perhaps with more
+abbrev pub LeavesWith : JournalState → List Entry → JournalState → Type 0
+LeavesWith j es k = (t : Tables) → k.may_leave t → (more : List Entry) × (t ≡ all_made (changes_of (es ++ more)) j.tables)
+
+-- a write of these entries that was refused: nothing was done, or a stop leaves them all or none
+abbrev pub MayHaveWritten : JournalState → List Entry → JournalState → Type 0
+MayHaveWritten j b k = (seen k ≡ seen j) × ((t : Tables) → k.may_leave t → j.may_leave t) ⊎ (doubt j.is_clean ≤ doubt k.is_clean)
+    × (IsCleanJournal k → j.failed ≡ false → (t : Tables) → k.may_leave t → (t ≡ j.tables) ⊎ (t ≡ all_made (changes_of b) j.tables))
 
 -- These entries were written, in one write or more. A stop then leaves the tables with them all; where none was written, what
 -- it left before.

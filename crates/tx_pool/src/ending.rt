@@ -3,6 +3,7 @@
 ghost use Rattle.std.specs.Prelude.{◌≡◌, ◌≤◌, ◌+◌, ℕ, List, [], true, drop, length, map, IfErr, IfOk};
 ghost use Rattle.std.specs.Prelude.{vec_len, vec_capacity};
 ghost use Rattle.tx_locked.specs.AllStations.{AllBack};
+ghost use Rattle.tx_locked.specs.Finished.{AreKept};
 ghost use Rattle.tx_plant.specs.Plant.{IsEngine};
 ghost use Rattle.tx_plant.specs.Wholes.{core_in, engine_in};
 ghost use Rattle.tx_pool.specs.Ended.{Ended, IsSettledSince};
@@ -14,6 +15,7 @@ use crate::feeding::Fed;
 use crate::keeper::Kept;
 use crate::moving::{Back, close_sessions};
 use crate::report::Report;
+use crate::sink::Sink;
 use crate::threads::Worked;
 use journal_store::Journal;
 use sqlite::Alter;
@@ -24,26 +26,28 @@ use tx_history::Entry;
 use tx_intake::Source;
 use tx_locked::{
     Fault, Left, Locked, MadeCall, Run, RunIntake, Session, StationParts, are_all_own, are_calls,
-    are_same, both, count_finished, count_on_shelf, is_settled,
+    are_kept, are_same, both, count_finished, count_on_shelf, is_settled,
 };
 use tx_plant::Running;
 
 /// What is left of a run that ended well.
 #[derive(Drop)]
-pub(crate) struct Ran<S: Alter, C: Caller, O: Source> {
+pub(crate) struct Ran<S: Alter, C: Caller, O: Source, Z: Sink> {
     pub(crate) running: Running,
     pub(crate) journal: Journal<S>,
     pub(crate) stations: Vec<StationParts<C>>,
     pub(crate) source: O,
+    pub(crate) sink: Z,
     pub(crate) report: Report,
 }
 
 /// What is left of a run that was given up, and why it was.
 #[derive(Drop)]
-pub(crate) struct Lost<S: Alter, C: Caller> {
+pub(crate) struct Lost<S: Alter, C: Caller, Z: Sink> {
     pub(crate) fault: Fault,
     pub(crate) journal: Journal<S>,
     pub(crate) stations: Vec<StationParts<C>>,
+    pub(crate) sink: Z,
 }
 
 // How many entries the history had when the run began, and how many of them were written.
@@ -86,12 +90,12 @@ fn mismatch(engine: &Engine) -> Fault {
 }
 
 /// What the threads left of a run that began with `from` entries, `mark` of them written.
-pub(crate) struct Remains<S: Alter, K: Run, C: Caller, O: Source> {
+pub(crate) struct Remains<S: Alter, K: Run, C: Caller, O: Source, Z: Sink> {
     pub(crate) mark: usize,
     pub(crate) from: usize,
     pub(crate) locked: Locked<K>,
     pub(crate) intake: RunIntake<K>,
-    pub(crate) worked: Worked<S, K, O>,
+    pub(crate) worked: Worked<S, K, O, Z>,
     pub(crate) share: Share<K>,
     pub(crate) back: Back<C>,
     /// Room for the receipts.
@@ -166,13 +170,20 @@ fn take_back<K: Run, O: Source>(
 }
 
 // What is left of a run that is given up.
-fn give_up<S: Alter + Drop, C: Caller>(fault: Fault, kept: Kept<S>, back: Back<C>) -> Lost<S, C>
+fn give_up<S: Alter + Drop, C: Caller, Z: Sink>(
+    fault: Fault,
+    kept: Kept<S, Z>,
+    back: Back<C>,
+) -> Lost<S, C, Z>
     ensures journal { result.journal ≡ kept.journal }
     ensures stations { result.stations ≡ back.stations }
+    ensures sink { result.sink ≡ kept.sink }
 {
     let Kept {
         journal,
         written: _,
+        sink,
+        taken: _,
         all_done: _,
     } = kept;
     let Back {
@@ -184,16 +195,17 @@ fn give_up<S: Alter + Drop, C: Caller>(fault: Fault, kept: Kept<S>, back: Back<C
         fault,
         journal,
         stations,
+        sink,
     }
 }
 
 // What is left of a run that ended well and began with `from` entries.
-fn finish<S: Alter + Drop, C: Caller, O: Source>(
+fn finish<S: Alter + Drop, C: Caller, O: Source, Z: Sink>(
     from: usize,
     settled: Settled<O>,
-    kept: Kept<S>,
+    kept: Kept<S, Z>,
     back: Back<C>,
-) -> Ran<S, C, O>
+) -> Ran<S, C, O, Z>
     requires { from ≤ length (all_of (engine_in settled.running)) }
     ensures running { result.running ≡ settled.running }
     ensures source { result.source ≡ settled.source }
@@ -204,6 +216,7 @@ fn finish<S: Alter + Drop, C: Caller, O: Source>(
         ≡ count_shelved (drop from (all_of (engine_in settled.running))) }
     ensures journal { result.journal ≡ kept.journal }
     ensures stations { result.stations ≡ back.stations }
+    ensures sink { result.sink ≡ kept.sink }
 {
     let Settled {
         running,
@@ -219,12 +232,14 @@ fn finish<S: Alter + Drop, C: Caller, O: Source>(
         fault: _,
         journal,
         stations,
+        sink,
     } = give_up(Fault::OutOfMemory, kept, back);
     Ran {
         running,
         journal,
         stations,
         source,
+        sink,
         report: Report {
             receipts,
             finished,
@@ -234,9 +249,9 @@ fn finish<S: Alter + Drop, C: Caller, O: Source>(
 }
 
 /// Compares what the threads left. A run in which something disagrees is given up.
-pub(crate) fn conclude<S: Alter + Drop, K: Run, C: Caller, O: Source>(
-    remains: Remains<S, K, C, O>,
-) -> Result<Ran<S, C, O>, Lost<S, C>>
+pub(crate) fn conclude<S: Alter + Drop, K: Run, C: Caller, O: Source, Z: Sink>(
+    remains: Remains<S, K, C, O, Z>,
+) -> Result<Ran<S, C, O, Z>, Lost<S, C, Z>>
     requires mark { remains.mark ≡ K.start.world.mark }
     requires from { remains.from ≡ length K.start.world.past }
     requires marked { remains.mark ≤ remains.from }
@@ -257,10 +272,12 @@ pub(crate) fn conclude<S: Alter + Drop, K: Run, C: Caller, O: Source>(
     ensures names { IfOk result (λ r. map (λ s. s.name) r.stations.items ≡ K.names) }
     ensures kept { IfOk result (λ r. (remains.worked.kept.all_done ≡ true)
         × (r.journal ≡ remains.worked.kept.journal)) }
+    ensures taken { IfOk result (λ r. (r.sink ≡ remains.worked.kept.sink)
+        × AreKept (core_in r.running) remains.worked.kept.taken.items) }
     ensures reports { IfOk result (λ r. Reports (λ v. v.items) K.start.world (engine_in r.running)
         r.report.receipts.items r.report.finished r.report.shelved) }
     ensures lost { IfErr result (λ e. (e.journal ≡ remains.worked.kept.journal)
-        × (e.stations ≡ remains.back.stations)) }
+        × (e.stations ≡ remains.back.stations) × (e.sink ≡ remains.worked.kept.sink)) }
 {
     let Remains {
         mark,
@@ -281,7 +298,7 @@ pub(crate) fn conclude<S: Alter + Drop, K: Run, C: Caller, O: Source>(
         Ok(settled) => settled,
         Err(fault) => return Err(give_up(fault, kept, back)),
     };
-    let agrees = agree(
+    let all_agree = agree(
         settled.running.engine(),
         RunStart { from, mark },
         settled.made.as_slice(),
@@ -290,8 +307,10 @@ pub(crate) fn conclude<S: Alter + Drop, K: Run, C: Caller, O: Source>(
         kept.written.as_slice(),
     );
     let all_done = both(settled.is_settled, kept.all_done);
-    let all_same = both(back.in_order, agrees);
-    if !both(all_done, all_same) {
+    let all_same = both(back.in_order, all_agree);
+    let all_kept = are_kept(&settled.running, kept.taken.as_slice());
+    let agrees = both(all_done, all_same);
+    if !both(agrees, all_kept) {
         let fault = mismatch(settled.running.engine());
         return Err(give_up(fault, kept, back));
     }

@@ -16,13 +16,23 @@
 //! `Early` refusals are exact, but for out of memory, and hand the plant back as it was (`allowed`,
 //! `refused`). `Late` gives up a run, and has a journal and stations.
 //!
+//! `Pool::run_into` hands the transactions that ended by `done` to a sink as well. In a run that ends
+//! well it took all those that the entries written in the run ended, each once, in the order of their
+//! ends, and with the contexts that they ended with (`took`). In any other run it took a beginning of
+//! those that entries which were written ended (`some`): what it took is in the journal.
+//!
 //! No contract says when a run is `Late`, that its journal and stations are those that were handed in,
-//! what that journal holds, or that a run ends where a participant or the source does not return. Nor
+//! what that journal holds, that the contexts that a sink took in such a run are those of their
+//! transactions, or that a run ends where a participant or the source does not return. Nor
 //! does one say that threads run at once, that the engine's lock is free during a call, that the source
 //! is read as room becomes free, or who is next: `test_threads` tests these.
 //!
 //! # Decisions
 //!
+//! - **The thread that writes the journal hands over what has ended**, right after the write that has its
+//!   last entry. A sink that is not ready holds that thread, and with it the sessions, so that nothing
+//!   piles up. It gets a copy: the plant keeps the context until it is taken from there, and at the end
+//!   both are compared.
 //! - **An offer's entry does not wake the keeper**, since no session waits for it. It is written with
 //!   the entries that follow.
 //! - **All memory that handing back needs is taken before the threads start**, so journal and stations
@@ -43,10 +53,12 @@ mod report;
 mod running;
 mod seat;
 mod shared;
+mod sink;
 mod threads;
 
 pub use gate::{Gate, Open};
-pub use pool::Pool;
+pub use pool::{Pool, Streams};
 pub use refusal::{Early, Late, PoolError};
 pub use report::Report;
+pub use sink::{Nowhere, Sink};
 pub use tx_locked::Fault;

@@ -5,9 +5,10 @@ ghost use Rattle.sw_participant.specs.Chains.{rule_at};
 ghost use Rattle.sw_participant.specs.Stations.{name_of, calls_of, object_of, rule_of};
 ghost use Rattle.tx_plant.specs.Plant.{IsEngine};
 ghost use Rattle.tx_plant.specs.Written.{IsWritten};
-ghost use Rattle.tx_plant.specs.Wholes.{engine_of, kept_of, plant_parts, stations_of, whole_at};
+ghost use Rattle.tx_plant.specs.Wholes.{core_of, engine_of, kept_of, plant_parts, stations_of, whole_at};
 ghost use Rattle.tx_pool.specs.Drives.{Drove};
 ghost use Rattle.tx_pool.specs.Early.{IsRefused, early_refusal};
+ghost use Rattle.tx_pool.specs.Sinks.{SinkAfter, SinkTook};
 ghost use Rattle.tx_locked.specs.Settled.{IsSettled};
 ghost use Rattle.tx_pool.specs.Went.{Grown, Offered, Reports};
 
@@ -16,6 +17,7 @@ use crate::gate::Gate;
 use crate::refusal::{Early, Late, PoolError};
 use crate::report::Report;
 use crate::running::{Work, run_parts};
+use crate::sink::{Nowhere, Sink};
 use sqlite::Alter;
 use std::alloc::Global;
 use std::sync::Wait;
@@ -127,10 +129,10 @@ fn make_needs(alloc: Global, capacity: usize, stations: usize) -> Result<Needs, 
 }
 
 // Makes the plant of what a run left.
-fn plant_of<S: Alter + Drop, O: Source>(
-    ran: Ran<S, Boxed, O>,
+fn plant_of<S: Alter + Drop, O: Source, Z: Sink>(
+    ran: Ran<S, Boxed, O, Z>,
     stations: Vec<Station>,
-) -> (Plant<S>, O, Report)
+) -> (Plant<S>, Streams<O, Z>, Report)
     requires room { vec_len ran.stations ≤ vec_capacity stations }
     requires empty { stations.items ≡ [] }
     ensures running { (plant_parts result.0).running ≡ ran.running }
@@ -139,7 +141,8 @@ fn plant_of<S: Alter + Drop, O: Source>(
         ≡ map (λ s. s.participant) ran.stations.items }
     ensures names { map name_of (stations_of result.0) ≡ map (λ s. s.name) ran.stations.items }
     ensures calls { map calls_of (stations_of result.0) ≡ map (λ s. s.calls) ran.stations.items }
-    ensures source { result.1 ≡ ran.source }
+    ensures source { result.1.source ≡ ran.source }
+    ensures sink { result.1.sink ≡ ran.sink }
     ensures report { result.2 ≡ ran.report }
 {
     let Ran {
@@ -147,6 +150,7 @@ fn plant_of<S: Alter + Drop, O: Source>(
         journal,
         stations: parts,
         source,
+        sink,
         report,
     } = ran;
     let stations = put_together(parts, stations);
@@ -155,26 +159,36 @@ fn plant_of<S: Alter + Drop, O: Source>(
         journal,
         stations,
     });
-    (plant, source, report)
+    (plant, Streams { source, sink }, report)
 }
 
 // What a run that was given up leaves.
-fn late<S: Alter + Drop>(lost: Lost<S, Boxed>, stations: Vec<Station>) -> Late<S>
+fn late<S: Alter + Drop, Z: Sink>(lost: Lost<S, Boxed, Z>, stations: Vec<Station>) -> (Late<S>, Z)
     requires room { vec_len lost.stations ≤ vec_capacity stations }
     requires empty { stations.items ≡ [] }
-    ensures journal { result.journal ≡ lost.journal }
-    ensures names { map name_of result.stations.items ≡ map (λ s. s.name) lost.stations.items }
+    ensures journal { result.0.journal ≡ lost.journal }
+    ensures names { map name_of result.0.stations.items ≡ map (λ s. s.name) lost.stations.items }
+    ensures sink { result.1 ≡ lost.sink }
 {
     let Lost {
         fault,
         journal,
         stations: parts,
+        sink,
     } = lost;
-    Late {
+    let late = Late {
         cause: fault,
         journal,
         stations: put_together(parts, stations),
-    }
+    };
+    (late, sink)
+}
+
+/// The streams of a run: where its contexts come from, and where its transactions go when they have ended.
+#[derive(Drop)]
+pub struct Streams<O: Source, Z: Sink> {
+    pub source: O,
+    pub sink: Z,
 }
 
 impl Pool {
@@ -213,8 +227,61 @@ impl Pool {
         ensures refused { IfErr result (λ e. IsRefused plant
             (early_refusal (engine_of plant) capacity) e) }
     {
+        let streams = Streams {
+            source,
+            sink: Nowhere,
+        };
+        match Pool::run_into(rt, alloc, plant, streams, capacity, gate) {
+            Ok((plant, streams, report)) => Ok((plant, streams.source, report)),
+            Err((error, _)) => Err(error),
+        }
+    }
+
+    /// Likewise, and hands each transaction that ended by `done` to the sink as soon as its entries are
+    /// in the journal. The sink comes back from each run, with what it took.
+    pub fn run_into<
+        S: Alter + Drop,
+        O: Source + Send,
+        Z: Sink,
+        G: Gate + Sync,
+        R: Threads + Wait + Sync,
+    >(
+        rt: &R,
+        alloc: Global,
+        plant: Plant<S>,
+        streams: Streams<O, Z>,
+        capacity: usize,
+        gate: &G,
+    ) -> Result<(Plant<S>, Streams<O, Z>, Report), (PoolError<S>, Z)>
+        requires engine { IsEngine (engine_of plant) }
+        ensures drove { IfOk result (λ r.
+            Drove (rule_at (rule_of Participant-dyn) (stations_of plant))
+            (map (object_of Participant-dyn) (stations_of plant))
+            (map calls_of (stations_of plant)) (whole_at S.Store plant)
+            (map (object_of Participant-dyn) (stations_of r.0)) (map calls_of (stations_of r.0))
+            (whole_at S.Store r.0)) }
+        ensures names { IfOk result (λ r.
+            map name_of (stations_of r.0) ≡ map name_of (stations_of plant)) }
+        ensures settled { IfOk result (λ r. IsSettled (engine_of r.0)) }
+        ensures grown { IfOk result (λ r. Grown (engine_of plant) (engine_of r.0)) }
+        ensures reports { IfOk result (λ r. Reports (λ v. v.items) (engine_of plant)
+            (engine_of r.0) r.2.receipts.items r.2.finished r.2.shelved) }
+        ensures offered { IfOk result (λ r. Offered (engine_of plant) (engine_of r.0)
+            (O.given streams.source) (O.given r.1.source) (O.ended r.1.source)) }
+        ensures whole { IfOk result (λ r. O.ends_with streams.source (O.given r.1.source)) }
+        ensures written { IfOk result (λ r. IsWritten (engine_of plant) (kept_of S.Store plant)
+            → IsWritten (engine_of r.0) (kept_of S.Store r.0)) }
+        ensures allowed { IfOk result (λ _. early_refusal (engine_of plant) capacity ≡ None) }
+        ensures refused { IfErr result (λ e. IsRefused plant
+            (early_refusal (engine_of plant) capacity) e.0) }
+        ensures took { IfOk result (λ r. SinkTook Z.takes (engine_of plant) (core_of r.0)
+            streams.sink r.1.sink) }
+        ensures some { IfErr result (λ e.
+            SinkAfter S.Store Z.takes (kept_of S.Store plant) streams.sink e.0 e.1) }
+    {
+        let Streams { source, sink } = streams;
         if let Err(cause) = allow(plant.engine(), capacity) {
-            return Err(PoolError::Early(plant, cause));
+            return Err((PoolError::Early(plant, cause), sink));
         }
         let PlantParts {
             running,
@@ -235,7 +302,7 @@ impl Pool {
                     journal,
                     stations,
                 });
-                return Err(PoolError::Early(plant, cause));
+                return Err((PoolError::Early(plant, cause), sink));
             }
         };
         let work = Work {
@@ -243,13 +310,17 @@ impl Pool {
             journal,
             stations: take_apart(stations, parts),
             source,
+            sink,
             intake,
             putter,
             getter,
         };
         match run_parts(rt, alloc, work, gate) {
             Ok(ran) => Ok(plant_of(ran, back)),
-            Err(lost) => Err(PoolError::Late(late(lost, back))),
+            Err(lost) => {
+                let (late, sink) = late(lost, back);
+                Err((PoolError::Late(late), sink))
+            }
         }
     }
 }

@@ -10,6 +10,7 @@ ghost use Rattle.tx_plant.specs.Written.{IsWritten};
 ghost use Rattle.tx_plant.specs.Wholes.{core_in, engine_in};
 ghost use Rattle.tx_locked.specs.AllStations.{AreReady};
 ghost use Rattle.tx_pool.specs.Drives.{Drove};
+ghost use Rattle.tx_pool.specs.Sinks.{SinkTook, SinkTookSome};
 ghost use Rattle.tx_pool.specs.Went.{Grown, Offered, Reports};
 ghost use Rattle.tx_locked.specs.Settled.{IsSettled};
 
@@ -18,6 +19,7 @@ use crate::gate::Gate;
 use crate::moving::{open_sessions, seat_stations, unseat_stations};
 use crate::seat::Seat;
 use crate::shared::Shared;
+use crate::sink::Sink;
 use crate::threads::{Tasks, work};
 use journal_store::Journal;
 use sqlite::Alter;
@@ -71,11 +73,12 @@ fn make_rooms<K: Run, C: Caller>(
 }
 
 /// What a run works on.
-pub(crate) struct Work<S: Alter, C: Caller, O: Source> {
+pub(crate) struct Work<S: Alter, C: Caller, O: Source, Z: Sink> {
     pub(crate) running: Running,
     pub(crate) journal: Journal<S>,
     pub(crate) stations: Vec<StationParts<C>>,
     pub(crate) source: O,
+    pub(crate) sink: Z,
     pub(crate) intake: Intake,
     pub(crate) putter: Putter,
     pub(crate) getter: Getter,
@@ -87,15 +90,16 @@ fn run_in<
     K: Run + Send + Sync,
     C: Caller + Send + Sync,
     O: Source + Send,
+    Z: Sink,
     G: Gate + Sync,
     R: Threads + Wait + Sync,
 >(
     rt: &R,
     alloc: Global,
-    task: Work<S, C, O>,
+    task: Work<S, C, O, Z>,
     blank: Blank,
     gate: &G,
-) -> Result<Ran<S, C, O>, Lost<S, C>>
+) -> Result<Ran<S, C, O, Z>, Lost<S, C, Z>>
     requires start { core_in task.running ≡ K.start }
     requires ready { AreReady K.rule K.objects K.counts K.names (λ s. C.rule s.participant)
         (λ s. C.object s.participant) (λ s. s.calls) (λ s. s.name) task.stations.items }
@@ -127,13 +131,18 @@ fn run_in<
     ensures whole { IfOk result (λ r. K.ends_with (O.given r.source)) }
     ensures written { IfOk result (λ r. IsWritten K.start.world (kept S.Store task.journal)
         → IsWritten (engine_in r.running) (kept S.Store r.journal)) }
+    ensures took { IfOk result (λ r.
+        SinkTook Z.takes K.start.world (core_in r.running) task.sink r.sink) }
     ensures lost { IfErr result (λ e. vec_len e.stations ≡ vec_len task.stations) }
+    ensures some { IfErr result (λ e. SinkTookSome Z.takes (kept S.Store task.journal)
+        (kept S.Store e.journal) task.sink e.sink) }
 {
     let Work {
         running,
         journal,
         stations,
         source,
+        sink,
         intake,
         putter,
         getter,
@@ -147,6 +156,7 @@ fn run_in<
             fault: Fault::OutOfMemory,
             journal,
             stations,
+            sink,
         });
     };
     let shared = Shared {
@@ -172,6 +182,7 @@ fn run_in<
             putter,
             sessions: rooms.sessions,
             journal,
+            sink,
         },
     );
     let Shared {
@@ -202,9 +213,10 @@ pub(crate) fn run_parts<
     S: Alter + Drop,
     C: Caller + Send + Sync,
     O: Source + Send,
+    Z: Sink,
     G: Gate + Sync,
     R: Threads + Wait + Sync,
->(rt: &R, alloc: Global, task: Work<S, C, O>, gate: &G) -> Result<Ran<S, C, O>, Lost<S, C>>
+>(rt: &R, alloc: Global, task: Work<S, C, O, Z>, gate: &G) -> Result<Ran<S, C, O, Z>, Lost<S, C, Z>>
     requires putter { (task.putter.intake ≡ task.intake.id) × (task.putter.passed ≡ []) }
     requires getter { (task.getter.intake ≡ task.intake.id) × (task.getter.passed ≡ []) }
     ensures drove { IfOk result (λ r. Drove
@@ -232,10 +244,14 @@ pub(crate) fn run_parts<
     ensures written { IfOk result (λ r.
         IsWritten (engine_in task.running) (kept S.Store task.journal)
         → IsWritten (engine_in r.running) (kept S.Store r.journal)) }
+    ensures took { IfOk result (λ r. SinkTook Z.takes (engine_in task.running)
+        (core_in r.running) task.sink r.sink) }
     ensures lost { IfErr result (λ e. vec_len e.stations ≡ vec_len task.stations) }
+    ensures some { IfErr result (λ e. SinkTookSome Z.takes (kept S.Store task.journal)
+        (kept S.Store e.journal) task.sink e.sink) }
 {
     task.running.engine_is_sound();
     let sessions = task.running.engine().sessions();
     let blank = Blank::new(sessions as u64 + 1);
-    run_in::<S, Brand, C, O, G, R>(rt, alloc, task, blank, gate)
+    run_in::<S, Brand, C, O, Z, G, R>(rt, alloc, task, blank, gate)
 }

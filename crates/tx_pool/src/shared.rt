@@ -1,11 +1,14 @@
 //! What all threads of a run share.
 
+ghost use Rattle.std.specs.Prelude.{◌≡◌, map, IfOk};
+
 use crate::seat::Seat;
+use std::alloc::Global;
 use std::sync::atomic::{AtomicU64, Ordering};
 use std::sync::{Condvar, Mutex, MutexGuard, Wait};
 use std::time::Duration;
 use sw_participant::Caller;
-use tx_locked::{Fault, Locked, Run, RunIntake};
+use tx_locked::{Fault, Finished, Locked, Run, RunIntake};
 
 /// The longest time that the keeper waits for calls, in milliseconds.
 const GATHERING: u64 = 1;
@@ -65,6 +68,25 @@ impl<K: Run, C: Caller> Shared<K, C> {
     pub(crate) fn contradict<R: Wait>(&self, rt: &R) {
         let _ = self.locked.lock(rt).contradict();
         self.tell_all();
+    }
+
+    /// Moves the mark over this many entries, which were written and ended these transactions. Gives these,
+    /// with copies of the contexts that they ended with.
+    pub(crate) fn wrote<R: Wait>(
+        &self,
+        rt: &R,
+        alloc: Global,
+        count: usize,
+        ids: &[u64],
+    ) -> Result<Vec<Finished>, Fault>
+        ensures { IfOk result (λ list. map (λ f. f.id) list.items ≡ ids.now) }
+    {
+        let mut locked = self.locked.lock(rt);
+        locked.wrote(count);
+        let finished = locked.finished(alloc, ids)?;
+        drop(locked);
+        self.written.notify_all();
+        Ok(finished)
     }
 
     /// Wakes the keeper, if there is something for it to do now that a session waits or has left.

@@ -3,13 +3,14 @@
 ghost use Rattle.std.specs.Prelude.{◌≡◌, [], List, true};
 ghost use Rattle.sw_context.specs.Pairs.{Pairs};
 ghost use Rattle.journal_store.specs.Kept.{kept};
-ghost use Rattle.tx_pool.specs.Wrote.{Wrote};
+ghost use Rattle.tx_pool.specs.Sinks.{KeptAll, SinkTookSome};
 
 use crate::attending::attend_all;
 use crate::feeding::{Fed, feed};
 use crate::gate::Gate;
 use crate::keeper::{Kept, keep};
 use crate::shared::Shared;
+use crate::sink::Sink;
 use journal_store::Journal;
 use sqlite::Alter;
 use std::alloc::Global;
@@ -22,54 +23,68 @@ use tx_locked::{Fault, Run, Session};
 /// What comes back from the threads. The source or the sessions are missing if their thread could
 /// not be started, and the sessions also if memory was refused.
 #[derive(Drop)]
-pub(crate) struct Worked<S: Alter, K: Run, O: Source> {
+pub(crate) struct Worked<S: Alter, K: Run, O: Source, Z: Sink> {
     pub(crate) fed: Option<Fed<K, O>>,
     pub(crate) sessions: Option<Vec<Session<K>>>,
-    pub(crate) kept: Kept<S>,
+    pub(crate) kept: Kept<S, Z>,
 }
 
-/// What the threads of a run work on: offers, sessions, and the journal.
-pub(crate) struct Tasks<S: Alter, K: Run, O: Source> {
+/// What the threads of a run work on: offers, sessions, the journal, and where what ended goes.
+pub(crate) struct Tasks<S: Alter, K: Run, O: Source, Z: Sink> {
     pub(crate) source: O,
     pub(crate) putter: Putter,
     pub(crate) sessions: Vec<Session<K>>,
     pub(crate) journal: Journal<S>,
+    pub(crate) sink: Z,
 }
 
 /// Runs all threads until each has ended: the feeder's, one that runs a thread for each session, and
-/// the calling one, which writes the journal. If one cannot be started, the run is given up.
+/// the calling one, which keeps the journal. If one cannot be started, the run is given up.
 pub(crate) fn work<
     R: Threads + Wait + Sync,
     S: Alter + Drop,
     K: Run + Send + Sync,
     C: Caller + Send + Sync,
     O: Source + Send,
+    Z: Sink,
     G: Gate + Sync,
->(rt: &R, alloc: Global, shared: &Shared<K, C>, gate: &G, tasks: Tasks<S, K, O>) -> Worked<S, K, O>
+>(
+    rt: &R,
+    alloc: Global,
+    shared: &Shared<K, C>,
+    gate: &G,
+    tasks: Tasks<S, K, O, Z>,
+) -> Worked<S, K, O, Z>
     requires queue { tasks.putter.intake ≡ K.intake }
     requires none { tasks.putter.passed ≡ [] }
     requires given { O.given tasks.source ≡ K.given }
     requires plan { (all : List Pairs) → O.ends_with tasks.source all → K.ends_with all }
-    ensures kept { result.kept.all_done ≡ true
-        → Wrote (kept S.Store tasks.journal) result.kept.written.items
-        (kept S.Store result.kept.journal) }
+    ensures all { result.kept.all_done ≡ true → KeptAll Z.takes (kept S.Store tasks.journal)
+        (kept S.Store result.kept.journal) result.kept.written.items tasks.sink
+        result.kept.sink result.kept.taken.items }
+    ensures some { SinkTookSome Z.takes (kept S.Store tasks.journal)
+        (kept S.Store result.kept.journal) tasks.sink result.kept.sink }
 {
     let Tasks {
         source,
         putter,
         sessions,
         journal,
+        sink,
     } = tasks;
     thread::scope(
         thread::scope_env(),
         rt,
-        move |scope| -> Worked<S, K, O>
+        move |scope| -> Worked<S, K, O, Z>
             requires queue { putter.intake ≡ K.intake }
             requires none { putter.passed ≡ [] }
             requires given { O.given source ≡ K.given }
             requires plan { (all : List Pairs) → O.ends_with source all → K.ends_with all }
-            ensures { result.kept.all_done ≡ true → Wrote (kept S.Store journal)
-                result.kept.written.items (kept S.Store result.kept.journal) }
+            ensures all { result.kept.all_done ≡ true → KeptAll Z.takes (kept S.Store journal)
+                (kept S.Store result.kept.journal) result.kept.written.items sink
+                result.kept.sink result.kept.taken.items }
+            ensures some { SinkTookSome Z.takes (kept S.Store journal)
+                (kept S.Store result.kept.journal) sink result.kept.sink }
         {
             let feeder = match scope.spawn(
                 move || -> Fed<K, O>
@@ -89,7 +104,7 @@ pub(crate) fn work<
             if feeder.is_none() || server.is_none() {
                 shared.stop(rt, Fault::OutOfMemory);
             }
-            let kept = keep(rt, alloc, shared, journal);
+            let kept = keep(rt, alloc, shared, journal, sink);
             let fed = match feeder {
                 Some(handle) => Some(handle.join(rt)),
                 None => None,

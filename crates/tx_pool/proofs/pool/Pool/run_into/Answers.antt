@@ -2,7 +2,7 @@ use Rattle.std.proofs.Common.{◌∙◌, ◌&&◌, not, nat_le, refl, sym, arith
 use Rattle.sw_participant.specs.Calls.{PerformsCall}
 use Rattle.tx_engine.specs.Cuts.{is_broken, is_in_use}
 use Rattle.tx_pool.proofs.Handed.{drove_whole, early_is, early_memory, same_length, same_plant}
-use Rattle.tx_pool.proofs.pool.Pool.run.Goals as goal
+use Rattle.tx_pool.proofs.pool.Pool.run_into.Goals as goal
 use Rattle.tx_plant.specs.Wholes.{engine_of}
 
 pub returns-in-Err-clause-refused : goal.returns-in-Err-clause-refused
@@ -24,8 +24,8 @@ plant_of-requires-clause-room g c =
     let taken = same_length (λ s. s.name) (λ s. s.name) c.take_apart.result.items c.into_parts-running.result.stations.items c.take_apart.ensures.names in
     omega (arith, left, taken, c.len.ensures, c.in-Ok.ensures.stations.1)
 
-pub late-requires-clause-room : goal.late-requires-clause-room
-late-requires-clause-room g c =
+pub late-late-requires-clause-room : goal.late-late-requires-clause-room
+late-late-requires-clause-room g c =
     let taken = same_length (λ s. s.name) (λ s. s.name) c.take_apart.result.items c.into_parts-running.result.stations.items c.take_apart.ensures.names in
     omega (arith, c.in-Err-run_parts.ensures.lost, taken, c.len.ensures, c.in-Ok.ensures.stations.1)
 
