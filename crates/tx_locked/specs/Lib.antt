@@ -16,6 +16,6 @@ pub mod Linked
 pub mod RunSteps
 pub mod Since
 pub mod Receipts
-pub mod Finished
 pub mod Settled
 pub mod Nothing
+pub mod Finished

@@ -10,8 +10,9 @@
 //! calls (`StationLog`). Of a station whose participant several sessions call at once (`OpenStation`) the
 //! participant is under no lock. Each of its calls leaves the object that it had at the start, and its
 //! notes (`Notes`) are a chain from that object to the same.
-//! `are_calls`, `are_same` and `are_all_own` answer true only where the calls,
-//! the entries and the receipts agree. No contract says that they do so always: a body that answers
+//! What has ended is copied with the context that it ended with (`Locked::finished`).
+//! `are_calls`, `are_same`, `are_all_own` and `are_kept` answer true only where the calls,
+//! the entries, the receipts and the contexts agree. No contract says that they do so always: a body that answers
 //! false gives up each run, which tests see.
 #![tactic(auto)]
 

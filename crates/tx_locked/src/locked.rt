@@ -8,6 +8,7 @@ ghost use Rattle.tx_plant.specs.Turns.{Taken};
 ghost use Rattle.tx_plant.specs.Plant.{IsEngine};
 ghost use Rattle.tx_plant.specs.Wholes.{core_in, engine_in};
 ghost use Rattle.tx_locked.specs.Since.{Since, locked_seen};
+ghost use Rattle.tx_locked.specs.Finished.{AreKept, WereKept};
 
 use crate::copies::copies;
 use crate::fault::Fault;
@@ -95,7 +96,8 @@ fn mismatch(running: &Running) -> Fault {
 
 // The transactions of these ids, with copies of the contexts that they ended with.
 fn finished(alloc: Global, running: &Running, ids: &[u64]) -> Result<Vec<Finished>, Fault>
-    ensures { IfOk result (λ list. map (λ f. f.id) list.items ≡ ids.now) }
+    ensures ids { IfOk result (λ list. map (λ f. f.id) list.items ≡ ids.now) }
+    ensures kept { IfOk result (λ list. AreKept (core_in running.now) list.items) }
 {
     let Ok(list) = Vec::with_capacity(alloc, ids.len()) else {
         return Err(Fault::OutOfMemory);
@@ -386,7 +388,8 @@ impl<K: Run> Locked<K> {
     /// The transactions of these ids, with copies of the contexts that they ended with. The fault is out of
     /// memory, or that one of them has not ended.
     pub fn finished(&self, alloc: Global, ids: &[u64]) -> Result<Vec<Finished>, Fault>
-        ensures { IfOk result (λ list. map (λ f. f.id) list.items ≡ ids.now) }
+        ensures ids { IfOk result (λ list. map (λ f. f.id) list.items ≡ ids.now) }
+        ensures kept { IfOk result (λ list. WereKept K.start list.items) }
     {
         finished(alloc, &self.running, ids)
     }

@@ -83,11 +83,11 @@ impl<S: Alter + Drop, Z: Sink> Kept<S, Z> {
         late: Vec<Entry>,
     ) -> Result<(), Fault>
         requires { All IsEntrySmall late.items }
-        ensures all { OnOk result (KeptBatch Z.takes (kept S.Store self.old.journal)
+        ensures all { OnOk result (KeptBatch Z.takes K.start (kept S.Store self.old.journal)
             (kept S.Store self.new.journal) late.items self.old.written.items
             self.new.written.items self.old.sink self.new.sink self.old.taken.items
             self.new.taken.items) }
-        ensures some { OnErr result (KeptPart Z.takes (kept S.Store self.old.journal)
+        ensures some { OnErr result (KeptPart Z.takes K.start (kept S.Store self.old.journal)
             (kept S.Store self.new.journal) late.items self.old.sink self.new.sink) }
         ensures flag { self.new.all_done ≡ self.old.all_done }
     {
@@ -124,10 +124,10 @@ pub(crate) fn keep<S: Alter + Drop, K: Run, C: Caller, Z: Sink, R: Wait>(
     journal: Journal<S>,
     sink: Z,
 ) -> Kept<S, Z>
-    ensures all { result.all_done ≡ true → KeptAll Z.takes (kept S.Store journal)
+    ensures all { result.all_done ≡ true → KeptAll Z.takes K.start (kept S.Store journal)
         (kept S.Store result.journal) result.written.items sink result.sink result.taken.items }
-    ensures some { SinkTookSome Z.takes (kept S.Store journal) (kept S.Store result.journal) sink
-        result.sink }
+    ensures some { SinkTookSome Z.takes K.start (kept S.Store journal)
+        (kept S.Store result.journal) sink result.sink }
 {
     let mut kept = Kept {
         journal,

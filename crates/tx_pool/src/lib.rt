@@ -18,14 +18,15 @@
 //!
 //! `Pool::run_into` hands the transactions that ended by `done` to a sink as well. In a run that ends
 //! well it took all those that the entries written in the run ended, each once, in the order of their
-//! ends, and with the contexts that they ended with (`took`). In any other run it took a beginning of
-//! those that entries which were written ended (`some`): what it took is in the journal.
+//! ends, and with the contexts that they ended with (`took`). In a run that was given up it took a
+//! beginning of those that entries which were written ended, each with the context that it had ended with
+//! at a moment of the run, and a stop leaves these entries in the journal (`some`).
 //!
 //! No contract says when a run is `Late`, that its journal and stations are those that were handed in,
-//! what that journal holds, that the contexts that a sink took in such a run are those of their
-//! transactions, or that a run ends where a participant or the source does not return. Nor
-//! does one say that threads run at once, that the engine's lock is free during a call, that the source
-//! is read as room becomes free, or who is next: `test_threads` tests these.
+//! what else that journal holds, or that a run ends where a participant, the source or the sink does not
+//! return. Nor does one say that threads run at once, that the engine's lock is free during a call, that
+//! the source is read as room becomes free, when the sink is handed what has ended, or who is next:
+//! `test_threads` tests these.
 //!
 //! # Decisions
 //!

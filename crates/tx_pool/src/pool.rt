@@ -277,7 +277,7 @@ impl Pool {
         ensures took { IfOk result (λ r. SinkTook Z.takes (engine_of plant) (core_of r.0)
             streams.sink r.1.sink) }
         ensures some { IfErr result (λ e.
-            SinkAfter S.Store Z.takes (kept_of S.Store plant) streams.sink e.0 e.1) }
+            SinkAfter S.Store Z.takes (core_of plant) (kept_of S.Store plant) streams.sink e.0 e.1) }
     {
         let Streams { source, sink } = streams;
         if let Err(cause) = allow(plant.engine(), capacity) {

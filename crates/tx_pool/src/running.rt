@@ -134,7 +134,7 @@ fn run_in<
     ensures took { IfOk result (λ r.
         SinkTook Z.takes K.start.world (core_in r.running) task.sink r.sink) }
     ensures lost { IfErr result (λ e. vec_len e.stations ≡ vec_len task.stations) }
-    ensures some { IfErr result (λ e. SinkTookSome Z.takes (kept S.Store task.journal)
+    ensures some { IfErr result (λ e. SinkTookSome Z.takes K.start (kept S.Store task.journal)
         (kept S.Store e.journal) task.sink e.sink) }
 {
     let Work {
@@ -247,7 +247,7 @@ pub(crate) fn run_parts<
     ensures took { IfOk result (λ r. SinkTook Z.takes (engine_in task.running)
         (core_in r.running) task.sink r.sink) }
     ensures lost { IfErr result (λ e. vec_len e.stations ≡ vec_len task.stations) }
-    ensures some { IfErr result (λ e. SinkTookSome Z.takes (kept S.Store task.journal)
+    ensures some { IfErr result (λ e. SinkTookSome Z.takes (core_in task.running) (kept S.Store task.journal)
         (kept S.Store e.journal) task.sink e.sink) }
 {
     task.running.engine_is_sound();

@@ -1,6 +1,7 @@
 //! What all threads of a run share.
 
 ghost use Rattle.std.specs.Prelude.{◌≡◌, map, IfOk};
+ghost use Rattle.tx_locked.specs.Finished.{WereKept};
 
 use crate::seat::Seat;
 use std::alloc::Global;
@@ -79,7 +80,8 @@ impl<K: Run, C: Caller> Shared<K, C> {
         count: usize,
         ids: &[u64],
     ) -> Result<Vec<Finished>, Fault>
-        ensures { IfOk result (λ list. map (λ f. f.id) list.items ≡ ids.now) }
+        ensures ids { IfOk result (λ list. map (λ f. f.id) list.items ≡ ids.now) }
+        ensures kept { IfOk result (λ list. WereKept K.start list.items) }
     {
         let mut locked = self.locked.lock(rt);
         locked.wrote(count);

@@ -59,10 +59,10 @@ pub(crate) fn work<
     requires none { tasks.putter.passed ≡ [] }
     requires given { O.given tasks.source ≡ K.given }
     requires plan { (all : List Pairs) → O.ends_with tasks.source all → K.ends_with all }
-    ensures all { result.kept.all_done ≡ true → KeptAll Z.takes (kept S.Store tasks.journal)
+    ensures all { result.kept.all_done ≡ true → KeptAll Z.takes K.start (kept S.Store tasks.journal)
         (kept S.Store result.kept.journal) result.kept.written.items tasks.sink
         result.kept.sink result.kept.taken.items }
-    ensures some { SinkTookSome Z.takes (kept S.Store tasks.journal)
+    ensures some { SinkTookSome Z.takes K.start (kept S.Store tasks.journal)
         (kept S.Store result.kept.journal) tasks.sink result.kept.sink }
 {
     let Tasks {
@@ -80,10 +80,10 @@ pub(crate) fn work<
             requires none { putter.passed ≡ [] }
             requires given { O.given source ≡ K.given }
             requires plan { (all : List Pairs) → O.ends_with source all → K.ends_with all }
-            ensures all { result.kept.all_done ≡ true → KeptAll Z.takes (kept S.Store journal)
+            ensures all { result.kept.all_done ≡ true → KeptAll Z.takes K.start (kept S.Store journal)
                 (kept S.Store result.kept.journal) result.kept.written.items sink
                 result.kept.sink result.kept.taken.items }
-            ensures some { SinkTookSome Z.takes (kept S.Store journal)
+            ensures some { SinkTookSome Z.takes K.start (kept S.Store journal)
                 (kept S.Store result.kept.journal) sink result.kept.sink }
         {
             let feeder = match scope.spawn(

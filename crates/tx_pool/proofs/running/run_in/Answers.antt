@@ -66,21 +66,21 @@ returns-clause-took g c =
     let es = c.work-worked.result.kept.written.items in
     ok_three _ _ _ _ c.conclude.result c.conclude.ensures.ended c.conclude.ensures.kept c.conclude.ensures.taken (λ r e d t.
     subst (λ z. SinkTook g.Z.Sink.takes g.K.Run.start.world (core_in r.running) c.args.task.sink z) (sym t.0)
-    (took_all g.Z.Sink.takes g.K.Run.start.world (core_in r.running) j k es c.args.task.sink c.work-worked.result.kept.sink
+    (took_all g.Z.Sink.takes g.K.Run.start g.K.Run.start.world (core_in r.running) j k es c.args.task.sink c.work-worked.result.kept.sink
     c.work-worked.result.kept.taken.items (c.work-worked.ensures.all d.0) e.1.copies t.1))
 
 pub returns-clause-some : goal.returns-clause-some
 returns-clause-some g c =
     let j = kept g.S.Store c.args.task.journal in
     let z = c.args.task.sink in
-    err_with _ _ c.conclude.result c.conclude.ensures.lost (λ e d. subst (λ y. SinkTookSome g.Z.Sink.takes j (kept g.S.Store e.journal) z y) (sym d.2)
-    (subst (λ k. SinkTookSome g.Z.Sink.takes j (kept g.S.Store k) z c.work-worked.result.kept.sink) (sym d.0) c.work-worked.ensures.some))
+    err_with _ _ c.conclude.result c.conclude.ensures.lost (λ e d. subst (λ y. SinkTookSome g.Z.Sink.takes g.K.Run.start j (kept g.S.Store e.journal) z y) (sym d.2)
+    (subst (λ k. SinkTookSome g.Z.Sink.takes g.K.Run.start j (kept g.S.Store k) z c.work-worked.result.kept.sink) (sym d.0) c.work-worked.ensures.some))
 
 pub returns-in_default-clause-some : goal.returns-in_default-clause-some
 returns-in_default-clause-some g c =
     let j = kept g.S.Store c.args.task.journal in
     let z = c.args.task.sink in
-    some_of g.Z.Sink.takes j j [] z z [] (kept_none g.Z.Sink.takes j z)
+    some_of g.Z.Sink.takes g.K.Run.start j j [] z z [] (kept_none g.Z.Sink.takes g.K.Run.start j z)
 
 pub returns-clause-settled : goal.returns-clause-settled
 returns-clause-settled g c = ok_both _ _ _ c.conclude.result c.conclude.ensures.ended c.conclude.ensures.kept (λ r e d. e.1.settled)
