@@ -16,7 +16,7 @@ use tx_intake::Listed;
 use tx_pool::Open;
 
 // A flow whose selector chooses between `p` and `q`.
-fn code_of_choice(alloc: Global) -> Result<Code, Fail> {
+pub fn code_of_choice(alloc: Global) -> Result<Code, Fail> {
     code_of(
         alloc,
         0,

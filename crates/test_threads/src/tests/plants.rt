@@ -109,8 +109,8 @@ pub fn listed(alloc: Global, count: usize) -> Result<Listed, Fail> {
     Ok(Listed::new(contexts))
 }
 
-// The failure of a test whose run did not end well.
-fn failed<S: Alter + Drop>(error: &PoolError<S>) -> Fail {
+/// The failure of a test whose run did not end well.
+pub fn failed<S: Alter + Drop>(error: &PoolError<S>) -> Fail {
     match error {
         PoolError::Early(_, _) => Fail::new("early"),
         PoolError::Late(late) => match late.cause {
