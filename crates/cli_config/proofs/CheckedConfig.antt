@@ -5,6 +5,7 @@ use Rattle.std.proofs.Common.{subst, arith, if◌then◌else◌}
 use Rattle.std.specs.List.{AllByRecursion, IsDistinct}
 use Rattle.std.specs.Str.{bytes_eq}
 use Rattle.sw_base.specs.Refusals.{first_at, or_else}
+use Rattle.sw_book.specs.Most.{max_amount, max_limit}
 use Rattle.sw_base.proofs.Unrefused.{left_none, right_none}
 use Rattle.toml.specs.Data.{Data, string, integer, float, boolean, datetime, array, table, Members, as_table}
 use Rattle.cli_config.specs.declared.config.Host.{Host}
@@ -162,13 +163,13 @@ abbrev run_path : TablePath
 run_path = record { section = section.Run; number = 0 }
 
 abbrev AreLimits : Option Members → Type 0
-AreLimits o = IfSome (limits_in o).per_card (IsIn 0 999999999999999) × IfSome (limits_in o).stand_in (IsIn 0 999999999999)
+AreLimits o = IfSome (limits_in o).per_card (IsIn 0 max_limit) × IfSome (limits_in o).stand_in (IsIn 0 max_amount)
 
 limits_checked : (ms : Members) → table_fault limits_path ms ≡ None → AreLimits (Some ms)
 limits_checked ms h =
     let b = none_bad limits_path ms h in (
-      number_fits 0 999999999999999 (value_at key.PerCard ms) (is_fit limits_path ms key.PerCard b.0),
-      number_fits 0 999999999999 (value_at key.StandIn ms)
+      number_fits 0 max_limit (value_at key.PerCard ms) (is_fit limits_path ms key.PerCard b.0),
+      number_fits 0 max_amount (value_at key.StandIn ms)
           (is_fit limits_path ms key.StandIn b.1.0),
     )
 

@@ -3,6 +3,7 @@ use Rattle.std.specs.Prelude.{◌≡◌, ⊤, ℕ, ◌≤◌, true, List, length
 use Rattle.std.specs.Char.{is_ascii_digit}
 use Rattle.std.specs.List.{AllByRecursion, IsDistinct, list_all}
 use Rattle.std.specs.Str.{bytes_eq}
+use Rattle.sw_book.specs.Most.{max_amount, max_limit}
 use Rattle.sw_context.specs.Names.{is_name}
 use Rattle.cli_config.specs.declared.config.Config.{Config}
 use Rattle.cli_config.specs.declared.config.Host.{Host}
@@ -44,8 +45,8 @@ AreShortNames names = AllByRecursion (λ name. (is_name name ≡ true) × (lengt
 pub record IsChecked (c : Config) : Type 0 where
   pub hosts : IfSome c.hosts AreHosts
   pub routes : IfSome c.routes AreRoutes
-  pub per_card : IfSome c.limits.per_card (IsIn 0 999999999999999)
-  pub stand_in : IfSome c.limits.stand_in (IsIn 0 999999999999)
+  pub per_card : IfSome c.limits.per_card (IsIn 0 max_limit)
+  pub stand_in : IfSome c.limits.stand_in (IsIn 0 max_amount)
   pub advices : IfSome c.run.advices (IsIn 0 256)
   pub sessions : IfSome c.run.sessions (IsIn 1 16)
   pub journal : IfSome c.run.journal IsPath

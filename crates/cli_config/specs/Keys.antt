@@ -1,5 +1,6 @@
 -- The tables of a configuration file: the keys of each, which of them it must have, and what may stand at a key.
 use Rattle.std.specs.Prelude.{ℕ, Bool, true, false, List, [], ◌∷◌, Option, Some, None, codes}
+use Rattle.sw_book.specs.Most.{max_amount, max_limit}
 use Rattle.cli_config.specs.declared.keys.Section.{Section}
 use Rattle.cli_config.specs.declared.keys.Section.TheVariants as section
 use Rattle.cli_config.specs.declared.keys.Key.{Key}
@@ -69,8 +70,8 @@ wants key.TimeoutMs = want.Number 1 600000
 wants key.To = want.Path
 wants key.Group = want.Name 32
 wants key.Prefix = want.Digits 19
-wants key.PerCard = want.Number 0 999999999999999
-wants key.StandIn = want.Number 0 999999999999
+wants key.PerCard = want.Number 0 max_limit
+wants key.StandIn = want.Number 0 max_amount
 wants key.Advices = want.Number 0 256
 wants key.Allow = want.Names 32
 wants key.Journal = want.Path

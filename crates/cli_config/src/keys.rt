@@ -5,6 +5,7 @@ ghost use Rattle.cli_config.specs.Keys as spec;
 
 use std::convert::AsStr;
 use std::fmt;
+use sw_book::{MAX_AMOUNT, MAX_LIMIT};
 
 /// A section of a configuration file: its tables of one kind.
 #[derive(Clone, Copy, PartialEq, Eq)]
@@ -156,8 +157,8 @@ impl Key {
             Key::TimeoutMs => Want::Number(1, 600_000),
             Key::RetryMs => Want::Number(0, 3_600_000),
             Key::EchoS => Want::Number(0, 86_400),
-            Key::PerCard => Want::Number(0, 999_999_999_999_999),
-            Key::StandIn => Want::Number(0, 999_999_999_999),
+            Key::PerCard => Want::Number(0, MAX_LIMIT),
+            Key::StandIn => Want::Number(0, MAX_AMOUNT),
             Key::Advices => Want::Number(0, 256),
             Key::InFlight | Key::Sessions => Want::Number(1, 16),
         }
