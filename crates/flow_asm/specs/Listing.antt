@@ -31,6 +31,7 @@ entries_from parts (Call p ∷ xs) = entry_of (slice_get parts p) ++ entries_fro
 abbrev pub group_of : List Part → List Step → GroupStart → Group
 group_of parts steps s = record { name = s.name; entries = entries_from parts (drop s.first steps) }
 
+-- the flow that an assembled one represents
 abbrev pub listed : Inside → Flow
 listed a = record { retries = a.retries; groups = map (group_of a.parts a.steps) a.starts }
 

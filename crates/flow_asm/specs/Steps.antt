@@ -10,6 +10,7 @@ use Rattle.flow_asm.specs.declared.code.GroupStart.{GroupStart}
 use Rattle.flow_asm.specs.declared.code.Step.{Step}
 use Rattle.flow_asm.specs.declared.code.Step.TheVariants.{Call, Pick, Return}
 
+-- these groups, the first of which has index g, each as its entries at their places
 abbrev pub groups_from : List Part → ℕ → List Group → List (List PlacedEntry)
 groups_from parts g [] = []
 groups_from parts g (x ∷ xs) = placed_from parts g 0 x.entries ∷ groups_from parts (g + 1) xs
@@ -49,6 +50,7 @@ steps_of f = map step_of (stages f)
 abbrev pub first_step : Flow → ℕ → ℕ
 first_step f g = length (flat_map stages_of_group (take g (layout f)))
 
+-- these groups' names and first steps; the first of them has index g
 abbrev pub starts_from : Flow → ℕ → List Group → List GroupStart
 starts_from f g [] = []
 starts_from f g (x ∷ xs) = record { name = x.name; first = first_step f g } ∷ starts_from f (g + 1) xs

@@ -4,6 +4,7 @@ use Rattle.flow_load.specs.declared.groups.StepRole.{StepRole}
 use Rattle.flow_load.specs.declared.groups.StepRole.TheVariants.{Calls, Picks, Returns}
 use Rattle.flow_load.specs.declared.lines.Lines.{Lines}
 
+-- a call is one of the first n participants
 abbrev pub IsCallBelow : ℕ → StepRole → Type 0
 IsCallBelow n (Calls p) = p < n
 IsCallBelow n Picks = Unit {0}

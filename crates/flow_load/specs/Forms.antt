@@ -40,12 +40,14 @@ group_form e text = do
   first ← number_of e name.1
   Ok (n.0, record { name = name.0; first = first })
 
+-- a call or a pick of participant p, by its word
 abbrev pub step_named : LoadError → Text → ℕ → Result Step LoadError
 step_named e w p =
     if bytes_eq w (codes "call") then Ok (Call p)
     else if bytes_eq w (codes "pick") then Ok (Pick p)
     else Err e
 
+-- `call P`, `pick P` or `return`
 unfoldable pub step_of : LoadError → Text → Result Step LoadError
 step_of e text =
     if bytes_eq text (codes "return") then Ok Return

@@ -50,6 +50,7 @@ pub record Walk : Type 0 where
 abbrev pub walk_of : GroupRead → Walk
 walk_of w = record { entries = w.entries.items; at = w.left.at; seen = w.left.seen; rest = w.left.steps.now }
 
+-- these entries stand before those that were read
 abbrev pub with_entries : List Entry → Walk → Walk
 with_entries es w = record w { entries = es ++ w.entries }
 
@@ -108,6 +109,7 @@ module _ (parts : List Part) (line : ℕ) where
 abbrev pub steps_line : Lines → ℕ
 steps_line l = 2 + length l.parts + length l.starts
 
+-- doubled participants first, then the groups with their steps, then what is left
 unfoldable pub flow_in : Lines → Result Flow LoadError
 flow_in l = do
   distinct ← refused (double_fault l.parts)

@@ -11,6 +11,7 @@ use Rattle.flow_asm.specs.declared.code.Step.TheVariants.{Call, Pick, Return}
 use Rattle.flow_asm.specs.Steps.{starts_of, steps_of}
 use Rattle.flow_load.specs.declared.lines.Lines.{Lines}
 
+-- a text as its bytes
 abbrev pub Text : Type 0
 Text = List ℕ
 
@@ -57,6 +58,7 @@ lines_text spell n (x ∷ xs) = spell n x ++ 10 ∷ lines_text spell (n + 1) xs
 abbrev pub header_text : ℕ → ℕ → ℕ → ℕ → ℕ → Text
 header_text v r p g s = joined (codes "image" ∷ decimal v ∷ decimal r ∷ decimal p ∷ decimal g ∷ decimal s ∷ [])
 
+-- the text whose lines say this
 abbrev pub spelled : Lines → Text
 spelled l =
     header_text l.version l.retries (length l.parts) (length l.starts) (length l.steps)

@@ -19,6 +19,7 @@ line_over form mark n at text = line_at form n at text >>= λ x. Ok (mark x.0, x
 abbrev pub items_over : {A : Type 0} → (LoadError → Text → Result (ℕ × A) LoadError) → (A → Bool) → ℕ → ℕ → Text → Result (Option ℕ × Text) LoadError
 items_over form mark count at text = items_at form count 0 at text >>= λ xs. Ok (first_marked mark at xs.0, xs.1)
 
+-- all lines, and then the version
 unfoldable pub lines_over : Text → Result (Unit {0}) LoadError
 lines_over text = do
   h ← header_at text

@@ -28,6 +28,7 @@ abbrev pub Fails : {Y : Type 0} → LoadError → Result Y LoadError → Type 0
 Fails OutOfMemory read = Unit {0}
 Fails e read = read ≡ Err e
 
+-- What a function that takes memory answered, seen by view, is what the reading gives, unless memory ran out.
 abbrev pub GivesImage : {X Y : Type 0} → (X → Y) → Result X LoadError → Result Y LoadError → Type 0
 GivesImage view (Ok x) read = read ≡ Ok (view x)
 GivesImage view (Err e) read = Fails e read

@@ -16,9 +16,11 @@ use Rattle.sw_context.specs.Names.{is_name}
 abbrev pub has_large_group : List Group → Bool
 has_large_group gs = list_any (λ g. nat_lt 256 (length g.entries)) gs
 
+-- how many entries all groups have together
 abbrev pub entries_in_all : List Group → ℕ
 entries_in_all gs = sum_by (λ (g : Group). length g.entries) gs
 
+-- too many groups, or too many entries in one group or in all
 abbrev pub is_large : Flow → Bool
 is_large f = (nat_lt 256 (length f.groups) || has_large_group f.groups) || nat_lt 16384 (entries_in_all f.groups)
 
@@ -31,6 +33,7 @@ bad_retries f = refused_if (nat_lt 100 f.retries) BadRetries
 abbrev pub size_fault : Flow → Option FlowError
 size_fault f = or_else (large f) (bad_retries f)
 
+-- the fault of a bad name: of group g, or of its entry i
 abbrev pub bad_name : ℕ → Option ℕ → List ℕ → Option FlowError
 bad_name g i n = if is_name n then None else Some (BadName g i)
 
@@ -57,6 +60,7 @@ abbrev pub kind_in : List ℕ → List Entry → Option Kind
 kind_in n [] = None
 kind_in n (e ∷ es) = if bytes_eq e.participant n then Some e.kind else kind_in n es
 
+-- the same in whole groups
 abbrev pub first_kind : List ℕ → List Group → Option Kind
 first_kind n [] = None
 first_kind n (g ∷ gs) = or_else (kind_in n g.entries) (first_kind n gs)
@@ -67,6 +71,7 @@ same a b = if a then b else not b
 abbrev pub same_kind : Kind → Kind → Bool
 same_kind a b = (same a.selector b.selector && same a.abort_aware b.abort_aware) && same a.recovers b.recovers
 
+-- there is such a kind, and it is this one
 abbrev pub is_kind : Kind → Option Kind → Bool
 is_kind k None = false
 is_kind k (Some l) = same_kind k l
@@ -75,12 +80,14 @@ is_kind k (Some l) = same_kind k l
 abbrev pub clash : List Group → ℕ → ℕ → Entry → Option FlowError
 clash gs g i e = if is_kind e.kind (first_kind e.participant gs) then None else Some (KindClash g i)
 
+-- the first such entry of a group, and below of all groups
 abbrev pub clash_in : List Group → ℕ → Group → Option FlowError
 clash_in gs g x = first_at (clash gs g) 0 x.entries
 
 abbrev pub clashes : List Group → Option FlowError
 clashes gs = first_at (clash_in gs) 0 gs
 
+-- names, doubled groups, the group `main`, clashing kinds
 abbrev pub name_fault : Flow → Option FlowError
 name_fault f = or_else (first_at bad_group 0 f.groups) (or_else (first_at (double_group f.groups) 0 f.groups) (or_else (no_main f.groups) (clashes f.groups)))
 

@@ -24,6 +24,7 @@ Has m kinds = (name : List ℕ) → kind_at m name ≡ kinds name
 abbrev pub Joins : (old new : BTreeMap (Bor (List ℕ)) Kind) → (List ℕ → Option Kind) → Type 0
 Joins old new kinds = (name : List ℕ) → kind_at new name ≡ or_else (kind_at old name) (kinds name)
 
+-- by name, the kinds at the first places in these entries, and below in these groups
 abbrev pub kinds_of_entries : List Entry → List ℕ → Option Kind
 kinds_of_entries es name = kind_in name es
 
@@ -34,6 +35,7 @@ kinds_of_groups gs name = first_kind name gs
 abbrev pub clash_by : (List ℕ → Option Kind) → ℕ → ℕ → Entry → Option FlowError
 clash_by look g i e = if is_kind e.kind (look e.participant) then None else Some (KindClash g i)
 
+-- the first such entry of a group, and below of all groups
 abbrev pub clash_in_by : (List ℕ → Option Kind) → ℕ → Group → Option FlowError
 clash_in_by look g x = first_at (clash_by look g) 0 x.entries
 

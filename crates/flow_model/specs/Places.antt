@@ -17,6 +17,7 @@ number_in (p ∷ ps) name = if bytes_eq p.name name then 0 else number_in ps nam
 abbrev pub add_new : List Part → Entry → List Part
 add_new parts e = if nat_lt (number_in parts e.participant) (length parts) then parts else parts ++ record { name = e.participant; kind = e.kind } ∷ []
 
+-- so do the participants of these entries, one after the other
 abbrev pub parts_from : List Part → List Entry → List Part
 parts_from parts [] = parts
 parts_from parts (e ∷ es) = parts_from (add_new parts e) es

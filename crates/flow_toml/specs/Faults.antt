@@ -23,6 +23,7 @@ fits want.Integer (integer z) = true
 fits want.Flag (boolean b) = true
 fits w d = false
 
+-- whether there is a value, and of another kind than is wanted
 abbrev pub is_misfit : Want → Option Data → Bool
 is_misfit w None = false
 is_misfit w (Some d) = not (fits w d)

@@ -30,6 +30,7 @@ abbrev pub tables_of : Option Items → List Members
 tables_of None = []
 tables_of (Some ds) = tables_in ds
 
+-- the tables at a key, in order; none if it is absent
 abbrev pub tables_at : Key → Members → List Members
 tables_at k ms = tables_of (option_and_then as_array (get_member (spelling k) ms))
 
@@ -76,6 +77,7 @@ flow_of ms = refused (table_fault path.Top ms) >>= λ _. each group_of 0 (tables
   groups = gs;
 })
 
+-- a flow, unless its check refuses it
 abbrev pub checked : flow.Flow → Option FlowError → Result flow.Flow FlowTomlError
 checked f None = Ok f
 checked f (Some e) = Err (Flow e)

@@ -49,6 +49,7 @@ abbrev pub IfBadRow : (BadRow → Type 0) → LookError → Type 0
 IfBadRow P (error.BadRow bad rest) = P bad
 IfBadRow P _ = ⊤
 
+-- the error is not one of a bad row
 abbrev pub IsOtherFault : LookError → Type 0
 IsOtherFault (error.BadRow bad rest) = ⊥
 IsOtherFault _ = ⊤

@@ -44,9 +44,11 @@ without_in Joined id rows = record rows { members = without_id id rows.members }
 without_in Shelf id rows = record rows { shelf = without_id id rows.shelf }
 without_in Advice id rows = record rows { advices = without_id id rows.advices }
 
+-- the rows without those of the row at fault
 abbrev pub without : BadRow → Rows → Rows
 without bad = without_in bad.table bad.id
 
+-- which of these rows is the first one at fault, if one is
 abbrev pub IsFaultOf : Layout → Rows → Option BadRow → Type 0
 IsFaultOf layout rows = IsFault layout rows.parts rows.meta rows.tx rows.members rows.shelf rows.advices
 

@@ -35,6 +35,7 @@ pub record WasConverted (old new : State) (parts : Parts) : Type 0 where
   pub committed : new.committed ≡ new.now
   pub is_open : IsTrue new.is_open
 
+-- what the conversion of layout 1 promises, if the disk returns what was written
 abbrev pub ConvertsFirst : State → State → Result Parts JournalError → Type 0
 ConvertsFirst old new result = HasCleanDisk new → IsFirst old.now → IfOk result (WasConverted old new)
 

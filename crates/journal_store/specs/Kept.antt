@@ -18,6 +18,7 @@ use Rattle.journal_tables.specs.LastPut.{IsKnown}
 use Rattle.journal_tables.specs.Steps.{IsJournal}
 use Rattle.journal_store.specs.Making.{no_schema, new_tables}
 
+-- an open journal: its connection, and whether each call answers Failed
 pub record Kept (S : Type 0) : Type 0 where
   pub held : Held S
   pub failed : Bool
@@ -26,6 +27,7 @@ abbrev pub kept_code : {S : Type 0} → Coded S → Coded (Kept S)
 kept_code {S} store = code_by (Held S × Bool) (coded× (held_code store) coded_bool) (λ k. (k.held, k.failed)) (λ p. record { held = p.0; failed = p.1 })
     (λ _. refl)
 
+-- the store is open, with the journal's schema, and all is committed
 pub record IsCommitted (s : State) : Type 0 where
   pub is_open : IsTrue s.is_open
   pub now : IsJournal s.now
@@ -38,6 +40,7 @@ pub record IsKept (s : State) (failed : Bool) (known : Option LastPut) (knows : 
   pub stands : failed ≡ false → HasCleanDisk s → IsKnown known (tables_of s.now.trees)
   pub named : failed ≡ false → HasCleanDisk s → IsTrue knows → AreParts parts (tables_of s.now.trees).part
 
+-- what contracts see of a journal
 pub record JournalState : Type 1 where
   pub tables : Tables
   -- each call answers Failed
@@ -55,9 +58,11 @@ OpensAs db t =
     ⊎ ((IsSound first_schema db × IsFaultAs First (first_tables_of db) None × (t ≡ converted (first_tables_of db)))
     ⊎ (IsSound no_schema db × (t ≡ new_tables)))
 
+-- what an open may find after a stop, by what the store recovers
 abbrev pub left_by : (Trees → Type 0) → Tables → Type 0
 left_by recovers t = (db : Trees) × recovers db × OpensAs db t
 
+-- what contracts see of this journal
 abbrev pub kept : {S : Type 0} → Ghosts S → Kept S → JournalState
 kept g j = record {
   tables = tables_of (g.view j.held.store).trees;
@@ -66,5 +71,6 @@ kept g j = record {
   may_leave = left_by (g.recovers j.held.store);
 }
 
+-- so far the disk has returned what was written
 abbrev pub IsCleanJournal : JournalState → Type 0
 IsCleanJournal j = doubt j.is_clean ≡ 0

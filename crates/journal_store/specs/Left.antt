@@ -12,10 +12,12 @@ use Rattle.journal_store.specs.declared.journal.Left.TheVariants.{Closed, Open}
 use Rattle.journal_store.specs.Making.{new_tables}
 
 module _ {S : Type 0} (g : Ghosts S) where
+  -- 0 where the disk has returned what was written so far
   abbrev pub doubt_of : Left S → ℕ
   doubt_of (Open c) = doubt (g.view c.store).is_clean
   doubt_of (Closed s) = doubt (g.view s).is_clean
 
+  -- what a stop then leaves of it
   abbrev pub leaves : Left S → Trees → Type 0
   leaves (Open c) = g.recovers c.store
   leaves (Closed s) = g.recovers s

@@ -15,6 +15,7 @@ use Rattle.journal_store.specs.declared.reading.Stored.{Stored}
 abbrev pub IsEither : Database → Type 0
 IsEither db = IsFirst db ⊎ IsJournal db
 
+-- what was read are the rows of these tables, as the queries show them
 pub record Holds (t : Tables) (s : Stored) : Type 0 where
   pub parts : s.parts.items ≡ map shown_part t.part
   pub meta : s.meta.items ≡ map shown_meta t.meta
@@ -27,9 +28,11 @@ pub record Holds (t : Tables) (s : Stored) : Type 0 where
 abbrev pub ShowsRows : {E : Type 0} → (Database → Type 0) → (Trees → List Row) → State → State → Result (Vec Row Global) E → Type 0
 ShowsRows In rows old new result = HasCleanDisk new → In old.now → IfOk result (λ shown. shown.items ≡ rows old.now.trees)
 
+-- the same of all queries together
 abbrev pub ShowsAll : {E : Type 0} → (Database → Type 0) → (Trees → Tables) → State → State → Result Stored E → Type 0
 ShowsAll In tables old new result = HasCleanDisk new → In old.now → IfOk result (Holds (tables old.now.trees))
 
+-- what reading promises of such a database: it changes nothing
 abbrev pub ChangesNothing : {A E : Type 0} → (Database → Type 0) → State → State → Result A E → Type 0
 ChangesNothing In old new result = HasCleanDisk new → In old.now → OnOk result (IsUnchanged old new)
 

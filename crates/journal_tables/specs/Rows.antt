@@ -13,6 +13,7 @@ use Rattle.journal_tables.specs.declared.rows.TxRow.{TxRow}
 abbrev pub values_of : TxRow → Row
 values_of r = Int r.id ∷ Int r.phase ∷ Int r.told ∷ Text r.doing.now ∷ Int r.tries ∷ Blob r.context.now ∷ []
 
+-- what putting such a row makes of the tables
 abbrev pub with_row : TxRow → Tables → Tables
 with_row r = with_tx r.id r.phase r.told r.doing.now r.tries r.context.now
 

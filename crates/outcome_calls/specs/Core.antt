@@ -27,6 +27,7 @@ pub data PlantDeed : Type 0 where
   Called : (id : ℕ) → (m : Deed) → PlantDeed
   Halted : (view : IdView) → PlantDeed
 
+-- the deeds of one transaction: its calls, and each stop with its row at it
 abbrev pub trail_of : ℕ → List PlantDeed → List Deed
 trail_of id [] = []
 trail_of id (Called i m ∷ ms) = if i == id then m ∷ trail_of id ms else trail_of id ms
@@ -47,13 +48,16 @@ takes [] = 0
 takes (Took h ∷ past) = takes past + 1
 takes (_ ∷ past) = takes past
 
+-- the id of the next take
 abbrev pub next_id : IdView → List IdEvent → ℕ
 next_id v past = v.next_id + takes past
 
+-- where the journalled transaction of this row begins, if there is one
 abbrev pub reopened : Option Row → Option FullState
 reopened None = None
 reopened (Some r) = Some (reopen r)
 
+-- where one more reply leads from this state, if there is one
 abbrev pub later : Flow → FullReply → Option FullState → Option FullState
 later f x None = None
 later f x (Some st) = Some (after f st x)
@@ -70,10 +74,12 @@ abbrev pub standing_of : Flow → Option FullState → Option Standing
 standing_of f None = None
 standing_of f (Some st) = Some (standing f st)
 
+-- the advices by place, after the entry of a reply to what was due at this standing
 abbrev pub advised_at : Option Standing → FullReply → (ℕ → Option (List ℕ)) → ℕ → Option (List ℕ)
 advised_at None x advice = advice
 advised_at (Some st) x advice = advised st.due x st.told advice
 
+-- the stored advices of a transaction, by place
 abbrev pub advice : Flow → IdView → List IdEvent → ℕ → ℕ → Option (List ℕ)
 advice f v [] id = v.advice id
 advice f v (Given i x ∷ past) id = if i == id then advised_at (standing_of f (at f v past id)) x (advice f v past id) else advice f v past id
@@ -92,6 +98,7 @@ given [] id = None
 given (Given i x ∷ l) id = if i == id then Some x else given l id
 given (_ ∷ l) id = given l id
 
+-- whether the list has a closing entry of id
 abbrev pub closed : List IdEvent → ℕ → Bool
 closed [] id = false
 closed (Closed i ∷ l) id = (i == id) || closed l id
@@ -104,6 +111,7 @@ Once (Given i x ∷ l) = (given l i ≡ None) × Once l
 Once (Closed i ∷ l) = (closed l i ≡ false) × Once l
 Once (_ ∷ l) = Once l
 
+-- the kept reply, or else the one of an entry
 abbrev pub first : Option FullReply → Option FullReply → Option FullReply
 first (Some x) g = Some x
 first None g = g
@@ -117,6 +125,7 @@ pub record AbstractCore : Type 0 where
   pub kept : ℕ → Option FullReply
   pub calls : List PlantDeed
 
+-- the kept replies by id, with this one, or none, for id
 abbrev pub put : ℕ → Option FullReply → (ℕ → Option FullReply) → ℕ → Option FullReply
 put id o kept i = if id == i then o else kept i
 
@@ -133,15 +142,20 @@ Closings j _ = ⊥
 abbrev pub Covers : IdView → List IdEvent → Type 0
 Covers j cs = (id : ℕ) (r : Row) → j.row id ≡ Some r → listed r ≡ [] → closed cs id ≡ true
 
+-- exactly the rows with nobody to notify are closed, each once
 abbrev pub Shuts : IdView → List IdEvent → Type 0
 Shuts j cs = Closings j cs × Covers j cs
 
+-- a core that was opened on this view: `cs` are its closing entries, `ms` the calls before
 abbrev pub opened : IdView → List IdEvent → List PlantDeed → AbstractCore
 opened j cs ms = record { start = j; late = cs; gone = []; kept = none_kept; calls = Halted j ∷ ms }
 
+-- what the journal holds
 abbrev pub written : Flow → AbstractCore → IdView
 written f c = journal f c.start c.gone
 
+-- moves: a call is made; its reply becomes an entry; a take, an acknowledged advice, any other event; the oldest entry is
+-- written; all stops
 pub data CoreMove : Type 0 where
   Calls : (id : ℕ) → (x : FullReply) → (m : Deed) → CoreMove
   Records : (id : ℕ) → CoreMove
@@ -151,6 +165,7 @@ pub data CoreMove : Type 0 where
   Writes : CoreMove
   Stops : (closings : List IdEvent) → CoreMove
 
+-- when a move may be made, and what it leaves
 abbrev pub CoreMoves : Flow → CoreMove → AbstractCore → AbstractCore → Type 0
 CoreMoves f (Calls id x m) c d = (st : FullState) × (at f c.start c.gone id ≡ Some st) × (given c.late id ≡ None) × (c.kept id ≡ None)
     × Made (standing f st).due x (standing f st) m × (d ≡ record c { kept = put id (Some x) c.kept; calls = Called id m ∷ c.calls })
@@ -161,16 +176,19 @@ CoreMoves f Others c d = d ≡ record c { late = Other ∷ c.late }
 CoreMoves f Writes c d = (l : List IdEvent) × (e : IdEvent) × (c.late ≡ l ++ e ∷ []) × (d ≡ record c { late = l; gone = e ∷ c.gone })
 CoreMoves f (Stops cs) c d = Shuts (written f c) cs × (d ≡ opened (written f c) cs c.calls)
 
+-- moves one after the other, from c to d
 abbrev pub CoreRun : Flow → List CoreMove → AbstractCore → AbstractCore → Type 0
 CoreRun f [] c d = d ≡ c
 CoreRun f (t ∷ ts) c d = (m : AbstractCore) × CoreMoves f t c m × CoreRun f ts m d
 
 -- the invariant of the core
 
+-- there is such a transaction, and the reply is one to its due call
 abbrev pub IsAwaited : Flow → Option FullState → FullReply → Type 0
 IsAwaited f None x = ⊥
 IsAwaited f (Some st) x = answers (due f st) x ≡ true
 
+-- there is such a transaction, with nobody to notify and no call due
 abbrev pub Closable : Flow → Option FullState → Type 0
 Closable f None = ⊥
 Closable f (Some st) = (st.state.joined ≡ []) × (due f st ≡ NoCall)
@@ -184,6 +202,7 @@ abbrev pub StateFitsAt : Option FullState → Type 0
 StateFitsAt None = Unit {0}
 StateFitsAt (Some st) = StateFits st
 
+-- what every run of moves keeps, by the parts of a core
 pub record IsCore (f : Flow) (v : IdView) (late gone : List IdEvent) (kept : ℕ → Option FullReply) (calls : List PlantDeed) : Type 0 where
   pub ones : (id : ℕ) → IdFits (nat_lt id (next_id v gone)) (standing_of f (at f v gone id)) (first (kept id) (given late id)) (trail_of id calls)
       (advice f v gone id)

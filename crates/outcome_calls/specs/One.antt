@@ -50,6 +50,7 @@ pub record IsRowOf (st : Standing) (r : Row) : Type 0 where
   pub covered : (p : ℕ) → count p st.members ≤ count p (listed r)
   pub doing : (q : ℕ) → st.due ≡ Preparation q → (p : ℕ) → count p (st.members ++ q ∷ []) ≤ count p (listed r)
 
+-- the due call is one before the outcome is decided, or one to the member that is to be notified next
 abbrev pub DueFits : DueCall → Standing → Type 0
 DueFits (Preparation p) st = (st.decision ≡ Undecided) × (st.told ≡ 0)
 DueFits (Selection p) st = (st.decision ≡ Undecided) × (st.told ≡ 0)
@@ -57,6 +58,7 @@ DueFits (Telling p) st = (st.decision ≡ Undecided → ⊥) × (slice_get st.me
 DueFits (Recovery p) st = (st.decision ≡ Undecided → ⊥) × (slice_get st.members st.told ≡ Some p)
 DueFits NoCall st = Unit {0}
 
+-- the parts of a standing agree with one another
 pub record IsStanding (st : Standing) : Type 0 where
   pub due : DueFits st.due st
   pub ended : st.row ≡ None → (st.told ≡ length st.members) × (st.due ≡ NoCall)
@@ -84,6 +86,7 @@ abbrev pub advised : DueCall → FullReply → ℕ → (ℕ → Option (List ℕ
 advised (Telling p) (Advice (Some a)) told advice n = if told == n then Some a else advice n
 advised _ _ told advice n = advice n
 
+-- undecided: no outcome or recover call, and no other call older than a stop; decided: nobody was notified of the other outcome
 abbrev pub GoesOneWay : Decision → List Deed → Type 0
 GoesOneWay Undecided t = (has_outcome t ≡ false) × (is_unstopped t ≡ true)
 GoesOneWay ToCommit t = has_abort t ≡ false
@@ -133,6 +136,7 @@ IdFits true (Some st) None t advice = IsLive t st advice
 IdFits true (Some st) (Some x) t advice = (m : Deed) × (u : List Deed) × (t ≡ m ∷ u) × Made st.due x st m × IsLive u st advice
 IdFits _ _ _ t advice = ⊥
 
+-- the same of a whole `One`
 abbrev pub OneFits : One → Type 0
 OneFits a = IdFits a.known a.standing a.ahead a.trail a.advice
 
@@ -143,10 +147,12 @@ pub record Reopened (r : Row) (st : Standing) : Type 0 where
   pub members : (p : ℕ) → count p (listed r) ≤ count p st.members
   pub row : st.row ≡ Some r
 
+-- the same of a row that there may be; without one there is no standing
 abbrev pub Reopens : Option Row → Option Standing → Type 0
 Reopens None to = to ≡ None
 Reopens (Some r) to = (st : Standing) × (to ≡ Some st) × Reopened r st
 
+-- moves of one id: it is taken, a call is made, its reply is written, it is closed, an advice is acknowledged, all stops
 pub data Move : Type 0 where
   Born : (st : Standing) → Move
   Call : (x : FullReply) → (m : Deed) → Move
@@ -155,6 +161,7 @@ pub data Move : Type 0 where
   Ack : (n : ℕ) → Move
   Stop : (to : Option Standing) → Move
 
+-- the advices by place, but for place k
 abbrev pub without : ℕ → (ℕ → Option (List ℕ)) → ℕ → Option (List ℕ)
 without k advice n = if k == n then None else advice n
 

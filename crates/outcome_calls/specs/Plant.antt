@@ -29,10 +29,12 @@ taken v [] s = None
 taken v (Taken t h ∷ past) s = if t == s then Some (v.next_id + taken_count past) else taken v past s
 taken v (_ ∷ past) s = taken v past s
 
+-- no call is due
 abbrev pub is_idle : DueCall → Bool
 is_idle NoCall = true
 is_idle _ = false
 
+-- there is such a transaction, and a call of it is due
 abbrev pub unfinished : Flow → Option FullState → Bool
 unfinished f None = false
 unfinished f (Some st) = not (is_idle (due f st))
@@ -51,10 +53,12 @@ abbrev pub serves_in : Flow → IdView → Option ℕ → ℕ → List IdEvent �
 serves_in f v (Some id) s l = Some id
 serves_in f v None s l = if s == 0 then recovering f v l else None
 
+-- the event of a reply that was given for this id, if there is one
 abbrev pub given_to : Option ℕ → FullReply → IdEvent
 given_to None x = Other
 given_to (Some id) x = Given id x
 
+-- a session's event by the id that it speaks of: `tk` has what each session took last, `l` the entries before it
 abbrev pub event_of : Flow → IdView → (ℕ → Option ℕ) → List IdEvent → SessionEvent → IdEvent
 event_of f v tk l (Taken s h) = Took h
 event_of f v tk l (Replied s x) = given_to (serves_in f v (tk s) s l) x
@@ -67,6 +71,7 @@ abbrev pub by_ids : Flow → IdView → List SessionEvent → List IdEvent
 by_ids f v [] = []
 by_ids f v (e ∷ past) = event_of f v (taken v past) (by_ids f v past) e ∷ by_ids f v past
 
+-- the transaction that the session serves after these entries
 abbrev pub serves : Flow → IdView → List SessionEvent → ℕ → Option ℕ
 serves f v past s = serves_in f v (taken v past s) s (by_ids f v past)
 
@@ -88,23 +93,29 @@ pub record AbstractPlant : Type 0 where
   pub kept : ℕ → Option FullReply
   pub calls : List PlantDeed
 
+-- all entries, the newest first
 abbrev pub past : AbstractPlant → List SessionEvent
 past p = p.late ++ p.gone
 
+-- the same by the ids that they speak of
 abbrev pub whole : Flow → AbstractPlant → List IdEvent
 whole f p = by_ids f p.start (past p)
 
+-- what the journal holds
 abbrev pub view : Flow → AbstractPlant → IdView
 view f p = journal f p.start (by_ids f p.start p.gone)
 
+-- closing entries of these ids
 abbrev pub shut : List ℕ → List SessionEvent
 shut [] = []
 shut (i ∷ is) = Closing i ∷ shut is
 
+-- the same by ids
 abbrev pub shut_ids : List ℕ → List IdEvent
 shut_ids [] = []
 shut_ids (i ∷ is) = Closed i ∷ shut_ids is
 
+-- a plant that was opened on this view: `cs` are the ids that are closed, `ms` the calls before
 abbrev pub made_on : IdView → List ℕ → List PlantDeed → AbstractPlant
 made_on j cs ms = record { start = j; late = shut cs; gone = []; mark = 0; kept = none_kept; calls = Halted j ∷ ms }
 
@@ -121,9 +132,11 @@ pub data PlantMove : Type 0 where
   Stop : (closings : List ℕ) → PlantMove
   Cut : PlantMove
 
+-- a plant after a cut: its history begins from what the journal holds
 abbrev pub cut_plant : Flow → AbstractPlant → AbstractPlant
 cut_plant f p = record { start = view f p; late = []; gone = []; mark = 0; kept = none_kept; calls = p.calls }
 
+-- when a small step may be made, and what it leaves
 abbrev pub PlantMoves : Flow → PlantMove → AbstractPlant → AbstractPlant → Type 0
 PlantMoves f (Take s h) p q = (recovering f p.start (whole f p) ≡ None)
     × ((id : ℕ) → serves f p.start (past p) s ≡ Some id → unfinished f (at f p.start (whole f p) id) ≡ false)
@@ -140,16 +153,19 @@ PlantMoves f (Stop cs) p q = Shuts (view f p) (shut_ids cs) × (q ≡ made_on (v
 PlantMoves f Cut p q = (p.mark ≡ length (past p)) × (recovering f p.start (whole f p) ≡ None)
     × ((s id : ℕ) → serves f p.start (past p) s ≡ Some id → unfinished f (at f p.start (whole f p) id) ≡ false) × (q ≡ cut_plant f p)
 
+-- small steps one after the other, from p to q
 abbrev pub PlantRun : Flow → List PlantMove → AbstractPlant → AbstractPlant → Type 0
 PlantRun f [] p q = q ≡ p
 PlantRun f (t ∷ ts) p q = (m : AbstractPlant) × PlantMoves f t p m × PlantRun f ts m q
 
 -- the core by ids below it
 
+-- the entries above `gone`, by the ids that they speak of
 abbrev pub over : Flow → IdView → List SessionEvent → List SessionEvent → List IdEvent
 over f v gone [] = []
 over f v gone (e ∷ l) = event_of f v (taken v (l ++ gone)) (by_ids f v (l ++ gone)) e ∷ over f v gone l
 
+-- what a plant is by ids; `kb` has the kept replies by id
 abbrev pub lower : Flow → AbstractPlant → (ℕ → Option FullReply) → AbstractCore
 lower f p kb = record { start = p.start; late = over f p.start p.gone p.late; gone = by_ids f p.start p.gone; kept = kb; calls = p.calls }
 
@@ -162,6 +178,7 @@ pub record SeatsAgree (f : Flow) (v : IdView) (es : List SessionEvent) (kept kb 
 abbrev pub AreHeld : Flow → IdView → List SessionEvent → Type 0
 AreHeld f v es = (id : ℕ) → v.next_id ≤ id → unfinished f (at f v (by_ids f v es) id) ≡ true → (s : ℕ) × (taken v es s ≡ Some id)
 
+-- what every run of small steps keeps
 abbrev pub PlantFits : Flow → AbstractPlant → Type 0
 PlantFits f p = (kb : ℕ → Option FullReply) × CoreFits f (lower f p kb) × SeatsAgree f p.start (past p) p.kept kb × (p.mark ≤ length p.gone)
     × AreHeld f p.start (past p)

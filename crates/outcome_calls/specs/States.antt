@@ -16,6 +16,7 @@ use Rattle.outcome_calls.specs.Trail.{listed, is_committing}
 use Rattle.outcome_calls.specs.One.{Decision, Undecided, ToCommit, ToAbort, DueCall, Preparation, Selection, Telling, Recovery, NoCall, FullReply, Answer, Chosen}
 use Rattle.outcome_calls.specs.One.{Advice, Restored, Standing, commits}
 
+-- where a transaction stands; `recovered` says that it is a journalled one
 pub record FullState : Type 0 where
   pub state : TxState
   -- the row of a journalled transaction, until a member was notified
@@ -32,9 +33,11 @@ Head = ℕ × List ℕ
 abbrev pub own : TxState → FullState
 own s = record { state = s; opened = None; recovered = false; restored = false }
 
+-- where a taken transaction begins
 abbrev pub begin : Flow → Head → FullState
 begin f head = own (opening f head.0 head.1)
 
+-- where one reply leads
 abbrev pub after : Flow → FullState → FullReply → FullState
 after f st (Answer b c) = record st { state = next f st.state (item.Answer b c) }
 after f st (Chosen t) = record st { state = next f st.state (item.Choice t) }
@@ -46,13 +49,16 @@ abbrev pub is_recovering : Option Part → Bool
 is_recovering None = false
 is_recovering (Some p) = p.kind.recovers
 
+-- the same by the participant's number
 abbrev pub recovers : Flow → ℕ → Bool
 recovers f p = is_recovering (slice_get (parts_of f) p)
 
+-- the call to the member that is to be notified: its recover call (`true`), or the outcome
 abbrev pub outcome_due : Bool → ℕ → DueCall
 outcome_due true p = Recovery p
 outcome_due false p = Telling p
 
+-- whether the recover call comes first: the transaction is journalled, p is recovering, and it was not made yet
 abbrev pub restores : Flow → FullState → ℕ → Bool
 restores f st p = (st.recovered && not st.restored) && recovers f p
 
@@ -66,6 +72,7 @@ seen f st (Abort p) = outcome_due (restores f st p) p
 seen f st Shelve = NoCall
 seen f st Done = NoCall
 
+-- the due call of a state
 abbrev pub due : Flow → FullState → DueCall
 due f st = seen f st (due_of f st.state)
 
@@ -95,6 +102,7 @@ standing_at f st ph ms = record {
   row = row_in st.opened (due_at f st.state ph ms) ph st.state;
 }
 
+-- the same with the state's own phase and rest
 abbrev pub standing : Flow → FullState → Standing
 standing f st = standing_at f st st.state.phase st.state.rest
 
@@ -102,6 +110,7 @@ standing f st = standing_at f st st.state.phase st.state.rest
 abbrev pub reopen : Row → FullState
 reopen r = record { state = reopening (is_committing r.phase) (listed r) r.told r.tries r.saved; opened = Some r; recovered = true; restored = false }
 
+-- the row is within the bounds of its phase
 abbrev pub PhaseFits : Row → Type 0
 PhaseFits r = IsInPhase r.phase r
 
@@ -129,12 +138,14 @@ pub record WhileTelling (ph : Phase) (st : FullState) : Type 0 where
   pub restored : st.restored ≡ true → nat_lt st.state.told (length st.state.joined) ≡ true
   pub members : length st.state.joined ≤ 1001
 
+-- the same by the phase; `ms` is what is to come
 abbrev pub StateFitsIn : Phase → List Upcoming → FullState → Type 0
 StateFitsIn Preparing ms st = WhileOpen ms st
 StateFitsIn Aborting ms st = WhileOpen ms st
 StateFitsIn Committing ms st = WhileTelling Committing st
 StateFitsIn Undoing ms st = WhileTelling Undoing st
 
+-- a state that the table leads to
 abbrev pub StateFits : FullState → Type 0
 StateFits st = StateFitsIn st.state.phase st.state.rest st
 

@@ -29,6 +29,7 @@ outcome_act true commit again = act.Recover commit
 outcome_act false true again = act.Commit again
 outcome_act false false again = act.Abort again
 
+-- the same of every due call; none where nothing is due
 abbrev pub station_act : Flow → FullState → Due → Option Act
 station_act f st (Commit p) = Some (outcome_act (restores f st p) true st.recovered)
 station_act f st (Abort p) = Some (outcome_act (restores f st p) false st.recovered)

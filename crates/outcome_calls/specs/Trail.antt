@@ -16,6 +16,7 @@ pub data Deed : Type 0 where
   Recovered : (p : ℕ) → (place : ℕ) → Deed
   Stopped : (row : Option Row) → Deed
 
+-- the answer is without NO_JOIN
 abbrev pub joins : ℕ → Bool
 joins b = not (stays_out b)
 
@@ -24,11 +25,13 @@ has_call [] = false
 has_call (Stopped row ∷ t) = has_call t
 has_call (_ ∷ t) = true
 
+-- whether anybody was notified of the commit
 abbrev pub has_commit : List Deed → Bool
 has_commit [] = false
 has_commit (Told c p n a ∷ t) = c || has_commit t
 has_commit (_ ∷ t) = has_commit t
 
+-- whether anybody was notified of the abort
 abbrev pub has_abort : List Deed → Bool
 has_abort [] = false
 has_abort (Told c p n a ∷ t) = not c || has_abort t
@@ -71,6 +74,7 @@ last_told n [] = None
 last_told n (Told c p m a ∷ t) = if m == n then Some a else last_told n t
 last_told n (_ ∷ t) = last_told n t
 
+-- whether a row of this phase and this `told` does not say that the member at place n was notified
 abbrev pub untold_in : Phase → ℕ → ℕ → Bool
 untold_in Preparing told n = true
 untold_in Aborting told n = true
@@ -113,6 +117,7 @@ InOrder (Told c p n a ∷ t) = (may_tell n t ≡ true) × InOrder t
 InOrder (Recovered p n ∷ t) = (may_recover n t ≡ true) × InOrder t
 InOrder (Stopped row ∷ t) = InOrder t
 
+-- how often p is among these
 abbrev pub count : ℕ → List ℕ → ℕ
 count p [] = 0
 count p (q ∷ qs) = if q == p then count p qs + 1 else count p qs

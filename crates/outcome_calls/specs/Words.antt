@@ -16,6 +16,7 @@ has_stop [] = false
 has_stop (Stopped row ∷ t) = true
 has_stop (_ ∷ t) = has_stop t
 
+-- a preparation or a selection
 abbrev pub is_open_call : Deed → Bool
 is_open_call (Answered p b) = true
 is_open_call (Chose p) = true

@@ -18,6 +18,7 @@ abbrev pub call_or : ℕ → Bool → Due → Option (ℕ × Bool) → Option Ca
 call_or id recovering d (Some r) = Some (record { id = id; participant = r.0; act = act.Recover r.1 })
 call_or id recovering d None = call_of id recovering d
 
+-- the call that is due to the transaction, if one is
 abbrev pub due_call : Flow → Start → List Event → ℕ → Option Call
 due_call f v past id = call_or id (nat_lt id v.view.next_id) (due_of f (state_of f v past id)) (restores f v past id)
 

@@ -26,6 +26,7 @@ abbrev pub advice_at : ℕ × ℕ → List ((ℕ × ℕ) × List ℕ) → Option
 advice_at place [] = None
 advice_at place (x ∷ xs) = if same_place x.0 place then Some x.1 else advice_at place xs
 
+-- the view by look-up
 abbrev pub id_view : Flow → JournalView → IdView
 id_view f w = record { next_id = w.next_id; row = λ id. option_map (numbered f) (look id w.rows); advice = λ id n. advice_at (id, n) w.advices }
 

@@ -72,6 +72,7 @@ abbrev pub taken_at : Bool → TxState → Option FullState
 taken_at true st = Some (own st)
 taken_at false st = None
 
+-- where a transaction stands, whether journalled or of this life
 abbrev pub full_state : Flow → Start → List Event → ℕ → Option FullState
 full_state f v past id =
     if nat_lt id v.view.next_id then journalled f (look id v.view.rows) (is_closed past id) (own_items f v past id) (restored f v past id)

@@ -17,6 +17,7 @@ use Rattle.tx_plant.specs.Steps.{Moved}
 abbrev pub deed_at : Call → Option ℕ → Reply → Option Deed
 deed_at call place reply = deed_of call.act call.participant (unwrap_or place 0) reply
 
+-- this deed of the transaction, if there is one
 abbrev pub called : ℕ → Option Deed → List PlantDeed
 called id None = []
 called id (Some d) = Called id d ∷ []
@@ -33,6 +34,7 @@ abbrev pub kept_in : Seat → Option Reply → Option FullReply
 kept_in l None = None
 kept_in l (Some r) = Some (with_context r (bytes_of l.context))
 
+-- the same of what a session holds
 abbrev pub kept_reply : Option Seat → Option FullReply
 kept_reply None = None
 kept_reply (Some l) = kept_in l l.kept

@@ -74,6 +74,7 @@ pub record Life : Type 0 where
   pub moves : List Moved
   pub last : Whole
 
+-- the plant was made and driven so, and the disk returned what was written
 pub record IsLife (f : Flow) (l : Life) : Type 0 where
   pub made : IsMade f l.sessions l.view l.found l.first
   pub driven : AllDriven l.drives l.moves l.first l.last

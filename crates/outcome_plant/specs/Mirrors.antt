@@ -36,5 +36,6 @@ pub record Mirrors (w : World) (seat : ℕ → Option Seat) (j : Seen) (a : Abst
   pub tables : IsClean j → j.failed ≡ false → Holds j.tables w.flow w.start done
   pub fits : PlantFits w.flow a
 
+-- the same of a whole plant
 abbrev pub StandsFor : AbstractPlant → Whole → Type 0
 StandsFor a p = Mirrors p.core.world (seat_of p.core) p.journal a

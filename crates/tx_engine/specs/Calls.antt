@@ -33,6 +33,7 @@ use Rattle.tx_history.specs.declared.event.Event.TheVariants.{Taken}
 abbrev pub is_full : World → Bool
 is_full w = nat_le 1048576 (length w.past)
 
+-- no session has this number
 abbrev pub no_session : World → ℕ → Bool
 no_session w s = nat_le w.sessions s
 
@@ -40,6 +41,7 @@ no_session w s = nat_le w.sessions s
 abbrev pub held_id : World → ℕ → Option ℕ
 held_id w s = holds w.flow w.start w.past s
 
+-- the contexts in the queue
 abbrev pub waits : World → List WaitingContext
 waits w = queue w.flow w.start w.past
 
@@ -51,6 +53,7 @@ due_call w id = call_with id (nat_lt id w.start.view.next_id) (due_of w.flow (st
 abbrev pub is_unwritten : World → ℕ → Bool
 is_unwritten w id = nat_lt w.mark (last_of w.flow w.start w.past id)
 
+-- what a session is to do that holds this transaction, if any
 abbrev pub next_in : World → ℕ → Option ℕ → Next
 next_in w s None = next.Idle
 next_in w s (Some id) = next_by (is_unwritten w id) (is_held_at w.flow w.start w.past s (Some id)) (due_call w id)
@@ -144,6 +147,7 @@ abbrev pub marked_unless : Option EngineError → World → ℕ → World
 marked_unless None w n = record w { mark = n }
 marked_unless (Some e) w n = w
 
+-- the engine after a call that sets the mark
 abbrev pub after_mark : World → ℕ → World
 after_mark w n = marked_unless (mark_refusal w n) w n
 
@@ -159,6 +163,7 @@ next_refusal w s = refused_if (no_session w s) error.NoSession
 abbrev pub unfinished_in : Flow → (ℕ → List Item) → List (ℕ × Row) → List (ℕ × Row)
 unfinished_in f items rows = filter (λ (r : ℕ × Row). not (is_ended f (after_newest f (reopened f r.1) (items r.0)))) rows
 
+-- the places of the entries to come of this transaction, if there is one
 abbrev pub rest_in : World → Option ℕ → List (ℕ × ℕ)
 rest_in w None = []
 rest_in w (Some id) = places_of (state_of w.flow w.start w.past id).rest
@@ -171,6 +176,7 @@ rest_of w s = if no_session w s then [] else rest_in w (held_id w s)
 abbrev pub unfinished : World → ℕ
 unfinished w = length (unfinished_in w.flow (own_items w.flow w.start w.past) w.start.view.rows)
 
+-- this transaction, if there is one, and its saved context
 abbrev pub saved_in : World → Option ℕ → Option (ℕ × List ℕ)
 saved_in w None = None
 saved_in w (Some id) = Some (id, (state_of w.flow w.start w.past id).saved)
@@ -179,6 +185,7 @@ saved_in w (Some id) = Some (id, (state_of w.flow w.start w.past id).saved)
 abbrev pub saved_of : World → ℕ → Option (ℕ × List ℕ)
 saved_of w s = saved_in w (held_id w s)
 
+-- where this transaction stands, if there is one, and its due call
 abbrev pub at_in : World → Option ℕ → Option At
 at_in w None = None
 at_in w (Some id) = at_call (due_call w id) (state_of w.flow w.start w.past id).phase (spot_of (due_of w.flow (state_of w.flow w.start w.past id))) id

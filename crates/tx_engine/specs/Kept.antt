@@ -30,6 +30,7 @@ pub record HoldIs (f : Flow) (v : Start) (past : List Event) (s : ℕ) (h : Hold
   pub last : h.last ≡ last_of f v past h.id
   pub gone : h.let_go ≡ is_let_go past s
 
+-- what the session holds, or that it holds nothing
 abbrev pub SlotIs : Flow → Start → List Event → ℕ → Slot → Type 0
 SlotIs f v past s Free = going_on f (session_state f v past s) ≡ None
 SlotIs f v past s (Holding h) = HoldIs f v past s h
@@ -38,6 +39,7 @@ SlotIs f v past s (Holding h) = HoldIs f v past s h
 abbrev pub past_of : List Entry → List Event
 past_of es = reverse (map (λ e. e.event) es)
 
+-- what contracts see of an engine with these entries, the oldest first
 abbrev pub world : Flow → ℕ → Start → List Entry → ℕ → ℕ → World
 world f n v es mark reserved = record { flow = f; sessions = n; start = v; past = past_of es; mark = mark; reserved = reserved }
 

@@ -44,6 +44,7 @@ unknown_of f (r ∷ rows) = or_else (unknown_in f r.0 (to_tell r.1 r.1.doing)) (
 abbrev pub are_bad_sessions : ℕ → Bool
 are_bad_sessions n = nat_lt n 1 || nat_lt 16 n
 
+-- why an opening is refused, memory aside
 abbrev pub open_refusal : Flow → JournalView → ℕ → Option EngineError
 open_refusal f j n = first_of (refused_if (are_bad_sessions n) BadSessions ∷ unknown_of f j.rows ∷ [])
 
@@ -57,6 +58,7 @@ abbrev pub IsAfterSessions : ℕ → EngineError → Type 0
 IsAfterSessions n OutOfMemory = are_bad_sessions n ≡ false
 IsAfterSessions n e = ⊤
 
+-- the same of the answer of an opening
 abbrev pub RefusesOpen : Option EngineError → Result (Unit {0}) EngineError → Type 0
 RefusesOpen refusal (Ok u) = refusal ≡ None
 RefusesOpen refusal (Err e) = IsOpenRefusal refusal e

@@ -14,6 +14,7 @@ pub record World : Type 0 where
   pub mark : ℕ
   pub reserved : ℕ
 
+-- the engine with this event as its newest entry
 abbrev pub happened : World → Event → World
 happened w e = record w { past = e ∷ w.past }
 

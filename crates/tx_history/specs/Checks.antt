@@ -11,6 +11,7 @@ abbrev pub rises : {A : Type 0} → ℕ → ℕ → List (ℕ × A) → Bool
 rises n m [] = nat_le n m
 rises n m (x ∷ xs) = (nat_le n x.0 && nat_lt x.0 m) && rises (x.0 + 1) m xs
 
+-- no id with a row is on the shelf
 abbrev pub are_apart : List (ℕ × Row) → List (ℕ × WaitingContext) → Bool
 are_apart [] shelf = true
 are_apart (r ∷ rows) shelf = not (is_some (look r.0 shelf)) && are_apart rows shelf
@@ -21,6 +22,7 @@ counts_fit r =
     if is_open r.phase then (r.told == 0) && nat_le (length r.joined) 1000
     else (is_none r.doing && nat_lt r.told (length r.joined)) && nat_le (length r.joined) 1001
 
+-- the id is from 1 on and below n, and the member at most 1,000
 abbrev pub place_fits : ℕ → ℕ × ℕ → Bool
 place_fits n place = (nat_le 1 place.0 && nat_lt place.0 n) && nat_le place.1 1000
 
@@ -29,6 +31,7 @@ abbrev pub follows : Option (ℕ × ℕ) → ℕ × ℕ → Bool
 follows None place = true
 follows (Some before) place = place_lt before place
 
+-- the places fit, and each is above the one before it
 abbrev pub places_rise : Option (ℕ × ℕ) → ℕ → List ((ℕ × ℕ) × List ℕ) → Bool
 places_rise before n [] = true
 places_rise before n (x ∷ xs) = (follows before x.0 && place_fits n x.0) && places_rise (Some x.0) n xs

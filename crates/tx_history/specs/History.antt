@@ -27,9 +27,11 @@ pub record Start : Type 0 where
   pub queue : List WaitingContext
   pub breaks : List ℕ
 
+-- a participant's name by its number; empty where the flow has none of this number
 abbrev pub name_of : Flow → ℕ → List ℕ
 name_of f p = option_map_or (λ (x : Part). x.name) (slice_get (parts_of f) p) []
 
+-- its number by its name; how many there are where the flow has none of this name
 abbrev pub number_of : Flow → List ℕ → ℕ
 number_of f name = number_in (parts_of f) name
 
@@ -67,19 +69,23 @@ is_committing _ = false
 abbrev pub reopened : Flow → Row → TxState
 reopened f r = reopening (is_committing r.phase) (map (number_of f) (to_tell r r.doing)) r.told r.tries r.context
 
+-- the state where there is no such transaction: nothing to come, and nobody to notify
 abbrev pub no_state : TxState
 no_state = reopening false [] 0 0 []
 
+-- where a journalled transaction begins, by its row, if it has one
 abbrev pub reopened_at : Flow → Option Row → TxState
 reopened_at f None = no_state
 reopened_at f (Some r) = reopened f r
 
+-- where a taken transaction begins, by what it waited with
 abbrev pub begun : Flow → Option WaitingContext → TxState
 begun f None = no_state
 begun f (Some w) = opening f w.tries w.context
 
 -- takes
 
+-- how many takes there were
 abbrev pub takes : List Event → ℕ
 takes [] = 0
 takes (Taken s ∷ past) = takes past + 1
@@ -95,14 +101,17 @@ taken v [] s = None
 taken v (Taken t ∷ past) s = if t == s then Some (next_id v past) else taken v past s
 taken v (_ ∷ past) s = taken v past s
 
+-- there is an id, and it is this one
 abbrev pub is_id : Option ℕ → ℕ → Bool
 is_id None id = false
 is_id (Some k) id = k == id
 
+-- the id of the first of these rows whose transaction has not ended, by the items of each id
 abbrev pub first_unfinished : Flow → List (ℕ × Row) → (ℕ → List Item) → Option ℕ
 first_unfinished f [] items = None
 first_unfinished f (r ∷ rows) items = if is_ended f (after_newest f (reopened f r.1) (items r.0)) then first_unfinished f rows items else Some r.0
 
+-- the first id, or the second where there is none
 abbrev pub or_taken : Option ℕ → Option ℕ → Option ℕ
 or_taken None o = o
 or_taken (Some id) o = Some id
@@ -120,6 +129,7 @@ own_items f v (Chose s t ∷ past) id = if is_id (serves_by f v past s (own_item
 own_items f v (Told s a ∷ past) id = if is_id (serves_by f v past s (own_items f v past)) id then ToldOne a ∷ own_items f v past id else own_items f v past id
 own_items f v (_ ∷ past) id = own_items f v past id
 
+-- whom the session serves, by the own items of each transaction
 abbrev pub serves : Flow → Start → List Event → ℕ → Option ℕ
 serves f v past s = serves_by f v past s (own_items f v past)
 
@@ -140,11 +150,13 @@ is_fresh f v (_ ∷ past) id = is_fresh f v past id
 abbrev pub first : Flow → Start → List WaitingContext → ℕ → TxState
 first f v arrived id = if nat_lt id v.view.next_id then reopened_at f (look id v.view.rows) else begun f (slice_get arrived (id - v.view.next_id))
 
+-- where it stands after its own items, given what arrived so far
 abbrev pub state_with : Flow → Start → List WaitingContext → List Event → ℕ → TxState
 state_with f v arrived past id = after_newest f (first f v arrived id) (own_items f v past id)
 
 -- queue and shelf
 
+-- what the shelf keeps of a transaction that is to be shelved and had an item since the last release: one try fewer
 abbrev pub shelved_in : Due → Bool → TxState → Option WaitingContext
 shelved_in Shelve true st = Some (record { tries = st.tries - 1; context = st.saved })
 shelved_in _ _ st = None
@@ -153,11 +165,13 @@ shelved_in _ _ st = None
 abbrev pub shelved : Flow → TxState → Bool → Option WaitingContext
 shelved f st fresh = shelved_in (due_of f st) fresh st
 
+-- whether the shelf was released at any time
 abbrev pub is_released : List Event → Bool
 is_released [] = false
 is_released (Released ∷ past) = true
 is_released (_ ∷ past) = is_released past
 
+-- what the shelf has under an id; below the view's next id it is what the view's shelf has there, until a release
 abbrev pub shelved_at : Flow → Start → List WaitingContext → List Event → ℕ → Option WaitingContext
 shelved_at f v arrived past id =
     if nat_lt id v.view.next_id then (if is_released past then None else look id v.view.shelf)
@@ -167,6 +181,7 @@ shelved_at f v arrived past id =
 abbrev pub ids : Start → List Event → ℕ
 ids v past = next_id v past - 1
 
+-- the whole shelf, ids rising, given what arrived so far
 abbrev pub shelf_of : Flow → Start → List WaitingContext → List Event → List (ℕ × WaitingContext)
 shelf_of f v arrived past = gather (shelved_at f v arrived past) 1 (ids v past)
 
@@ -185,14 +200,17 @@ queue f v past = drop (takes past) (arrivals f v past)
 abbrev pub state_of : Flow → Start → List Event → ℕ → TxState
 state_of f v past id = state_with f v (arrivals f v past) past id
 
+-- the aborted transactions that wait to be tried again, each under its id
 abbrev pub shelf : Flow → Start → List Event → List (ℕ × WaitingContext)
 shelf f v past = shelf_of f v (arrivals f v past) past
 
 -- sessions
 
+-- the id, while its transaction is unfinished in this state
 abbrev pub unless_ended : Flow → TxState → ℕ → Option ℕ
 unless_ended f st id = if is_ended f st then None else Some id
 
+-- the same of the transaction that a session serves, if any
 abbrev pub held_of : Flow → Start → List Event → Option ℕ → Option ℕ
 held_of f v past None = None
 held_of f v past (Some id) = unless_ended f (state_of f v past id) id
@@ -214,6 +232,7 @@ outcome_of (Commit p) = Some (p, true)
 outcome_of (Abort p) = Some (p, false)
 outcome_of _ = None
 
+-- the same, if that member's participant restores contexts
 abbrev pub marked : Flow → Option (ℕ × Bool) → Option (ℕ × Bool)
 marked f None = None
 marked f (Some call) = if recovers f call.0 then Some call else None
@@ -246,10 +265,12 @@ is_let_go (Told t a ∷ past) s = not (t == s) && is_let_go past s
 is_let_go (Recovered t c ∷ past) s = not (t == s) && is_let_go past s
 is_let_go (_ ∷ past) s = is_let_go past s
 
+-- whether the participant of a due call, if there is one, has a breakpoint
 abbrev pub on_break : Start → List Event → Option ℕ → Bool
 on_break v past None = false
 on_break v past (Some p) = has_break v past p
 
+-- whether the session's due call is held, by the id of what it holds
 abbrev pub is_held_at : Flow → Start → List Event → ℕ → Option ℕ → Bool
 is_held_at f v past s None = false
 is_held_at f v past s (Some id) = on_break v past (participant_of (due_of f (state_of f v past id))) && not (is_let_go past s)
@@ -270,6 +291,7 @@ last_of f v (_ ∷ past) id = last_of f v past id
 
 -- advices
 
+-- a transaction's id with the place of the member that it notifies next
 abbrev pub place_in : Flow → Start → List Event → Option ℕ → Option (ℕ × ℕ)
 place_in f v past None = None
 place_in f v past (Some id) = Some (id, (state_of f v past id).told)
@@ -278,6 +300,7 @@ place_in f v past (Some id) = Some (id, (state_of f v past id).told)
 abbrev pub advice_place : Flow → Start → List Event → ℕ → Option (ℕ × ℕ)
 advice_place f v past s = place_in f v past (serves f v past s)
 
+-- what a told puts among the advices under this place: nothing where it gave none
 abbrev pub put_advice : Option (ℕ × ℕ) → Option (List ℕ) → Option ((ℕ × ℕ) × Option (List ℕ))
 put_advice None a = None
 put_advice (Some key) None = None

@@ -36,6 +36,7 @@ named_row f r = record {
 abbrev pub row : Flow → TxState → Option Row
 row f st = option_map (named_row f) (row_of f st)
 
+-- whether the journalled transaction was closed, because it had nobody to notify
 abbrev pub is_closed : List Event → ℕ → Bool
 is_closed [] id = false
 is_closed (Closed k ∷ past) id = (k == id) || is_closed past id
@@ -46,16 +47,19 @@ abbrev pub row_since : Flow → Row → List Item → Option Row
 row_since f r [] = Some r
 row_since f r (x ∷ xs) = row f (after_newest f (reopened f r) (x ∷ xs))
 
+-- the row now of a journalled transaction, by the row that it had, if any, and whether it was closed
 abbrev pub old_row : Flow → Option Row → Bool → List Item → Option Row
 old_row f None closed items = None
 old_row f (Some r) true items = None
 old_row f (Some r) false items = row_since f r items
 
+-- the row under an id
 abbrev pub row_at : Flow → Start → List Event → ℕ → Option Row
 row_at f v past id =
     if nat_lt id v.view.next_id then old_row f (look id v.view.rows) (is_closed past id) (own_items f v past id)
     else row f (state_of f v past id)
 
+-- the stored advices, each under its transaction's id and its member's place
 abbrev pub advices : Flow → Start → List Event → List ((ℕ × ℕ) × List ℕ)
 advices f v [] = v.view.advices
 advices f v (Told s a ∷ past) = put_place (put_advice (advice_place f v past s) a) (advices f v past)
@@ -85,6 +89,7 @@ applied change j =
 abbrev pub no_change : Change
 no_change = record { next_id = None; row = None; shelved = None; emptied = false; advice = None }
 
+-- what a change puts on the shelf under this id
 abbrev pub shelved_change : ℕ → Option WaitingContext → Option (ℕ × WaitingContext)
 shelved_change id None = None
 shelved_change id (Some w) = Some (id, w)
@@ -137,6 +142,7 @@ to_close f (r ∷ rows) = if is_ended f (reopened f r.1) then r.0 ∷ to_close f
 abbrev pub GivesItem : Flow → Start → List Event → ℕ → Item → Type 0
 GivesItem f v past s x = (id : ℕ) × (holds f v past s ≡ Some id) × (is_due (state_of f v past id) x ≡ true) × (restores f v past id ≡ None)
 
+-- each event's condition, by the events before it
 abbrev pub IsAccepted : Flow → Start → List Event → Event → Type 0
 IsAccepted f v past (Offered c) = Unit {0}
 IsAccepted f v past (Taken s) = (recovering f v past ≡ None) × (holds f v past s ≡ None) × (takes past < length (arrivals f v past))
@@ -152,6 +158,7 @@ IsAccepted f v past (Cleared p) = p < length (parts_of f)
 IsAccepted f v past (LetGo s) = is_held f v past s ≡ true
 IsAccepted f v past (Closed id) = slice_get (to_close f v.view.rows) (length past) ≡ Some id
 
+-- whether it is a closing entry
 abbrev pub closes : Event → Bool
 closes (Closed id) = true
 closes _ = false

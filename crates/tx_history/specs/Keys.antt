@@ -22,6 +22,7 @@ look id (x ∷ xs) = if x.0 == id then Some x.1 else look id xs
 abbrev pub put_by : {K A : Type 0} → (K → K → Bool) → K → Option A → List (K × A) → List (K × A)
 put_by lt key x xs = filter (λ p. lt p.0 key) xs ++ keyed key x ++ filter (λ p. lt key p.0) xs
 
+-- the same with a number as the key
 abbrev pub put_at : {A : Type 0} → ℕ → Option A → List (ℕ × A) → List (ℕ × A)
 put_at id x xs = put_by nat_lt id x xs
 
@@ -46,10 +47,12 @@ abbrev pub put_some : {A : Type 0} → Option (ℕ × Option A) → List (ℕ ×
 put_some None xs = xs
 put_some (Some change) xs = put_at change.0 change.1 xs
 
+-- the same where a change never drops what stands there
 abbrev pub put_new : {A : Type 0} → Option (ℕ × A) → List (ℕ × A) → List (ℕ × A)
 put_new None xs = xs
 put_new (Some change) xs = put_at change.0 (Some change.1) xs
 
+-- and with a member's place as the key
 abbrev pub put_place : {A : Type 0} → Option ((ℕ × ℕ) × Option A) → List ((ℕ × ℕ) × A) → List ((ℕ × ℕ) × A)
 put_place None xs = xs
 put_place (Some change) xs = put_by place_lt change.0 change.1 xs

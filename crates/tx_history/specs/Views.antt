@@ -28,6 +28,7 @@ pub record IsOrdered (v : JournalView) : Type 0 where
 abbrev pub IsNamed : List ℕ → Type 0
 IsNamed name = IsTrue (is_name name)
 
+-- a row's `doing`: nothing, or a name
 abbrev pub IsDoing : Option (List ℕ) → Type 0
 IsDoing None = Unit {0}
 IsDoing (Some name) = IsNamed name
@@ -49,6 +50,7 @@ abbrev pub AllUnder : {A : Type 0} → (A → Type 0) → List (ℕ × A) → Ty
 AllUnder P [] = Unit {0}
 AllUnder P (x ∷ xs) = P x.1 × AllUnder P xs
 
+-- a context that may wait in the queue or on the shelf
 pub record WaitingFits (w : WaitingContext) : Type 0 where
   pub tries : w.tries ≤ 100
   pub context : IsSpelled w.context
@@ -76,6 +78,7 @@ pub record FlowFits (f : Flow) : Type 0 where
 abbrev pub Knows : Flow → JournalView → Type 0
 Knows f v = (id : ℕ) (r : Row) → look id v.rows ≡ Some r → All (λ n. number_of f n < length (parts_of f)) (to_tell r r.doing)
 
+-- a start from which an engine of this flow may have a history
 pub record StartFits (f : Flow) (v : Start) : Type 0 where
   pub view : IsOk v.view
   pub queue : All WaitingFits v.queue
@@ -91,6 +94,7 @@ abbrev pub AreItems : List Item → Type 0
 AreItems [] = Unit {0}
 AreItems (x ∷ xs) = IsItem x × AreItems xs
 
+-- the same of the contexts of events
 abbrev pub AreSpelled : List Event → Type 0
 AreSpelled [] = Unit {0}
 AreSpelled (Offered c ∷ past) = IsSpelled c × AreSpelled past

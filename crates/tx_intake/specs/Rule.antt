@@ -14,6 +14,7 @@ abbrev pub Fits : ℕ → ℕ → Offers → Offers → ℕ → Side → Type 0
 Fits putter getter put got pass v =
     (v.puts ≡ true → (pass ≡ putter) × (v.put ≡ put)) × (v.gets ≡ true → (pass ≡ getter) × (v.got ≡ got))
 
+-- the rule, by what the intake holds and by what each pass may do and knows
 abbrev pub Passed : Offers → List Side → Type 0
 Passed held views = (putter : ℕ) × (getter : ℕ) × (put : Offers) × (got : Offers) × (put ≡ got ++ held)
     × ((pass : ℕ) (v : Side) → get_elem? views pass ≡ some v → Fits putter getter put got pass v) × (length held ≤ 4096)

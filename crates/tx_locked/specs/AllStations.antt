@@ -5,6 +5,7 @@ use Rattle.sw_participant.specs.Callers.{Within}
 use Rattle.tx_locked.specs.declared.station.MadeCall.{MadeCall}
 use Rattle.tx_locked.specs.Linked.{Linked, count_up}
 
+-- the call is one of this station
 abbrev pub is_at : ℕ → MadeCall → Bool
 is_at k m = m.call.participant == k
 
@@ -12,6 +13,7 @@ is_at k m = m.call.participant == k
 abbrev pub calls_at : ℕ → List MadeCall → List MadeCall
 calls_at k ms = filter (is_at k) ms
 
+-- each call is one of the first n stations
 abbrev pub AllThere : ℕ → List MadeCall → Type 0
 AllThere n [] = ⊤
 AllThere n (m ∷ ms) = (m.call.participant < n) × AllThere n ms
@@ -51,6 +53,7 @@ pub record IsReady (rule own : Rule) (o p : List ℕ) (c d : ℕ) (n name : List
   pub count : d ≡ c
   pub named : name ≡ n
 
+-- so is each of these stations, in this order
 abbrev pub AreReady : {S : Type 0} → (ℕ → Rule) → List (List ℕ) → List ℕ → List (List ℕ) → (S → Rule) → (S → List ℕ) → (S → ℕ) → (S → List ℕ) → List S → Type 0
 AreReady {S} rule os cs ns own object count name stations =
     (k : ℕ) (s : S) → slice_get stations k ≡ Some s → IsReady (rule k) (own s) (get_or os k []) (object s) (get_or cs k 0) (count s) (get_or ns k []) (name s)

@@ -27,6 +27,7 @@ pub record WasKept (start : Core) (f : Finished) : Type 0 where
   pub since : Since start now got total made
   pub kept : find f.id now.ended ≡ Some f.context
 
+-- so had each of these
 abbrev pub WereKept : Core → List Finished → Type 0
 WereKept start [] = ⊤
 WereKept start (f ∷ fs) = WasKept start f × WereKept start fs

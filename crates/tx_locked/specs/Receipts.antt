@@ -8,6 +8,7 @@ use Rattle.tx_history.specs.declared.event.Entry.{Entry}
 use Rattle.tx_history.specs.Journal.{entries}
 use Rattle.tx_engine.specs.World.{World}
 
+-- all entries of an engine's history, the oldest first
 abbrev pub all_of : World → List Entry
 all_of w = entries w.flow w.start w.past
 
@@ -24,6 +25,7 @@ is_own_event s (event.Told t advice) = t == s
 is_own_event s (event.Recovered t context) = t == s
 is_own_event s _ = false
 
+-- the entry's event is one
 abbrev pub is_own : ℕ → Entry → Bool
 is_own s e = is_own_event s e.event
 

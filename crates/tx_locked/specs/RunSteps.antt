@@ -27,6 +27,7 @@ pub record Marks (b : List Entry) (p q : Core) : Type 0 where
   pub few : length b ≤ length (late p.world)
   pub core : q ≡ record p { world = record p.world { mark = p.world.mark + length b } }
 
+-- what such a step did to the core
 abbrev pub Does : RunStep → Core → Core → Type 0
 Does (Offers b n) p q =
     (offer_refusal p.world ≡ None) × Recorded p.world (event.Offered b) n q.world × (q ≡ record p { world = q.world })

@@ -13,6 +13,7 @@ pub record Since (start now : Core) (got : List (List ℕ)) (total : ℕ) (made 
   pub counts : given_of steps ≡ total
   pub calls : calls_of steps ≡ made
 
+-- what contracts see of what is under the lock
 pub record LockedSeen : Type 0 where
   pub core : Core
   pub got : List (List ℕ)

@@ -11,6 +11,7 @@ use Rattle.tx_machine.specs.declared.error.MachineError.TheVariants.{NotDue}
 use Rattle.tx_machine.specs.Position.{IsStackFrame, rest_of}
 use Rattle.tx_machine.specs.Table.{TxState, is_due, next}
 
+-- the state that a machine represents
 abbrev pub state : Flow → Machine → TxState
 state f m = record {
   phase = m.phase;

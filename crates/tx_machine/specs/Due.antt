@@ -25,6 +25,7 @@ select_spot f s = record { step = call_step f s.group s.index + 1; group = s.gro
 abbrev pub end_by : Bool → ℕ → Due
 end_by retry tries = if retry && nat_lt 0 tries then due.Shelve else due.Done
 
+-- what is due in this phase, with this still to come
 abbrev pub due_at : Flow → TxState → Phase → List Upcoming → Due
 due_at f s Preparing [] = due.Done
 due_at f s Preparing (Prepare e ∷ tail) = due.Prepare (spot_of f e)
@@ -58,6 +59,7 @@ act_of recovering (due.Abort p) = Some (act.Abort recovering)
 act_of recovering due.Shelve = None
 act_of recovering due.Done = None
 
+-- the call of the transaction `id`, where there are a participant and an act
 abbrev pub call_by : ℕ → Option ℕ → Option Act → Option Call
 call_by id (Some p) (Some a) = Some (record { id = id; participant = p; act = a })
 call_by id _ _ = None

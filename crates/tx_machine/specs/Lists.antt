@@ -55,6 +55,7 @@ joined_in f s (Answer b d ∷ xs) = (if stays_out b then [] else preparing s.res
 joined_in f s (Choice t ∷ xs) = joined_in f (next f s (Choice t)) xs
 joined_in f s (Told a ∷ xs) = joined_in f (next f s (Told a)) xs
 
+-- what a whole list of items leads to
 pub record IsWhole (f : Flow) (s : TxState) (xs : List Item) : Type 0 where
   pub saved : (after f s xs).saved ≡ saved_in s.saved xs
   pub told : (after f s xs).told ≡ s.told + told_in xs

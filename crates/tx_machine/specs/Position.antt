@@ -58,6 +58,7 @@ abbrev pub stack_upcoming : Flow → List StackFrame → List Upcoming
 stack_upcoming f [] = []
 stack_upcoming f (frame ∷ above) = stack_upcoming f above ++ frame_upcoming f frame
 
+-- all that is to come at a step with this stack
 abbrev pub rest_of : Flow → ℕ → List StackFrame → List Upcoming
 rest_of f step stack = upcoming_at f step ++ stack_upcoming f stack
 
@@ -68,6 +69,7 @@ left_from (AtCall s ∷ xs) = left_from xs + 1
 left_from (AtPick s ∷ xs) = left_from xs + 1
 left_from (AtReturn ∷ xs) = 1
 
+-- the same at a step of the flow, and below of groups, of a frame and of a stack
 abbrev pub left_at : Flow → ℕ → ℕ
 left_at f step = left_from (drop step (stages f))
 

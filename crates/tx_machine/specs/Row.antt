@@ -54,6 +54,7 @@ IsInPhase Aborting r = (r.told ≡ 0) × (length r.joined ≤ 1000)
 IsInPhase Committing r = (r.told < length r.joined) × (r.doing ≡ None) × (length r.joined ≤ 1001)
 IsInPhase Undoing r = (r.told < length r.joined) × (r.doing ≡ None) × (length r.joined ≤ 1001)
 
+-- a row that a transaction of this flow may have
 pub record IsRow (f : Flow) (r : Row) : Type 0 where
   pub phase : IsInPhase r.phase r
   pub members : All (λ p. p < length (parts_of f)) r.joined

@@ -137,12 +137,15 @@ retry_after Aborting b r = r
 retry_after Committing b r = r
 retry_after Undoing b r = r
 
+-- the members after this answer of participant p: it joins unless the answer has NO_JOIN
 abbrev pub joined_after : ℕ → ℕ → List ℕ → List ℕ
 joined_after b p joined = if stays_out b then joined else joined ++ p ∷ []
 
+-- the saved context after this answer: the answer's own, unless it has READONLY
 abbrev pub saved_after : ℕ → List ℕ → List ℕ → List ℕ
 saved_after b context saved = if is_readonly b then saved else context
 
+-- an answer, and below a choice, by what is to come
 abbrev pub answered_at : TxState → ℕ → List ℕ → List Upcoming → TxState
 answered_at s b c [] = s
 answered_at s b c (Select e ∷ tail) = s

@@ -15,6 +15,7 @@ pub data Drive : Type 0 where
   Broken : (turns : List Turn) → (fault : DriveFault) → Drive
   TookEnded : Drive
 
+-- what such a call did, from one plant to the next
 abbrev pub DrivenBy : Drive → List Moved → Whole → Whole → Type 0
 DrivenBy (Done turns outcomes) m p q = Driven turns outcomes m p q
 DrivenBy (Broken turns fault) m p q = Faulted turns fault m p q

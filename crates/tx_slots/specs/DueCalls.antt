@@ -20,16 +20,19 @@ use Rattle.tx_slots.specs.declared.next.ReplyKind.TheVariants as kind
 abbrev pub restored_by : Flow → Due → Option (ℕ × Bool)
 restored_by f d = marked f (outcome_of d)
 
+-- the call that is due: this `recover` call, or else the one that the table gives
 abbrev pub call_with : ℕ → Bool → Due → Option (ℕ × Bool) → Option Call
 call_with id recovering d (Some r) = Some (record { id = id; participant = r.0; act = act.Recover r.1 })
 call_with id recovering d None = call_of id recovering d
 
+-- what a session is to do, by whether what was due before is unwritten, whether the call is held, and the call
 abbrev pub next_by : Bool → Bool → Option Call → Next
 next_by unwritten held None = next.Idle
 next_by true held (Some call) = next.Unwritten
 next_by false true (Some call) = next.Held call
 next_by false false (Some call) = next.Due call
 
+-- whether a reply of this kind is one to a call of this act
 abbrev pub asks_for : ReplyKind → Act → Bool
 asks_for kind.Answer act.Prepare = true
 asks_for kind.Answer act.PrepareForAbort = true
@@ -56,6 +59,7 @@ spot_of (due.Abort p) = None
 spot_of due.Shelve = None
 spot_of due.Done = None
 
+-- where a transaction stands, by its due call: none if none is due
 abbrev pub at_call : Option Call → Phase → Option Spot → ℕ → Option At
 at_call None phase spot id = None
 at_call (Some call) phase spot id = Some (record { id = id; phase = phase; call = call; spot = spot })

@@ -35,6 +35,7 @@ pub record IsReopened (f : Flow) (r : ℕ × Row) (h : Hold) : Type 0 where
   pub last : h.last ≡ 0
   pub let_go : h.let_go ≡ false
 
+-- the slot of such a transaction, free if there is none
 abbrev pub IsSlotOfRow : Flow → Option (ℕ × Row) → Slot → Type 0
 IsSlotOfRow f None Free = Unit {0}
 IsSlotOfRow f (Some r) (Holding h) = IsReopened f r h
@@ -44,6 +45,7 @@ IsSlotOfRow f _ _ = ⊥
 abbrev pub IsNextSlot : Flow → List (ℕ × Row) → ℕ → Slot → Type 0
 IsNextSlot f rows id x = IsSlotOfRow f (next_row f rows id) x
 
+-- that slot (`true`), or the slot of the transaction `id` itself, with machine m after entry `number`
 abbrev pub SlotBy : Bool → Flow → List (ℕ × Row) → ℕ → Machine → ℕ → Slot → Type 0
 SlotBy true f rows id m number x = IsNextSlot f rows id x
 SlotBy false f rows id m number x = x ≡ slot_of f m id number

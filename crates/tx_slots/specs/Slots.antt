@@ -35,6 +35,7 @@ flag_in (Some b) = b
 abbrev pub flag : List Bool → ℕ → Bool
 flag flags p = flag_in (slice_get flags p)
 
+-- the same of the number of a call's participant, if there is one
 abbrev pub flag_of : List Bool → Option ℕ → Bool
 flag_of flags None = false
 flag_of flags (Some p) = flag flags p

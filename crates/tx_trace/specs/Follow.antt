@@ -62,6 +62,7 @@ pub record Follows (w : World) (t : Tracer) : Type 0 where
   pub within : t.done ≤ length w.past
   pub tracks : Tracks w.flow w.start (earlier t.done w.past) t
 
+-- how many entries a tracer has gone through
 abbrev pub count_of : Tracer → ℕ
 count_of t = t.done
 
@@ -182,6 +183,7 @@ pub record Puts (old new : BTreeMap ℕ Machine) (id : ℕ) (m : Option Machine)
   pub here : machine_at new id ≡ m
   pub others : (j : ℕ) → (id ≡ j → ⊥) → machine_at new j ≡ machine_at old j
 
+-- the same of what an event moves; where it moves nothing, all is as before
 abbrev pub PutsMove : BTreeMap ℕ Machine → BTreeMap ℕ Machine → Option (ℕ × Option Machine) → Type 0
 PutsMove old new None = (j : ℕ) → machine_at new j ≡ machine_at old j
 PutsMove old new (Some move) = Puts old new move.0 move.1

@@ -24,6 +24,7 @@ event_opening word = codes "{\"event\":\"" ++ (word ++ codes "\"")
 unfoldable pub call_member : Text → Text
 call_member word = codes "\"call\":\"" ++ (word ++ codes "\"")
 
+-- `,"participant":"NAME"`
 abbrev pub participant_member : Flow → ℕ → Text
 participant_member f p = json.text (codes "participant") (part_name f p)
 
@@ -47,6 +48,7 @@ abbrev pub call_members : Flow → Option (ℕ × Bool) → Due → Text
 call_members f None d = due_members f d
 call_members f (Some call) d = call_member (codes "recover") ++ participant_member f call.0
 
+-- the same, by where a transaction stands
 abbrev pub standing_members : Flow → Standing → Text
 standing_members f s = call_members f s.restores s.due
 
@@ -77,6 +79,7 @@ unfoldable pub reading_members : ℕ → Text
 reading_members b =
     json.flag (codes "joined") (not (stays_out b)) ++ json.flag (codes "saved") (not (is_readonly b))
 
+-- an answer: its byte, what that leads to, and the response code that is noted in its context
 abbrev pub answer_members : ℕ → List ℕ → Text
 answer_members b context = byte_members b ++ (reading_members b ++ rc_member (noted (codes "rc") context))
 

@@ -53,6 +53,7 @@ at_number what (e ∷ past) number = if length past + 1 == number then Some (wha
 abbrev pub line_of : Flow → Start → List Event → ℕ → Option Text
 line_of f v past number = at_number (line_text f v) past number
 
+-- the same of an engine's history
 abbrev pub line_in : World → ℕ → Option Text
 line_in w number = line_of w.flow w.start w.past number
 

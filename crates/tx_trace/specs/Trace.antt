@@ -33,6 +33,7 @@ use Rattle.tx_trace.specs.declared.shown.Shown.{Shown}
 use Rattle.tx_trace.specs.declared.shown.Shown.TheVariants.{Moved, Begun, Plain}
 use Rattle.tx_trace.specs.declared.shown.Standing.{Standing}
 
+-- a text as its bytes
 abbrev pub Text : Type 0
 Text = List ℕ
 
@@ -40,6 +41,7 @@ Text = List ℕ
 abbrev pub texts_of : List (Bor Text) → List Text
 texts_of = map (λ t. t.now)
 
+-- the name of the group of this index
 abbrev pub group_name : Flow → ℕ → Text
 group_name f g = option_map_or (λ (x : Group). x.name) (slice_get f.groups g) []
 
@@ -67,6 +69,7 @@ phase_text Aborting = codes "A"
 phase_text Committing = codes "C"
 phase_text Undoing = codes "U"
 
+-- the byte of a lower case hexadecimal digit
 abbrev pub hex_digit : ℕ → ℕ
 hex_digit d = if nat_lt d 10 then 48 + d else 87 + d
 
@@ -106,6 +109,7 @@ choice_text f text = list_text (known f.groups text)
 abbrev pub told_text : Bool → ℕ → Text
 told_text advised place = word_if advised (codes "advice " ++ decimal place ++ codes " ")
 
+-- `bound `, where the bound has dropped the rest
 abbrev pub bound_text : Bool → Text
 bound_text bound = word_if bound (codes "bound ")
 
@@ -127,6 +131,7 @@ pub record Point : Type 0 where
   pub state : TxState
   pub restores : Option (ℕ × Bool)
 
+-- that of a transaction's machine
 abbrev pub point_of : Flow → Machine → Option (ℕ × Bool) → Point
 point_of f m call = record { state = tx_state f m; restores = call }
 
@@ -146,6 +151,7 @@ abbrev pub moved_of : Flow → ℕ → Bool → Point → Point → Move
 moved_of f id recovering before after =
     record { id = id; recovering = recovering; before = standing_of f before; after = standing_of f after }
 
+-- the call that is due where a transaction stands, or the end
 abbrev pub standing_text : Flow → Standing → Text
 standing_text f s = call_text f s.restores s.due
 
