@@ -67,6 +67,7 @@ hosts_of (Some w) = names_in w.hosts
 abbrev pub SaysNews : List (List ℕ) → Log → Log → Type 0
 SaysNews names a b = Says (AreNews names) a b
 
+-- the lines of these hosts' counts, or nothing where numbers are not wanted
 abbrev pub CountsIf : Bool → List (List ℕ) → List ℕ → Type 0
 CountsIf true names text = AreHostLines names text
 CountsIf false names text = text ≡ []
@@ -90,6 +91,7 @@ abbrev pub ShowsIf : Bool → Numbers → List (List ℕ) → Log → Log → Ty
 ShowsIf true numbers names a b = (between : Log) × ShowsNumbers numbers a between × SaysCounts names between b
 ShowsIf false numbers names a b = b ≡ a
 
+-- what is new of these hosts, then the line and their counts, if they have come due
 abbrev pub ShowsSince : Option ℕ → ℕ → Numbers → List (List ℕ) → Log → Log → Type 0
 ShowsSince every before numbers names a b =
     (between : Log) × SaysNews names a between × ShowsIf (is_due every before numbers.tally.requests) numbers names between b
