@@ -36,6 +36,7 @@ abbrev pub kept_by : List ℕ → List ℕ → List ℕ
 kept_by last [] = last
 kept_by last (b ∷ bs) = (b ∷ bs) ++ 10 ∷ []
 
+-- by what was typed: only a line changes what is kept
 abbrev pub kept_if : Typed → List ℕ → List ℕ → List ℕ
 kept_if Nothing last text = last
 kept_if Quit last text = last
