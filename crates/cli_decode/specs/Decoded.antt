@@ -78,6 +78,7 @@ abbrev pub is_err : Result PlainMessage DecodeError → Bool
 is_err (Ok m) = false
 is_err (Err e) = true
 
+-- the bytes of a frame are not a message
 unfoldable pub is_refused : List ℕ → Bool
 is_refused bytes = is_err (read bytes)
 
@@ -86,6 +87,7 @@ abbrev pub frames_text : Masking → ℕ → List (List ℕ) → List ℕ
 frames_text k n [] = []
 frames_text k n (f ∷ fs) = frame_text k n f ++ frames_text k (n + 1) fs
 
+-- the stream ends within a frame, after this many bytes of it
 abbrev pub cut_text : ℕ → List ℕ
 cut_text pending = codes "frame refused Truncated " ++ (decimal pending ++ codes "\n")
 
@@ -95,6 +97,7 @@ end_text s =
     if s.failed then codes "frame refused BadLength\n"
     else if length s.pending == 0 then [] else cut_text (length s.pending)
 
+-- the stream has a bad length, or ends within a frame
 abbrev pub is_cut : State → Bool
 is_cut s = s.failed || not (length s.pending == 0)
 

@@ -43,6 +43,7 @@ RefusesFile unread (Image e found) = ⊥
 RefusesFile unread (Open e) = ⊥
 RefusesFile unread _ = ⊤
 
+-- the same of bytes that are to be an image
 abbrev pub RefusesImage : Option (List ℕ) → FlowsError → Type 0
 RefusesImage unread (Image e found) = IfSome unread (λ bytes. IsImageRefusal bytes (Image e found))
 RefusesImage unread (File e found) = ⊥
