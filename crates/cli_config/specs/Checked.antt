@@ -19,7 +19,7 @@ IsIn least most n = (least ≤ n) × (n ≤ most)
 abbrev pub IsPath : List ℕ → Type 0
 IsPath text = 1 ≤ length text
 
--- at most ten minutes for an answer, an hour for a pause, a day between echo tests
+-- at most ten minutes for an answer, an hour for a pause, and a day without a frame before an echo test
 abbrev pub AreTimes : WireTimes → Type 0
 AreTimes times = (IsIn 1 600000 times.timeout_ms × IsIn 0 3600000 times.retry_ms) × IsIn 0 86400 times.echo_s
 

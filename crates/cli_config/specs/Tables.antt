@@ -9,7 +9,7 @@ use Rattle.toml_tables.specs.Tables.{tables_in}
 abbrev pub value_at : Key → Members → Option Data
 value_at k ms = get_member (spelling k) ms
 
--- a number of an integer that is not negative
+-- the number of an integer that is not negative
 abbrev pub whole : ℤ → Option ℕ
 whole (pos n) = Some n
 whole (negsuc n) = None

@@ -36,6 +36,7 @@ note_members false value = value_members value
 abbrev pub entry_members : Masking → ℕ → Text → Text → Text
 entry_members k id name value = if is_message name then message_members k id value else note_members (is_masked k name) value
 
+-- the line of an entry
 abbrev pub entry_json : Masking → Owner → Text × Text → Text
 entry_json k o e = owner_opening o ++ (text (codes "entry") e.0 ++ (entry_members k (id_of o) e.0 e.1 ++ codes "}\n"))
 
@@ -57,6 +58,7 @@ joined_member names = codes ",\"joined\":[" ++ (strings names ++ codes "]")
 abbrev pub told_members : Row → Text
 told_members r = joined_member r.joined ++ (number (codes "told") r.told ++ doing_member r.doing)
 
+-- all but its id and its context
 abbrev pub row_members : Row → Text
 row_members r =
     text (codes "phase") (phase_name r.phase) ++ (told_members r

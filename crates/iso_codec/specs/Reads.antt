@@ -28,7 +28,7 @@ or_fault (Some x) e = Ok x
 abbrev pub part : ℕ → List ℕ → Result (List ℕ × List ℕ) DecodeError
 part count bytes = if nat_lt (length bytes) count then Err Short else Ok (take count bytes, drop count bytes)
 
--- a type is of digits
+-- the type, if these are digits
 abbrev pub mti_is : List ℕ → Result (List ℕ) DecodeError
 mti_is digits = if list_all is_digit digits then Ok digits else Err BadMti
 

@@ -151,6 +151,7 @@ abbrev pub is_over : PlainBook → Card → ℕ → Bool
 is_over book card amount =
     nat_lt book.limit (used card book.items + reserved card book.items + amount)
 
+-- the first such reason, for an amount of a card under an id and with a key
 abbrev pub refusal : PlainBook → ℕ → Card → BookKey → ℕ → Option BookError
 refusal book id card key amount = first_of (
     refused_if (nat_lt max_amount amount) AmountTooLarge

@@ -23,7 +23,7 @@ use Rattle.sw_parts.specs.Quiet.{passes, refuses, leaves_notes}
 abbrev pub Sending : Type 1
 Sending = List ℕ → List ℕ → List ℕ → Type 0
 
--- the same of a receive, by which a message comes, or none
+-- the same of a receive, with the message that came, if one did
 abbrev pub Receiving : Type 1
 Receiving = List ℕ → Option (List ℕ) → List ℕ → Type 0
 
@@ -81,6 +81,7 @@ abbrev pub noted_if : Option (List ℕ) → List ℕ → Pairs → Pairs
 noted_if None name x = x
 noted_if (Some value) name x = noted x name value
 
+-- with the codes of an answer, and without the note `late`
 abbrev pub answered : PlainMessage → Pairs → Pairs
 answered m x = without (codes "late")
     (noted_if (value_at 38 m.fields) (codes "auth")

@@ -72,6 +72,7 @@ abbrev pub group_class : Option Class → PlainMessage → List Routing → List
 group_class (Some Authorization) m rs = group_of (route_of m rs)
 group_class _ m rs = []
 
+-- a context without a request that can be read picks none
 abbrev pub group_by : Option PlainMessage → List Routing → List ℕ
 group_by None rs = []
 group_by (Some m) rs = group_class (class_of m.mti) m rs
