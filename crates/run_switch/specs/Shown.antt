@@ -17,6 +17,7 @@ use Rattle.run_switch.specs.Points.{Point}
 use Rattle.run_switch.specs.Lines.{Line}
 use Rattle.run_switch.specs.Traces.{Log, Tells}
 
+-- a text where it is wanted, and nothing otherwise
 abbrev pub if_shown : Bool → List ℕ → List ℕ
 if_shown true text = text
 if_shown false text = []
@@ -55,6 +56,7 @@ abbrev pub ready_text : Option Words → Recovered → List ℕ
 ready_text None recovered = []
 ready_text (Some w) recovered = ready_lines w.ready recovered
 
+-- it was reported that a run is ready, and what it recovered
 abbrev pub SaysReady : Option Words → Recovered → Log → Log → Type 0
 SaysReady words recovered a b = Says (λ text. text ≡ ready_text words recovered) a b
 
