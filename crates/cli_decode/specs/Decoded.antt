@@ -66,6 +66,7 @@ fault_name fault.OutOfMemory = codes "OutOfMemory"
 abbrev pub refused_text : ℕ → DecodeError → List ℕ
 refused_text n e = codes "message " ++ (decimal n ++ (codes " refused " ++ (fault_name e ++ codes "\n")))
 
+-- the text of the frame of this number, by what its bytes read as
 abbrev pub outcome_text : Masking → ℕ → Result PlainMessage DecodeError → List ℕ
 outcome_text k n (Ok m) = view_text k n m
 outcome_text k n (Err e) = refused_text n e

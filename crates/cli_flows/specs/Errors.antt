@@ -11,6 +11,7 @@ use Rattle.flow_load.specs.Load.{line_fault, load_of}
 use Rattle.cli_flows.specs.declared.error.FlowsError.{FlowsError}
 use Rattle.cli_flows.specs.declared.error.FlowsError.TheVariants.{File, Image, Io, NotText, Open}
 
+-- of what is quoted from the flow file, or from the image, this says nothing
 abbrev pub IsErrorOfFile : FlowTomlError → FlowsError → Type 0
 IsErrorOfFile file.OutOfMemory e = e ≡ Io io.OutOfMemory
 IsErrorOfFile f (File g found) = g ≡ f

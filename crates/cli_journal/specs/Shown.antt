@@ -71,6 +71,7 @@ advice_in s next_id a = advice_as s.form next_id a.0 (frame_text s.masking a.0.0
 
 -- ---- the journal
 
+-- by the layout and the next id
 abbrev pub head_as : JournalForm → ℕ → ℕ → Text
 head_as form.Text layout next_id = head_text layout next_id
 head_as form.Json layout next_id = head_json layout next_id
