@@ -28,6 +28,7 @@ abbrev pub typed_by : List ℕ → List ℕ → Typed
 typed_by last [] = again last
 typed_by last (b ∷ bs) = if b == 35 then Nothing else if bytes_eq (b ∷ bs) (codes "quit") then Quit else Line
 
+-- the same of a line as it was read, whatever its spaces
 abbrev pub typed : List ℕ → List ℕ → Typed
 typed last read = typed_by last (tidied read)
 

@@ -37,6 +37,7 @@ unfoldable pub added : PlainMessage → List ℕ → List ℕ → Result (PlainM
 added m [] bytes = Ok (m, bytes)
 added m (n ∷ ns) bytes = grown_at (form_of n) m n bytes >>= λ x. added x.0 ns x.1
 
+-- the message of all the bytes, read in this way
 unfoldable pub read_grown : List ℕ → Result PlainMessage DecodeError
 read_grown bytes = do
   front ← front_at bytes
