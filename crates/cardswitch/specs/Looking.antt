@@ -36,9 +36,11 @@ abbrev pub IsSight : Sight → Type 0
 IsSight (Whole found) = IsCopied found.layout found.view
 IsSight (Beside bad rest) = IsCopyFault bad × IsSomeRest rest
 
+-- the text of a journal without its rows at fault, which are named as left out
 abbrev pub text_of : JournalOptions → Rest → List ℕ
 text_of o rest = shown_text o rest.layout rest.left_out.items rest.view
 
+-- the text of what is shown of a journal
 abbrev pub seen_text : JournalOptions → Sight → List ℕ
 seen_text o (Whole found) = shown_text o found.layout [] found.view
 seen_text o (Beside bad rest) = text_of o rest

@@ -66,6 +66,7 @@ abbrev pub IsSessionFault : RunError → Type 0
 IsSessionFault (error.Step e) = IsFaultOf SomeIsMade e
 IsSessionFault _ = ⊤
 
+-- why a session at a prompt ends early
 abbrev pub IsPromptFault : Option (Bor (List ℕ)) → Option (List ℕ) → Option (List ℕ) → RunError → Type 0
 IsPromptFault path before after e = IsStepFault path before after e × IsSessionFault e
 
@@ -75,6 +76,7 @@ IsSteppedBy false path unread before after = IsStepped path unread before after
 IsSteppedBy true path unread before after =
     (err : Option (List ℕ)) × (err_after : Option (List ℕ)) × IsPromptedStep path unread before err after err_after
 
+-- why it ends early, with a prompt or without one
 abbrev pub IsStepFaultBy : Bool → Option (Bor (List ℕ)) → Option (List ℕ) → Option (List ℕ) → RunError → Type 0
 IsStepFaultBy false path before after e = IsStepFault path before after e
 IsStepFaultBy true path before after e = IsPromptFault path before after e

@@ -10,6 +10,7 @@ use Rattle.cli_config.specs.declared.config.Host.{Host}
 use Rattle.run_switch.specs.Links.{query_name}
 use Rattle.run_setup.specs.Plans.{routes_of}
 
+-- by the name of a host, and whether the switch stands in for it
 abbrev pub host_named : List ℕ → Bool → SetUpHost
 host_named name stand_in = record { query = query_name name; stand_in = stand_in }
 
@@ -20,6 +21,7 @@ own_hosts = host_named (codes "alpha") true ∷ host_named (codes "beta") true �
 abbrev pub host_of : Host → SetUpHost
 host_of h = host_named h.name h.has_stand_in
 
+-- the hosts of the configuration, or the switch's own
 abbrev pub hosts_of : Config → List SetUpHost
 hosts_of c = option_map_or (map host_of) c.hosts own_hosts
 

@@ -15,12 +15,15 @@ use Rattle.cli_config.specs.declared.config.Route.{Route}
 abbrev pub IsIn : (least most n : ℕ) → Type 0
 IsIn least most n = (least ≤ n) × (n ≤ most)
 
+-- a text that is not empty
 abbrev pub IsPath : List ℕ → Type 0
 IsPath text = 1 ≤ length text
 
+-- at most ten minutes for an answer, an hour for a pause, and a day without a frame before an echo test
 abbrev pub AreTimes : WireTimes → Type 0
 AreTimes times = (IsIn 1 600000 times.timeout_ms × IsIn 0 3600000 times.retry_ms) × IsIn 0 86400 times.echo_s
 
+-- streams have two paths, and at most 16 requests under way
 abbrev pub IsWire : Wire → Type 0
 IsWire (wire.Streams to from times in_flight) = (IsPath to × IsPath from) × AreTimes times × IsIn 1 16 in_flight
 IsWire w = ⊤
@@ -29,12 +32,15 @@ IsWire w = ⊤
 abbrev pub IsHost : Host → Type 0
 IsHost h = ((is_name h.name ≡ true) × (length h.name ≤ 26)) × IsWire h.wire
 
+-- a prefix of 1 to 19 digits, and the name of a group
 abbrev pub IsRoute : Route → Type 0
 IsRoute r = (IsIn 1 19 (length r.prefix) × (list_all is_ascii_digit r.prefix ≡ true)) × (is_name r.group ≡ true)
 
+-- no two hosts have the same name
 abbrev pub AreHosts : List Host → Type 0
 AreHosts hs = AllByRecursion IsHost hs × IsDistinct bytes_eq (map (λ (h : Host). h.name) hs)
 
+-- no two routes have the same prefix
 abbrev pub AreRoutes : List Route → Type 0
 AreRoutes rs = AllByRecursion IsRoute rs × IsDistinct bytes_eq (map (λ (r : Route). r.prefix) rs)
 
@@ -42,6 +48,7 @@ AreRoutes rs = AllByRecursion IsRoute rs × IsDistinct bytes_eq (map (λ (r : Ro
 abbrev pub AreShortNames : List (List ℕ) → Type 0
 AreShortNames names = AllByRecursion (λ name. (is_name name ≡ true) × (length name ≤ 32)) names
 
+-- each value that the file states is one that may stand at its key
 pub record IsChecked (c : Config) : Type 0 where
   pub hosts : IfSome c.hosts AreHosts
   pub routes : IfSome c.routes AreRoutes

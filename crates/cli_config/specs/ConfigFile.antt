@@ -55,6 +55,7 @@ host_of ms = record { name = text_at (spelling key.Name) ms; wire = wire_of ms; 
 abbrev pub route_of : Members → route.Route
 route_of ms = record { prefix = text_at (spelling key.Prefix) ms; group = text_at (spelling key.Group) ms }
 
+-- limits, and settings of a run: none is stated where the file does not have the table
 abbrev pub limits_in : Option Members → limits.Limits
 limits_in None = record { per_card = None; stand_in = None }
 limits_in (Some ms) = record { per_card = number_at key.PerCard ms; stand_in = number_at key.StandIn ms }

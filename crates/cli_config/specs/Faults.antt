@@ -77,6 +77,7 @@ found_of (datetime t) = found.Date
 found_of (array ds) = found.Array
 found_of (table ms) = found.Table
 
+-- the table has a value at the key
 abbrev pub stands : Members → Key → Bool
 stands ms k = is_some (value_at k ms)
 
@@ -88,9 +89,11 @@ where_it_stands ms (Some k) = if stands ms k then Some k else None
 abbrev pub excluded_in : Members → Key → Option Key
 excluded_in ms k = where_it_stands ms (excluded k)
 
+-- a key that the table must have is not there, nor the key that it excludes
 abbrev pub is_missing : Members → Key → Bool
 is_missing ms k = (is_required k && not (stands ms k)) && is_none (excluded_in ms k)
 
+-- the value, if it may not stand where this is wanted
 abbrev pub misfit : Want → Data → Option Data
 misfit w d = if fits w d then None else Some d
 
@@ -98,6 +101,7 @@ misfit w d = if fits w d then None else Some d
 abbrev pub bad_value : Members → Key → Option Data
 bad_value ms k = option_and_then (misfit (wants k)) (value_at k ms)
 
+-- of each kind of fault that of one key, and that of the least key of the table; of unknown keys only the latter
 abbrev pub missing : TablePath → Members → Key → Option TableError
 missing p ms k = refused_if (is_missing ms k) (Missing k p)
 
@@ -124,6 +128,7 @@ unknown p ms = option_map (λ name. Unknown name p) (unknown_key spelling (keys_
 abbrev pub table_fault : TablePath → Members → Option TableError
 table_fault p ms = or_else (unknown p ms) (or_else (missing_in p ms) (or_else (bad_in p ms) (excludes_in p ms)))
 
+-- the first fault of the table of this number in its section
 abbrev pub fault_in : Section → ℕ → Members → Option TableError
 fault_in p n ms = table_fault (record { section = p; number = n }) ms
 
@@ -140,6 +145,7 @@ abbrev pub double : Section → Key → List Members → ℕ → Members → Opt
 double p k tables n ms =
     refused_if (is_taken (take n tables) k (text_at (spelling k) ms)) (Double k (record { section = p; number = n }) (text_at (spelling k) ms))
 
+-- the first such table of a section
 abbrev pub double_of : Section → Key → Members → Option TableError
 double_of p k top = first_at (double p k (tables_of p top)) 0 (tables_of p top)
 

@@ -9,13 +9,16 @@ use Rattle.toml_tables.specs.Tables.{tables_in}
 abbrev pub value_at : Key → Members → Option Data
 value_at k ms = get_member (spelling k) ms
 
+-- the number of an integer that is not negative
 abbrev pub whole : ℤ → Option ℕ
 whole (pos n) = Some n
 whole (negsuc n) = None
 
+-- the number at a key, if one stands there
 abbrev pub number_at : Key → Members → Option ℕ
 number_at k ms = option_and_then whole (option_and_then as_integer (value_at k ms))
 
+-- the texts among the values of an array
 abbrev pub names_in : Items → List (List ℕ)
 names_in no_items = []
 names_in (item (string s) ds) = s ∷ names_in ds
@@ -42,6 +45,7 @@ tables_if (Some d) = tables_below d
 abbrev pub tables_at : Key → Members → List Members
 tables_at k top = tables_if (value_at k top)
 
+-- the document itself where there is no key, or the tables at the key
 abbrev pub tables_under : Option Key → Members → List Members
 tables_under None top = top ∷ []
 tables_under (Some k) top = tables_at k top

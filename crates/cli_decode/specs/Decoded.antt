@@ -66,6 +66,7 @@ fault_name fault.OutOfMemory = codes "OutOfMemory"
 abbrev pub refused_text : ℕ → DecodeError → List ℕ
 refused_text n e = codes "message " ++ (decimal n ++ (codes " refused " ++ (fault_name e ++ codes "\n")))
 
+-- the text of the frame of this number, by what its bytes read as
 abbrev pub outcome_text : Masking → ℕ → Result PlainMessage DecodeError → List ℕ
 outcome_text k n (Ok m) = view_text k n m
 outcome_text k n (Err e) = refused_text n e
@@ -78,6 +79,7 @@ abbrev pub is_err : Result PlainMessage DecodeError → Bool
 is_err (Ok m) = false
 is_err (Err e) = true
 
+-- the bytes of a frame are not a message
 unfoldable pub is_refused : List ℕ → Bool
 is_refused bytes = is_err (read bytes)
 
@@ -86,6 +88,7 @@ abbrev pub frames_text : Masking → ℕ → List (List ℕ) → List ℕ
 frames_text k n [] = []
 frames_text k n (f ∷ fs) = frame_text k n f ++ frames_text k (n + 1) fs
 
+-- the stream ends within a frame, after this many bytes of it
 abbrev pub cut_text : ℕ → List ℕ
 cut_text pending = codes "frame refused Truncated " ++ (decimal pending ++ codes "\n")
 
@@ -95,6 +98,7 @@ end_text s =
     if s.failed then codes "frame refused BadLength\n"
     else if length s.pending == 0 then [] else cut_text (length s.pending)
 
+-- the stream has a bad length, or ends within a frame
 abbrev pub is_cut : State → Bool
 is_cut s = s.failed || not (length s.pending == 0)
 

@@ -16,6 +16,7 @@ is_sensitive n = n == 2 || is_hidden n
 abbrev pub masked_length : List ℕ → List ℕ
 masked_length value = decimal (length value) ++ codes " bytes"
 
+-- the account number with its masked digits, and any other value by its length alone
 abbrev pub masked_value : ℕ → List ℕ → List ℕ
 masked_value n value = if n == 2 then masked_number value else masked_length value
 

@@ -20,6 +20,7 @@ abbrev pub with_field : Masking → Option FieldForm → List ℕ → ℕ → Li
 with_field k None text n bytes = Err (FieldNotInProfile n)
 with_field k (Some form) text n bytes = with_form k form text n bytes
 
+-- a text with the lines of the fields of these numbers, and the bytes after them
 unfoldable pub with_fields : Masking → List ℕ → List ℕ → List ℕ → Result (List ℕ × List ℕ) DecodeError
 with_fields k text [] bytes = Ok (text, bytes)
 with_fields k text (n ∷ ns) bytes = with_field k (form_of n) text n bytes >>= λ x. with_fields k x.0 ns x.1

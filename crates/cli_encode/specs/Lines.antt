@@ -29,6 +29,7 @@ abbrev pub IsOnLine : Option FieldForm → List ℕ → Type 0
 IsOnLine (Some Binary) value = (length value ≡ 8) × (list_all is_byte value ≡ true)
 IsOnLine form value = has_byte 10 value ≡ false
 
+-- words and values without a line feed, a type of four digits, and numbers below 256
 abbrev pub IsLine : PlainLine → Type 0
 IsLine (Heading word) = has_byte 10 word ≡ false
 IsLine (MessageType digits) = IsMti digits
@@ -49,6 +50,7 @@ text_of_lines ls = flat_map ended_line ls
 abbrev pub field_of : ℕ × List ℕ → PlainLine
 field_of f = Field f.0 f.1
 
+-- the lines of a message, which has this number
 abbrev pub lines_of_message : ℕ → PlainMessage → List PlainLine
 lines_of_message n m = Heading (decimal n) ∷ MessageType m.mti ∷ map field_of m.fields
 
@@ -85,6 +87,7 @@ IsNoValueOf form text = (value : List ℕ) → IsOnLine form value → shown for
 abbrev pub has_lower : List ℕ → Bool
 has_lower text = list_any (λ b. nat_le 97 b) text
 
+-- the text is the digits of these eight bytes, in upper case
 abbrev pub AreOctetsOf : List ℕ → List ℕ → Type 0
 AreOctetsOf text octets = (flat_map hex octets ≡ text) × IsOnLine (Some Binary) octets
 
@@ -96,6 +99,7 @@ IsCut mark bytes p = (p.0.now ++ mark ∷ p.1.now ≡ bytes) × (has_byte mark p
 abbrev pub IsAfter : List ℕ → List ℕ → Bor (List ℕ) → Type 0
 IsAfter front bytes rest = front ++ rest.now ≡ bytes
 
+-- these bytes do not stand at the front
 abbrev pub IsNotBefore : List ℕ → List ℕ → Type 0
 IsNotBefore front bytes = (rest : List ℕ) → front ++ rest ≡ bytes → ⊥
 
@@ -103,9 +107,11 @@ IsNotBefore front bytes = (rest : List ℕ) → front ++ rest ≡ bytes → ⊥
 abbrev pub IsNumberOf : List ℕ → ℕ → Type 0
 IsNumberOf word n = (decimal n ≡ word) × (n < 256)
 
+-- the word is not the digits of such a number
 abbrev pub IsNoNumber : List ℕ → Type 0
 IsNoNumber word = (n : ℕ) → n < 256 → decimal n ≡ word → ⊥
 
+-- the type that these digits are, or that they are none
 abbrev pub IsTypeOf : List ℕ → List ℕ → Type 0
 IsTypeOf digits mti = (mti ≡ digits) × IsMti mti
 

@@ -26,6 +26,7 @@ abbrev pub last_from : ℕ → Fields → ℕ
 last_from low [] = low
 last_from low (f ∷ fs) = last_from f.0 fs
 
+-- 1 where there is none, as the numbers of fields are above it
 abbrev pub last_of : Fields → ℕ
 last_of fields = last_from 1 fields
 
@@ -33,6 +34,7 @@ last_of fields = last_from 1 fields
 abbrev pub with_last : PlainMessage → ℕ → List ℕ → PlainMessage
 with_last m n value = record { mti = m.mti; fields = m.fields ++ (n, value) ∷ [] }
 
+-- the field may come after the message's last one, and takes the value
 abbrev pub follows : PlainMessage → ℕ → List ℕ → Bool
 follows m n value = nat_lt (last_of m.fields) n && is_none (refusal n value)
 
@@ -75,6 +77,7 @@ stage_text n (Open m) = message_text n m
 abbrev pub text_of : Point → List ℕ
 text_of p = messages_text 1 p.done ++ stage_text (length p.done + 1) p.stage
 
+-- a message that was begun is valid so far
 abbrev pub IsMessageIn : Stage → Type 0
 IsMessageIn (Open m) = IsMessage m
 IsMessageIn _ = Unit {0}
@@ -140,6 +143,7 @@ pub record IsReadUpTo (text : List ℕ) (lines : ℕ) (e : Encoder) : Type 0 whe
   pub refused : IsNoText text
   pub stuck : IsStuckAfter before rest
 
+-- a text was read whole, or up to a line at which it is refused
 abbrev pub IsReading : List ℕ → Encoder → Option TextError → Type 0
 IsReading text e None = IsReadWhole text e
 IsReading text e (Some error) = (lines : ℕ) × (error.line ≡ lines + 1) × IsReadUpTo text lines e

@@ -11,6 +11,7 @@ use Rattle.flow_load.specs.Load.{line_fault, load_of}
 use Rattle.cli_flows.specs.declared.error.FlowsError.{FlowsError}
 use Rattle.cli_flows.specs.declared.error.FlowsError.TheVariants.{File, Image, Io, NotText, Open}
 
+-- of what is quoted from the flow file, or from the image, this says nothing
 abbrev pub IsErrorOfFile : FlowTomlError → FlowsError → Type 0
 IsErrorOfFile file.OutOfMemory e = e ≡ Io io.OutOfMemory
 IsErrorOfFile f (File g found) = g ≡ f
@@ -43,6 +44,7 @@ RefusesFile unread (Image e found) = ⊥
 RefusesFile unread (Open e) = ⊥
 RefusesFile unread _ = ⊤
 
+-- the same of bytes that are to be an image
 abbrev pub RefusesImage : Option (List ℕ) → FlowsError → Type 0
 RefusesImage unread (Image e found) = IfSome unread (λ bytes. IsImageRefusal bytes (Image e found))
 RefusesImage unread (File e found) = ⊥

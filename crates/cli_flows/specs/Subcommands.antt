@@ -17,5 +17,6 @@ IsAssembled unread written written_now = (f : Flow) × Reads unread f × Appends
 abbrev pub IsListedOf : List ℕ → Option (List ℕ) → Option (List ℕ) → Type 0
 IsListedOf bytes written written_now = (f : Flow) × (bytes ≡ image_of f) × (text : List ℕ) × IsFlowFile f text × Appends written written_now text
 
+-- the same of the bytes to be read, where they are known
 abbrev pub IsListed : Option (List ℕ) → Option (List ℕ) → Option (List ℕ) → Type 0
 IsListed unread written written_now = IfSome unread (λ bytes. IsListedOf bytes written written_now)

@@ -9,6 +9,7 @@ use Rattle.flow_model.specs.declared.flow.Entry.{Entry}
 use Rattle.cli_forms.specs.declared.graph.GraphForm.{GraphForm}
 use Rattle.cli_forms.specs.declared.graph.GraphForm.TheVariants.{Mermaid, Dot}
 
+-- text as bytes
 abbrev pub Text : Type 0
 Text = List ℕ
 
@@ -46,6 +47,7 @@ node_close Mermaid true = codes "\"}}"
 node_close Dot false = codes "\", shape=box];"
 node_close Dot true = codes "\", shape=hexagon];"
 
+-- the line of an entry's node, by the number of its group and its index
 abbrev pub entry_text : GraphForm → ℕ → ℕ → Entry → Text
 entry_text form g i e =
     codes "    " ++ (entry_name g i ++ (node_open form e.kind.selector
@@ -111,6 +113,7 @@ abbrev pub abort_arrow : GraphForm → Text
 abort_arrow Mermaid = codes " -. abort .-> "
 abort_arrow Dot = codes " -> "
 
+-- an arrow to the entry, if its participant is called while a transaction aborts
 abbrev pub abort_step : GraphForm → ℕ → ℕ → Kind → Text
 abort_step form g i k = if is_called k then abort_arrow form ++ entry_name g i else []
 
@@ -150,6 +153,7 @@ bold_end Dot = codes "} [style=bold, label=\"selects\"];"
 abbrev pub bold_text : GraphForm → Text → Text → Text
 bold_text form name targets = codes "  " ++ (name ++ (bold_arrow form ++ (targets ++ (bold_end form ++ codes "\n"))))
 
+-- the arrows from an entry, if it is a selector
 abbrev pub selection_text : GraphForm → List Group → ℕ → ℕ → Kind → Text
 selection_text form gs g i k =
     if k.selector then bold_text form (entry_name g i) (texts (target_group form) 0 gs) else []
@@ -175,6 +179,7 @@ group_paths form gs g x =
 abbrev pub all_paths : GraphForm → List Group → Text
 all_paths form gs = texts (group_paths form gs) 0 gs
 
+-- a picture of these boxes, and of these arrows
 abbrev pub whole : GraphForm → Text → Text → Text
 whole Mermaid boxes paths = codes "flowchart TD\n" ++ (boxes ++ paths)
 whole Dot boxes paths = codes "digraph flow {\n" ++ (boxes ++ (paths ++ codes "}\n"))

@@ -4,6 +4,7 @@ use Rattle.std.specs.Str.{bytes_eq}
 use Rattle.cli_forms.specs.declared.masking.Masking.{Masking}
 use Rattle.cli_forms.specs.declared.masking.Masking.TheVariants.{Off, On}
 
+-- text as bytes
 abbrev pub Text : Type 0
 Text = List ℕ
 

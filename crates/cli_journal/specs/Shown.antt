@@ -33,6 +33,7 @@ refused_as form.Json o = refused_json o
 abbrev pub entry_in : Style → Owner → Text × Text → Text
 entry_in s o e = entry_as s.form s.masking o e
 
+-- the lines of the entries, or that of a context that is refused
 abbrev pub entries_in : Style → Owner → Option Pairs → Text
 entries_in s o (Some es) = flat_map (entry_in s o) es
 entries_in s o None = refused_as s.form o
@@ -47,6 +48,7 @@ abbrev pub row_as : JournalForm → ℕ → Row → Text
 row_as form.Text id r = row_text id r
 row_as form.Json id r = row_json id r
 
+-- the lines of a transaction, and then those of its context
 abbrev pub row_in : Style → ℕ × Row → Text
 row_in s r = row_as s.form r.0 r.1 ++ context_in s (Transaction r.0) r.1.context
 
@@ -54,6 +56,7 @@ abbrev pub waiting_as : JournalForm → ℕ → WaitingContext → Text
 waiting_as form.Text id w = waiting_text id w
 waiting_as form.Json id w = waiting_json id w
 
+-- the same of a context of the shelf
 abbrev pub waiting_in : Style → ℕ × WaitingContext → Text
 waiting_in s w = waiting_as s.form w.0 w.1 ++ context_in s (Shelf w.0) w.1.context
 
@@ -62,11 +65,13 @@ abbrev pub advice_as : JournalForm → ℕ → ℕ × ℕ → Text → Text
 advice_as form.Text next_id place message = place_text next_id place ++ message
 advice_as form.Json next_id place message = place_members next_id place ++ advised_json message
 
+-- the same of an advice and its message, the age by the next id
 abbrev pub advice_in : Style → ℕ → (ℕ × ℕ) × List ℕ → Text
 advice_in s next_id a = advice_as s.form next_id a.0 (frame_text s.masking a.0.0 a.1)
 
 -- ---- the journal
 
+-- by the layout and the next id
 abbrev pub head_as : JournalForm → ℕ → ℕ → Text
 head_as form.Text layout next_id = head_text layout next_id
 head_as form.Json layout next_id = head_json layout next_id

@@ -30,9 +30,11 @@ abbrev pub note_rest : Bool → Text → Text
 note_rest true value = codes "* " ++ size_text value
 note_rest false value = codes " " ++ (value_text value ++ codes "\n")
 
+-- of a message: its length, and the lines of what it reads as
 abbrev pub message_rest : Masking → ℕ → Text → Text
 message_rest k id value = codes " " ++ (size_text value ++ frame_text k id value)
 
+-- what follows the name of an entry
 abbrev pub entry_rest : Masking → ℕ → Text → Text → Text
 entry_rest k id name value = if is_message name then message_rest k id value else note_rest (is_masked k name) value
 
@@ -72,9 +74,11 @@ doing_line None = []
 abbrev pub to_notify : Row → List Text
 to_notify r = drop r.told (to_tell r r.doing)
 
+-- `recovery VERDICT NAME ..`
 abbrev pub recovery_line : Row → Text
 recovery_line r = names_line (codes "recovery " ++ verdict_name (is_committing r.phase)) (to_notify r)
 
+-- the lines after that of id and phase
 abbrev pub facts_text : Row → Text
 facts_text r =
     names_line (codes "joined") r.joined ++ (number_line (codes "told") r.told
@@ -100,5 +104,6 @@ place_text next_id place = advice_line place ++ number_line (codes "age") (age_o
 
 -- ---- the head
 
+-- by the layout and the next id
 abbrev pub head_text : ℕ → ℕ → Text
 head_text layout next_id = number_line (codes "layout") layout ++ number_line (codes "next id") next_id

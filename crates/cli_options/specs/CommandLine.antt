@@ -143,6 +143,7 @@ abbrev pub journal_form : Bool → JournalForm
 journal_form true = journal.Json
 journal_form false = journal.Text
 
+-- by whether values are to be masked
 abbrev pub masking_of : Bool → Masking
 masking_of true = masking.On
 masking_of false = masking.Off
@@ -224,6 +225,7 @@ at_terminal is_terminal o = o
 abbrev pub IsNoSubcommand : Text → List Row → Type 0
 IsNoSubcommand name rows = (o : Options) → AreOptionsAt name rows o → ⊥
 
+-- by the subcommand that the words name, if they name one, and its rows
 abbrev pub AreOptionsFound : Option (Text × List Row) → Options → Type 0
 AreOptionsFound None o = ⊥
 AreOptionsFound (Some found) o = AreOptionsAt found.0 found.1 o

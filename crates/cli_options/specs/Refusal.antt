@@ -37,6 +37,7 @@ IsRefusalAt name rows (BadNumber option expected found) = IsNoSubcommand name ro
 IsRefusalAt name rows (BadForm found) = IsNoSubcommand name rows
 IsRefusalAt name rows _ = ⊥
 
+-- the same of the rows of `run`
 abbrev pub IsRunRefusal : List Row → OptionsError → Type 0
 IsRunRefusal rows NoSubcommand = (o : RunOptions) → AreRunOptions rows o → ⊥
 IsRunRefusal rows (BadNumber option expected found) = (o : RunOptions) → AreRunOptions rows o → ⊥

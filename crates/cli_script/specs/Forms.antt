@@ -16,6 +16,7 @@ use Rattle.cli_script.specs.declared.line.ScriptLine.{ScriptLine}
 use Rattle.cli_script.specs.declared.line.ScriptLine.TheVariants as line
 use Rattle.cli_script.specs.declared.line.Setting.TheVariants as setting
 
+-- what a line means, or why it is refused
 abbrev pub Meaning : Type 0
 Meaning = Result ScriptLine LineError
 

@@ -60,6 +60,7 @@ rows = row (codes "retries") (λ rest. meant (λ n. line.Setting (setting.Retrie
     ∷ row (codes "restore") restore_line
     ∷ action_rows
 
+-- by the first row that has the word; a word that no row has is refused
 abbrev pub meaning_at : List CommandRow → List ℕ → List ℕ → Meaning
 meaning_at [] word rest = Err refusal.Command
 meaning_at (r ∷ rs) word rest = if bytes_eq word r.word then r.meaning rest else meaning_at rs word rest

@@ -17,6 +17,7 @@ marks = (codes "s", kind.SELECTOR)
     ∷ (codes "sar", kind.SELECTOR_ABORT_AWARE_RECOVERING)
     ∷ []
 
+-- the kind beside this word
 abbrev pub kind_at : List (List ℕ × Kind) → List ℕ → Option Kind
 kind_at [] word = None
 kind_at (m ∷ ms) word = if bytes_eq word m.0 then Some m.1 else kind_at ms word
@@ -27,6 +28,7 @@ kind_marked word = kind_at marks word
 abbrev pub entry : List ℕ → Kind → Entry
 entry name kind = record { participant = name; kind = kind }
 
+-- by the parts of the word at its colon; a word without one has no marks
 abbrev pub entry_cut : List ℕ → Option (List ℕ × List ℕ) → Option Entry
 entry_cut word None = Some (entry word kind.PLAIN)
 entry_cut word (Some p) = option_map (entry p.0) (kind_marked p.1)

@@ -12,6 +12,7 @@ put name value = record { name = name; value = value }
 abbrev pub put_valued : List ℕ → List ℕ → Option Put
 put_valued name digits = if nat_lt 131070 (length digits) then None else option_map (put name) (hex_spelled digits)
 
+-- by the parts of the word at its =, which are the name and the digits of the value
 abbrev pub put_cut : Option (List ℕ × List ℕ) → Option Put
 put_cut None = None
 put_cut (Some p) = if is_name p.0 then put_valued p.0 p.1 else None

@@ -25,6 +25,7 @@ use Rattle.cli_script.specs.declared.script.Opening.{Opening}
 use Rattle.cli_script.specs.declared.script.Script.{Script}
 use Rattle.cli_script.specs.declared.settings.Settings.{Settings}
 
+-- the first line
 abbrev pub line_of : List ℕ → List ℕ
 line_of script = before_first is_line_feed script
 
@@ -61,6 +62,7 @@ gives_group _ = false
 abbrev pub is_misplaced : Bool → Setting → Bool
 is_misplaced has_file s = has_file && gives_group s
 
+-- the error of the line of this number and text
 abbrev pub error_at : ℕ → List ℕ → LineError → ScriptError
 error_at n text refusal.OutOfMemory = error.OutOfMemory
 error_at n text cause = error.Line n cause (quoted text)

@@ -13,6 +13,7 @@ use Rattle.cli_script.specs.declared.line.Setting.TheVariants as setting
 use Rattle.cli_script.specs.declared.replies.Replies.{Replies}
 use Rattle.cli_script.specs.declared.settings.Settings.{Settings}
 
+-- what one setting states: the retries, the sessions, a group
 abbrev pub retries_in : Setting → Option ℕ
 retries_in (setting.Retries n) = Some n
 retries_in _ = None

@@ -29,6 +29,7 @@ step_text w o = if is_idle o then [] else whole_line (turn_line w 0 o)
 abbrev pub quiet_text : World → Outcome → Text
 quiet_text w o = if is_refused o then whole_line (turn_line w 0 o) else []
 
+-- a turn that is not a step was done, with its lines
 abbrev pub Quietly : Turn → Point → Text → Point → Type 0
 Quietly t p text q = (o : Outcome) × Does t o p q × (text ≡ quiet_text (world_of q) o)
 

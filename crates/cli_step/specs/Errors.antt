@@ -9,6 +9,7 @@ use Rattle.cli_step.specs.declared.error.ActionError.TheVariants as act
 use Rattle.cli_step.specs.declared.error.StepError.{StepError}
 use Rattle.cli_step.specs.declared.error.StepError.TheVariants.{Io, Journal, Plant, Script}
 
+-- the error of the action on this line
 abbrev pub at_line : ℕ → ActionError → StepError
 at_line line act.OutOfMemory = Io OutOfMemory
 at_line line (act.Plant plant.OutOfMemory) = Io OutOfMemory

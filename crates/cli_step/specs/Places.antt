@@ -54,6 +54,7 @@ is_readable b = is_printable b && not (b == 34)
 abbrev pub readable_put : List ℕ × List ℕ → Text
 readable_put e = if list_all is_readable e.1 then codes " " ++ e.0 ++ codes "=\"" ++ e.1 ++ codes "\"" else put_text e
 
+-- an entry whose value is shown in this way
 abbrev pub put_in : Values → List ℕ × List ℕ → Text
 put_in Hexadecimal = put_text
 put_in Readable = readable_put

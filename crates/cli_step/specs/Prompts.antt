@@ -77,6 +77,7 @@ abbrev pub ActsOrShows : Option ℕ → Action → Point → Text → Point → 
 ActsOrShows (Some s) act p text q = IsReadableLine (world_of p) s text × (q ≡ p)
 ActsOrShows None act p text q = Acts act p text q
 
+-- an action that was typed at the prompt
 abbrev pub ActsTyped : Action → Point → Text → Point → Type 0
 ActsTyped act p text q = ActsOrShows (saved_session act) act p text q
 
@@ -99,6 +100,7 @@ pub record Refuses (line : List ℕ) (a b : Scene) : Type 0 where
 abbrev pub IsRunOrReported : List ℕ → Scene → Scene → Type 0
 IsRunOrReported line a b = Does line a b ⊎ Refuses line a b
 
+-- a word of the prompt shows its text; any other line is run, or its refusal reported
 abbrev pub AnswersBy : Option PromptWord → List ℕ → Scene → Scene → Type 0
 AnswersBy (Some w) line a b = ShowsWord w a b
 AnswersBy None line a b = IsRunOrReported line a b

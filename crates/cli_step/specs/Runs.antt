@@ -32,6 +32,7 @@ abbrev pub Queries : Action → Point → Text → Point → Type 0
 Queries action.Auto p text q = Autos p text q
 Queries a p text q = ShowsAction a p text × (q ≡ p)
 
+-- by the turn that the action asks for, if it asks for one
 abbrev pub ActsBy : Option Turn → Action → Point → Text → Point → Type 0
 ActsBy (Some t) a p text q = Says t (session_of a) p text q
 ActsBy None a p text q = Queries a p text q

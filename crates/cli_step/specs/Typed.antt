@@ -28,6 +28,7 @@ abbrev pub typed_by : List ℕ → List ℕ → Typed
 typed_by last [] = again last
 typed_by last (b ∷ bs) = if b == 35 then Nothing else if bytes_eq (b ∷ bs) (codes "quit") then Quit else Line
 
+-- the same of a line as it was read, whatever its spaces
 abbrev pub typed : List ℕ → List ℕ → Typed
 typed last read = typed_by last (tidied read)
 
@@ -36,6 +37,7 @@ abbrev pub kept_by : List ℕ → List ℕ → List ℕ
 kept_by last [] = last
 kept_by last (b ∷ bs) = (b ∷ bs) ++ 10 ∷ []
 
+-- by what was typed: only a line changes what is kept
 abbrev pub kept_if : Typed → List ℕ → List ℕ → List ℕ
 kept_if Nothing last text = last
 kept_if Quit last text = last

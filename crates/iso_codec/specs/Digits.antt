@@ -8,6 +8,7 @@ hex_value c =
     else (if nat_le 65 c && nat_le c 70 then Some (c - 55)
     else (if nat_le 97 c && nat_le c 102 then Some (c - 87) else None))
 
+-- a function of two values, if there are both
 abbrev pub both : {A B C : Type 0} → (A → B → C) → Option A → Option B → Option C
 both f (Some x) (Some y) = Some (f x y)
 both f (Some x) None = None

@@ -20,9 +20,11 @@ error_of (message.BadLength n) = BadLength n
 error_of (message.BadContent n) = BadContent n
 error_of message.BadMti = BadMti
 
+-- the message with this value of a field, if it has the form's content
 abbrev pub placed : FieldForm → PlainMessage → ℕ → List ℕ → Result PlainMessage DecodeError
 placed form m n value = if has_content form value then Ok (with_field m n value) else Err (BadContent n)
 
+-- the message with the field that the bytes begin with, and the bytes after it
 abbrev pub grown : FieldForm → PlainMessage → ℕ → List ℕ → Result (PlainMessage × List ℕ) DecodeError
 grown form m n bytes = text_at form n bytes >>= λ value. placed form m n value.0 >>= λ more. Ok (more, value.1)
 
@@ -30,10 +32,12 @@ abbrev pub grown_at : Option FieldForm → PlainMessage → ℕ → List ℕ →
 grown_at None m n bytes = Err (FieldNotInProfile n)
 grown_at (Some form) m n bytes = grown form m n bytes
 
+-- the message with the fields of these numbers, one after the other, and the bytes after them
 unfoldable pub added : PlainMessage → List ℕ → List ℕ → Result (PlainMessage × List ℕ) DecodeError
 added m [] bytes = Ok (m, bytes)
 added m (n ∷ ns) bytes = grown_at (form_of n) m n bytes >>= λ x. added x.0 ns x.1
 
+-- the message of all the bytes, read in this way
 unfoldable pub read_grown : List ℕ → Result PlainMessage DecodeError
 read_grown bytes = do
   front ← front_at bytes

@@ -28,6 +28,7 @@ or_fault (Some x) e = Ok x
 abbrev pub part : ℕ → List ℕ → Result (List ℕ × List ℕ) DecodeError
 part count bytes = if nat_lt (length bytes) count then Err Short else Ok (take count bytes, drop count bytes)
 
+-- the type, if these are digits
 abbrev pub mti_is : List ℕ → Result (List ℕ) DecodeError
 mti_is digits = if list_all is_digit digits then Ok digits else Err BadMti
 
@@ -38,6 +39,7 @@ bitmap_at n bytes = do
   ns ← or_fault (bits_at n text.0) BadBitmap
   Ok (ns, text.1)
 
+-- bit 1 is set, so there is a second bitmap
 abbrev pub starts_with_1 : List ℕ → Bool
 starts_with_1 [] = false
 starts_with_1 (n ∷ ns) = n == 1
@@ -95,6 +97,7 @@ field_at (Some form) n bytes = do
   value ← text_at form n bytes
   if has_content form value.0 then Ok value else Err (BadContent n)
 
+-- the fields of these numbers, and the bytes after them
 unfoldable pub fields_at : List ℕ → List ℕ → Result (Fields × List ℕ) DecodeError
 fields_at [] bytes = Ok ([], bytes)
 fields_at (n ∷ ns) bytes = do
@@ -130,6 +133,7 @@ abbrev pub Fails : {Y : Type 0} → DecodeError → Result Y DecodeError → Typ
 Fails OutOfMemory reading = Unit {0}
 Fails e reading = reading ≡ Err e
 
+-- what a step that takes memory returned, seen by view, is what reading gives, unless memory was refused
 abbrev pub GivesMessage : {X Y : Type 0} → (X → Y) → Result X DecodeError → Result Y DecodeError → Type 0
 GivesMessage view (Ok x) reading = reading ≡ Ok (view x)
 GivesMessage view (Err e) reading = Fails e reading
@@ -138,6 +142,7 @@ GivesMessage view (Err e) reading = Fails e reading
 abbrev pub preceded_by : List ℕ → Result (List ℕ × List ℕ) DecodeError → Result (List ℕ × List ℕ) DecodeError
 preceded_by front r = r >>= λ x. Ok (front ++ x.0, x.1)
 
+-- the same where there are numbers
 abbrev pub put_before : List ℕ → Option (List ℕ) → Option (List ℕ)
 put_before front None = None
 put_before front (Some ns) = Some (front ++ ns)
@@ -147,6 +152,7 @@ put_before front (Some ns) = Some (front ++ ns)
 abbrev pub content_is : FieldForm → ℕ → List ℕ → Result (Unit {0}) DecodeError
 content_is form n value = if has_content form value then Ok tt else Err (BadContent n)
 
+-- the bytes after a field of this form
 abbrev pub form_over : FieldForm → ℕ → List ℕ → Result (List ℕ) DecodeError
 form_over form n bytes = text_at form n bytes >>= λ value. content_is form n value.0 >>= λ ok. Ok value.1
 

@@ -10,6 +10,7 @@ abbrev pub bit_of : ℕ → List ℕ → ℕ × List ℕ
 bit_of n [] = (0, [])
 bit_of n (x ∷ xs) = if x == n then (1, xs) else (0, x ∷ xs)
 
+-- the value of the digit for bits n to n + 3, and the numbers after them
 abbrev pub digit_of : ℕ → List ℕ → ℕ × List ℕ
 digit_of n ns =
     let a = bit_of n ns in
@@ -18,6 +19,7 @@ digit_of n ns =
     let d = bit_of (n + 3) c.1 in
     (8 * a.0 + 4 * b.0 + 2 * c.0 + d.0, d.1)
 
+-- this many digits, the first for bits n to n + 3
 unfoldable pub bits_of : ℕ → ℕ → List ℕ → List ℕ
 bits_of n zero ns = []
 bits_of n (suc digits) ns = upper (digit_of n ns).0 ∷ bits_of (n + 4) digits (digit_of n ns).1
@@ -25,5 +27,6 @@ bits_of n (suc digits) ns = upper (digit_of n ns).0 ∷ bits_of (n + 4) digits (
 abbrev pub bitmaps_of : List ℕ → List ℕ
 bitmaps_of ns = if list_any (λ n. nat_lt 64 n) ns then bits_of 1 32 (1 ∷ ns) else bits_of 1 16 ns
 
+-- the spelling of a message, by these bitmaps
 abbrev pub merged : PlainMessage → List ℕ
 merged m = m.mti ++ (bitmaps_of (numbers_of m.fields) ++ flat_map field_text m.fields)

@@ -35,6 +35,7 @@ decimal length_digits n = (if length_digits == 3 then (48 + n / 100) ∷ [] else
 abbrev pub hex : ℕ → List ℕ
 hex b = upper (b / 16) ∷ upper (b % 16) ∷ []
 
+-- LLVAR and LLLVAR have the length before the value, and b has two digits for each byte
 abbrev pub text_of : Option FieldForm → List ℕ → List ℕ
 text_of None value = []
 text_of (Some (Fixed content exact)) value = value

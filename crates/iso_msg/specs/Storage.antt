@@ -10,6 +10,7 @@ pair f = (f.number, f.value.items)
 abbrev pub pairs : List Field → Fields
 pairs fs = map pair fs
 
+-- the index counted from i on
 abbrev pub shift : ℕ → Result ℕ ℕ → Result ℕ ℕ
 shift i (Ok k) = Ok (i + k)
 shift i (Err k) = Err (i + k)

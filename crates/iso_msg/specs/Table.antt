@@ -44,6 +44,7 @@ ans_lllvar most = Variable Printable 3 most
 abbrev b64 : FieldForm
 b64 = Binary
 
+-- each field that a message may have, by rising numbers
 unfoldable pub rows : List FieldRow
 rows =
     (2, PrimaryAccountNumber, n_llvar 19) ∷

@@ -21,11 +21,13 @@ abbrev pub takes : Content → List ℕ → Bool
 takes Numeric value = list_all is_digit value
 takes Printable value = list_all is_text value
 
+-- a value of this form may have this many bytes
 abbrev pub has_length : FieldForm → ℕ → Bool
 has_length (Fixed content exact) len = len == exact
 has_length (Variable content length_digits most) len = nat_le len most
 has_length Binary len = len == 8
 
+-- the bytes of a value are of the form's content, whatever its length
 abbrev pub has_content : FieldForm → List ℕ → Bool
 has_content (Fixed content exact) value = takes content value
 has_content (Variable content length_digits most) value = takes content value

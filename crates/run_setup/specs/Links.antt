@@ -29,6 +29,7 @@ side_state Simulated = 0 ∷ shown_issuer false []
 side_state Silent = 0 ∷ shown_issuer true []
 side_state (Reached host) = host_state
 
+-- a host's name, and what contracts see of a new link to it
 abbrev pub host_link : Host → List ℕ × List ℕ
 host_link h = (h.name, wire_state h.wire)
 

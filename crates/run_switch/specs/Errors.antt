@@ -77,6 +77,7 @@ abbrev pub error_of_early : Early → ServeError
 error_of_early early.OutOfMemory = OutOfMemory
 error_of_early e = Pool e
 
+-- the error of a run whose pool did not begin, or was given up
 abbrev pub IsOfPool : {S : Type 0} {I : Type 0} {D : I → Type 0} → PoolError S I D → ServeError → Type 0
 IsOfPool (pool.Early p e) r = r ≡ error_of_early e
 IsOfPool (pool.Late l) r = r ≡ error_of_fault l.cause

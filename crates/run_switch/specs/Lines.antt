@@ -34,6 +34,7 @@ pub record Line : Type 0 where
   pub recorded : Option Record
   pub taken : Option Record
 
+-- the line of an event after those before it
 abbrev pub line_at : Flow → Start → List Event → Event → Line
 line_at f v past e = record { text = line_text f v past e; json = json_text f v past e; recorded = record_at f v past e; taken = taken_at f v past e }
 

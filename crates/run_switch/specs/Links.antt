@@ -5,6 +5,7 @@ use Rattle.sw_issuers.specs.declared.sender.GroupLink.{GroupLink}
 use Rattle.sw_issuers.specs.Sending.{PlainSender, link_states}
 use Rattle.run_switch.specs.declared.setup.NamedLink.{NamedLink}
 
+-- cards that begin with this prefix go to this group
 abbrev pub routing : List ℕ → List ℕ → Routing
 routing prefix group = record { prefix = prefix; group = group }
 

@@ -69,10 +69,12 @@ unanswered p = above p.answered.last (ended_at p)
 abbrev pub response : Pairs → Option (List ℕ)
 response x = find (codes "response") x
 
+-- responses with this one before them, if there is one
 abbrev pub with_response : Option (List ℕ) → List (List ℕ) → List (List ℕ)
 with_response None rs = rs
 with_response (Some r) rs = r ∷ rs
 
+-- the responses of these contexts, in their order; a context without one is left out
 abbrev pub responses : List (ℕ × Pairs) → List (List ℕ)
 responses [] = []
 responses (e ∷ es) = with_response (response e.1) (responses es)

@@ -30,9 +30,11 @@ pub record Recording : Type 0 where
   pub lost : Bool
   pub text : Option (List ℕ)
 
+-- what contracts see of a log; `contents` says what an output holds, where that is known
 abbrev pub recording_of : {E K : Type 0} → (E → Option (List ℕ)) → RecordLog E K → Recording
 recording_of contents log = record { wanted = log.wanted; lost = log.lost; text = contents log.out.now }
 
+-- the records of these lines, where the log is wanted
 abbrev pub if_kept : Bool → List Line → List Record
 if_kept true lines = records_in lines
 if_kept false lines = []

@@ -26,6 +26,7 @@ readable (bytes ∷ more) = if_read (read bytes) bytes ++ readable more
 abbrev pub request_of : List ℕ → Pairs
 request_of bytes = (codes "request", bytes) ∷ []
 
+-- the contexts in which the messages that can be read are offered
 abbrev pub requests : List (List ℕ) → List Pairs
 requests frames = map request_of (readable frames)
 

@@ -44,6 +44,7 @@ pub record Acts (drives : List Drive) (p q : Point) : Type 0 where
 abbrev pub doing : Turn → Outcome × Outcome → Drive
 doing t o = Done (t ∷ turn.Write None ∷ []) (o.0 ∷ o.1 ∷ [])
 
+-- every outcome but a refusal
 abbrev pub IsDone : Outcome → Type 0
 IsDone (outcome.Refused e) = ⊥
 IsDone o = ⊤

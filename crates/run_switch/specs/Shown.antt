@@ -17,6 +17,7 @@ use Rattle.run_switch.specs.Points.{Point}
 use Rattle.run_switch.specs.Lines.{Line}
 use Rattle.run_switch.specs.Traces.{Log, Tells}
 
+-- a text where it is wanted, and nothing otherwise
 abbrev pub if_shown : Bool → List ℕ → List ℕ
 if_shown true text = text
 if_shown false text = []
@@ -55,6 +56,7 @@ abbrev pub ready_text : Option Words → Recovered → List ℕ
 ready_text None recovered = []
 ready_text (Some w) recovered = ready_lines w.ready recovered
 
+-- it was reported that a run is ready, and what it recovered
 abbrev pub SaysReady : Option Words → Recovered → Log → Log → Type 0
 SaysReady words recovered a b = Says (λ text. text ≡ ready_text words recovered) a b
 
@@ -67,6 +69,7 @@ hosts_of (Some w) = names_in w.hosts
 abbrev pub SaysNews : List (List ℕ) → Log → Log → Type 0
 SaysNews names a b = Says (AreNews names) a b
 
+-- the lines of these hosts' counts, or nothing where numbers are not wanted
 abbrev pub CountsIf : Bool → List (List ℕ) → List ℕ → Type 0
 CountsIf true names text = AreHostLines names text
 CountsIf false names text = text ≡ []
@@ -90,6 +93,7 @@ abbrev pub ShowsIf : Bool → Numbers → List (List ℕ) → Log → Log → Ty
 ShowsIf true numbers names a b = (between : Log) × ShowsNumbers numbers a between × SaysCounts names between b
 ShowsIf false numbers names a b = b ≡ a
 
+-- what is new of these hosts, then the line and their counts, if they have come due
 abbrev pub ShowsSince : Option ℕ → ℕ → Numbers → List (List ℕ) → Log → Log → Type 0
 ShowsSince every before numbers names a b =
     (between : Log) × SaysNews names a between × ShowsIf (is_due every before numbers.tally.requests) numbers names between b

@@ -132,6 +132,7 @@ pub record Serving (step : AdviceStep) (threads : Bool) (input : Option (List �
   pub ready : IsReady begun
   pub serves : StopsWithin step threads input (stage advisor begun before) after ⊎ StopsAfter step threads input (stage advisor begun before) after
 
+-- nothing was written, or what an input has was served, up to an error
 abbrev pub ServesSome : AdviceStep → Bool → Option (List ℕ) → Point → PlainAdvisor → Option (List ℕ) → Option (List ℕ) → Type 0
 ServesSome step threads input p advisor before after = Keeps before after ⊎ Serving step threads input p advisor before after
 
@@ -153,6 +154,7 @@ pub record Unprinted (f : Flow) (sessions : ℕ) (j : Seen) (before after : Opti
   pub begins : Begins f sessions j recovered
   pub written : AppendsBeginning before after (written_as Text (lines_in (world_at recovered)))
 
+-- a run, with or without an input, recovered, and then ended with an error
 abbrev pub StopsWith : AdviceStep → PlainSender → ℕ → Bool → Option (Option (List ℕ)) → Flow → ℕ → Seen → Option (List ℕ) → Option (List ℕ) → Type 0
 StopsWith step sender most threads None f sessions j before after = Unprinted f sessions j before after
 StopsWith step sender most threads (Some input) f sessions j before after = Stopped step sender most threads f sessions j input before after

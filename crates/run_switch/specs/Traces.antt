@@ -114,6 +114,7 @@ pub record Log : Type 0 where
   pub text : Option (List ℕ)
   pub recording : Recording
 
+-- what contracts see of a reporter; `contents` says what an output holds, where that is known
 abbrev pub log_of : {E K : Type 0} → (E → Option (List ℕ)) → Reporter E K → Log
 log_of contents stderr = record {
   wanted = stderr.trace;
@@ -124,6 +125,7 @@ log_of contents stderr = record {
   recording = recording_of contents stderr.log;
 }
 
+-- the lines in the form in which they are wanted, or nothing
 abbrev pub if_wanted : Option LineForm → List Line → List ℕ
 if_wanted (Some form) lines = written_as form lines
 if_wanted None lines = []
@@ -158,6 +160,7 @@ abbrev pub if_passed : Result PlainMessage DecodeError → ℕ
 if_passed (Ok m) = 0
 if_passed (Err e) = 1
 
+-- how many of these messages are passed over
 abbrev pub passed_over : List (List ℕ) → ℕ
 passed_over [] = 0
 passed_over (bytes ∷ more) = if_passed (read bytes) + passed_over more

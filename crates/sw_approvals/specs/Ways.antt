@@ -54,6 +54,7 @@ abbrev pub is_stand_in : Part → Bool
 is_stand_in StandIn = true
 is_stand_in p = false
 
+-- one of the participants passes the test
 abbrev pub Has : (Part → Bool) → List Stop → Type 0
 Has test [] = ⊥
 Has test (p ∷ ps) = (test p.part ≡ true) ⊎ Has test ps

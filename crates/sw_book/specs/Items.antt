@@ -87,6 +87,7 @@ with_item id item items = insert_entry nat_cmp items id item
 abbrev pub in_its_place : ℕ → Item → Items → Items
 in_its_place id item items = set_value (is_at (nat_cmp id)) items item
 
+-- without the item under an id
 abbrev pub without : ℕ → Items → Items
 without id items = remove_entry (is_at (nat_cmp id)) items
 
@@ -94,10 +95,12 @@ abbrev pub in_state : State → Item → Item
 in_state state item =
     record { card = item.card; key = item.key; amount = item.amount; state = state }
 
+-- there is an item, and it is open
 abbrev pub has_open : Option Item → Bool
 has_open None = false
 has_open (Some item) = is_open item.state
 
+-- there is an item, and it is used
 abbrev pub has_used : Option Item → Bool
 has_used None = false
 has_used (Some item) = is_used item.state
@@ -131,6 +134,7 @@ reversed_at (Some id) items = reversed_by id (item_at id items) items
 abbrev pub reversed : BookKey → Items → Items
 reversed key items = reversed_at (id_of key items) items
 
+-- an item is used: that under an id, if there is one; that with a key
 abbrev pub is_used_at : Option ℕ → Items → Bool
 is_used_at None items = false
 is_used_at (Some id) items = has_used (item_at id items)
@@ -142,10 +146,12 @@ is_used_in key items = is_used_at (id_of key items) items
 abbrev pub is_taken : ℕ → BookKey → Items → Bool
 is_taken id key items = is_some (item_at id items) || is_some (id_of key items)
 
+-- with this amount more the card is over the limit
 abbrev pub is_over : PlainBook → Card → ℕ → Bool
 is_over book card amount =
     nat_lt book.limit (used card book.items + reserved card book.items + amount)
 
+-- the first such reason, for an amount of a card under an id and with a key
 abbrev pub refusal : PlainBook → ℕ → Card → BookKey → ℕ → Option BookError
 refusal book id card key amount = first_of (
     refused_if (nat_lt max_amount amount) AmountTooLarge
@@ -158,6 +164,7 @@ abbrev pub IsRefusal : BookError → Option BookError → Type 0
 IsRefusal OutOfMemory r = r ≡ None
 IsRefusal e r = r ≡ Some e
 
+-- a card without sums has spent nothing, and nothing is held for it
 abbrev pub totals_in : Option Totals → Totals
 totals_in None = record { used = 0; reserved = 0 }
 totals_in (Some t) = t

@@ -12,9 +12,11 @@ abbrev pub HaveOwnKeys : Items → Type 0
 HaveOwnKeys [] = Unit {0}
 HaveOwnKeys (e ∷ es) = (id_of e.1.key es ≡ None) × HaveOwnKeys es
 
+-- each item counts once
 abbrev pub one : Item → ℕ
 one item = 1
 
+-- ids by key and sums by card are those of the items, and no card is over the limit
 pub record IsBook (limit : ℕ) (items : Items)
     (ids : BookKey → Option ℕ) (totals : Card → Option Totals) : Type 0 where
   pub small : limit ≤ max_limit

@@ -42,6 +42,7 @@ verdict_of ending =
     else if bytes_eq ending (codes "91") then Silent
     else Approved
 
+-- a refusal has the last two digits of the amount as its code
 abbrev pub judged : Verdict → List ℕ → PlainMessage → Option PlainMessage
 judged Approved ending m = Some (approval m)
 judged Refused ending m = Some (response (codes "0110") ending m)

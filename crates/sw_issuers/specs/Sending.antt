@@ -14,6 +14,7 @@ use Rattle.sw_issuers.specs.Delivery.{Delivers}
 abbrev pub LinkStates : Type 0
 LinkStates = List (List ℕ × List ℕ)
 
+-- a group with what contracts see of its link
 abbrev pub link_state : {X : Type 0} → (X → List ℕ) → GroupLink X → List ℕ × List ℕ
 link_state state g = (g.group, state g.link)
 
@@ -34,6 +35,7 @@ repeated _ advice = advice
 abbrev pub Delivering : Type 1
 Delivering = List ℕ → Bool → List ℕ → Type 0
 
+-- if this link is the group's, it delivers and the later ones stay; otherwise it stays and a later one may
 abbrev pub DeliversAt : Delivering → Bool → List ℕ × List ℕ → LinkStates
     → Bool → LinkStates → (LinkStates → Type 0) → Type 0
 DeliversAt D true l ls accepted ts later =
@@ -52,6 +54,7 @@ abbrev pub SenderStep : Type 1
 SenderStep = PlainSender → Bool → PlainSender → Type 0
 
 module _ (sends : Sending) (receives : Receiving) (starves : Starving) (refused : Type 0) where
+  -- an advice without a route is neither sent nor accepted
   abbrev pub SendsBy : Option Routing → List ℕ → PlainMessage → SenderStep
   SendsBy None bytes m s accepted t = (accepted ≡ false) × (t ≡ s)
   SendsBy (Some r) bytes m s accepted t =
@@ -59,6 +62,7 @@ module _ (sends : Sending) (receives : Receiving) (starves : Starving) (refused 
       s.links accepted t.links
       × (t.routes ≡ s.routes)
 
+  -- bytes that are not a message are neither sent nor accepted
   abbrev pub SendsMessage : Option PlainMessage → List ℕ → SenderStep
   SendsMessage None bytes s accepted t = (accepted ≡ false) × (t ≡ s)
   SendsMessage (Some m) bytes s accepted t = SendsBy (route_of m s.routes) bytes m s accepted t

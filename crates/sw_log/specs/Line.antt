@@ -4,6 +4,7 @@ use Rattle.sw_json.specs.Json as json
 use Rattle.sw_record.specs.declared.record.Record.{Record}
 use Rattle.sw_log.specs.declared.line.Times.{Times}
 
+-- a line, or a part of one, as bytes
 abbrev pub Line : Type 0
 Line = List ℕ
 

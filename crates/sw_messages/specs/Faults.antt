@@ -31,10 +31,12 @@ abbrev pub is_short : Option (List ℕ) → Bool
 is_short None = false
 is_short (Some card) = nat_lt (length card) 12
 
+-- an amount is 0, where there is one
 abbrev pub is_zero : Option (List ℕ) → Bool
 is_zero None = false
 is_zero (Some amount) = list_all (λ d. d == 48) amount
 
+-- only an authorization is refused for a short card number
 abbrev pub has_short_card : Class → PlainMessage → Bool
 has_short_card Authorization m = is_short (value_at 2 m.fields)
 has_short_card _ m = false

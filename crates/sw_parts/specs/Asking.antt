@@ -28,11 +28,13 @@ key_of card terminal stan sent =
 abbrev pub Value : Type 0
 Value = Option (List ℕ)
 
+-- an open item, where the amount is a number
 abbrev pub asked_amount : Card → BookKey → Option ℕ → Option Item
 asked_amount card key None = None
 asked_amount card key (Some amount) =
     Some (record { card = card; key = key; amount = amount; state = Open })
 
+-- by the values of card, terminal, STAN, date and time, and amount; nothing where one of them is missing
 abbrev pub asked_by : Value → Value → Value → Value → Value → Option Item
 asked_by (Some card) (Some terminal) (Some stan) (Some sent) (Some amount) =
     asked_amount (card_of card) (key_of (card_of card) terminal stan sent) (number_of amount)
@@ -44,6 +46,7 @@ abbrev pub asked : PlainMessage → Option Item
 asked m = asked_by (value_at 2 m.fields) (value_at 41 m.fields) (value_at 11 m.fields)
     (value_at 7 m.fields) (value_at 4 m.fields)
 
+-- by the values of card, terminal and original data elements: after a type of 4 digits the STAN, then date and time
 abbrev pub original_by : Value → Value → Value → Option BookKey
 original_by (Some card) (Some terminal) (Some original) = Some
     (key_of (card_of card) terminal (take 6 (drop 4 original)) (take 10 (drop 10 original)))

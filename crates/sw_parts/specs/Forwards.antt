@@ -25,6 +25,7 @@ abbrev pub reversal_by : Option Class → PlainMessage → Option (List ℕ)
 reversal_by (Some Reversal) m = Some (spelling (reversal_advice m))
 reversal_by _ m = None
 
+-- the same of the request of a context
 abbrev pub reversal : Pairs → Option (List ℕ)
 reversal x = option_and_then (λ m. reversal_by (class_of m.mti) m) (request_in x)
 

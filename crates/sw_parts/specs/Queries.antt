@@ -23,6 +23,7 @@ use Rattle.sw_parts.specs.Quiet.{passes, refuses, leaves_notes}
 abbrev pub Sending : Type 1
 Sending = List ℕ → List ℕ → List ℕ → Type 0
 
+-- the same of a receive, with the message that came, if one did
 abbrev pub Receiving : Type 1
 Receiving = List ℕ → Option (List ℕ) → List ℕ → Type 0
 
@@ -30,6 +31,7 @@ Receiving = List ℕ → Option (List ℕ) → List ℕ → Type 0
 abbrev pub Starving : Type 1
 Starving = List ℕ → Type 0
 
+-- there is a key, and it is this one
 abbrev pub has_key : List ℕ → Option (List ℕ) → Bool
 has_key k None = false
 has_key k (Some other) = bytes_eq k other
@@ -39,6 +41,7 @@ abbrev pub with_key : List ℕ → Option PlainMessage → Option PlainMessage
 with_key k None = None
 with_key k (Some m) = if has_key k (key m) then Some m else None
 
+-- the same of bytes, which may not be a message
 abbrev pub answer_in : List ℕ → List ℕ → Option PlainMessage
 answer_in k bytes = with_key k (ok_of (read bytes))
 
@@ -73,18 +76,22 @@ abbrev pub or_code : Option (List ℕ) → List ℕ
 or_code None = digits_of SystemMalfunction
 or_code (Some rc) = rc
 
+-- with a note of this value, if there is one, under this name
 abbrev pub noted_if : Option (List ℕ) → List ℕ → Pairs → Pairs
 noted_if None name x = x
 noted_if (Some value) name x = noted x name value
 
+-- with the codes of an answer, and without the note `late`
 abbrev pub answered : PlainMessage → Pairs → Pairs
 answered m x = without (codes "late")
     (noted_if (value_at 38 m.fields) (codes "auth")
     (noted x (codes "rc") (or_code (value_at 39 m.fields))))
 
+-- the context of a request that was sent, and whose answer has not come
 abbrev pub asking : Pairs → Pairs
 asking x = noted (noted x (codes "sent") (codes "1")) (codes "late") (codes "1")
 
+-- an answer approves if its 39 is 00
 abbrev pub approves : PlainMessage → Bool
 approves m = bytes_eq (or_code (value_at 39 m.fields)) (codes "00")
 
@@ -124,16 +131,19 @@ module _ (sends : Sending) (receives : Receiving) (starves : Starving) (refused 
       × sends s bytes u × Hears receives starves refused 8 k u r t
       × Ends has_stand_in refused r (asking x) byte y
 
+  -- one without a key is not sent, and refused with 96
   abbrev pub AsksByKey : Option (List ℕ) → List ℕ → LinkStep
   AsksByKey None bytes s x byte t y =
       (byte ≡ refuses) × (t ≡ s) × (y ≡ coded SystemMalfunction x)
   AsksByKey (Some k) bytes s x byte t y = Asks bytes k s x byte t y
 
+  -- a request that is not an authorization is passed over
   abbrev pub QueriesByClass : Option Class → PlainMessage → List ℕ → LinkStep
   QueriesByClass (Some Authorization) m bytes s x byte t y =
       AsksByKey (key m) bytes s x byte t y
   QueriesByClass _ m bytes s x byte t y = (byte ≡ passes) × (t ≡ s) × (y ≡ x)
 
+  -- a context without a request that can be read is passed over
   abbrev pub QueriesBy : Option PlainMessage → List ℕ → LinkStep
   QueriesBy None bytes s x byte t y = (byte ≡ passes) × (t ≡ s) × (y ≡ x)
   QueriesBy (Some m) bytes s x byte t y = QueriesByClass (class_of m.mti) m bytes s x byte t y

@@ -7,6 +7,7 @@ use Rattle.sw_messages.specs.declared.response_code.ResponseCode.{ResponseCode}
 use Rattle.sw_messages.specs.Requests.{request_in, noted}
 use Rattle.sw_messages.specs.Responses.{is_response, response_to}
 
+-- none for a request that cannot be read, or that is itself a response; with the default code where none was noted
 abbrev pub responded_by : ResponseCode → Option PlainMessage → Pairs → Pairs
 responded_by default None x = x
 responded_by default (Some m) x =

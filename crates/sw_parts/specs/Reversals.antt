@@ -18,6 +18,7 @@ may_stand x = is_some (find (codes "late") x) || is_approved (find (codes "rc") 
 abbrev pub is_due : Bool → Pairs → Bool
 is_due recovering x = recovering || (is_some (find (codes "sent") x) && may_stand x)
 
+-- the reversal of an authorization, if it is due
 abbrev pub advice_by : Bool → Option Class → PlainMessage → Option (List ℕ)
 advice_by due (Some Authorization) m = if due then Some (spelling (reversal_of m)) else None
 advice_by due _ m = None

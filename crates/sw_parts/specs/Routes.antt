@@ -24,6 +24,7 @@ longer (Some r) None = Some r
 longer (Some r) (Some q) =
     if nat_lt (length r.prefix) (length q.prefix) then Some q else Some r
 
+-- the route, if the card number begins with its prefix
 abbrev pub if_prefix : List ℕ → Routing → Option Routing
 if_prefix card r = if starts_with nat_eq card r.prefix then Some r else None
 
@@ -33,6 +34,7 @@ abbrev pub route_for : List ℕ → List Routing → Option Routing
 route_for card [] = None
 route_for card (r ∷ rs) = longer (if_prefix card r) (route_for card rs)
 
+-- none without a card number
 abbrev pub route_by : Option (List ℕ) → List Routing → Option Routing
 route_by None rs = None
 route_by (Some card) rs = route_for card rs
@@ -46,10 +48,12 @@ abbrev pub unroutable : Option Routing → Option ResponseCode
 unroutable None = Some rc.IssuerInoperative
 unroutable (Some r) = None
 
+-- any other request needs no route
 abbrev pub route_fault_class : Option Class → PlainMessage → List Routing → Option ResponseCode
 route_fault_class (Some Authorization) m rs = unroutable (route_of m rs)
 route_fault_class _ m rs = None
 
+-- the code with which a request is refused, if it has no route and needs one
 abbrev pub route_fault : Option PlainMessage → List Routing → Option ResponseCode
 route_fault None rs = None
 route_fault (Some m) rs = route_fault_class (class_of m.mti) m rs
@@ -58,14 +62,17 @@ route_fault (Some m) rs = route_fault_class (class_of m.mti) m rs
 abbrev pub ChecksRoute : List Routing → Pairs → ℕ → Pairs → Type 0
 ChecksRoute rs x byte y = Decided (route_fault (request_in x) rs) x byte y
 
+-- the group of a route; no text without one
 abbrev pub group_of : Option Routing → List ℕ
 group_of None = []
 group_of (Some r) = r.group
 
+-- a request that is not an authorization picks no group
 abbrev pub group_class : Option Class → PlainMessage → List Routing → List ℕ
 group_class (Some Authorization) m rs = group_of (route_of m rs)
 group_class _ m rs = []
 
+-- a context without a request that can be read picks none
 abbrev pub group_by : Option PlainMessage → List Routing → List ℕ
 group_by None rs = []
 group_by (Some m) rs = group_class (class_of m.mti) m rs

@@ -8,6 +8,7 @@ use Rattle.sw_book.specs.declared.item.State.TheVariants.{Open, Used, Reversed}
 use Rattle.sw_book.specs.Items.{PlainBook}
 use Rattle.sw_participant.specs.Shown.{shown}
 
+-- the number of a state, and the state of a number
 abbrev pub state_number : State → ℕ
 state_number Open = 0
 state_number Used = 1

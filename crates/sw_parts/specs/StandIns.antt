@@ -21,11 +21,13 @@ is_small most (Some amount) = nat_le amount most
 abbrev pub stand_in_code : List ℕ → List ℕ
 stand_in_code stan = codes "SI" ++ drop 2 stan
 
+-- the context as an approval of the switch's own leaves it: code 00, the approval code and the note `standin`
 abbrev pub stood_in : List ℕ → Pairs → Pairs
 stood_in stan x =
     noted (noted (coded rc.Approved x) (codes "auth") (stand_in_code stan))
     (codes "standin") (codes "1")
 
+-- approved, with the approval code of this STAN, or refused with 91
 abbrev pub Judged : Bool → List ℕ → Pairs → ℕ → Pairs → Type 0
 Judged true stan x byte y = (byte ≡ leaves_notes) × (y ≡ stood_in stan x)
 Judged false stan x byte y = (byte ≡ refuses) × (y ≡ coded rc.IssuerInoperative x)
@@ -36,11 +38,13 @@ StandsInWith most (Some amount) (Some stan) x byte y =
     Judged (is_small most (number_of amount)) stan x byte y
 StandsInWith most _ _ x byte y = (byte ≡ passes) × (y ≡ x)
 
+-- so is a context without a request that can be read
 abbrev pub StandsInBy : ℕ → Option PlainMessage → Pairs → ℕ → Pairs → Type 0
 StandsInBy most None x byte y = (byte ≡ passes) × (y ≡ x)
 StandsInBy most (Some m) x byte y =
     StandsInWith most (value_at 4 m.fields) (value_at 11 m.fields) x byte y
 
+-- it decides only where the answer is late and nobody has decided yet; otherwise it passes over
 abbrev pub StandsInWhere : Bool → ℕ → Pairs → ℕ → Pairs → Type 0
 StandsInWhere true most x byte y = StandsInBy most (request_in x) x byte y
 StandsInWhere false most x byte y = (byte ≡ passes) × (y ≡ x)

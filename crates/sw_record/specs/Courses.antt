@@ -62,6 +62,7 @@ abbrev pub with_row : ℕ → Event → Option (ℕ × Option Row) → Course �
 with_row id e None t = t
 with_row id e (Some r) t = if r.0 == id then record (with_event e r.1 t) { doing = doing_in r.1 } else t
 
+-- with one more entry, which may be of another transaction
 abbrev pub with_entry : ℕ → Entry → Course → Course
 with_entry id entry t = with_row id entry.event entry.change.row t
 

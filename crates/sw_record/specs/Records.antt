@@ -84,6 +84,7 @@ record_after retries before entry =
 abbrev pub course_of_row : Row → Course
 course_of_row row = record no_course { context = pairs_in row.context }
 
+-- by the event of an entry, and the row that it changes; only a take has one
 abbrev pub taken_by : ℕ → Event → Option (ℕ × Option Row) → Option Record
 taken_by retries (Taken s) (Some (id, Some row)) = Some (record_of id retries row.tries (course_of_row row))
 taken_by retries _ _ = None

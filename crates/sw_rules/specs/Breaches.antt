@@ -30,9 +30,11 @@ breach_if holds r place = if holds then record { rule = r; at = place } ∷ [] e
 abbrev pub broken : SetUp → At → (Rule → Bool) → List Rule → List Breach
 broken s place test rs = flat_map (λ r. breach_if (is_counted s (test r) r) r place) rs
 
+-- of an entry, by the number of its group and its index
 abbrev pub entry_breaches : Flow → SetUp → Group → ℕ → ℕ → Entry → List Breach
 entry_breaches f s x g i e = broken s (at.Entry g i) (λ r. entry_breaks r f s x i e) rules
 
+-- of all entries of a group, by the number of the group
 abbrev pub all_entry_breaches : Flow → SetUp → Group → ℕ → List Breach
 all_entry_breaches f s x g = all_at (entry_breaches f s x g) 0 x.entries
 
@@ -40,9 +42,11 @@ all_entry_breaches f s x g = all_at (entry_breaches f s x g) 0 x.entries
 abbrev pub own_breaches : SetUp → ℕ → Group → List Breach
 own_breaches s g x = broken s (at.Group g) (λ r. group_breaks r s x) rules
 
+-- of a group by itself, and then of its entries
 abbrev pub group_breaches : Flow → SetUp → ℕ → Group → List Breach
 group_breaches f s g x = own_breaches s g x ++ all_entry_breaches f s x g
 
+-- of a route, by its number
 abbrev pub route_breaches : Flow → SetUp → ℕ → SetUpRoute → List Breach
 route_breaches f s n r = broken s (at.Route n) (λ q. route_breaks q f r) rules
 

@@ -14,6 +14,7 @@ use Rattle.sw_rules.specs.declared.set_up.SetUpRoute.{SetUpRoute}
 abbrev pub group_name : Option Group → List ℕ
 group_name x = option_map_or (λ (g : Group). g.name) x []
 
+-- by the number of the group and the index of the entry
 abbrev pub entry_at : Flow → ℕ → ℕ → Option Entry
 entry_at f g i = option_and_then (λ (x : Group). slice_get x.entries i) (slice_get f.groups g)
 

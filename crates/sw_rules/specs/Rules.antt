@@ -28,6 +28,7 @@ asks s name = list_any (λ (h : SetUpHost). bytes_eq h.query name) s.hosts
 abbrev pub needs_stand_in : SetUp → List ℕ → Bool
 needs_stand_in s name = list_any (λ (h : SetUpHost). h.stand_in && bytes_eq h.query name) s.hosts
 
+-- the switch has a participant of this name
 abbrev pub is_known : SetUp → List ℕ → Bool
 is_known s name = is_own name || asks s name
 

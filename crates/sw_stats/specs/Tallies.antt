@@ -20,6 +20,7 @@ use Rattle.sw_messages.specs.Requests.{is_stand_in, class_in, message_of}
 abbrev pub Declined : Type 0
 Declined = List (List ℕ × ℕ)
 
+-- what was counted of contexts that transactions ended with, and how many advices were accepted
 pub record Tally : Type 0 where
   pub requests : ℕ
   pub approved : ℕ
@@ -35,6 +36,7 @@ no_tally = record { requests = 0; approved = 0; declined = []; stand_ins = 0; re
 abbrev pub more : ℕ → ℕ
 more n = min (n + 1) (2 ^ 64 - 1)
 
+-- one more, if this is so
 abbrev pub one_more : Bool → ℕ → ℕ
 one_more b n = if b then more n else n
 

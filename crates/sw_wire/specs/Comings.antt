@@ -11,6 +11,7 @@ use Rattle.sw_wire.specs.Keyed.{key_in}
 abbrev pub is_echo_answer : PlainMessage → Bool
 is_echo_answer m = bytes_eq m.mti (codes "0810")
 
+-- there is a message, and it is one
 abbrev pub echoes : Option PlainMessage → Bool
 echoes None = false
 echoes (Some m) = is_echo_answer m

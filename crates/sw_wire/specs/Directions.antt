@@ -27,6 +27,7 @@ is_awaited Opening last now = not (is_due 100000 last now)
 is_awaited Closed last now = false
 is_awaited Open last now = false
 
+-- a second later, at most the last moment of all; in microseconds
 abbrev pub second_after : ℕ → ℕ
 second_after micros = min (micros + 1000000) end_of_time
 

@@ -3,6 +3,7 @@ use Rattle.std.specs.Prelude.{ℕ, List, [], ◌∷◌, ◌++◌, codes}
 use Rattle.std.specs.Fmt.{decimal}
 use Rattle.sw_wire.specs.declared.counts.Counts.{Counts}
 
+-- the members of what was asked, and those of what was lost
 abbrev pub asked_text : List ℕ → Counts → List ℕ
 asked_text name c =
     codes "cardswitch: host " ++ name ++ codes ": not-asked=" ++ decimal c.unasked ++ codes " echo-tests=" ++ decimal c.tests

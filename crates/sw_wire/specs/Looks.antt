@@ -26,6 +26,7 @@ abbrev pub is_open : Look → Bool
 is_open Open = true
 is_open look = false
 
+-- no answer came, and none is waited for any more
 abbrev pub is_over : Look → Bool
 is_over Late = true
 is_over Closed = true

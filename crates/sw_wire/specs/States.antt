@@ -31,6 +31,7 @@ after state (NotOpened number) = CannotOpen number
 after state Closed = Lost
 after state Late = Silent
 
+-- a state as a word; from 4 on a failed opening, with the number that the system gave the error
 abbrev pub state_word : HostState → ℕ
 state_word Reached = 0
 state_word NotOpen = 1
@@ -50,6 +51,7 @@ abbrev pub IsOpeningText : ℕ → List ℕ → Type 0
 IsOpeningText zero text = text ≡ codes "cannot be opened"
 IsOpeningText (suc number) text = (cause : List ℕ) × (text ≡ codes "cannot be opened: " ++ cause)
 
+-- what the line says after the host's name
 abbrev pub IsStateText : HostTimes → HostState → List ℕ → Type 0
 IsStateText times Reached text = text ≡ codes "is back"
 IsStateText times NotOpen text = text ≡ codes "is not open yet"

@@ -15,6 +15,7 @@ abbrev pub since : Option EchoTests → ℕ → Option EchoTests
 since None heard = None
 since (Some tests) heard = if tests.heard == heard then Some tests else None
 
+-- the last echo tests, if nothing was read since; `heard` is how often something was read
 abbrev pub unanswered : Watch → ℕ → Option EchoTests
 unanswered w heard = since w.tests heard
 
@@ -32,9 +33,11 @@ abbrev pub again : Option Moment → Moment → Duration → Moment
 again None from retry = from
 again (Some tested) from retry = record { micros = max from.micros (later tested.micros retry) }
 
+-- the next echo test of a host that is tested from this moment on
 abbrev pub due_in_silence : Watch → Moment → Duration → Moment
 due_in_silence w from retry = again w.tested from retry
 
+-- by the moment from which it is tested, if it is, and the echo tests that are unanswered
 abbrev pub next_by : Option Moment → Option EchoTests → Watch → HostTimes → Option Moment
 next_by (Some from) tests w times = Some (due_in_silence w from times.retry)
 next_by None (Some tests) w times = None
@@ -51,6 +54,7 @@ rest_or_test None deadline now = Rests deadline
 rest_or_test (Some due) deadline now =
     if nat_le due.micros now then Tests else Rests (record { micros = min due.micros deadline.micros })
 
+-- by the echo tests that are unanswered, and the moment of the next one
 abbrev pub duty_by : Option EchoTests → Option Moment → ℕ → Duty
 duty_by None next now = rest_or_test next (record { micros = end_of_time }) now
 duty_by (Some tests) next now = if nat_le tests.deadline.micros now then GivesUp tests.count else rest_or_test next tests.deadline now

@@ -18,9 +18,11 @@ use Rattle.sw_wire.specs.Outgoings.{IsOutgoing}
 abbrev pub awaited_key : Option Awaited → Option (List ℕ)
 awaited_key awaited = option_map (λ a. a.key.bytes) awaited
 
+-- after this message nothing is waited for, or the answer with its key
 abbrev pub KeyedFor : List ℕ → Option Awaited → Type 0
 KeyedFor message awaited = WaitsFor (key_in message) (awaited_key awaited)
 
+-- these bytes are an answer with the key that is waited for
 abbrev pub AnswersTo : Option Awaited → List ℕ → Type 0
 AnswersTo awaited bytes = Answers (awaited_key awaited) bytes
 
