@@ -52,10 +52,10 @@ refused_text = codes "context refused\n"
 abbrev pub number_line : Text → ℕ → Text
 number_line word n = word ++ (codes " " ++ (decimal n ++ codes "\n"))
 
--- `WORD NAME NAME ..`
 abbrev pub spaced : Text → Text
 spaced name = codes " " ++ name
 
+-- `WORD NAME NAME ..`
 abbrev pub names_line : Text → List Text → Text
 names_line word names = word ++ (flat_map spaced names ++ codes "\n")
 

@@ -155,14 +155,14 @@ trace_in (Some word) =
     if bytes_eq word (codes "text") then Some (Some form.Text)
     else if bytes_eq word (codes "json") then Some (Some form.Json) else None
 
--- The lines of numbers that are wanted: without `--stats` none; with `end` one at the end; with a number above 0 also one after
--- every group of that many requests.
 abbrev pub every : ℕ → Option StatsLines
 every n = if nat_lt 0 n then Some (Every n) else None
 
 abbrev pub stats_by : Text → Option StatsLines
 stats_by word = if bytes_eq word (codes "end") then Some AtEnd else option_and_then every (option_and_then bounded (number_spelled word))
 
+-- The lines of numbers that are wanted: without `--stats` none; with `end` one at the end; with a number above 0 also one after
+-- every group of that many requests.
 abbrev pub stats_in : Option Text → Option StatsLines
 stats_in None = Some Off
 stats_in (Some word) = stats_by word

@@ -24,7 +24,7 @@ group_at [] g = []
 group_at (ss ∷ gs) zero = ss
 group_at (ss ∷ gs) (suc g) = group_at gs g
 
--- the steps of a group's entries before this one
+-- how many steps a group's entries before this one have
 abbrev pub call_within : List PlacedEntry → ℕ → ℕ
 call_within ss i = length (flat_map stages_of_entry (take i ss))
 

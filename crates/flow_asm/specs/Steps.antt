@@ -46,7 +46,7 @@ step_of AtReturn = Return
 abbrev pub steps_of : Flow → List Step
 steps_of f = map step_of (stages f)
 
--- the steps of the groups before this one
+-- how many steps the groups before this one have
 abbrev pub first_step : Flow → ℕ → ℕ
 first_step f g = length (flat_map stages_of_group (take g (layout f)))
 

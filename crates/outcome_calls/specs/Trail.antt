@@ -165,7 +165,7 @@ pub record InRow (t : List Deed) (r : Row) (advice : ℕ → Option (List ℕ)) 
 
 -- The outcome law for one id, by its trail, whether it is below the journal's next id, its row and its advices by place:
 -- one way (a): nobody is notified of the commit if anybody is notified of the abort;
--- all told (b): without a row in the journal, each participant was notified at as many places as it prepared without NO_JOIN;
+-- all told (b): without a row in the journal, each participant was notified at no fewer places than it prepared without NO_JOIN;
 -- in order (c): calls come in the order above, each member notified once but for a stop that lost it;
 -- advised (d): an advice that the journal holds is what the last outcome call of its place gave;
 -- numbered and in row (e): no call is of an id that the journal has not given, and a row says what was called;

@@ -80,8 +80,6 @@ SendsAll step (a ∷ more) s p t q = (u : PlainAdvisor) × (w : Point) × Sends 
 abbrev pub stored_at : Point → List ((ℕ × ℕ) × List ℕ)
 stored_at p = advices (world_at p).flow (world_at p).start (world_at p).past
 
--- the order of ids and places
-
 -- those that come after this one
 abbrev pub later : ℕ × ℕ → List ((ℕ × ℕ) × List ℕ) → List ((ℕ × ℕ) × List ℕ)
 later a xs = entries_between place_cmp (Excluded a) Unbounded xs

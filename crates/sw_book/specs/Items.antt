@@ -142,7 +142,7 @@ is_used_at (Some id) items = has_used (item_at id items)
 abbrev pub is_used_in : BookKey → Items → Bool
 is_used_in key items = is_used_at (id_of key items) items
 
--- why an amount is not reserved, memory aside
+-- an item has the id or the key
 abbrev pub is_taken : ℕ → BookKey → Items → Bool
 is_taken id key items = is_some (item_at id items) || is_some (id_of key items)
 
@@ -151,7 +151,7 @@ abbrev pub is_over : PlainBook → Card → ℕ → Bool
 is_over book card amount =
     nat_lt book.limit (used card book.items + reserved card book.items + amount)
 
--- the first such reason, for an amount of a card under an id and with a key
+-- why an amount of a card is not reserved under an id and with a key, memory aside: the first reason that holds
 abbrev pub refusal : PlainBook → ℕ → Card → BookKey → ℕ → Option BookError
 refusal book id card key amount = first_of (
     refused_if (nat_lt max_amount amount) AmountTooLarge

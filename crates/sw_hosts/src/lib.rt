@@ -60,7 +60,7 @@
 //! - **A request waits for the one with its key to be answered or given up**, before its own timeout
 //!   begins. Alternative: to refuse it, and to stand in for a host that is there.
 //! - **How many requests may be under way is a limit of the host's**, whatever links they go over: a
-//!   request that finds no place waits for one as long as the host's timeout, before its own timeout
+//!   request that finds no place waits for one for the host's timeout and 100 ms, before its own timeout
 //!   begins. With one alone no link is shared. Alternative: a limit of a participant's, which advices
 //!   and a second group of the host would pass by.
 //! - **A link looks each millisecond**, and needs no handle to wait with. Alternative: a wake-up for each

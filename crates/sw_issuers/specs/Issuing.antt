@@ -53,13 +53,13 @@ abbrev pub authorized : Option (List ℕ) → PlainMessage → Option PlainMessa
 authorized None m = Some (approval m)
 authorized (Some amount) m = judged (verdict_of (drop 10 amount)) (drop 10 amount) m
 
--- the answer to a message, if it has one: advices are accepted, and other messages not answered
 abbrev pub is_authorization_advice : List ℕ → Bool
 is_authorization_advice mti = bytes_eq mti (codes "0120") || bytes_eq mti (codes "0121")
 
 abbrev pub is_reversal_advice : List ℕ → Bool
 is_reversal_advice mti = bytes_eq mti (codes "0420") || bytes_eq mti (codes "0421")
 
+-- the answer to a message, if it has one: advices are accepted, and other messages not answered
 abbrev pub answer_to : PlainMessage → Option PlainMessage
 answer_to m =
     if is_authorization m.mti then authorized (value_at 4 m.fields) m
@@ -75,11 +75,12 @@ answer_by (Some m) = option_map spelling (answer_to m)
 abbrev pub answer_of : List ℕ → Option (List ℕ)
 answer_of bytes = answer_by (message_of (Some bytes))
 
--- the answers that wait, with one more; a silent issuer answers nothing
+-- the answers that wait, with one more if there is one
 abbrev pub with_answer : Option (List ℕ) → List (List ℕ) → List (List ℕ)
 with_answer None waiting = waiting
 with_answer (Some answer) waiting = waiting ++ answer ∷ []
 
+-- the answers that wait after a message came; a silent issuer answers nothing
 abbrev pub answered : Bool → List ℕ → List (List ℕ) → List (List ℕ)
 answered silent bytes waiting = if silent then waiting else with_answer (answer_of bytes) waiting
 

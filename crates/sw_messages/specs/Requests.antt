@@ -36,7 +36,6 @@ request_in x = message_of (find (codes "request") x)
 abbrev pub noted : Pairs → List ℕ → List ℕ → Pairs
 noted x name value = if is_none (refusal x name value) then with_value x name value else x
 
--- what a request is for, by its message type (ISO 8583:1987, message type identifiers)
 abbrev pub is_authorization : List ℕ → Bool
 is_authorization mti = bytes_eq mti (codes "0100") || bytes_eq mti (codes "0101")
 
@@ -48,6 +47,7 @@ is_reversal mti =
 abbrev pub is_network_management : List ℕ → Bool
 is_network_management mti = bytes_eq mti (codes "0800") || bytes_eq mti (codes "0801")
 
+-- what a request is for, by its message type (ISO 8583:1987, message type identifiers)
 abbrev pub class_of : List ℕ → Option Class
 class_of mti =
     if is_authorization mti then Some Authorization

@@ -1,7 +1,7 @@
 -- What is said of a link whose answers are not known: each send and each receive meets the link's
 -- own relation.
 --
--- - *Heard*: at most a number of receives, each by the link's own
+-- - *Hears*: at most a number of receives, each by the link's own
 --   relation, until a message has the key, none came, or memory was refused to receive or to
 --   read.
 -- - *Unanswered*: a request without an answer stays as it was
@@ -71,7 +71,7 @@ Hears receives starves refused (suc n) k s r t =
     ⊎ ((a : Option (List ℕ)) × (u : List ℕ) × receives s a u
     × Came refused k a u r t (Hears receives starves refused n k u r t))
 
--- the context as an answer leaves it: its 39, or 96 without one; its 38; and nothing is late
+-- the answer's 39, or 96 without one
 abbrev pub or_code : Option (List ℕ) → List ℕ
 or_code None = digits_of SystemMalfunction
 or_code (Some rc) = rc
@@ -81,7 +81,7 @@ abbrev pub noted_if : Option (List ℕ) → List ℕ → Pairs → Pairs
 noted_if None name x = x
 noted_if (Some value) name x = noted x name value
 
--- with the codes of an answer, and without the note `late`
+-- the context as an answer leaves it: with its 39, or 96 without one, and its 38, and without the note `late`
 abbrev pub answered : PlainMessage → Pairs → Pairs
 answered m x = without (codes "late")
     (noted_if (value_at 38 m.fields) (codes "auth")

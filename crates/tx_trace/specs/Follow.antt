@@ -28,7 +28,7 @@ use Rattle.tx_trace.specs.declared.tracer.Traced.{Traced}
 use Rattle.tx_trace.specs.declared.shown.Shown.TheVariants.{Begun}
 use Rattle.tx_trace.specs.Lines.{is_journalled, shown_at, tx_shown}
 
--- the first events, of this number
+-- of events, the newest first, the oldest n
 abbrev pub earlier : ℕ → List Event → List Event
 earlier n [] = []
 earlier n (e ∷ past) = if nat_lt n (length past + 1) then earlier n past else e ∷ past

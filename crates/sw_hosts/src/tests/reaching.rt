@@ -77,6 +77,7 @@ fn a_full_outbox_reaches_nobody(rt: HostRuntime) -> Result<(), Fail> {
     }
     link.send(REQUEST)?;
     assert!(rt; link.receive()?.is_none());
-    assert!(rt; start.elapsed(&rt)? < Duration::from_secs(10));
+    // (the host's timeout is 30 seconds, and a busy machine takes some)
+    assert!(rt; start.elapsed(&rt)? < Duration::from_secs(20));
     Ok(())
 }
