@@ -62,8 +62,8 @@ impl Direction {
         if !is_ordered(self.state(), self.ordered.get(), now) {
             return;
         }
-        // Before the state, so that who sees it being opened sees when it was ordered. If several links order it at once,
-        // one of them does.
+        // Before the state, so that who sees it being opened sees when it was ordered. If several links order it
+        // at once, one of them does.
         self.ordered.set(Some(now));
         if self.exchange(DirectionState::Closed, DirectionState::Opening) {
             self.ring();

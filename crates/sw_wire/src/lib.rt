@@ -5,8 +5,8 @@
 //!   most each, with memory from the start. [`came_in`] says what bytes from a host are.
 //! - [`send_over`] and [`receive_over`] are what a link does over any [`Way`] to a host and back.
 //! - [`is_ordered`] and [`opened_from`] say when a direction is ordered to be opened, [`is_awaited`] whether a message
-//!   waits for that; [`is_paused`], [`pause_by`] and [`pause_by_tests`] whether a host is not asked, and what changes that; [`Watch::duty`] what the thread that
-//!   writes does where no frame waits. [`echo_frame`] is an echo test.
+//!   waits for that; [`is_paused`], [`pause_by`] and [`pause_by_tests`] whether a host is not asked, and what changes
+//!   that; [`Watch::duty`] what the thread that writes does where no frame waits. [`echo_frame`] is an echo test.
 //! - [`HostState`] and [`Counts`] are what is reported of a host, each with its line.
 //!
 //! Moments are microseconds of the monotonic clock. A clock is taken only to read the time ([`Moment::now`]) and to
