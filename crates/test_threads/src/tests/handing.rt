@@ -25,8 +25,9 @@ fn run_to<G: Gate + Sync, R: Runtime>(
     gate: &G,
 ) -> Result<(Plant<MemStore>, Recording), Fail> {
     plant.engine_is_sound();
-    match Pool::run_into(rt, rt.alloc(), plant, Streams { source, sink }, 64, gate) {
-        Ok((plant, Streams { source: _, sink }, _)) => Ok((plant, sink)),
+    let streams = Streams { source, sink };
+    match Pool::run_into(rt, rt.alloc(), plant, streams, 64, gate) {
+        Ok((plant, streams, _)) => Ok((plant, streams.sink)),
         Err((error, _)) => Err(failed(&error)),
     }
 }
@@ -106,13 +107,17 @@ fn take_three<R: Runtime>(rt: &R) -> Result<(), Fail> {
     let sink = Recording::new(alloc, 3, new_flag(alloc)?)?;
     let source = listed(alloc, 20)?;
     plant.engine_is_sound();
-    match Pool::run_into(rt, alloc, plant, Streams { source, sink }, 4, &Open) {
-        Err((PoolError::Late(late), sink)) => {
+    let streams = Streams { source, sink };
+    let Err((error, sink)) = Pool::run_into(rt, alloc, plant, streams, 4, &Open) else {
+        return Err(Fail::new("a run that cannot end well has ended well"));
+    };
+    assert!(rt; sink.taken().len() == 3);
+    match error {
+        PoolError::Late(late) => {
             assert!(rt; matches!(late.cause, Fault::OutOfMemory));
-            assert!(rt; sink.taken().len() == 3);
             Ok(())
         }
-        _ => Err(Fail::new("a run that cannot end well has ended well")),
+        PoolError::Early(_, _) => Err(Fail::new("early")),
     }
 }
 
