@@ -10,11 +10,7 @@ use Rattle.tx_intake.specs.declared.error.IntakeError.TheVariants.{BadCapacity}
 abbrev pub IntakeId : Type 0
 IntakeId = TableId
 
--- offers, oldest first, each as the bytes of its context
-abbrev pub Offers : Type 0
-Offers = List (List ℕ)
-
--- an intake: which it is, and how many offers it holds at most
+-- an intake: which it is, and how many items it holds at most
 pub record Passage : Type 0 where
   pub id : IntakeId
   pub capacity : ℕ
@@ -23,11 +19,11 @@ abbrev pub passage : IntakeId → ℕ → Passage
 passage id capacity = record { id = id; capacity = capacity }
 
 -- an end: to which intake it belongs, and what has passed it
-pub record End : Type 0 where
+pub record End (A : Type 0) : Type 0 where
   pub intake : IntakeId
-  pub passed : Offers
+  pub passed : List A
 
-abbrev pub end_of : IntakeId → Offers → End
+abbrev pub end_of : {A : Type 0} → IntakeId → List A → End A
 end_of intake passed = record { intake = intake; passed = passed }
 
 -- why no intake has this capacity
@@ -35,15 +31,15 @@ abbrev pub capacity_refusal : ℕ → Option IntakeError
 capacity_refusal capacity = refused_if (not (nat_le 1 capacity && nat_le capacity 4096)) BadCapacity
 
 -- an intake of this capacity with its two ends, which nothing has passed
-pub record IsNew (places : ℕ) (made : Passage) (putter getter : End) : Type 0 where
+pub record IsNew {A : Type 0} (places : ℕ) (made : Passage) (putter getter : End A) : Type 0 where
   pub holds : made.capacity ≡ places
   pub puts : putter ≡ end_of made.id []
   pub gets : getter ≡ end_of made.id []
 
--- at a moment the intake was full: what had been put was what had been got, followed by as many offers as it holds at most
-abbrev pub WasFull : Passage → End → Type 0
-WasFull full putter = Held full.capacity (λ held. (got : Offers) × (putter.passed ≡ got ++ held))
+-- at a moment the intake was full: what had been put was what had been got, followed by as many items as it holds at most
+abbrev pub WasFull : {A : Type 0} → Passage → End A → Type 0
+WasFull {A} full putter = Held full.capacity (λ held. (got : List A) × (putter.passed ≡ got ++ held))
 
 -- what was got is the beginning of what was put
-abbrev pub IsBehind : End → End → Type 0
-IsBehind getter putter = (held : Offers) × (putter.passed ≡ getter.passed ++ held)
+abbrev pub IsBehind : {A : Type 0} → End A → End A → Type 0
+IsBehind {A} getter putter = (held : List A) × (putter.passed ≡ getter.passed ++ held)

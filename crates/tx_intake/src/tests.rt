@@ -3,7 +3,7 @@
 
 ghost use Rattle.std.specs.Prelude.{◌≡◌};
 
-use crate::{Getter, Intake, IntakeError, Listed, Putter, Source};
+use crate::{IntakeError, Listed, OfferGetter, OfferIntake, OfferPutter, Source};
 use flow_asm::assemble;
 use flow_model::{Flow, Group};
 use std::alloc::Global;
@@ -78,7 +78,7 @@ fn list(alloc: Global, count: usize) -> Result<Listed, Fail> {
 fn an_intake_of_one_offer(rt: HostRuntime) -> Result<(), Fail> {
     let alloc = rt.alloc();
     let mut engine = opened(alloc, 2)?;
-    let (intake, mut putter, mut getter) = Intake::new(alloc, 1)?;
+    let (intake, mut putter, mut getter) = OfferIntake::new(alloc, 1)?;
     let first = Offer::new(&numbered(alloc, 0)?)?;
     let second = Offer::new(&numbered(alloc, 1)?)?;
     assert!(rt; intake.put(&rt, &mut putter, first).is_ok());
@@ -99,7 +99,7 @@ fn an_intake_of_one_offer(rt: HostRuntime) -> Result<(), Fail> {
 #[test]
 fn an_offer_is_left(rt: HostRuntime) -> Result<(), Fail> {
     let alloc = rt.alloc();
-    let (intake, mut putter, getter) = Intake::new(alloc, 4_096)?;
+    let (intake, mut putter, getter) = OfferIntake::new(alloc, 4_096)?;
     let offer = Offer::new(&numbered(alloc, 0)?)?;
     assert!(rt; intake.put(&rt, &mut putter, offer).is_ok());
     assert!(rt; !intake.settle(putter, getter));
@@ -108,9 +108,9 @@ fn an_offer_is_left(rt: HostRuntime) -> Result<(), Fail> {
 
 #[test]
 fn bad_capacities(rt: HostRuntime) -> Result<(), Fail> {
-    let none = Intake::new(rt.alloc(), 0).err();
+    let none = OfferIntake::new(rt.alloc(), 0).err();
     assert_eq!(rt; none, Some(IntakeError::BadCapacity));
-    let many = Intake::new(rt.alloc(), 4_097).err();
+    let many = OfferIntake::new(rt.alloc(), 4_097).err();
     assert_eq!(rt; many, Some(IntakeError::BadCapacity));
     Ok(())
 }
@@ -143,7 +143,7 @@ fn offers_of(alloc: Global, mut source: Listed) -> Result<Vec<Offer>, Fail> {
 }
 
 // Puts an offer, again each time that it comes back.
-fn put_one<R: Wait>(rt: &R, intake: &Intake, putter: &mut Putter, offer: Offer)
+fn put_one<R: Wait>(rt: &R, intake: &OfferIntake, putter: &mut OfferPutter, offer: Offer)
     requires { putter.old.intake ≡ intake.now.id }
     ensures { putter.new.intake ≡ putter.old.intake }
 {
@@ -160,7 +160,12 @@ fn put_one<R: Wait>(rt: &R, intake: &Intake, putter: &mut Putter, offer: Offer)
     unreachable!()
 }
 
-fn put_all<R: Wait>(rt: &R, intake: &Intake, mut putter: Putter, offers: Vec<Offer>) -> Putter
+fn put_all<R: Wait>(
+    rt: &R,
+    intake: &OfferIntake,
+    mut putter: OfferPutter,
+    offers: Vec<Offer>,
+) -> OfferPutter
     requires { putter.intake ≡ intake.now.id }
     ensures { result.intake ≡ putter.intake }
 {
@@ -172,10 +177,10 @@ fn put_all<R: Wait>(rt: &R, intake: &Intake, mut putter: Putter, offers: Vec<Off
 
 fn get_all<R: Wait>(
     rt: &R,
-    intake: &Intake,
-    mut getter: Getter,
+    intake: &OfferIntake,
+    mut getter: OfferGetter,
     mut engine: Engine,
-) -> (Getter, Engine)
+) -> (OfferGetter, Engine)
     requires { getter.intake ≡ intake.now.id }
     ensures { result.0.intake ≡ getter.intake }
 {
@@ -203,7 +208,7 @@ fn handed_over<R: Threads + Wait + Sync>(
     offers: Vec<Offer>,
     engine: Engine,
 ) -> Result<(Engine, bool), Fail> {
-    let (intake, putter, getter) = Intake::new(alloc, 1)?;
+    let (intake, putter, getter) = OfferIntake::new(alloc, 1)?;
     let shared = &intake;
     let (putter, (getter, engine)) = thread::join(
         rt,
@@ -237,10 +242,10 @@ fn is_shared<T: Sync>() {}
 
 #[test]
 fn threads_share_an_intake(_rt: HostRuntime) -> Result<(), Fail> {
-    is_shared::<Intake>();
-    crosses::<Intake>();
-    crosses::<Putter>();
-    crosses::<Getter>();
+    is_shared::<OfferIntake>();
+    crosses::<OfferIntake>();
+    crosses::<OfferPutter>();
+    crosses::<OfferGetter>();
     crosses::<Offer>();
     crosses::<Listed>();
     Ok(())

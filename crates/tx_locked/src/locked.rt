@@ -24,13 +24,13 @@ use sw_context::Context;
 use sw_participant::{Call, Reply};
 use tx_engine::Next;
 use tx_history::{Entry, Event};
-use tx_intake::{Getter, Intake};
+use tx_intake::{OfferGetter, OfferIntake};
 use tx_plant::{Outcome, Running};
 
 /// The intake of a run.
 #[derive(Drop)]
 pub struct RunIntake<K: Run> {
-    pub intake: Intake,
+    pub intake: OfferIntake,
     pub of: PhantomData<K>,
     pub ghost own: { intake.id ≡ K.intake },
 }
@@ -40,7 +40,7 @@ pub struct RunIntake<K: Run> {
 #[derive(Drop)]
 pub struct Locked<K: Run> {
     running: Running,
-    getter: Getter,
+    getter: OfferGetter,
     book: Book<K>,
     made: Vec<MadeCall>,
     // The numbers of the entries of these calls.
@@ -117,7 +117,7 @@ fn finished(alloc: Global, running: &Running, ids: &[u64]) -> Result<Vec<Finishe
 
 impl<K: Run> Locked<K> {
     /// What is under the lock when the run begins.
-    pub fn new(alloc: Global, running: Running, getter: Getter, book: Book<K>) -> Locked<K>
+    pub fn new(alloc: Global, running: Running, getter: OfferGetter, book: Book<K>) -> Locked<K>
         requires start { core_in running ≡ K.start }
         requires queue { getter.intake ≡ K.intake }
         requires got { getter.passed ≡ [] }
@@ -412,7 +412,7 @@ impl<K: Run> Locked<K> {
 #[derive(Drop)]
 pub struct Left<K: Run> {
     pub running: Running,
-    pub getter: Getter,
+    pub getter: OfferGetter,
     pub book: Book<K>,
     pub made: Vec<MadeCall>,
     pub numbers: Vec<usize>,

@@ -9,7 +9,7 @@ use std::marker::{Model, PhantomData};
 use std::sync::Wait;
 use sw_participant::{Caller, NoMemory};
 use tx_engine::Offer;
-use tx_intake::{Putter, Source};
+use tx_intake::{OfferPutter, Source};
 use tx_locked::{Fault, Run};
 
 /// A source with the putter of the run's intake, and whether all that it has was given and put.
@@ -17,7 +17,7 @@ use tx_locked::{Fault, Run};
 #[derive(Drop)]
 pub(crate) struct Fed<K: Run, O: Source> {
     source: O,
-    putter: Putter,
+    putter: OfferPutter,
     all_put: bool,
     of: PhantomData<K>,
 }
@@ -36,7 +36,7 @@ impl<K: Run, O: Source> Model for Fed<K, O> {
 
 impl<K: Run, O: Source> Fed<K, O> {
     // Of this source and this putter, with whether all was put.
-    fn new(source: O, putter: Putter, all_put: bool) -> Fed<K, O>
+    fn new(source: O, putter: OfferPutter, all_put: bool) -> Fed<K, O>
         requires { IsFed K.intake K.given K.ends_with (O.given source) (O.ended source)
             putter.intake putter.passed all_put }
     {
@@ -49,7 +49,7 @@ impl<K: Run, O: Source> Fed<K, O> {
     }
 
     /// Source and putter, and whether all was put.
-    pub(crate) fn into_parts(self) -> (O, Putter, bool)
+    pub(crate) fn into_parts(self) -> (O, OfferPutter, bool)
         ensures { IsFed K.intake K.given K.ends_with (O.given result.0) (O.ended result.0)
             result.1.intake result.1.passed result.2 }
     {
@@ -81,7 +81,7 @@ fn next_offer<O: Source>(source: &mut O) -> Result<Option<Offer>, NoMemory>
 fn put<K: Run, C: Caller, R: Wait>(
     rt: &R,
     shared: &Shared<K, C>,
-    putter: &mut Putter,
+    putter: &mut OfferPutter,
     offer: Offer,
 ) -> bool
     requires { putter.old.intake ≡ K.intake }
@@ -117,7 +117,7 @@ pub(crate) fn feed<K: Run, C: Caller, O: Source, R: Wait>(
     rt: &R,
     shared: &Shared<K, C>,
     source: O,
-    putter: Putter,
+    putter: OfferPutter,
 ) -> Fed<K, O>
     requires queue { putter.intake ≡ K.intake }
     requires none { putter.passed ≡ [] }

@@ -24,7 +24,7 @@ use std::sync::Wait;
 use std::thread::Threads;
 use sw_participant::{Participant, Station};
 use tx_engine::Engine;
-use tx_intake::{Getter, Intake, IntakeError, Putter, Source};
+use tx_intake::{IntakeError, OfferGetter, OfferIntake, OfferPutter, Source};
 use tx_locked::StationParts;
 use tx_plant::{Plant, PlantParts};
 
@@ -95,9 +95,9 @@ fn allow(engine: &Engine, capacity: usize) -> Result<(), Early>
 
 /// What a run needs besides the plant, with its memory.
 struct Needs {
-    intake: Intake,
-    putter: Putter,
-    getter: Getter,
+    intake: OfferIntake,
+    putter: OfferPutter,
+    getter: OfferGetter,
     parts: Vec<StationParts<Boxed>>,
     stations: Vec<Station>,
 }
@@ -110,7 +110,7 @@ fn make_needs(alloc: Global, capacity: usize, stations: usize) -> Result<Needs, 
         × (stations ≤ vec_capacity n.stations)) }
     ensures refused { IfErr result (λ e. e ≡ Early.OutOfMemory) }
 {
-    let Ok((intake, putter, getter)) = Intake::new(alloc, capacity) else {
+    let Ok((intake, putter, getter)) = OfferIntake::new(alloc, capacity) else {
         return Err(Early::OutOfMemory);
     };
     let Ok(parts) = Vec::with_capacity(alloc, stations) else {

@@ -30,7 +30,7 @@ use std::sync::ledger::{Blank, Share};
 use std::sync::{Condvar, Mutex, Wait};
 use std::thread::Threads;
 use sw_participant::Caller;
-use tx_intake::{Getter, Intake, Putter, Source};
+use tx_intake::{OfferGetter, OfferIntake, OfferPutter, Source};
 use tx_locked::{Fault, Locked, MadeCall, Run, RunIntake, Session, StationParts};
 use tx_plant::Running;
 
@@ -79,9 +79,9 @@ pub(crate) struct Work<S: Alter, C: Caller, O: Source, Z: Sink> {
     pub(crate) stations: Vec<StationParts<C>>,
     pub(crate) source: O,
     pub(crate) sink: Z,
-    pub(crate) intake: Intake,
-    pub(crate) putter: Putter,
-    pub(crate) getter: Getter,
+    pub(crate) intake: OfferIntake,
+    pub(crate) putter: OfferPutter,
+    pub(crate) getter: OfferGetter,
 }
 
 // A run, under the names of its ledger, its intake and its start.

@@ -17,7 +17,7 @@ use std::alloc::Global;
 use std::sync::Wait;
 use std::thread::{self, Threads};
 use sw_participant::Caller;
-use tx_intake::{Putter, Source};
+use tx_intake::{OfferPutter, Source};
 use tx_locked::{Fault, Run, Session};
 
 /// What comes back from the threads. The source or the sessions are missing if their thread could
@@ -32,7 +32,7 @@ pub(crate) struct Worked<S: Alter, K: Run, O: Source, Z: Sink> {
 /// What the threads of a run work on: offers, sessions, the journal, and where what ended goes.
 pub(crate) struct Tasks<S: Alter, K: Run, O: Source, Z: Sink> {
     pub(crate) source: O,
-    pub(crate) putter: Putter,
+    pub(crate) putter: OfferPutter,
     pub(crate) sessions: Vec<Session<K>>,
     pub(crate) journal: Journal<S>,
     pub(crate) sink: Z,
