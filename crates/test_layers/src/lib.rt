@@ -1,8 +1,8 @@
-//! Tests of what no clause says and no case under `tests/` shows: the public functions of flows, contexts,
-//! participants, transactions, their machine and the engine, of messages, their bytes and frames, of the
-//! multiplexer, the book and the participants of the switch, each on its happy path, at its limits, and
-//! against bytes and rows worked out by hand. The helpers have no contract, so that the proof of a test
-//! carries no values.
+//! Tests of what no subcommand reaches: public functions of flows, contexts, participants, the engine, the machine
+//! and the trace of transactions, of messages, frames, the multiplexer, the book and the sender of advices, or values
+//! that no subcommand gives them. Each file's head says where the rest is tested, and expected values are those of
+//! the documents or worked out by hand. The helpers have no contract, so that the proof of a test carries no values,
+//! and few return early.
 #![tactic(auto)]
 
 #[cfg(test)]

@@ -8,9 +8,10 @@ use sw_participant::{Kind, Sequence};
 use tx_engine::Engine;
 use tx_history::JournalView;
 
+// The code of a flow of these groups, with one retry.
 fn assembled(alloc: Global, groups: Vec<Group>) -> Result<Code, Fail> {
     let flow = Flow {
-        retries: 0,
+        retries: 1,
         groups: Sequence::new(groups),
     };
     flow.check()?;
@@ -27,21 +28,14 @@ pub fn picking(alloc: Global) -> Result<Code, Fail> {
     assembled(alloc, groups)
 }
 
-/// `main` with one participant, which is plain.
-pub fn plain(alloc: Global, name: &str) -> Result<Code, Fail> {
+/// An engine of one session on a blank journal. Its flow is `main` with the participant p, which is plain.
+pub fn opened(alloc: Global) -> Result<Engine, Fail> {
     let mut groups = Vec::new(alloc);
-    groups.push(Group::of(alloc, "main", &[(name, Kind::PLAIN)])?)?;
-    assembled(alloc, groups)
-}
-
-/// An engine of one session on a journal without rows, whose next transaction has this id. Its flow has
-/// the participant p.
-pub fn opened(alloc: Global, next_id: u64) -> Result<Engine, Fail> {
-    let code = plain(alloc, "p")?;
-    let mut view = JournalView::blank(alloc);
-    view.next_id = next_id;
+    groups.push(Group::of(alloc, "main", &[("p", Kind::PLAIN)])?)?;
+    let code = assembled(alloc, groups)?;
+    let view = JournalView::blank(alloc);
     if !view.ok() {
-        return Err(Fail::new("no journal has this id"));
+        return Err(Fail::new("a blank journal is refused"));
     }
     Ok(Engine::open(alloc, &code, &view, 1)?)
 }
