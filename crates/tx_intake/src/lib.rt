@@ -13,7 +13,8 @@
 //! as the capacity had been put (`full`). A get takes the oldest item (`got`). Whoever puts owes that
 //! all that was put keeps the law (`may`), and whoever gets learns that it does, of something that
 //! begins with what was got (`lawful`). At the end, what was got is the beginning of what was put
-//! (`order`), and `settle` answers true exactly where it is all of it (`all`, `left`). `Intake::new` refuses exactly a capacity that is not 1 to 4,096. A `Source`
+//! (`order`), and `settle` answers true exactly where it is all of it (`all`, `left`).
+//! `Intake::new` refuses exactly a capacity that is not 1 to 4,096. A `Source`
 //! gives contexts; `Listed` gives those of its list, in order, and then none (`gives`). Put and get may
 //! wait for the other thread's step. No contract says that they return, that an item came back from a
 //! full intake, or that a get of none found it empty: neither end knows what passed the other. A `put`
