@@ -94,6 +94,7 @@ impl<S: Alter + Drop, Z: Sink> Kept<S, Z> {
         if let Err(fault) = write(&mut self.journal, late.as_slice()) {
             return Err(fault);
         }
+        self.sink.written(late.as_slice());
         let Ok(ids) = finished_in(alloc, late.as_slice()) else {
             return Err(Fault::OutOfMemory);
         };
@@ -139,6 +140,7 @@ pub(crate) fn keep<S: Alter + Drop, K: Run, C: Caller, Z: Sink, R: Wait>(
     for _ in rt.forever() {
         let Some(late) = next_batch(rt, alloc, shared) else {
             shared.tell_all();
+            kept.sink.over();
             kept.all_done = true;
             return kept;
         };
@@ -146,6 +148,7 @@ pub(crate) fn keep<S: Alter + Drop, K: Run, C: Caller, Z: Sink, R: Wait>(
             Ok(()) => {}
             Err(fault) => {
                 shared.stop(rt, fault);
+                kept.sink.over();
                 return kept;
             }
         }

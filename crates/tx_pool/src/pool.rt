@@ -191,6 +191,17 @@ pub struct Streams<O: Source, Z: Sink> {
     pub sink: Z,
 }
 
+impl<O: Source, Z: Sink> Streams<O, Z> {
+    /// The source and the sink.
+    pub fn into_parts(self) -> (O, Z)
+        ensures source { result.0 ≡ self.source }
+        ensures sink { result.1 ≡ self.sink }
+    {
+        let Streams { source, sink } = self;
+        (source, sink)
+    }
+}
+
 impl Pool {
     /// Runs all sessions of the plant, each in a thread, until the source has ended, every offer has
     /// been taken and every session is idle; the calling thread writes the journal.

@@ -6,6 +6,7 @@ ghost use Rattle.tx_pool.specs.Sinks.{TakesAll};
 
 use sw_context::Context;
 use sw_participant::NoMemory;
+use tx_history::Entry;
 use tx_locked::Finished;
 
 /// Takes the transactions that ended by `done`, one at a time, in the order of their ends.
@@ -19,6 +20,13 @@ pub trait Sink: Drop {
     fn take(&mut self, id: u64, context: &Context) -> Result<(), NoMemory>
         ensures taken { OnOk result (takes self.old id context.now self.new) }
         ensures kept { OnErr result (self.new ≡ self.old) };
+
+    /// Notes that these entries were written. What they ended by `done` is taken next.
+    fn written(&self, _entries: &[Entry]) {}
+
+    /// Notes that nothing more is taken in this run, which has ended or was given up. A source that waits for
+    /// what the sink sees has to end now.
+    fn over(&self) {}
 }
 
 /// A sink that keeps nothing.

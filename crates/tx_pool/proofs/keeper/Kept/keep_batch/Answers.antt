@@ -12,24 +12,24 @@ returns-then-is_err-clause-some g c = inr (search rules, search rules, part_none
 
 pub returns-then-not-hand_over-clause-some : goal.returns-then-not-hand_over-clause-some
 returns-then-not-hand_over-clause-some g c =
-    let is : map (λ (f : Finished). f.id) c.as_slice-4.result.now ≡ finished_in c.args.late.items = search rules in
+    let is : map (λ (f : Finished). f.id) c.as_slice-5.result.now ≡ finished_in c.args.late.items = search rules in
     let took = c.hand_over.ensures.some in
-    let were : WereKept g.K.Run.start c.as_slice-4.result.now = search rules in
+    let were : WereKept g.K.Run.start c.as_slice-5.result.now = search rules in
     inr (
       search rules,
       search rules,
-      part_taken g.Z.Sink.takes g.K.Run.start c.args.late.items c.args.self.now.sink c.hand_over.new.sink c.as_slice-4.result.now
+      part_taken g.Z.Sink.takes g.K.Run.start c.args.late.items c.args.self.now.sink c.hand_over.new.sink c.as_slice-5.result.now
           took.0 took.1 is were,
     )
 
 pub returns-then-is_err-2-clause-some : goal.returns-then-is_err-2-clause-some
 returns-then-is_err-2-clause-some g c =
-    let is : map (λ (f : Finished). f.id) c.as_slice-4.result.now ≡ finished_in c.args.late.items = search rules in
+    let is : map (λ (f : Finished). f.id) c.as_slice-5.result.now ≡ finished_in c.args.late.items = search rules in
     let took = c.hand_over.ensures.some in
-    let were : WereKept g.K.Run.start c.as_slice-4.result.now = search rules in
+    let were : WereKept g.K.Run.start c.as_slice-5.result.now = search rules in
     inr (
       search rules,
       search rules,
-      part_taken g.Z.Sink.takes g.K.Run.start c.args.late.items c.args.self.now.sink c.hand_over.new.sink c.as_slice-4.result.now
+      part_taken g.Z.Sink.takes g.K.Run.start c.args.late.items c.args.self.now.sink c.hand_over.new.sink c.as_slice-5.result.now
           took.0 took.1 is were,
     )

@@ -1,0 +1,95 @@
+-- What is known of an input from what came of it.
+use Rattle.std.proofs.Common.{◌≡◌, ℕ, ◌+◌, List, [], ◌∷◌, ◌++◌, Option, Result, Ok, Err, sym, ap, ◌∙◌, append_assoc, append-nil, add-zero, subst}
+use Rattle.sw_context.specs.Pairs.{Pairs}
+use Rattle.tx_intake.specs.Rule.{LawfulAfter}
+use Rattle.run_input.specs.declared.arrival.Arrival.{Arrival}
+use Rattle.run_input.specs.declared.arrival.Arrival.TheVariants.{Ended, Passed, Request}
+use Rattle.run_input.specs.declared.arrival.PassedOver.{PassedOver}
+use Rattle.run_input.specs.declared.arrival.ReadError.{ReadError}
+use Rattle.run_input.specs.declared.frames.StreamEnd.{StreamEnd}
+use Rattle.run_input.specs.Requests.{EndsAs, Reads, requests}
+use Rattle.run_input.specs.Arrivals.{Came, EndWith, Heard, HeardAll, HeardTo, IsLast, passed_of, requests_of}
+use Rattle.run_input.proofs.Comings as comings
+use Rattle.run_input.proofs.Readings.{requests_append}
+
+-- what came, and then more
+
+pub requests_of_append : (xs ys : List Arrival) → requests_of (xs ++ ys) ≡ requests_of xs ++ requests_of ys
+requests_of_append xs ys = comings.requests_of_append xs ys
+
+pub passed_of_append : (xs ys : List Arrival) → passed_of (xs ++ ys) ≡ passed_of xs + passed_of ys
+passed_of_append xs ys = comings.passed_of_append xs ys
+
+pub requests_of_request : (xs : List Arrival) (x : Pairs) → requests_of (xs ++ Request x ∷ []) ≡ requests_of xs ++ x ∷ []
+requests_of_request xs x = requests_of_append xs (Request x ∷ [])
+
+pub requests_of_passed : (xs : List Arrival) (p : PassedOver) → requests_of (xs ++ Passed p ∷ []) ≡ requests_of xs
+requests_of_passed xs p = requests_of_append xs (Passed p ∷ []) ∙ append-nil (requests_of xs)
+
+pub requests_of_ended : (xs : List Arrival) (r : Result StreamEnd ReadError) → requests_of (xs ++ Ended r ∷ []) ≡ requests_of xs
+requests_of_ended xs r = requests_of_append xs (Ended r ∷ []) ∙ append-nil (requests_of xs)
+
+pub passed_of_request : (xs : List Arrival) (x : Pairs) → passed_of (xs ++ Request x ∷ []) ≡ passed_of xs
+passed_of_request xs x = passed_of_append xs (Request x ∷ []) ∙ add-zero (passed_of xs)
+
+pub passed_of_passed : (xs : List Arrival) (p : PassedOver) → passed_of (xs ++ Passed p ∷ []) ≡ passed_of xs + 1
+passed_of_passed xs p = passed_of_append xs (Passed p ∷ []) ∙ ap (λ (k : ℕ). passed_of xs + k) (add-zero 1)
+
+pub passed_of_ended : (xs : List Arrival) (r : Result StreamEnd ReadError) → passed_of (xs ++ Ended r ∷ []) ≡ passed_of xs
+passed_of_ended xs r = passed_of_append xs (Ended r ∷ []) ∙ add-zero (passed_of xs)
+
+-- an input begins with frames whose first requests came
+
+pub came_so_far : (input : Option (List ℕ)) (got : List Arrival) → LawfulAfter (Came input) got → Heard input got
+came_so_far input got lawful =
+    let held = lawful.0 in
+    let came = lawful.1 in
+    record {
+      frames = came.frames ++ came.later;
+      begins = record { left = came.left; state = came.state; reads = came.reads };
+      later = requests_of held ++ requests came.later;
+      requests_are =
+          requests_append came.frames came.later
+          ∙ (ap (λ (l : List Pairs). l ++ requests came.later) (sym came.requests_are ∙ requests_of_append got held)
+          ∙ append_assoc (requests_of got) (requests_of held) (requests came.later));
+    }
+
+-- nothing comes after the end
+
+not_none : (xs : List Arrival) (a : Arrival) (ys : List Arrival) → (xs ++ a ∷ []) ++ ys ≡ [] → ⊥
+not_none [] a ys is = cc
+not_none (x ∷ xs) a ys is = cc
+
+last_whole : (fact : StreamEnd → Type 0) (before held : List Arrival) (e : StreamEnd) → EndWith fact ((before ++ Ended (Ok e) ∷ []) ++ held)
+    → (held ≡ []) × fact e
+last_whole fact [] held e h = h
+last_whole fact (Request x ∷ before) held e h = last_whole fact before held e h
+last_whole fact (Passed p ∷ before) held e h = last_whole fact before held e h
+last_whole fact (Ended (Ok d) ∷ before) held e h = absurd (not_none before (Ended (Ok e)) held h.0)
+last_whole fact (Ended (Err d) ∷ before) held e h = absurd (not_none before (Ended (Ok e)) held h)
+
+heard_all : (input : Option (List ℕ)) (e : StreamEnd) (got held : List Arrival) → Came input (got ++ held) → IsLast (Ok e) got → HeardAll input e got
+heard_all input e got held came last =
+    let ends : EndWith (λ d. (came.later ≡ []) × EndsAs d came.state came.left) ((last.0 ++ Ended (Ok e) ∷ []) ++ held) =
+    subst (λ (l : List Arrival). EndWith (λ d. (came.later ≡ []) × EndsAs d came.state came.left) (l ++ held)) last.1 came.ends in
+    let known = last_whole (λ d. (came.later ≡ []) × EndsAs d came.state came.left) last.0 held e ends in
+    let all : got ++ held ≡ got = ap (λ (l : List Arrival). got ++ l) known.0 ∙ append-nil got in
+    let frames : came.frames ++ came.later ≡ came.frames = ap (λ (l : List (List ℕ)). came.frames ++ l) known.1.0 ∙ append-nil came.frames in
+    record {
+      frames = came.frames;
+      read = record {
+        left = came.left;
+        state = came.state;
+        reads = subst (λ (l : List (List ℕ)). Reads input came.left l came.state) frames came.reads;
+        ends = known.1.1;
+      };
+      requests_are = sym came.requests_are ∙ ap requests_of all;
+      passed_are = sym came.passed_are ∙ ap passed_of all;
+    }
+
+-- once the end was got, the input was read to it, and all that came of it was got
+
+pub came_to : (input : Option (List ℕ)) (r : Result StreamEnd ReadError) (got : List Arrival) → LawfulAfter (Came input) got → IsLast r got
+    → HeardTo input r got
+came_to input (Ok e) got lawful last = heard_all input e got lawful.0 lawful.1 last
+came_to input (Err e) got lawful last = tt

@@ -1,0 +1,104 @@
+//! What comes of an input.
+
+ghost use Rattle.std.specs.Prelude.{◌≡◌, ◌<◌, ◌+◌, ◌∷◌, [], IfOk, option_to_list, vec_capacity, vec_len};
+ghost use Rattle.run_input.specs.Arrivals.{IsArrivalOf, end_after, passed_of, requests_of};
+ghost use Rattle.run_input.specs.Requests.{request_of};
+
+use crate::frames::StreamEnd;
+use iso_codec::{DecodeError, decode, type_in};
+use std::alloc::{AllocError, Global};
+use sw_context::{Context, ContextError};
+use sw_participant::NoMemory;
+
+/// A message that is passed over, since it cannot be read.
+#[derive(Drop)]
+pub struct PassedOver {
+    /// Its number, from 1.
+    pub number: u64,
+    pub error: DecodeError,
+}
+
+/// Why an input is given up.
+#[derive(Drop)]
+pub enum ReadError {
+    OutOfMemory,
+    /// The message of this number cannot be put in a context. No message causes this error.
+    Request(u64, ContextError),
+}
+
+impl From<AllocError> for ReadError {
+    fn from(_error: AllocError) -> ReadError {
+        ReadError::OutOfMemory
+    }
+}
+
+impl From<NoMemory> for ReadError {
+    fn from(_error: NoMemory) -> ReadError {
+        ReadError::OutOfMemory
+    }
+}
+
+/// What comes of an input, in its order.
+#[derive(Drop)]
+pub enum Arrival {
+    /// A request, in the context that it is offered in.
+    Request(Context),
+    /// A message that cannot be read.
+    Passed(PassedOver),
+    /// How the input ended, or why it was given up. Nothing comes after it.
+    Ended(Result<StreamEnd, ReadError>),
+}
+
+impl Arrival {
+    // Puts it where it belongs. A request is returned.
+    pub(crate) fn hand_out(
+        self,
+        passed: &mut Vec<PassedOver>,
+        end: &mut Option<Result<StreamEnd, ReadError>>,
+    ) -> Option<Context>
+        requires { vec_len passed.old < vec_capacity passed.old }
+        ensures request { option_to_list result ≡ requests_of (self ∷ []) }
+        ensures passed { vec_len passed.new ≡ vec_len passed.old + passed_of (self ∷ []) }
+        ensures capacity { vec_capacity passed.new ≡ vec_capacity passed.old }
+        ensures end { end.new ≡ end_after end.old self }
+    {
+        match self {
+            Arrival::Request(context) => Some(context),
+            Arrival::Passed(message) => {
+                passed.push_reserved(message);
+                None
+            }
+            Arrival::Ended(ended) => {
+                *end = Some(ended);
+                None
+            }
+        }
+    }
+}
+
+// The context that the request of this number is offered in.
+fn context_of(alloc: Global, number: u64, message: &[u8]) -> Result<Context, ReadError>
+    ensures { IfOk result (λ request. request ≡ request_of message.now) }
+{
+    let mut request = Context::new(alloc);
+    match request.put("request", message) {
+        Ok(()) => Ok(request),
+        Err(ContextError::OutOfMemory) => Err(ReadError::OutOfMemory),
+        Err(error) => Err(ReadError::Request(number, error)),
+    }
+}
+
+/// What the message of this number is: a request, or passed over.
+pub fn arrival_of(alloc: Global, number: u64, message: &[u8]) -> Result<Arrival, ReadError>
+    ensures { IfOk result (λ arrival. IsArrivalOf message.now arrival) }
+{
+    // A message that can be read is only checked here; it is decoded where its fields are needed.
+    if type_in(message).is_some() {
+        return Ok(Arrival::Request(context_of(alloc, number, message)?));
+    }
+    match decode(alloc, message) {
+        Ok(_) => unreachable!(),
+        Err(DecodeError::OutOfMemory) => Err(ReadError::OutOfMemory),
+        Err(error) => Ok(Arrival::Passed(PassedOver { number, error })),
+    }
+}

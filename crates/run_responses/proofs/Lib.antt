@@ -1,0 +1,4 @@
+pub mod Ended
+pub mod Among
+pub mod Giving
+pub mod Gave
