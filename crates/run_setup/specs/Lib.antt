@@ -2,3 +2,4 @@ pub mod Errors
 pub mod Links
 pub mod Plans
 pub mod Words
+pub mod Reaches

@@ -10,7 +10,7 @@ use cli_config::{Config, Limits, RunTable, read_config};
 use cli_io::{Input, read_input};
 use std::alloc::Global;
 use std::fs::{File, Files};
-use std::io::Read;
+use std::io::{self, Read};
 
 // A configuration that states nothing.
 fn no_config() -> Config
@@ -56,6 +56,21 @@ pub(crate) fn config_from<R: Read + Drop>(
     config_in(alloc, bytes.as_slice())
 }
 
+// The configuration of a file that was opened, if it was.
+fn config_opened<R: Read + Drop>(
+    alloc: Global,
+    opened: io::Result<R>,
+) -> Result<Config, ConfigFileError>
+    ensures states { IfOk opened (λ input. IfOk result (StatesConfig (R.remaining input))) }
+    ensures refused { IfOk opened (λ input. IfErr result (RefusesConfig (R.remaining input))) }
+    ensures not_opened { IfErr opened (λ error. result ≡ Err (ConfigFileError.Open error)) }
+{
+    match opened {
+        Ok(input) => config_from(alloc, input),
+        Err(error) => Err(ConfigFileError::Open(error)),
+    }
+}
+
 /// The configuration of the file at a path; without a path it states nothing. No contract can say what a file
 /// holds.
 pub fn config_at<F: Files>(
@@ -68,8 +83,5 @@ pub fn config_at<F: Files>(
     let Some(path) = path else {
         return Ok(no_config());
     };
-    match File::open(files, path) {
-        Ok(file) => config_from(alloc, file),
-        Err(error) => Err(ConfigFileError::Open(error)),
-    }
+    config_opened(alloc, File::open(files, path))
 }

@@ -1,22 +1,23 @@
 //! The routes of a run, and the links to its hosts.
 
-ghost use Rattle.std.specs.Prelude.{◌≡◌, ◌*◌, [], map, true, IfOk, OnOk};
-ghost use Rattle.std.specs.Duration.{as_nanos};
+ghost use Rattle.std.specs.Prelude.{◌≡◌, [], map, true, IfOk, OnOk};
 ghost use Rattle.cli_config.specs.declared.config.Wire.TheVariants.{Simulated};
 ghost use Rattle.run_setup.specs.Links.{AddsLink, AreLinksOf, host_link, host_query, named_state};
 ghost use Rattle.run_setup.specs.Links.{shown_link};
+ghost use Rattle.run_setup.specs.Reaches.{AreTimesOf, HasTimesOf, IsReachOf};
+ghost use Rattle.sw_hosts.specs.Hosts.{host_in_flight, host_times};
 ghost use Rattle.sw_parts.specs.Queries.{shown_query};
 ghost use Rattle.run_setup.specs.Links.{side_state, wire_state};
 ghost use Rattle.run_setup.specs.Plans.{links_of, own_links, own_queries, queries_of, routes_of};
 ghost use Rattle.run_setup.specs.Plans.{routing_of, unasked, unasked_of};
 
-use cli_config::{Config, Host, Route, Wire, WireTimes};
+use cli_config::{Config, Route, Wire, WireTimes};
 use run_switch::{NamedLink, SwitchLink, default_routes};
 use std::alloc::{AllocError, Global};
 use std::sync::Wait;
 use std::thread::Threads;
 use std::time::{Clock, Duration};
-use sw_hosts::{IssuerLink, ReadPath, WritePath};
+use sw_hosts::{Host, IssuerLink, ReadPath, WritePath};
 use sw_issuers::{GroupLink, Issuer};
 use sw_participant::{Sequence, Text};
 use sw_parts::Routing;
@@ -46,9 +47,7 @@ pub fn routes(alloc: Global, config: &Config) -> Result<Sequence<Routing>, Alloc
 }
 
 fn times_of(times: &WireTimes) -> HostTimes
-    ensures timeout { as_nanos result.timeout ≡ times.now.timeout_ms * 1000000 }
-    ensures retry { as_nanos result.retry ≡ times.now.retry_ms * 1000000 }
-    ensures echo { as_nanos result.echo ≡ times.now.echo_s * 1000000000 }
+    ensures { AreTimesOf times.now result }
 {
     HostTimes {
         timeout: Duration::from_millis(times.timeout_ms),
@@ -57,12 +56,61 @@ fn times_of(times: &WireTimes) -> HostTimes
     }
 }
 
+/// What opens the two streams of a host, and what is agreed with it.
+#[derive(Drop)]
+struct Reach {
+    to: WritePath<HostRuntime>,
+    from: ReadPath<HostRuntime>,
+    times: HostTimes,
+    in_flight: usize,
+}
+
+// How a host is reached by streams; `None` if it is simulated.
+fn reach_of(rt: &HostRuntime, wire: &Wire) -> Result<Option<Reach>, AllocError>
+    ensures { IfOk result (IsReachOf wire.now) }
+{
+    match wire {
+        Wire::Simulated | Wire::Silent => Ok(None),
+        Wire::Streams {
+            to,
+            from,
+            times,
+            in_flight,
+        } => Ok(Some(Reach {
+            to: WritePath::new(*rt, to.copy()?.into_string()),
+            from: ReadPath::new(*rt, from.copy()?.into_string()),
+            times: times_of(times),
+            in_flight: *in_flight as usize,
+        })),
+    }
+}
+
+impl Reach {
+    // Starts the threads of the host.
+    fn start<T: Threads + Wait + Clock + Clone + Drop + Send + 'static>(
+        self,
+        threads: &T,
+        alloc: Global,
+    ) -> Result<Host, AllocError>
+        ensures times { IfOk result (λ host. host_times host ≡ self.times) }
+        ensures in_flight { IfOk result (λ host. host_in_flight host ≡ self.in_flight) }
+    {
+        let Reach {
+            to,
+            from,
+            times,
+            in_flight,
+        } = self;
+        Host::start(threads, alloc, to, from, times, in_flight)
+    }
+}
+
 /// The other end of the links to a host: its threads, or the program itself.
 enum Side {
     Simulated,
     /// Simulated, and it answers nothing.
     Silent,
-    Reached(sw_hosts::Host),
+    Reached(Host),
 }
 
 // Written out, so that no caller proves again how its parts are dropped.
@@ -83,23 +131,17 @@ impl Side {
         rt: &HostRuntime,
         wire: &Wire,
     ) -> Result<Side, AllocError>
-        ensures { IfOk result (λ side. side_state side ≡ wire_state wire.now) }
+        ensures state { IfOk result (λ side. side_state side ≡ wire_state wire.now) }
+        ensures times { IfOk result (HasTimesOf wire.now) }
     {
         match wire {
             Wire::Simulated => Ok(Side::Simulated),
             Wire::Silent => Ok(Side::Silent),
-            Wire::Streams {
-                to,
-                from,
-                times,
-                in_flight,
-            } => {
-                let to = WritePath::new(*rt, to.copy()?.into_string());
-                let from = ReadPath::new(*rt, from.copy()?.into_string());
-                let times = times_of(times);
-                let in_flight = *in_flight as usize;
-                let host = sw_hosts::Host::start(threads, alloc, to, from, times, in_flight)?;
-                Ok(Side::Reached(host))
+            Wire::Streams { .. } => {
+                let Some(reach) = reach_of(rt, wire)? else {
+                    unreachable!()
+                };
+                Ok(Side::Reached(reach.start(threads, alloc)?))
             }
         }
     }
@@ -138,7 +180,7 @@ impl Links {
         &mut self,
         alloc: Global,
         rt: &HostRuntime,
-        host: &Host,
+        host: &cli_config::Host,
         side: &Side,
     ) -> Result<(), AllocError>
         requires { side_state side.now ≡ wire_state host.now.wire }
@@ -229,7 +271,7 @@ pub(crate) fn unasked(
     Ok(links)
 }
 
-fn unasked_link(alloc: Global, host: &Host) -> Result<NamedLink<SwitchLink>, AllocError>
+fn unasked_link(alloc: Global, host: &cli_config::Host) -> Result<NamedLink<SwitchLink>, AllocError>
     ensures { IfOk result (λ link. named_state link ≡ unasked host.now) }
 {
     Ok(NamedLink {

@@ -1,2 +1,5 @@
+pub mod HostLinks
+pub mod HostWays
+pub mod Hosts
 pub mod Issuers
 pub mod SharedMoments

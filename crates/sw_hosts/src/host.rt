@@ -76,7 +76,7 @@ impl Host {
     }
 
     /// A link to the host. All links of a host share its directions, and each may wait for an answer of its own.
-    pub fn link<C: Clock + Drop>(&self, clock: C) -> Result<HostLink<C>, AllocError>
+    pub fn link<C: Clock + Copy + Drop>(&self, clock: C) -> Result<HostLink<HostWay<C>>, AllocError>
         ensures { IfOk result (λ link. arc_value link.way.shared ≡ arc_value self.now.shared) }
     {
         let way = HostWay::new(clock, Arc::try_clone(&self.shared)?);

@@ -2,6 +2,7 @@
 
 ghost use Rattle.std.specs.Prelude.{◌≡◌, ⊤, nat_lt, IfOk, IfSome, Some};
 ghost use Rattle.std.specs.Arc.{arc_value};
+ghost use Rattle.sw_hosts.specs.HostWays.{WasEntered, WasForgotten, WasHanded};
 ghost use Rattle.sw_wire.specs.Keyed.{key_in};
 ghost use Rattle.sw_wire.specs.Looks.{answer_in};
 
@@ -34,15 +35,6 @@ impl<C: Clock + Drop> Drop for HostWay<C> {
     }
 }
 
-impl<C: Clock + Copy + Drop> HostWay<C> {
-    /// Another way over the same threads.
-    pub fn copy(&self) -> Result<HostWay<C>, AllocError>
-        ensures { IfOk result (λ way. arc_value way.shared ≡ arc_value self.now.shared) }
-    {
-        Ok(HostWay::new(self.clock, Arc::try_clone(&self.shared)?))
-    }
-}
-
 // The key of a request.
 fn key_of(expected: &Option<Expected>) -> Option<Key> {
     match expected {
@@ -68,24 +60,17 @@ fn locked<'a, T, C: Clock>(clock: &C, mutex: &'a Mutex<T>) -> Option<MutexGuard<
 }
 
 impl<C: Clock + Drop> HostWay<C> {
-    pub fn new(clock: C, shared: Arc<Shared>) -> HostWay<C>
+    pub(crate) fn new(clock: C, shared: Arc<Shared>) -> HostWay<C>
         ensures { result.shared ≡ shared }
     {
         HostWay { clock, shared }
     }
 
     /// What is reported of the host.
-    pub fn host_report(&self) -> Result<HostReport, AllocError>
+    pub(crate) fn host_report(&self) -> Result<HostReport, AllocError>
         ensures { IfOk result (λ r. arc_value r.shared ≡ arc_value self.now.shared) }
     {
         Ok(HostReport::new(Arc::try_clone(&self.shared)?))
-    }
-
-    /// Whether more than one request may be under way at the host at once.
-    pub fn is_shared(&self) -> bool
-        ensures { result ≡ nat_lt 1 (arc_value self.now.shared).in_flight }
-    {
-        self.shared.in_flight > 1
     }
 
     // Has a request wait for its answer, unless one with its key is under way, or too many wait; then it comes back.
@@ -120,12 +105,12 @@ impl<C: Clock + Drop> HostWay<C> {
     // A request that is not sent waits no more.
     fn give_up(&self, key: Option<Key>) {
         if let Some(key) = key {
-            self.forget(&key);
+            self.end_waiting(&key);
         }
     }
 
-    /// Has the request with the key wait no more. An answer that came for it is late.
-    pub fn forget(&self, key: &Key) {
+    // Has the request with the key wait no more. An answer that came for it is late.
+    fn end_waiting(&self, key: &Key) {
         if let Some(mut answers) = locked(&self.clock, &self.shared.answers) {
             let count = answers.forget(key);
             self.shared.counters.add_late(count);
@@ -180,14 +165,17 @@ impl<C: Clock + Drop> HostWay<C> {
     }
 }
 
-impl<C: Clock + Drop> Way for HostWay<C> {
-    ghost enters = { λ way expected deadline. ⊤ };
+impl<C: Clock + Copy + Drop> Way for HostWay<C> {
+    ghost enters = { WasEntered };
 
-    ghost takes = { λ way key frame sent. ⊤ };
+    ghost takes = { WasHanded };
+
+    ghost forgets = { WasForgotten };
 
     ghost shows = { λ way awaited number look. ⊤ };
 
-    fn enter(&self, expected: Option<Expected>) -> Option<Moment> {
+    #[tactic(auto, unfolding(crate::specs::HostWays::WasEntered))]
+    fn enter(&mut self, expected: Option<Expected>) -> Option<Moment> {
         let key = key_of(&expected);
         if let Some(expected) = expected
             && !self.await_turn(expected)
@@ -205,7 +193,8 @@ impl<C: Clock + Drop> Way for HostWay<C> {
         Some(now.after(self.shared.times.timeout))
     }
 
-    fn send(&self, key: Option<Key>, frame: Frame) -> Option<Sent> {
+    #[tactic(auto, unfolding(crate::specs::HostWays::WasHanded))]
+    fn send(&mut self, key: Option<Key>, frame: Frame) -> Option<Sent> {
         let seen = self.shared.seen();
         if self.hand_over(frame) {
             return Some(seen);
@@ -213,6 +202,11 @@ impl<C: Clock + Drop> Way for HostWay<C> {
         self.shared.counters.add_dropped(1);
         self.give_up(key);
         None
+    }
+
+    #[tactic(auto, unfolding(crate::specs::HostWays::WasForgotten))]
+    fn forget(&mut self, key: &Key) {
+        self.end_waiting(key);
     }
 
     fn look(&self, awaited: &Awaited, _number: u64) -> Look {
@@ -224,12 +218,24 @@ impl<C: Clock + Drop> Way for HostWay<C> {
         };
         self.shared.note(&look, &awaited.sent, now);
         if look.is_over() {
-            self.forget(&awaited.key);
+            self.end_waiting(&awaited.key);
         }
         look
     }
 
     fn nap(&self, naps: &mut Naps) {
         naps.sleep(&self.clock);
+    }
+
+    fn is_shared(&self) -> bool
+        ensures { result ≡ nat_lt 1 (arc_value self.now.shared).in_flight }
+    {
+        self.shared.in_flight > 1
+    }
+
+    fn copy(&self) -> Result<HostWay<C>, AllocError>
+        ensures { IfOk result (λ way. arc_value way.shared ≡ arc_value self.now.shared) }
+    {
+        Ok(HostWay::new(self.clock, Arc::try_clone(&self.shared)?))
     }
 }

@@ -1,9 +1,10 @@
 //! A link to an issuer, which is simulated or has a host.
 
-ghost use Rattle.std.specs.Prelude.{◌≡◌, is_some, IfOk};
-ghost use Rattle.sw_hosts.specs.Issuers.{has_host, state_of, SendsBy, ReceivesBy};
+ghost use Rattle.std.specs.Prelude.{◌≡◌, is_some, IfOk, OnErr, OnOk};
+ghost use Rattle.sw_hosts.specs.Issuers.{has_host, state_of, ReceivesBy, SendsBy, SendsToHost};
 
 use crate::host_report::HostReport;
+use crate::host_way::HostWay;
 use crate::link::HostLink;
 use std::alloc::AllocError;
 use std::time::Clock;
@@ -17,7 +18,7 @@ pub enum IssuerLink<C: Clock + Drop = HostRuntime> {
     /// The simulated issuer.
     Simulated(Issuer),
     /// An issuer's host.
-    Host(HostLink<C>),
+    Host(HostLink<HostWay<C>>),
 }
 
 // Written out, so that no caller proves again how its parts are dropped.
@@ -51,7 +52,14 @@ impl<C: Clock + Copy + Drop> Link for IssuerLink<C> {
 
     ghost starves = { λ s. ⊥ };
 
-    fn send(&mut self, message: &[u8]) -> Result<(), NoMemory> {
+    fn send(&mut self, message: &[u8]) -> Result<(), NoMemory>
+        ensures sent { OnOk result (SendsBy ⟦<Issuer as Link>⟧.sends
+            (state_of ⟦<Issuer as Link>⟧.state self.old) message.now
+            (state_of ⟦<Issuer as Link>⟧.state self.new)) }
+        ensures kept { OnErr result (state_of ⟦<Issuer as Link>⟧.state self.new
+            ≡ state_of ⟦<Issuer as Link>⟧.state self.old) }
+        ensures over { OnOk result (SendsToHost self.old message.now self.new) }
+    {
         match self {
             IssuerLink::Simulated(issuer) => issuer.send(message),
             IssuerLink::Host(link) => link.send(message),

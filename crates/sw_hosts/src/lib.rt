@@ -8,27 +8,37 @@
 //! - A [`HostReport`] has the counts and the state of a host while its links are in use.
 //!
 //! What the threads and links decide, they decide by `sw_wire`. Of what passes between them, and of what comes over a
-//! wire, no contract says anything.
+//! wire, no contract says anything. So each end is proved by itself: the thread that writes for any source of frames
+//! and any writer, and a link for any way to a host.
 //!
 //! # What is proved
 //!
 //! A host is served by threads, and no contract says what passes between threads or over a wire. The
 //! threads and links do what `sw_wire` decides.
 //!
+//! - What the thread that writes puts on a wire are the frames that its source gave, each once and in their order,
+//!   and echo tests between them. All are written whole but the last one, and after a write that failed nothing more
+//!   is written (`WritesGiven`). Once the direction is closed, the frames that wait are dropped (`WritesOnce`). This
+//!   holds of every writer and every `FrameSource`. The source that the thread has is the outbox; that it gives what
+//!   links put there is only tested.
 //! - No frame that `next_frame` takes from the outbox is too late, and an answer that a link takes has
 //!   the key that it waits for.
+//! - A link that sends enters its way once, and where the host is asked it hands the frame of the message over once
+//!   (`Sends`). It receives what the last look over the way showed. This holds of every `Way`. Of the way over a
+//!   host's threads, `HostWay`, contracts say which calls were made, and that an answer has the key that is waited
+//!   for. That it opens, puts the frame into the outbox, looks and sleeps is only tested.
+//! - A message to an `IssuerLink` of a host is sent over its `HostLink` once (`SendsToHost`).
 //! - A host has the times and the number of requests that may be under way which it is given
 //!   (`Host::start`), and its links and reports share these with it (`Host::link`, `host_report`). That
 //!   its threads, deadlines and links go by them is only tested.
 //! - A host's link that `beside` gives is in the one state that links to hosts have, and no send and no
 //!   receive changes it. That it leads to the same host is only tested.
 //! - What is counted is only tested, and so is that the threads and links note the signs of a host.
-//! - After `HostLink::send` was out of memory nothing is waited for; `receive` refuses nothing. Contracts see no state of a link. `IssuerLink` keeps what the simulated issuer promises.
+//! - After `HostLink::send` was out of memory nothing is waited for, and nothing was sent; `receive` refuses nothing.
+//!   `IssuerLink` keeps what the simulated issuer promises.
 //!
-//! Of the way over a host's threads (`HostWay`) contracts say only that an answer has the key that is
-//! waited for. That it opens, writes, looks and sleeps is only tested, and so is that the threads do
-//! what is decided, and when (`tests/hosts.py`): that an answer is heard, that a deadline is kept, that
-//! a closed direction is opened again.
+//! That the threads do what is decided, and when, is only tested (`tests/hosts.py`): that an answer is heard, that a
+//! deadline is kept, that a closed direction is opened again.
 //!
 //! # Decisions
 //!
@@ -68,6 +78,12 @@
 //! - **Contracts see no state of a link to a host.** Nothing can be promised of what comes over a wire,
 //!   and the query compares the key of each message itself. What is proved are the parts without
 //!   threads: the two boxes, the key of a message, when a direction is ordered.
+//! - **What a link and the thread that writes do is proved for any way, any source and any writer**, whose calls
+//!   contracts see as steps that nothing else can make. Alternative: a queue with a rule of its own in place of the
+//!   outbox, as between the threads of a run. But a link has no handle to wait with, and many links put into one
+//!   outbox.
+//! - **What the calls of `HostWay` did is an opaque definition** (`HostWays`): by what it says, a body that makes no
+//!   call could claim that it made one.
 //! - **The clock of a link is a type parameter, and by default the runtime's.** A box of a type that is
 //!   generic in its clock has no proof, so callers box links over `HostRuntime`. For the same reason
 //!   `WritePath` and `ReadPath` are made over it where a function is generic.
@@ -81,6 +97,8 @@ mod host_way;
 mod issuer_link;
 mod link;
 mod opener;
+mod outbox_frames;
+mod read;
 mod shared;
 mod shared_moment;
 mod shared_pause;
@@ -88,9 +106,11 @@ mod shared_state;
 #[cfg(test)]
 mod tests;
 mod threads;
+mod write;
 
 pub use host::Host;
 pub use host_report::HostReport;
+pub use host_way::HostWay;
 pub use issuer_link::IssuerLink;
 pub use link::HostLink;
 pub use opener::{OpenReader, OpenWriter, ReadPath, WritePath};

@@ -2,7 +2,8 @@
 
 ghost use Rattle.std.specs.Prelude.{◌≡◌, [], IfOk, IfSome, None, OnOk, OnErr};
 ghost use Rattle.std.specs.Arc.{arc_value};
-ghost use Rattle.sw_wire.specs.Ways.{AnswersTo, KeyedFor};
+ghost use Rattle.sw_hosts.specs.HostLinks.{Forgets, Sends, no_state, shown_link};
+ghost use Rattle.sw_wire.specs.Ways.{AnswersTo, KeyedFor, ReceivesOver};
 
 use crate::host_report::HostReport;
 use crate::host_way::HostWay;
@@ -10,7 +11,7 @@ use std::alloc::{AllocError, Global};
 use std::time::Clock;
 use sw_participant::NoMemory;
 use sw_parts::Link;
-use sw_wire::{Awaited, receive_over, send_over};
+use sw_wire::{Awaited, Way, receive_over, send_over};
 
 /// A link to a host.
 ///
@@ -27,16 +28,16 @@ use sw_wire::{Awaited, receive_over, send_over};
 ///
 /// `beside` gives a link of its own to the same host, which knows of no request that this one sent.
 ///
-/// Contracts see no state of a link: nothing can be promised of what comes over a wire, and the
-/// receiver compares the key again.
-pub struct HostLink<C: Clock + Drop = HostRuntime> {
+/// What it does is proved for every way to a host; the one over a host's threads is a [`HostWay`]. As a `Link` it has
+/// one state: nothing can be promised of what comes over a wire, and the receiver compares the key again.
+pub struct HostLink<W = HostWay<HostRuntime>> {
     alloc: Global,
-    way: HostWay<C>,
+    way: W,
     awaited: Option<Awaited>,
 }
 
 // Written out, so that no caller proves again how its parts are dropped.
-impl<C: Clock + Drop> Drop for HostLink<C> {
+impl<W: Drop> Drop for HostLink<W> {
     fn drop(self) {
         let HostLink {
             alloc: _,
@@ -46,8 +47,17 @@ impl<C: Clock + Drop> Drop for HostLink<C> {
     }
 }
 
-impl<C: Clock + Drop> HostLink<C> {
-    pub(crate) fn new(alloc: Global, way: HostWay<C>) -> HostLink<C>
+impl<C: Clock + Drop> HostLink<HostWay<C>> {
+    /// What is reported of the host.
+    pub fn host_report(&self) -> Result<HostReport, AllocError>
+        ensures { IfOk result (λ r. arc_value r.shared ≡ arc_value self.now.way.shared) }
+    {
+        self.way.host_report()
+    }
+}
+
+impl<W: Way> HostLink<W> {
+    pub(crate) fn new(alloc: Global, way: W) -> HostLink<W>
         ensures { result.way ≡ way }
     {
         HostLink {
@@ -57,36 +67,43 @@ impl<C: Clock + Drop> HostLink<C> {
         }
     }
 
-    /// What is reported of the host.
-    pub fn host_report(&self) -> Result<HostReport, AllocError>
-        ensures { IfOk result (λ r. arc_value r.shared ≡ arc_value self.now.way.shared) }
-    {
-        self.way.host_report()
-    }
-
-    // Sends a message, and notes what is waited for from now on. The answer that nobody took until now is late.
-    fn send_message(&mut self, message: &[u8]) -> Result<(), NoMemory>
-        ensures waits { OnOk result (KeyedFor message.now self.new.awaited) }
-        ensures none { OnErr result (self.new.awaited ≡ None) }
+    // The answer that nobody took until now is late.
+    fn forget_awaited(&mut self)
+        ensures forgets { Forgets W.forgets self.old.way self.old.awaited self.new.way }
+        ensures none { self.new.awaited ≡ None }
     {
         if let Some(awaited) = self.awaited.take() {
             self.way.forget(&awaited.key);
         }
-        self.awaited = send_over(&self.way, self.alloc, message)?;
+    }
+
+    // Sends a message, and notes what is waited for from now on.
+    fn send_message(&mut self, message: &[u8]) -> Result<(), NoMemory>
+        ensures sent { OnOk result (Sends W.enters W.takes W.forgets
+            (shown_link self.old) message.now (shown_link self.new)) }
+        ensures waits { OnOk result (KeyedFor message.now self.new.awaited) }
+        ensures none { OnErr result (self.new.awaited ≡ None) }
+        ensures kept { OnErr result
+            (Forgets W.forgets self.old.way self.old.awaited self.new.way) }
+    {
+        self.forget_awaited();
+        self.awaited = send_over(&mut self.way, self.alloc, message)?;
         Ok(())
     }
 
     // The answer to the message that was sent last, if it comes in time. It is not waited for again.
     fn await_answer(&mut self) -> Option<Vec<u8>>
+        ensures received { ReceivesOver (W.shows self.old.way) self.old.awaited result }
         ensures answer { IfSome result (λ v. AnswersTo self.old.awaited v.items) }
         ensures none { self.new.awaited ≡ None }
+        ensures way { self.new.way ≡ self.old.way }
     {
         let awaited = self.awaited.take();
         receive_over(&self.way, awaited)
     }
 }
 
-impl<C: Clock + Copy + Drop> Link for HostLink<C> {
+impl<W: Way> Link for HostLink<W> {
     ghost state = { λ link. [] };
 
     ghost sends = { λ s message t. t ≡ [] };
@@ -95,11 +112,21 @@ impl<C: Clock + Copy + Drop> Link for HostLink<C> {
 
     ghost starves = { λ s. ⊥ };
 
-    fn send(&mut self, message: &[u8]) -> Result<(), NoMemory> {
+    fn send(&mut self, message: &[u8]) -> Result<(), NoMemory>
+        ensures sent { OnOk result (no_state ≡ no_state) }
+        ensures kept { OnErr result (no_state ≡ no_state) }
+        ensures over { OnOk result (Sends W.enters W.takes W.forgets
+            (shown_link self.old) message.now (shown_link self.new)) }
+    {
         self.send_message(message)
     }
 
-    fn receive(&mut self) -> Result<Option<Vec<u8>>, NoMemory> {
+    fn receive(&mut self) -> Result<Option<Vec<u8>>, NoMemory>
+        ensures received { IfOk result (λ m. no_state ≡ no_state) }
+        ensures starved { OnErr result ⊥ }
+        ensures kept { OnErr result (no_state ≡ no_state) }
+        ensures over { IfOk result (ReceivesOver (W.shows self.old.way) self.old.awaited) }
+    {
         Ok(self.await_answer())
     }
 
@@ -107,7 +134,7 @@ impl<C: Clock + Copy + Drop> Link for HostLink<C> {
         self.way.is_shared()
     }
 
-    fn beside(&self) -> Result<Option<HostLink<C>>, NoMemory> {
+    fn beside(&self) -> Result<Option<HostLink<W>>, NoMemory> {
         Ok(Some(HostLink::new(self.alloc, self.way.copy()?)))
     }
 }

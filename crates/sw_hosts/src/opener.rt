@@ -1,6 +1,7 @@
 //! How the directions of a host are opened.
 
-ghost use Rattle.std.specs.Prelude.{◌≡◌};
+ghost use Rattle.std.specs.Prelude.{◌≡◌, true};
+ghost use Rattle.std.specs.Fs.{new_options, with_read, with_write};
 
 use std::fs::{File, OpenOptions};
 use std::io::{self, Read, Write};
@@ -24,6 +25,24 @@ pub trait OpenReader: Drop {
     fn open(&mut self) -> io::Result<Self::Reader>;
 }
 
+// To write to what is there: nothing is created or truncated.
+fn for_writing() -> OpenOptions
+    ensures { result ≡ with_write new_options true }
+{
+    let mut options = OpenOptions::new();
+    options.write(true);
+    options
+}
+
+// To read what is there.
+fn for_reading() -> OpenOptions
+    ensures { result ≡ with_read new_options true }
+{
+    let mut options = OpenOptions::new();
+    options.read(true);
+    options
+}
+
 /// A path that is opened for writing, such as a named pipe. It is neither created nor truncated.
 #[derive(Drop)]
 pub struct WritePath<R: Files<File = File> + Drop> {
@@ -44,9 +63,7 @@ impl<R: Files<File = File> + Drop> OpenWriter for WritePath<R> {
     type Writer = File;
 
     fn open(&mut self) -> io::Result<File> {
-        let mut options = OpenOptions::new();
-        options.write(true);
-        self.rt.open_file(&options, self.path.as_str())
+        self.rt.open_file(&for_writing(), self.path.as_str())
     }
 }
 
@@ -70,8 +87,6 @@ impl<R: Files<File = File> + Drop> OpenReader for ReadPath<R> {
     type Reader = File;
 
     fn open(&mut self) -> io::Result<File> {
-        let mut options = OpenOptions::new();
-        options.read(true);
-        self.rt.open_file(&options, self.path.as_str())
+        self.rt.open_file(&for_reading(), self.path.as_str())
     }
 }

@@ -105,8 +105,7 @@ impl Shared {
             self.state.note(sign);
         }
         let answers = self.answered() != sent.answered;
-        let retry = self.times.retry;
-        self.change_pause(pause_by(look, answers, now, self.heard(), retry));
+        self.change_pause(pause_by(look, answers, now, self.heard(), &self.times));
     }
 
     /// Notes that this many echo tests were not answered in time, when something had been read from the host

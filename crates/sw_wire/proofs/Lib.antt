@@ -1,3 +1,6 @@
 mod Boxes
 mod Echoes
+mod Framing
+mod Sending
 mod States
+pub mod Writing

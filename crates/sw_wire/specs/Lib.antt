@@ -11,7 +11,8 @@
 --   (`Watches.antt`): what the thread that writes does where no frame waits, and when an echo
 --   test is due. *Echo* (`Echoes.antt`): the frame of an echo test. *Came* (`Comings.antt`): an
 --   answer to one, a message by its key, or neither. *Sends over, receives over, sees last*
---   (`Ways.antt`): what is done over a way to a host, whatever way that is.
+--   (`Ways.antt`): what is done over a way to a host, whatever way that is. *Writes, gives*
+--   (`Writing.antt`): what is written of the frames that a source gives.
 pub mod Answers
 pub mod Boxes
 pub mod Comings
@@ -29,3 +30,4 @@ pub mod Times
 pub mod Wanted
 pub mod Watches
 pub mod Ways
+pub mod Writing

@@ -1,6 +1,5 @@
 -- How long a host that did not answer in time is not asked.
 use Rattle.std.specs.Prelude.{ℕ, ◌==◌, ◌&&◌, ◌||◌, Bool, false, not, nat_le, Option, Some, None, is_some, if◌then◌else◌}
-use Rattle.std.specs.declared.time.Duration.{Duration}
 use Rattle.sw_wire.specs.declared.look.Look.{Look}
 use Rattle.sw_wire.specs.declared.look.Look.TheVariants.{Answer, Closed, Late, Open}
 use Rattle.sw_wire.specs.declared.moment.Moment.{Moment}
@@ -12,12 +11,12 @@ use Rattle.sw_wire.specs.Moments.{later}
 use Rattle.sw_wire.specs.Times.{tests_silence}
 
 -- An answer ends it. It begins where none came in time, unless the host has answered another request since that one was sent.
-abbrev pub pause_by : Look → Bool → ℕ → ℕ → Duration → PauseChange
-pause_by (Answer answer) answers now heard retry = Ends
-pause_by Late answers now heard retry =
-    if answers then Stays else Begins (record { until = record { micros = later now retry }; heard = heard })
-pause_by Closed answers now heard retry = Stays
-pause_by Open answers now heard retry = Stays
+abbrev pub pause_by : Look → Bool → ℕ → ℕ → HostTimes → PauseChange
+pause_by (Answer answer) answers now heard times = Ends
+pause_by Late answers now heard times =
+    if answers then Stays else Begins (record { until = record { micros = later now times.retry }; heard = heard })
+pause_by Closed answers now heard times = Stays
+pause_by Open answers now heard times = Stays
 
 -- it begins too where echo tests were not answered in time
 abbrev pub pause_by_tests : Moment → ℕ → HostTimes → PauseChange

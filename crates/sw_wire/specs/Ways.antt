@@ -39,23 +39,24 @@ awaited_of key deadline sent = None
 abbrev pub key_asked : Option Expected → Option Key
 key_asked expected = option_map (λ e. e.key) expected
 
--- The frame was handed over with the deadline where the host is asked, and the answer is waited for where it is on its way.
-abbrev pub HandsOver : (Option Key → Frame → Option Sent → Type 0) → Option Moment → Outgoing → Option Awaited → Type 0
-HandsOver takes None o awaited = awaited ≡ None
-HandsOver takes (Some deadline) o awaited =
-    (sent : Option Sent) × takes (key_asked o.expected) (record { bytes = o.bytes; deadline = deadline }) sent
-    × (awaited ≡ awaited_of (key_asked o.expected) deadline sent)
+-- Over a way of any kind: how it is entered with a request, and takes a frame. Each leads from one state of it to another.
+module _ {W : Type 0} (enters : W → Option Expected → Option Moment → W → Type 0) (takes : W → Option Key → Frame → Option Sent → W → Type 0) where
+  -- Where the host is asked, the frame was handed over once, with the deadline, and the answer is waited for where the frame is on its way.
+  abbrev pub HandsOver : W → Option Moment → Outgoing → W → Option Awaited → Type 0
+  HandsOver way None o new awaited = (new ≡ way) × (awaited ≡ None)
+  HandsOver way (Some deadline) o new awaited =
+      (frame : Frame) × (sent : Option Sent) × (frame.bytes ≡ o.bytes) × (frame.deadline ≡ deadline)
+      × takes way (key_asked o.expected) frame sent new × (awaited ≡ awaited_of (key_asked o.expected) deadline sent)
 
--- It is handed over after the way was entered with the request, if it is one that waits for an answer.
-abbrev pub Enters :
-    (Option Expected → Option Moment → Type 0) → (Option Key → Frame → Option Sent → Type 0) → Option Outgoing → Option Awaited → Type 0
-Enters enters takes None awaited = awaited ≡ None
-Enters enters takes (Some o) awaited = (deadline : Option Moment) × enters o.expected deadline × HandsOver takes deadline o awaited
+  -- It is handed over after the way was entered once with the request, if it is one that waits for an answer.
+  abbrev pub Enters : W → Option Outgoing → W → Option Awaited → Type 0
+  Enters way None new awaited = (new ≡ way) × (awaited ≡ None)
+  Enters way (Some o) new awaited =
+      (deadline : Option Moment) × (entered : W) × enters way o.expected deadline entered × HandsOver entered deadline o new awaited
 
--- The message was made a frame, and that was handed over.
-abbrev pub SendsOver :
-    (Option Expected → Option Moment → Type 0) → (Option Key → Frame → Option Sent → Type 0) → List ℕ → Option Awaited → Type 0
-SendsOver enters takes message awaited = (o : Option Outgoing) × IsOutgoing message o × Enters enters takes o awaited
+  -- The message was made a frame, and that was handed over.
+  abbrev pub SendsOver : W → List ℕ → W → Option Awaited → Type 0
+  SendsOver way message new awaited = (o : Option Outgoing) × IsOutgoing message o × Enters way o new awaited
 
 -- the look of that number showed nothing yet
 abbrev pub ShowsNothing : (ℕ → Look → Type 0) → ℕ → Type 0

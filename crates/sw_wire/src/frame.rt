@@ -1,5 +1,8 @@
 //! A frame that goes to a host.
 
+ghost use Rattle.std.specs.Prelude.{◌≡◌, true};
+ghost use Rattle.sw_wire.specs.Framing.{is_frame};
+
 use crate::moment::Moment;
 
 /// The frame of a message, and the moment from which nobody waits for its answer.
@@ -8,6 +11,7 @@ pub struct Frame {
     pub bytes: Vec<u8>,
     /// From then on it is not written.
     pub deadline: Moment,
+    pub ghost framed: { is_frame bytes.items ≡ true },
 }
 
 // Written out, so that no caller proves again how its parts are dropped.

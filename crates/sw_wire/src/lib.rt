@@ -3,7 +3,8 @@
 //!
 //! - [`Answers`] holds the requests that wait and the answers that came, and an [`Outbox`] what is to be written, 64 at
 //!   most each, with memory from the start. [`came_in`] says what bytes from a host are.
-//! - [`send_over`] and [`receive_over`] are what a link does over any [`Way`] to a host and back.
+//! - [`send_over`] and [`receive_over`] are what a link does over any [`Way`] to a host and back. A [`FrameSource`] gives
+//!   the thread that writes its frames.
 //! - [`is_ordered`] and [`opened_from`] say when a direction is ordered to be opened, [`is_awaited`] whether a message
 //!   waits for that; [`is_paused`], [`pause_by`] and [`pause_by_tests`] whether a host is not asked, and what changes
 //!   that; [`Watch::duty`] what the thread that writes does where no frame waits. [`echo_frame`] is an echo test.
@@ -29,10 +30,14 @@
 //!   less than 100 milliseconds ago (`is_awaited`).
 //! - `outgoing_of` makes of a message its frame, and the request that waits for its answer, if the
 //!   message has a key (`SentAs`).
-//! - `send_over` and `receive_over` are proved of every `Way`. The first enters the way with that
-//!   request, and where the host is asked it hands the frame over, with the deadline that it got. It
-//!   waits for the answer to a message with a key exactly where the way took its frame. The second looks
-//!   until a look over the way shows something, and answers what that look showed (`SeesLast`).
+//! - `send_over` and `receive_over` are proved of every `Way`. The first enters the way once, with that
+//!   request, and where the host is asked it hands the frame over once, with the deadline that it got
+//!   (`SendsOver`). It waits for the answer to a message with a key exactly where the way took its frame. Where
+//!   memory is refused it has done nothing. The second looks until a look over the way shows something, and
+//!   answers what that look showed (`SeesLast`).
+//! - A `Frame` is one: four digits of length, and as many bytes.
+//! - `WritesGiven` says that what was written are the frames that a source gave, each once and in their order, and
+//!   echo tests between them, all whole but the last one. The thread of `sw_hosts` that writes is proved to do so.
 //! - Whether a host is not asked now (`is_paused`), and what a look (`pause_by`) and unanswered echo
 //!   tests (`pause_by_tests`) change of that, are decisions over values. An answer that does not come
 //!   in time begins no pause where the host has answered another request since that one was sent. So is what the thread that
@@ -74,6 +79,7 @@ mod outgoing;
 mod pause;
 mod received;
 mod sent;
+mod source;
 mod state;
 mod suits;
 mod times;
@@ -95,6 +101,7 @@ pub use outgoing::Awaited;
 pub use pause::{Pause, PauseChange, is_paused, pause_by, pause_by_tests, tested_from};
 pub use received::Received;
 pub use sent::Sent;
+pub use source::FrameSource;
 pub use state::{HostSign, HostState};
 pub use times::HostTimes;
 pub use watch::{Duty, EchoTests, Watch};

@@ -6,7 +6,6 @@ ghost use Rattle.sw_wire.specs.Pauses.{is_paused, pause_by, pause_by_tests, test
 use crate::look::Look;
 use crate::moment::Moment;
 use crate::times::HostTimes;
-use std::time::Duration;
 
 /// The pause of a host that did not answer in time: it is not asked.
 #[derive(Clone, Copy)]
@@ -30,14 +29,20 @@ pub enum PauseChange {
 
 /// What a look for an answer makes of the pause: an answer ends it, and one that did not come in time begins
 /// it anew, unless the host has answered others since that request was sent (`answers`).
-pub fn pause_by(look: &Look, answers: bool, now: Moment, heard: u64, retry: Duration) -> PauseChange
-    ensures { result ≡ pause_by look.now answers now.micros heard retry }
+pub fn pause_by(
+    look: &Look,
+    answers: bool,
+    now: Moment,
+    heard: u64,
+    times: &HostTimes,
+) -> PauseChange
+    ensures { result ≡ pause_by look.now answers now.micros heard times.now }
 {
     match look {
         Look::Answer(_) => PauseChange::Ends,
         Look::Late if answers => PauseChange::Stays,
         Look::Late => PauseChange::Begins(Pause {
-            until: now.after(retry),
+            until: now.after(times.retry),
             heard,
         }),
         Look::Closed | Look::Open => PauseChange::Stays,

@@ -76,10 +76,10 @@ impl Watch {
     }
 
     /// Notes that an echo test was written, when something had been read from the host `heard` times.
-    pub fn tested(&mut self, now: Moment, heard: u64, timeout: Duration)
+    pub fn tested(&mut self, now: Moment, heard: u64, times: &HostTimes)
         ensures { self.new ≡ record self.old {
           written = now;
-          tests = Some (tests_with (unanswered self.old heard) now.micros heard timeout);
+          tests = Some (tests_with (unanswered self.old heard) now.micros heard times.now.timeout);
           tested = Some now;
         } }
     {
@@ -89,7 +89,7 @@ impl Watch {
                 ..earlier
             },
             None => EchoTests {
-                deadline: now.after(timeout),
+                deadline: now.after(times.timeout),
                 heard,
                 count: 1,
             },

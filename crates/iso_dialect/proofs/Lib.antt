@@ -1,0 +1,16 @@
+mod PageChars
+mod Texts
+mod Packing
+mod Written
+mod DigitLoops
+mod Steps
+mod FormLengths
+mod FieldReads
+mod CheckedRows
+mod BitNumbers
+mod BitmapReads
+mod MessageReads
+mod OctetBytes
+mod Answering
+mod AsciiProfile
+mod CutMessages
