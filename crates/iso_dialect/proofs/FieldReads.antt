@@ -110,7 +110,7 @@ each_length f (x ∷ xs) text e =
     let p = both_some (f x) (each f xs) text e in
     ap length p.3 ∙ ap suc (each_length f xs p.1 p.2)
 
-then_some : (f : List ℕ → Option (List ℕ)) (o : Option (List ℕ)) (v : List ℕ) → option_and_then f o ≡ Some v → (x : List ℕ) × (o ≡ Some x) × (f x ≡ Some v)
+pub then_some : (f : List ℕ → Option (List ℕ)) (o : Option (List ℕ)) (v : List ℕ) → option_and_then f o ≡ Some v → (x : List ℕ) × (o ≡ Some x) × (f x ≡ Some v)
 then_some f None v e = absurd cc
 then_some f (Some x) v e = (x, refl, e)
 

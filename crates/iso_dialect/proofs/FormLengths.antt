@@ -1,5 +1,5 @@
 -- How long the texts of fields in the switch are.
--- for: field::read_field_text
+-- for: field::read_field_text, WrittenLength
 use Rattle.std.proofs.Common.{◌≡◌, inl, inr, ℕ, ◌≤◌, Bool, true, eqb, leb, List, [], ◌∷◌, Option, Some, None, refl, subst, arith}
 use Rattle.std.specs.Prelude.{option_map}
 use Rattle.std.specs.List.{list_all}
@@ -11,7 +11,7 @@ use Rattle.iso_msg.specs.declared.table.Definition.{Definition}
 use Rattle.iso_msg.specs.Table.{FieldRow, form_of, rows, definition_in, definition_of}
 use Rattle.iso_dialect.specs.Profiles.{has_text_length}
 
-abbrev most_length : FieldForm → ℕ
+abbrev pub most_length : FieldForm → ℕ
 most_length (Fixed c e) = e
 most_length (Variable c d most) = most
 most_length Binary = 16
@@ -44,7 +44,7 @@ short_form n f e =
     let s = form_from (definition_of n) f e in
     subst (λ (x : FieldForm). is_short x ≡ true) s.2 (row_is rows n s.0 rows_are s.1)
 
-below_most : (f : FieldForm) (k : ℕ) → has_text_length f k ≡ true → k ≤ most_length f
+pub below_most : (f : FieldForm) (k : ℕ) → has_text_length f k ≡ true → k ≤ most_length f
 below_most (Fixed c e) k h = omega (arith, eqb-true k e h)
 below_most (Variable c d most) k h = leb-true k most h
 below_most Binary k h = omega (arith, eqb-true k 16 h)

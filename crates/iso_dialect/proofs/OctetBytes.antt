@@ -18,13 +18,13 @@ use Rattle.iso_dialect.specs.Fields.{value_in}
 use Rattle.iso_dialect.specs.Readings.{placed_as}
 use Rattle.iso_dialect.proofs.Steps.{or_ok}
 
-octets_by : (o : Option ℕ) (r : Option (List ℕ)) (v : List ℕ) → both (λ b bs. b ∷ bs) o r ≡ Some v → (b : ℕ) × (bs : List ℕ) × (o ≡ Some b) × (r ≡ Some bs)
+pub octets_by : (o : Option ℕ) (r : Option (List ℕ)) (v : List ℕ) → both (λ b bs. b ∷ bs) o r ≡ Some v → (b : ℕ) × (bs : List ℕ) × (o ≡ Some b) × (r ≡ Some bs)
     × (v ≡ b ∷ bs)
 octets_by None r v e = absurd cc
 octets_by (Some b) None v e = absurd cc
 octets_by (Some b) (Some bs) v e = (b, bs, refl, refl, sym (some_is (b ∷ bs) v e))
 
-hex_by : (c d : ℕ) → hex_value c ≡ Some d → d < 16
+pub hex_by : (c d : ℕ) → hex_value c ≡ Some d → d < 16
 hex_by c d e =
     elim (chosen (leb 48 c && leb c 57) (Some (c - 48)) (cond (leb 65 c && leb c 70) (Some (c - 55)) (cond (leb 97 c && leb c 102) (Some (c - 87)) None))
     (Some d) e) [

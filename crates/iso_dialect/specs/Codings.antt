@@ -45,6 +45,9 @@ packed [] = []
 packed (d ∷ []) = (16 * d) ∷ []
 packed (d ∷ e ∷ ds) = (16 * d + e) ∷ packed ds
 
+abbrev pub is_half : ℕ → Bool
+is_half d = nat_lt d 16
+
 -- how many bytes a text of this length takes
 abbrev pub byte_count : Coding → ℕ → ℕ
 byte_count Ascii count = count

@@ -1,5 +1,6 @@
-//! Why a draft is not a profile.
+//! Why a draft is not a profile, and why a message is not written.
 
+use iso_codec::DecodeError;
 use iso_msg::FieldLabel;
 use thiserror::Error;
 
@@ -34,4 +35,20 @@ pub enum ProfileError {
     /// The switch cannot do without the field, and it has no row that is kept.
     #[error("{}: the switch needs it; expected a row that is kept", FieldLabel(*.0))]
     NotKept(u8),
+}
+
+/// Why bytes of the ASCII profile are not written in another one. The variants stand in the order in
+/// which they are reported.
+#[derive(Clone, Copy, Debug, PartialEq, Eq, Drop, Error)]
+pub enum WriteError {
+    /// The bytes are no message in the ASCII profile: the first fault.
+    #[error("{0}")]
+    NotAMessage(DecodeError),
+    /// The lowest field that has no bytes in the other profile: there is no row, or the row does not
+    /// take a value of this length or with these characters.
+    #[error("{}: the profile cannot write it; expected a row that takes the value", FieldLabel(*.0))]
+    NotWritable(u8),
+    /// The allocator has refused memory. The bytes are those of a message that can be written.
+    #[error("out of memory")]
+    OutOfMemory,
 }

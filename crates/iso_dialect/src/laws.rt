@@ -3,11 +3,18 @@
 ghost use Rattle.iso_dialect.specs.AsciiProfile.{ReadsAsToday, SpellsToday, TodaySpells};
 ghost use Rattle.iso_dialect.specs.Codings.{HasOneText, ReadsBack};
 ghost use Rattle.iso_dialect.specs.Cuts.{CutIsShort};
+ghost use Rattle.iso_dialect.specs.Writings.{WritesAll, WritesFields};
 
 /// What is written in a coding is read again, and bytes stand for one text of a length.
 pub fn codings_are_exact()
     ensures back { ReadsBack }
     ensures one { HasOneText }
+{}
+
+/// A field that can be written is written so that it is read again, and no other field has bytes.
+pub fn fields_are_written()
+    ensures written { WritesFields }
+    ensures all { WritesAll }
 {}
 
 /// The profile whose parts are all in ASCII, with a row for each field of the switch's table, is the

@@ -2,6 +2,7 @@
 
 ghost use Rattle.std.specs.Prelude.{◌≡◌, true, Some, None, MatchResult};
 ghost use Rattle.iso_dialect.specs.Profiles.{counts, first_refusal, refusal_in, row_of};
+ghost use Rattle.iso_dialect.specs.Writings.{is_sound_at};
 
 use crate::coding::Coding;
 use crate::error::ProfileError;
@@ -84,6 +85,7 @@ impl Profile {
     pub(crate) fn row(&self, number: u8) -> Option<Row>
         ensures row { result ≡ row_of self.now.rows number }
         ensures counts { counts result ≡ true }
+        ensures sound { is_sound_at result ≡ true }
     {
         row_at(&self.draft.rows, number)
     }

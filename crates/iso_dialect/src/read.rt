@@ -12,7 +12,7 @@ use crate::packed::{push_digits, push_halves, without_pad};
 use crate::page::char_at;
 use crate::text::Text;
 
-fn upper_digit(d: u8) -> u8
+pub fn upper_digit(d: u8) -> u8
     requires { d < 16 }
     ensures { result ≡ upper d }
 {
@@ -43,7 +43,7 @@ fn push_chars(text: &mut Text, page: Page, bytes: &[u8]) -> Option<()>
 }
 
 /// Adds the text of octets.
-fn push_hex(text: &mut Text, bytes: &[u8])
+pub fn push_hex(text: &mut Text, bytes: &[u8])
     requires { length text.old + 2 * length bytes.now ≤ 1000 }
     ensures { text.new ≡ text.old ++ flat_map hex bytes.now }
 {

@@ -3,14 +3,14 @@ use iso_codec::DecodeError;
 use std::alloc::Global;
 use std::test::Fail;
 
-const LEFT: Coding = Coding::Packed {
+pub const LEFT: Coding = Coding::Packed {
     on_right: false,
     pad: 0,
 };
 
 const PAGE: Coding = Coding::Ebcdic(Page::Cp1047);
 
-fn exact(length: u16, coding: Coding) -> Row {
+pub fn exact(length: u16, coding: Coding) -> Row {
     Row {
         size: Size::Exact(length),
         coding,
@@ -18,7 +18,7 @@ fn exact(length: u16, coding: Coding) -> Row {
     }
 }
 
-fn counted(count: Count, most: u16, coding: Coding) -> Row {
+pub fn counted(count: Count, most: u16, coding: Coding) -> Row {
     Row {
         size: Size::Counted { count, most },
         coding,
@@ -26,7 +26,7 @@ fn counted(count: Count, most: u16, coding: Coding) -> Row {
     }
 }
 
-fn draft(mti: Coding, bitmap: Coding, rows: &[(u8, Row)]) -> Draft {
+pub fn draft(mti: Coding, bitmap: Coding, rows: &[(u8, Row)]) -> Draft {
     let mut all: [Option<Row>; 129] = [None; 129];
     for (number, row) in rows {
         if *number < 129 {
@@ -42,7 +42,7 @@ fn draft(mti: Coding, bitmap: Coding, rows: &[(u8, Row)]) -> Draft {
 
 // Packed digits with a pad on the left, a bitmap of eight bytes, and texts in ASCII. Field 62 is
 // passed over, and has a length of two bytes.
-fn packed_draft() -> Draft {
+pub fn packed_draft() -> Draft {
     let two = Count::Digits {
         coding: LEFT,
         digits: 2,
