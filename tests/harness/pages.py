@@ -157,7 +157,7 @@ def config_case(name, block, _page, _examples):
 
 
 def elsewhere(_name, _block, _page, _examples):
-    """What other tests run: the gate, `hosts.py` and `signals.py`."""
+    """What other tests run: the gate, `hosts.py`, `signals.py` and `packager.py`."""
 
 
 # How blocks begin that are neither an example nor a file of one, and what is made of each.
@@ -168,6 +168,7 @@ FORMS = [
     ("sqlite> ", turned_case),
     ("[[host]]", config_case),
     ("./test", elsewhere),
+    ("field = [", elsewhere),
     ("examples/hosts/try.sh ", elsewhere),
     ("mkfifo alpha.to alpha.from", elsewhere),
     ("python3 connect.py ", elsewhere),
